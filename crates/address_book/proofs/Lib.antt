@@ -1,0 +1,2 @@
+mod BookFacts
+pub mod BookLemmas

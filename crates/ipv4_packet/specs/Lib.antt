@@ -1,0 +1,4 @@
+pub mod Fields
+pub mod Packet
+pub mod Refusal
+pub mod Payload

@@ -1,0 +1,155 @@
+//! An IPv4 packet where it lies.
+ghost use Rattle.std.specs.Prelude.{◌≡◌, ℕ, List, OnOk, IfOk, IfErr, IfSome, IsOkAnd};
+ghost use Rattle.ipv4_packet.specs.Fields.{tos_of, fragment_offset_of, protocol_of, source_of, destination_of};
+ghost use Rattle.ipv4_packet.specs.Packet.{IsPacket, Spells, packet_of};
+ghost use Rattle.ipv4_packet.specs.Refusal.{first_fault};
+ghost use Rattle.ipv4_packet.specs.Payload.{payload_of, begins, ports_of, spi_of};
+
+use crate::fault::IpBad;
+use crate::header::{MINIMUM_LEN, MINIMUM_WORDS, VERSION};
+use crate::numbers::{number16, number32};
+use crate::protocol::{AH, ESP, SCTP, TCP, UDP};
+use std::marker::Model;
+
+/// One IPv4 packet, of just its total length. Contracts see it as its octets.
+///
+/// The octets (RFC 791, 3.1):
+/// 0: version (4) IHL (4)   1: type of service   2-3: total length
+/// 4-5: identification   6-7: flags (3) fragment offset (13)
+/// 8: time to live   9: protocol   10-11: header checksum
+/// 12-15: source   16-19: destination   then options up to 4 * IHL, and the payload
+#[derive(Drop)]
+pub struct Ip4<'a> {
+    octets: &'a [u8],
+}
+
+impl<'a> Model for Ip4<'a> {
+    ghost use Rattle.std.specs.Prelude.{ℕ, List};
+    ghost use Rattle.ipv4_packet.specs.Packet.{IsPacket};
+
+    ghost Value = { List ℕ };
+
+    ghost view = { λ p. p.octets.now };
+
+    ghost invariant = { λ p. IsPacket p.octets.now };
+}
+
+impl<'a> Ip4<'a> {
+    /// The packet at the front of octets. What follows its total length is no part of it.
+    pub fn read(bytes: &'a [u8]) -> Result<Ip4<'a>, IpBad>
+        // What is read is spelled so, and what is spelled so is read.
+        ensures found { IfOk result (Spells bytes.now) }
+        ensures only { (packet : List ℕ) → Spells bytes.now packet → IsOkAnd result (λ lent. lent ≡ packet) }
+        ensures whole { IsPacket bytes.now → IsOkAnd result (λ packet. packet ≡ bytes.now) }
+
+        // It is the first octets, as many as the total length says.
+        ensures lent { IfOk result (λ packet. packet ≡ packet_of bytes.now) }
+
+        // What is read has no fault, a refusal is the first fault, and each fault is refused.
+        ensures faultless { OnOk result (first_fault bytes.now ≡ None) }
+        ensures refused { IfErr result (λ bad. first_fault bytes.now ≡ Some bad) }
+        ensures fault { IfSome (first_fault bytes.now) (λ bad. result ≡ Err bad) }
+    {
+        if bytes.len() < MINIMUM_LEN {
+            return Err(IpBad::Short);
+        }
+        if bytes[0] / 16 != VERSION {
+            return Err(IpBad::Version);
+        }
+        let words = bytes[0] % 16;
+        let header = 4 * words as usize;
+        if words < MINIMUM_WORDS || bytes.len() < header {
+            return Err(IpBad::Header);
+        }
+        let total = number16(bytes, 2) as usize;
+        if total < header || bytes.len() < total {
+            return Err(IpBad::Total);
+        }
+        Ok(Ip4 {
+            octets: &bytes[..total],
+        })
+    }
+
+    /// All octets of the packet, header and payload.
+    pub fn octets(&self) -> &[u8]
+        ensures octets { result.now ≡ self.now }
+        ensures whole { IsPacket result.now }
+    {
+        self.octets
+    }
+
+    /// The type of service.
+    pub fn tos(&self) -> u8
+        ensures { result ≡ tos_of self.now }
+    {
+        self.octets[1]
+    }
+
+    /// Where the payload stands in its datagram, in units of eight octets: 0 to 8,191.
+    pub fn fragment_offset(&self) -> u16
+        ensures { result ≡ fragment_offset_of self.now }
+    {
+        number16(self.octets, 6) % 0x2000
+    }
+
+    /// The number of the protocol that the payload is of.
+    pub fn protocol(&self) -> u8
+        ensures { result ≡ protocol_of self.now }
+    {
+        self.octets[9]
+    }
+
+    /// The source address.
+    pub fn source(&self) -> u32
+        ensures { result ≡ source_of self.now }
+    {
+        number32(self.octets, 12)
+    }
+
+    /// The destination address.
+    pub fn destination(&self) -> u32
+        ensures { result ≡ destination_of self.now }
+    {
+        number32(self.octets, 16)
+    }
+
+    /// The source and the destination port of TCP, UDP or SCTP. None where the packet is of another
+    /// protocol, is a later fragment, or carries fewer than four octets.
+    pub fn ports(&self) -> Option<(u16, u16)>
+        ensures { result ≡ ports_of self.now }
+    {
+        if self.begins(TCP, 4) || self.begins(UDP, 4) || self.begins(SCTP, 4) {
+            let payload = self.payload();
+            Some((number16(payload, 0), number16(payload, 2)))
+        } else {
+            None
+        }
+    }
+
+    /// The security parameters index of ESP or AH. None where the packet is of another protocol, is
+    /// a later fragment, or carries fewer octets than four of ESP or eight of AH.
+    pub fn spi(&self) -> Option<u32>
+        ensures { result ≡ spi_of self.now }
+    {
+        if self.begins(ESP, 4) {
+            Some(number32(self.payload(), 0))
+        } else if self.begins(AH, 8) {
+            Some(number32(self.payload(), 4))
+        } else {
+            None
+        }
+    }
+
+    // Whether the packet is of this protocol, and begins with at least so many octets of its header.
+    fn begins(&self, protocol: u8, least: usize) -> bool
+        ensures { result ≡ begins protocol least self.now }
+    {
+        self.protocol() == protocol && self.fragment_offset() == 0 && self.payload().len() >= least
+    }
+
+    fn payload(&self) -> &[u8]
+        ensures { result.now ≡ payload_of self.now }
+    {
+        &self.octets[4 * (self.octets[0] % 16) as usize..]
+    }
+}

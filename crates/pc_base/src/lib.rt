@@ -1,0 +1,34 @@
+//! The small types that every crate of the gateway shares: numbers that keep their range, the IMSI,
+//! octets, packets and verdicts; and how a slot's TEIDs and its address follow from its number.
+//! TEIDs are those of TS 29.281, the IMSI that of TS 23.003. No call takes memory.
+#![tactic(auto)]
+
+mod addresses;
+mod big_endian;
+mod imsi;
+mod numbers;
+mod octets;
+mod packet;
+mod teids;
+#[cfg(test)]
+mod tests;
+
+pub use addresses::{addr_of, addresses_are_distinct, slot_of_addr};
+pub use big_endian::{be16, be32, be40};
+pub use imsi::Imsi;
+pub use numbers::{Addr4, Kbps, Moment, SliceNo, Slot, Teid};
+pub use octets::Octets;
+pub use packet::{Packet, Peer, Place, TeidUse, Verdict, Way};
+pub use teids::{slot_of_teid, teid_of, teids_are_distinct};
+
+/// The last slot: as many users as have an address.
+pub const LAST_SLOT: u32 = 65_532;
+
+/// The last index of a bearer: a subscriber has at most 11 (TS 23.401, section 5.7.1: EBI 5 to 15).
+pub const LAST_BEARER: u8 = 10;
+
+/// The address of slot 0, 10.45.0.2.
+pub const FIRST_ADDR: u32 = 0x0a2d_0002;
+
+/// The address of the last slot, 10.45.255.254.
+pub const LAST_ADDR: u32 = 0x0a2d_fffe;

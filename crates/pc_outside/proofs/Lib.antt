@@ -1,0 +1,6 @@
+pub mod KnownOctets
+pub mod Newlines
+pub mod Parts
+pub mod Settling
+pub mod ReadSteps
+pub mod OneAnswerCases

@@ -1,0 +1,74 @@
+-- What the search for a newline tells of the octets held.
+use Rattle.std.proofs.Common.{◌≡◌, ℕ, ◌+◌, ◌-◌, ◌<◌, ◌≤◌, List, [], ◌∷◌, ◌++◌, length, take, drop, slice_range, sym, ◌∙◌, ap, subst, arith, length-take}
+use Rattle.std.proofs.lemmas.List.{take-append-drop, take_all, append-nil}
+use Rattle.std.proofs.lemmas.List.Edits.{length-between}
+use Rattle.pc_outside.specs.declared.line_buffer.TheConstants.{LINE_MAX, INPUT_MAX, NEWLINE}
+use Rattle.pc_outside.specs.Line.{NoNewline, BeginsLong, FillsRoom}
+use Rattle.pc_outside.specs.Held.{Held, IsUnfinished}
+use Rattle.pc_outside.specs.Steps.{GivesWhole}
+use Rattle.pc_outside.proofs.Parts.{part-front, part-behind}
+
+-- a newline was found within a line's length
+pub found_whole : (octets line : List ℕ) (from to len taken : ℕ) → from ≤ to → to ≤ length octets → taken ≤ INPUT_MAX
+    → len < to - from → len ≤ LINE_MAX → NoNewline (take len (slice_range octets from to))
+    → drop len (slice_range octets from to) ≡ NEWLINE ∷ drop (len + 1) (slice_range octets from to)
+    → GivesWhole
+    (record { line = line; front = slice_range octets from to; room = INPUT_MAX + (to - from) - taken })
+    (record {
+      line = slice_range octets from (from + len);
+      front = slice_range octets (from + len + 1) to;
+      room = INPUT_MAX + (to - (from + len + 1)) - taken;
+    })
+found_whole octets line from to len taken ordered within bounded inside short no_newline newline =
+    let front = slice_range octets from to in
+    let given = slice_range octets from (from + len) in
+    let is_front : given ≡ take len front = part-front octets from to len (omega arith) in
+    let size : length given ≡ len = length-between octets from (from + len) (omega arith) ∙ omega arith in
+    let next : from + (len + 1) ≡ from + len + 1 = omega arith in
+    record {
+      no_newline = subst (λ xs. NoNewline xs) (sym is_front) no_newline;
+      short = omega arith;
+      whole = record {
+        parts = sym (take-append-drop len front) ∙ ap (λ xs. xs ++ drop len front) (sym is_front)
+            ∙ ap (λ xs. given ++ xs) (newline ∙ ap (λ xs. NEWLINE ∷ xs) (part-behind octets from to (len + 1)
+            ∙ ap (λ place. slice_range octets place to) next));
+        given = omega arith;
+      };
+    }
+
+-- no newline within a line's length, and more octets than that
+pub found_long : (front : List ℕ) (room : ℕ) → length front ≤ room → LINE_MAX < length front
+    → NoNewline (take (LINE_MAX + 1) front) → BeginsLong room front
+found_long front room held long no_newline =
+    let size : length (take (LINE_MAX + 1) front) ≡ LINE_MAX + 1 = length-take (LINE_MAX + 1) front ∙ omega arith in
+    record {
+      front = take (LINE_MAX + 1) front;
+      rest = drop (LINE_MAX + 1) front;
+      parts = sym (take-append-drop (LINE_MAX + 1) front);
+      no_newline = no_newline;
+      long = omega arith;
+      within = omega arith;
+    }
+
+-- no more may be taken
+pub found_full : (front : List ℕ) (room : ℕ) → length front ≡ room → length front ≤ LINE_MAX
+    → NoNewline (take (LINE_MAX + 1) front) → FillsRoom room front
+found_full front room full short no_newline =
+    record {
+      front = front;
+      rest = [];
+      parts = sym (append-nil front);
+      no_newline = subst (λ xs. NoNewline xs) (take_all (LINE_MAX + 1) front (omega arith)) no_newline;
+      short = short;
+      full = full;
+    }
+
+-- more may come
+pub found_unfinished : (held : Held) → length held.front < held.room → length held.front ≤ LINE_MAX
+    → NoNewline (take (LINE_MAX + 1) held.front) → IsUnfinished held
+found_unfinished held more short no_newline =
+    record {
+      no_newline = subst (λ xs. NoNewline xs) (take_all (LINE_MAX + 1) held.front (omega arith)) no_newline;
+      short = short;
+      more = more;
+    }

@@ -1,0 +1,14 @@
+-- What is always true of a line buffer's fields.
+use Rattle.std.specs.Prelude.{◌≡◌, ◌-◌, ◌≤◌, vec_len}
+use Rattle.pc_outside.specs.declared.line_buffer.LineBuf.TheInside.{Inside}
+use Rattle.pc_outside.specs.declared.line_buffer.TheConstants.{BUFFER_LEN, INPUT_MAX}
+
+-- both parts lie in the buffer, and what is held was taken
+pub record IsSound (buf : Inside) : Type 0 where
+  pub size : vec_len buf.octets ≡ BUFFER_LEN
+  pub front : buf.from ≤ buf.to
+  pub front_end : buf.to ≤ BUFFER_LEN
+  pub line : buf.line_from ≤ buf.line_to
+  pub line_end : buf.line_to ≤ BUFFER_LEN
+  pub held : buf.to - buf.from ≤ buf.taken
+  pub taken : buf.taken ≤ INPUT_MAX

@@ -1,0 +1,26 @@
+-- What a line buffer holds.
+use Rattle.std.specs.Prelude.{ℕ, ◌<◌, ◌≤◌, List, length}
+use Rattle.pc_outside.specs.Line.{NoNewline, BeginsLong, FillsRoom}
+use Rattle.pc_outside.specs.declared.line_buffer.TheConstants.{LINE_MAX}
+use Rattle.pc_outside.specs.declared.reading.LineRead.{LineRead}
+use Rattle.pc_outside.specs.declared.reading.LineRead.TheVariants.{Line, End, ReadFault, LineLong, TooLong}
+
+-- the line that was read last, the octets read and not yet given, and the room from their front on
+pub record Held : Type 0 where
+  pub line : List ℕ
+  pub front : List ℕ
+  pub room : ℕ
+
+-- an unfinished line waits for more octets, and there is room for them
+pub record IsUnfinished (held : Held) : Type 0 where
+  pub no_newline : NoNewline held.front
+  pub short : length held.front ≤ LINE_MAX
+  pub more : length held.front < held.room
+
+-- whatever the source gives, this is the answer from here on
+abbrev pub HasStopped : LineRead → Held → Type 0
+HasStopped Line held = ⊥
+HasStopped End held = ⊥
+HasStopped ReadFault held = ⊥
+HasStopped LineLong held = BeginsLong held.room held.front
+HasStopped TooLong held = FillsRoom held.room held.front

@@ -1,0 +1,10 @@
+pub mod Faults
+pub mod Line
+pub mod LineReads
+pub mod Steps
+pub mod Held
+pub mod Fronts
+pub mod Memory
+pub mod Buffer
+pub mod OneAnswer
+pub mod Streams

@@ -1,0 +1,44 @@
+-- A line at the front of octets, by the octets alone. A room is how many octets may still be given.
+use Rattle.std.specs.Prelude.{◌≡◌, ◌≢◌, ℕ, ◌+◌, ◌<◌, ◌≤◌, ◌⊎◌, List, [], ◌∷◌, ◌++◌, length, All}
+use Rattle.pc_outside.specs.declared.line_buffer.TheConstants.{LINE_MAX, NEWLINE}
+
+-- none of the octets ends a line
+abbrev pub NoNewline : List ℕ → Type 0
+NoNewline octets = All (λ octet. octet ≢ NEWLINE) octets
+
+-- the octets are the line with its newline, and then the rest
+pub record IsWholeLine (room after : ℕ) (octets rest line : List ℕ) : Type 0 where
+  pub parts : octets ≡ line ++ NEWLINE ∷ rest
+  pub given : room ≡ length line + 1 + after
+
+-- the octets are a last line without newline, which isn't empty, and more could have come
+pub record IsLastLine (room after : ℕ) (octets rest line : List ℕ) : Type 0 where
+  pub whole : octets ≡ line
+  pub some : 0 < length line
+  pub none_left : rest ≡ []
+  pub given : room ≡ length line + after
+  pub more : 0 < after
+
+-- with this room the octets begin with the line, and then come the rest and its room
+pub record HoldsLine (room after : ℕ) (octets rest line : List ℕ) : Type 0 where
+  pub no_newline : NoNewline line
+  pub short : length line ≤ LINE_MAX
+  pub form : IsWholeLine room after octets rest line ⊎ IsLastLine room after octets rest line
+
+-- within the room the octets begin with more than a line may have
+pub record BeginsLong (room : ℕ) (octets : List ℕ) : Type 0 where
+  pub front : List ℕ
+  pub rest : List ℕ
+  pub parts : octets ≡ front ++ rest
+  pub no_newline : NoNewline front
+  pub long : LINE_MAX < length front
+  pub within : length front ≤ room
+
+-- the octets fill the room with an unfinished line that isn't too long
+pub record FillsRoom (room : ℕ) (octets : List ℕ) : Type 0 where
+  pub front : List ℕ
+  pub rest : List ℕ
+  pub parts : octets ≡ front ++ rest
+  pub no_newline : NoNewline front
+  pub short : length front ≤ LINE_MAX
+  pub full : length front ≡ room

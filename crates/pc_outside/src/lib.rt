@@ -1,0 +1,24 @@
+//! The edge between the program and its streams: octets read in pieces and given out as lines,
+//! and octets written whole. Sources and sinks over memory, for tests, tell their octets; those
+//! over the standard streams are the trusted edge. What a line means is left to others.
+#![tactic(auto)]
+
+mod line_buffer;
+mod memory;
+mod reading;
+mod sinks;
+mod sources;
+mod std_streams;
+mod writing;
+
+pub use line_buffer::{INPUT_MAX, LINE_MAX, LineBuf, NEWLINE};
+pub use memory::{MemSink, MemSource};
+pub use reading::{LineRead, one_answer, read_line};
+pub use sinks::Sink;
+pub use sources::{Failed, Source};
+pub use std::alloc::AllocError as NoMemory;
+pub use std_streams::{StdSink, StdSource};
+pub use writing::{WriteFault, write_whole};
+
+#[cfg(test)]
+mod tests;

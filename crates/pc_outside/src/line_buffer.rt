@@ -1,0 +1,226 @@
+// The buffer that lines are read through.
+ghost use Rattle.std.specs.Prelude.{◌≡◌, ◌+◌, ◌-◌, ◌<◌, ◌≤◌, ◌++◌, ◌∷◌, [], length, take, drop, slice_range, vec_len, IfOk, IfSome, IfNone, OnErr};
+ghost use Rattle.std.specs.Io.KnownBytes.{Consumes, IsAtEnd, Keeps};
+ghost use Rattle.pc_outside.specs.Faults.{Rises};
+ghost use Rattle.pc_outside.specs.Line.{NoNewline};
+
+use super::NoMemory;
+use super::reading::LineRead;
+use super::sources::{Failed, Source};
+use memchr::memchr;
+use std::alloc::Global;
+use std::marker::Model;
+
+/// The octet that ends a line.
+pub const NEWLINE: u8 = b'\n';
+
+/// How many octets a line may have, its newline aside.
+pub const LINE_MAX: usize = 132_000;
+
+/// How many octets are read in all.
+pub const INPUT_MAX: u64 = 0x100_0000_0000;
+
+/// How many octets the buffer holds: an unfinished line, and a large piece behind it.
+const BUFFER_LEN: usize = 0x4_0000;
+
+/// The octets read ahead, and the line that was read last.
+#[derive(Drop)]
+pub struct LineBuf {
+    octets: Vec<u8>,
+
+    // The octets read and not yet given.
+    from: usize,
+    to: usize,
+
+    // The line that was read last.
+    line_from: usize,
+    line_to: usize,
+    taken: u64,
+}
+
+impl Model for LineBuf {
+    ghost use Rattle.std.specs.Prelude.{◌≡◌, ◌+◌, ◌-◌, ◌≤◌, vec_len, slice_range};
+    ghost use Rattle.pc_outside.specs.declared.line_buffer.TheConstants.{BUFFER_LEN, INPUT_MAX};
+    ghost use Rattle.pc_outside.specs.Held.{Held};
+
+    ghost Value = { Held };
+
+    ghost view = { λ buf. record {
+      line = slice_range buf.octets.items buf.line_from buf.line_to;
+      front = slice_range buf.octets.items buf.from buf.to;
+      room = INPUT_MAX + (buf.to - buf.from) - buf.taken;
+    } };
+
+    ghost use Rattle.pc_outside.specs.Buffer.{IsSound};
+
+    ghost invariant = { IsSound };
+}
+
+impl LineBuf {
+    ghost use Rattle.std.specs.Prelude.{◌≡◌, ◌+◌, ◌≤◌, [], length, take, IfOk, IfSome, IfNone, OnErr};
+    ghost use Rattle.std.specs.Io.KnownBytes.{IsAtEnd, Keeps};
+    ghost use Rattle.pc_outside.specs.Faults.{Rises};
+    ghost use Rattle.pc_outside.specs.Line.{NoNewline};
+    ghost use Rattle.pc_outside.specs.Held.{IsUnfinished};
+    ghost use Rattle.pc_outside.specs.Steps.{Settles, Gains, Finishes};
+
+    /// A buffer that nothing was read into. All its memory is taken here.
+    pub fn new(alloc: Global) -> Result<LineBuf, NoMemory>
+        ensures { IfOk result (λ buf. buf ≡ record { line = []; front = []; room = INPUT_MAX }) }
+    {
+        let octets = vec![in alloc; 0u8; BUFFER_LEN]?;
+        Ok(LineBuf {
+            octets,
+            from: 0,
+            to: 0,
+            line_from: 0,
+            line_to: 0,
+            taken: 0,
+        })
+    }
+
+    /// The line that was read last, without its newline. It is empty after any answer but `Line`.
+    pub fn line(&self) -> &[u8]
+        ensures { result.now ≡ self.now.line }
+    {
+        &self.octets[self.line_from..self.line_to]
+    }
+
+    /// How many octets were read so far.
+    pub fn taken(&self) -> u64
+        ensures { result + self.now.room ≡ INPUT_MAX + length self.now.front }
+    {
+        self.taken
+    }
+
+    pub(super) fn front_len(&self) -> usize
+        ensures { result ≡ length self.now.front }
+    {
+        self.to - self.from
+    }
+
+    pub(super) fn forget_line(&mut self)
+        ensures { self.new ≡ record self.old { line = [] } }
+    {
+        self.line_from = 0;
+        self.line_to = 0;
+    }
+
+    // The answer that the octets held give, whatever comes behind them. The first `seen` of them
+    // are known to end no line. `None`: more are needed.
+    pub(super) fn settle(&mut self, seen: usize) -> Option<LineRead>
+        requires seen_held { seen ≤ length self.old.front }
+        requires seen_short { seen ≤ LINE_MAX }
+        requires seen_none { NoNewline (take seen self.old.front) }
+
+        ensures settled { IfSome result (λ read. Settles read self.old self.new) }
+        ensures waits { IfNone result ((self.new ≡ self.old) × IsUnfinished self.new) }
+    {
+        let front = &self.octets[self.from..self.to];
+        match line_len(front, seen) {
+            Some(len) => {
+                self.line_from = self.from;
+                self.line_to = self.from + len;
+                self.from = self.line_to + 1;
+                Some(LineRead::Line)
+            }
+            None if front.len() > LINE_MAX => Some(LineRead::LineLong),
+            None if self.taken == INPUT_MAX => Some(LineRead::TooLong),
+            None => None,
+        }
+    }
+
+    // Reads more octets behind an unfinished line, which is moved to the start first.
+    pub(super) fn refill<S: Source>(&mut self, source: &mut S) -> Result<usize, Failed>
+        requires no_line { self.old.line ≡ [] }
+        requires unfinished { IsUnfinished self.old }
+
+        ensures gains { IfOk result (Gains self.old self.new (S.left source.old) (S.left source.new)) }
+        ensures end { IfOk result (λ count. count ≡ 0 → IsAtEnd (S.left source.new)) }
+        ensures kept { OnErr result ((self.new ≡ self.old) × Keeps (S.left source.old) (S.left source.new)) }
+
+        ensures later { S.faults source.old ≤ S.faults source.new }
+        ensures cause { OnErr result (Rises (S.faults source.old) (S.faults source.new)) }
+    {
+        self.line_from = 0;
+        self.line_to = 0;
+        move_to_start(&mut self.octets, self.from, self.to);
+        self.to -= self.from;
+        self.from = 0;
+        let room = (INPUT_MAX - self.taken) as usize;
+        let end = self.to + room.min(BUFFER_LEN - self.to);
+        let count = read_between(source, &mut self.octets, self.to, end)?;
+        self.to += count;
+        self.taken += count as u64;
+        Ok(count)
+    }
+
+    // At the end of the source an unfinished line that isn't empty is the last one.
+    pub(super) fn finish(&mut self) -> LineRead
+        requires no_line { self.old.line ≡ [] }
+        requires unfinished { IsUnfinished self.old }
+        ensures { Finishes result self.old self.new }
+    {
+        if self.from == self.to {
+            return LineRead::End;
+        }
+        self.line_from = self.from;
+        self.line_to = self.to;
+        self.from = self.to;
+        LineRead::Line
+    }
+}
+
+// Where the first newline stands, if within a line's length. The first `seen` octets are none.
+fn line_len(front: &[u8], seen: usize) -> Option<usize>
+    requires seen_held { seen ≤ length front.now }
+    requires seen_short { seen ≤ LINE_MAX }
+    requires seen_none { NoNewline (take seen front.now) }
+
+    ensures within { IfSome result (λ len. len < length front.now) }
+    ensures short { IfSome result (λ len. len ≤ LINE_MAX) }
+    ensures line { IfSome result (λ len. NoNewline (take len front.now)) }
+    ensures newline { IfSome result (λ len. drop len front.now ≡ NEWLINE ∷ drop (len + 1) front.now) }
+    ensures none { IfNone result (NoNewline (take (LINE_MAX + 1) front.now)) }
+{
+    let end = (LINE_MAX + 1).min(front.len());
+    match memchr(NEWLINE, &front[seen..end]) {
+        Some(at) => Some(seen + at),
+        None => None,
+    }
+}
+
+// Moves the octets of a range to the start.
+fn move_to_start(octets: &mut Vec<u8>, from: usize, to: usize)
+    requires ordered { from ≤ to }
+    requires within { to ≤ vec_len octets.old }
+    ensures len { vec_len octets.new ≡ vec_len octets.old }
+    ensures moved { slice_range octets.new.items 0 (to - from) ≡ slice_range octets.old.items from to }
+{
+    if from > 0 {
+        octets.copy_within(from..to, 0);
+    }
+}
+
+// Reads into a range, and leaves what stands before it.
+fn read_between<S: Source>(
+    source: &mut S,
+    octets: &mut Vec<u8>,
+    at: usize,
+    end: usize,
+) -> Result<usize, Failed>
+    requires some { at < end }
+    requires within { end ≤ vec_len octets.old }
+
+    ensures len { vec_len octets.new ≡ vec_len octets.old }
+    ensures before { take at octets.new.items ≡ take at octets.old.items }
+    ensures count { IfOk result (λ count. at + count ≤ end) }
+    ensures given { IfOk result (λ count. Consumes (S.left source.old) (S.left source.new) (slice_range octets.new.items at (at + count))) }
+    ensures end { IfOk result (λ count. count ≡ 0 → IsAtEnd (S.left source.new)) }
+    ensures kept { OnErr result (Keeps (S.left source.old) (S.left source.new)) }
+
+    ensures later { S.faults source.old ≤ S.faults source.new }
+    ensures cause { OnErr result (Rises (S.faults source.old) (S.faults source.new)) }
+{
+    source.read(&mut octets[at..end])
+}

@@ -1,0 +1,72 @@
+// Octets read in pieces are given out line by line.
+ghost use Rattle.std.specs.Prelude.{◌≡◌, ◌⊎◌, ◌≤◌, ℕ, List, ◌++◌};
+ghost use Rattle.std.specs.Io.KnownBytes.{prepend_known};
+ghost use Rattle.pc_outside.specs.Faults.{Rises};
+ghost use Rattle.pc_outside.specs.LineReads.{Answers, Reads};
+ghost use Rattle.pc_outside.specs.OneAnswer.{OneAnswer};
+ghost use Rattle.pc_outside.specs.Held.{HasStopped, IsUnfinished};
+
+use super::line_buffer::LineBuf;
+use super::sources::{Failed, Source};
+
+/// What came of reading a line.
+#[derive(Clone, Copy, Debug, PartialEq, Eq)]
+pub enum LineRead {
+    /// The next line is in the buffer, without its newline. A last line without newline counts
+    /// where it isn't empty.
+    Line,
+
+    /// The source is at its end, and nothing is left.
+    End,
+
+    /// The source failed. Nothing is lost, and a later call reads on.
+    ReadFault,
+
+    /// The next line has more than 132,000 octets.
+    LineLong,
+
+    /// 2^40 octets were read, no end came, and no whole line of them is left. The unfinished one
+    /// isn't too long.
+    TooLong,
+}
+
+/// Reads the next line into the buffer. It takes no memory.
+pub fn read_line<S: Source>(source: &mut S, buf: &mut LineBuf) -> LineRead
+    // The octets that the source tells, behind those held, give the answer.
+    ensures octets { Reads result buf.old.room buf.new.room (prepend_known buf.old.front (S.left source.old))
+        (prepend_known buf.new.front (S.left source.new)) buf.new.line }
+
+    // Whatever it tells, those held and some that it gave do.
+    ensures held { (given : List ℕ) × Answers result buf.old.room buf.new.room (buf.old.front ++ given)
+        buf.new.front buf.new.line }
+
+    // A fault is the source's, and comes only where more octets are needed.
+    ensures later { S.faults source.old ≤ S.faults source.new }
+    ensures fault { result ≡ LineRead.ReadFault → Rises (S.faults source.old) (S.faults source.new) }
+    ensures unfinished { result ≡ LineRead.ReadFault → IsUnfinished buf.new }
+
+    // After the last two answers each later one is the same, and nothing is read.
+    ensures stopped { (result ≡ LineRead.LineLong) ⊎ (result ≡ LineRead.TooLong) → HasStopped result buf.new }
+    ensures stays { (stop : LineRead) → HasStopped stop buf.old
+        → (result ≡ stop) × (source.new ≡ source.old) × (buf.new.front ≡ buf.old.front) }
+{
+    buf.forget_line();
+    let mut seen = 0;
+    loop {
+        if let Some(read) = buf.settle(seen) {
+            return read;
+        }
+        seen = buf.front_len();
+        match buf.refill(source) {
+            Ok(0) => return buf.finish(),
+            Ok(_) => {}
+            Err(Failed) => return LineRead::ReadFault,
+        }
+    }
+}
+
+/// The octets decide the answer: no two answers but `ReadFault` fit the same octets and room,
+/// nor two lines or two rests.
+pub fn one_answer()
+    ensures { OneAnswer }
+{}

@@ -1,0 +1,100 @@
+use super::*;
+use std::alloc::{AllocError, Global};
+use std::test::Fail;
+
+// The answers until the end or a stop, as text: a line and `|`, `!` a fault, `.` the end, `L` and
+// `T` the stops.
+fn answers(
+    alloc: Global,
+    octets: &[u8],
+    piece: usize,
+    fail_at: &[u64],
+) -> Result<Vec<u8>, AllocError> {
+    let octets = Vec::from_slice(alloc, octets)?;
+    let fail_at = Vec::from_slice(alloc, fail_at)?;
+    let mut source = MemSource::new(octets, piece.max(1), fail_at)?;
+    let mut buf = LineBuf::new(alloc)?;
+    let mut text = Vec::new(alloc);
+    for _ in 0..20 {
+        match read_line(&mut source, &mut buf) {
+            LineRead::Line => {
+                text.extend_from_slice(buf.line())?;
+                text.extend_from_slice(b"|")?;
+            }
+            LineRead::ReadFault => text.extend_from_slice(b"!")?,
+            LineRead::LineLong => text.extend_from_slice(b"L")?,
+            LineRead::TooLong => text.extend_from_slice(b"T")?,
+            LineRead::End => {
+                text.extend_from_slice(b".")?;
+                break;
+            }
+        }
+    }
+    Ok(text)
+}
+
+#[test]
+fn lines_over_pieces(rt: HostRuntime) -> Result<(), Fail> {
+    let texts: [(&[u8], &[u8]); 5] = [
+        (b"", b"."),
+        (b"\n", b"|."),
+        (b"ab\n\ncd\n", b"ab||cd|."),
+        (b"ab\ncd", b"ab|cd|."),
+        (b"\n\nx", b"||x|."),
+    ];
+    for (octets, want) in texts {
+        for piece in [1, 3, 64] {
+            let got = answers(rt.alloc(), octets, piece, &[])?;
+            assert_eq!(rt; got.as_slice(), want);
+        }
+    }
+    Ok(())
+}
+
+#[test]
+fn faults_lose_nothing(rt: HostRuntime) -> Result<(), Fail> {
+    let got = answers(rt.alloc(), b"abcd\nef", 3, &[0, 2, 5])?;
+    assert_eq!(rt; got.as_slice(), b"!!abcd|!ef|.".as_slice());
+    Ok(())
+}
+
+#[test]
+fn longest_line(rt: HostRuntime) -> Result<(), Fail> {
+    for (len, read) in [(132_000, LineRead::Line), (132_001, LineRead::LineLong)] {
+        let mut octets = Vec::new(rt.alloc());
+        octets.resize(len, b'1')?;
+        let mut source = MemSource::new(octets, 100_000, Vec::new(rt.alloc()))?;
+        let mut buf = LineBuf::new(rt.alloc())?;
+        assert_eq!(rt; read_line(&mut source, &mut buf), read);
+        let taken = buf.taken();
+        assert_eq!(rt; taken, len as u64);
+    }
+    Ok(())
+}
+
+#[test]
+fn writes_in_pieces(rt: HostRuntime) -> Result<(), Fail> {
+    for (room, fail_at, want, ok) in [
+        (9, 9, b"abcdefgh".as_slice(), true),
+        (9, 2, b"abcdef".as_slice(), false),
+        (4, 9, b"abcd".as_slice(), false),
+    ] {
+        let fail_at = Vec::from_slice(rt.alloc(), &[fail_at])?;
+        let mut sink = MemSink::new(rt.alloc(), room, 3, fail_at)?;
+        let got = write_whole(&mut sink, b"abcdefgh");
+        assert_eq!(rt; got.is_ok(), ok);
+        assert_eq!(rt; sink.written(), want);
+    }
+    Ok(())
+}
+
+#[test]
+fn streams_of_the_system(rt: HostRuntime) -> Result<(), Fail> {
+    let mut source = StdSource::new(b"a\nb".as_slice());
+    let mut buf = LineBuf::new(rt.alloc())?;
+    let mut sink = StdSink::new(Vec::new(rt.alloc()));
+    assert_eq!(rt; read_line(&mut source, &mut buf), LineRead::Line);
+    assert_eq!(rt; buf.line(), b"a".as_slice());
+    assert!(rt; write_whole(&mut sink, buf.line()).is_ok());
+    Ok(())
+}

@@ -1,0 +1,9 @@
+pub mod Word
+pub mod Refused
+pub mod Fields
+pub mod Number
+pub mod Arguments
+pub mod Line
+pub mod Meaning
+pub mod Memory
+pub mod Input
