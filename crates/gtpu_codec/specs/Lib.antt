@@ -1,0 +1,4 @@
+pub mod Head
+pub mod Kind
+pub mod Refusal
+pub mod Spelling
