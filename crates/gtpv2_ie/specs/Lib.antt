@@ -1,0 +1,11 @@
+pub mod Numbers
+pub mod Stand
+pub mod Element
+pub mod Fields
+pub mod Imsi
+pub mod Kind
+pub mod Context
+pub mod Value
+pub mod Spelling
+pub mod Validity
+pub mod ReadBack

@@ -1,0 +1,85 @@
+ghost use Rattle.std.specs.Prelude.{◌≡◌, ◌<◌, ◌≤◌, ◌+◌, ◌^◌, length, IfOk, IfSome};
+ghost use Rattle.gtpv2_ie.specs.Fields as grammar;
+ghost use Rattle.gtpv2_ie.specs.Kind.{least_len};
+ghost use Rattle.gtpv2_ie.specs.Numbers as numbers;
+ghost use Rattle.gtpv2_ie.specs.Validity.{IsEbi};
+
+use crate::kind::IeKind;
+use crate::octets::IeOctets;
+use std::alloc::{AllocError as NoMemory, Global};
+
+/// The number of four octets that begins at a place.
+pub fn number32(octets: &[u8], at: usize) -> u32
+    requires { at + 4 ≤ length octets.now }
+    ensures { result ≡ numbers.number32 octets.now at }
+{
+    u32::from_be_bytes([octets[at], octets[at + 1], octets[at + 2], octets[at + 3]])
+}
+
+/// The number of five octets that begins at a place.
+pub fn number40(octets: &[u8], at: usize) -> u64
+    requires { at + 5 ≤ length octets.now }
+    ensures value { result ≡ numbers.number40 octets.now at }
+    ensures range { result < 2 ^ 40 }
+{
+    u64::from_be_bytes([
+        0,
+        0,
+        0,
+        octets[at],
+        octets[at + 1],
+        octets[at + 2],
+        octets[at + 3],
+        octets[at + 4],
+    ])
+}
+
+/// The EPS bearer identity that octets spell.
+pub fn ebi_of(octets: &[u8]) -> Option<u8>
+    requires { least_len IeKind.Ebi ≤ length octets.now }
+    ensures value { result ≡ grammar.ebi_of octets.now }
+    ensures valid { IfSome result IsEbi }
+{
+    let ebi = octets[0] & 15;
+    if ebi == 0 || ebi >= 5 {
+        Some(ebi)
+    } else {
+        None
+    }
+}
+
+/// The PDN type that octets spell.
+pub fn pdn_of(octets: &[u8]) -> Option<u8>
+    requires { least_len IeKind.Pdn ≤ length octets.now }
+    ensures { result ≡ grammar.pdn_of octets.now }
+{
+    let pdn = octets[0] & 7;
+    if pdn >= 1 && pdn <= 3 {
+        Some(pdn)
+    } else {
+        None
+    }
+}
+
+/// The IPv4 address that octets spell.
+pub fn paa_of(octets: &[u8]) -> Option<u32>
+    requires { least_len IeKind.Paa ≤ length octets.now }
+    ensures { result ≡ grammar.paa_of octets.now }
+{
+    if octets[0] & 7 == 1 {
+        Some(number32(octets, 1))
+    } else {
+        None
+    }
+}
+
+/// Octets that are not looked into, at most so many.
+pub fn octets_of(alloc: Global, octets: &[u8], most: usize) -> Result<Option<IeOctets>, NoMemory>
+    ensures { IfOk result (λ found. found ≡ grammar.octets_of most octets.now) }
+{
+    if octets.len() <= most {
+        Ok(Some(IeOctets::of(Vec::from_slice(alloc, octets)?)))
+    } else {
+        Ok(None)
+    }
+}

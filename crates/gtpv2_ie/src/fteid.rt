@@ -1,0 +1,93 @@
+ghost use Rattle.std.specs.Prelude.{◌≡◌, ◌≤◌, ◌<◌, ◌++◌, length, IfSome, OnOk};
+ghost use Rattle.gtpv2_ie.specs.Fields.{fteid_of};
+ghost use Rattle.gtpv2_ie.specs.Kind.{least_len};
+ghost use Rattle.gtpv2_ie.specs.Spelling.{ie_octets, fteid_octets};
+ghost use Rattle.gtpv2_ie.specs.Validity.{IsFteid};
+
+use crate::fields::number32;
+use crate::kind::IeKind;
+use crate::writing::push_header;
+use std::alloc::AllocError as NoMemory;
+use std::marker::Model;
+
+/// The highest bit of an F-TEID's first octet: an IPv4 address stands in it.
+const V4: u8 = 128;
+
+/// A fully qualified tunnel endpoint with an IPv4 address (TS 29.274, 8.22).
+/// 1: V4 * V6 * interface (6)   2-5: TEID   6-9: IPv4 address
+#[derive(Clone, Copy, Debug, PartialEq, Eq)]
+pub struct Fteid {
+    /// The interface type, below 64: 0 S1-U eNodeB, 1 S1-U SGW, 10 S11 MME, 11 S11 SGW.
+    pub interface: u8,
+    pub teid: u32,
+    pub addr: u32,
+}
+
+/// The F-TEIDs of a Bearer Context, each behind its instance. Seen as their list.
+#[derive(Debug, Drop)]
+pub struct Fteids {
+    entries: Vec<(u8, Fteid)>,
+}
+
+impl Model for Fteids {
+    ghost use Rattle.std.specs.Prelude.{List, ℕ};
+    ghost use Rattle.gtpv2_ie.specs.declared.fteid.Fteid.{Fteid};
+
+    ghost Value = { List (ℕ × Fteid) };
+
+    ghost view = { λ s. s.entries.items };
+}
+
+impl Fteids {
+    ghost use Rattle.std.specs.Prelude.{◌≡◌, [], ◌∷◌, ◌++◌, OnOk};
+
+    /// These F-TEIDs. Takes no memory.
+    pub fn of(entries: Vec<(u8, Fteid)>) -> Fteids
+        ensures { result ≡ entries.items }
+    {
+        Fteids { entries }
+    }
+
+    /// Lends the F-TEIDs. Takes no memory.
+    pub fn as_slice(&self) -> &[(u8, Fteid)]
+        ensures { result.now ≡ self.now }
+    {
+        self.entries.as_slice()
+    }
+
+    /// Appends an F-TEID.
+    pub(crate) fn push(&mut self, instance: u8, fteid: Fteid) -> Result<(), NoMemory>
+        ensures { OnOk result (self.new ≡ self.old ++ (instance, fteid) ∷ []) }
+    {
+        self.entries.push((instance, fteid))?;
+        Ok(())
+    }
+}
+
+/// The F-TEID that nine octets or more spell: V4 is set.
+pub fn fteid_of(octets: &[u8]) -> Option<Fteid>
+    requires { least_len IeKind.Fteid ≤ length octets.now }
+    ensures value { result ≡ fteid_of octets.now }
+    ensures valid { IfSome result IsFteid }
+{
+    let first = octets[0];
+    if first < V4 {
+        return None;
+    }
+    Some(Fteid {
+        interface: first & 63,
+        teid: number32(octets, 1),
+        addr: number32(octets, 5),
+    })
+}
+
+/// Appends an F-TEID as an element.
+pub fn push_fteid(out: &mut Vec<u8>, instance: u8, fteid: &Fteid) -> Result<(), NoMemory>
+    requires { fteid.now.interface < 64 }
+    ensures { OnOk result (out.new.items ≡ out.old.items ++ ie_octets 87 instance (fteid_octets fteid.now)) }
+{
+    push_header(out, IeKind::Fteid, instance, 9)?;
+    out.push(V4 + fteid.interface)?;
+    out.extend_from_slice(&fteid.teid.to_be_bytes())?;
+    out.extend_from_slice(&fteid.addr.to_be_bytes())
+}

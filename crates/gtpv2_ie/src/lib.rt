@@ -1,0 +1,38 @@
+//! GTPv2-C information elements, both ways (TS 29.274, section 8), in plain numbers.
+//! Reads the thirteen kinds of a small gateway out of hostile octets, and writes them.
+//! Which elements a message must have, and its own header, are left to the layer above.
+#![tactic(auto)]
+
+mod cause;
+mod context;
+mod fault;
+mod fields;
+mod fteid;
+mod imsi;
+mod kind;
+mod laws;
+mod octets;
+mod qos;
+mod raw;
+mod reading;
+mod value;
+mod writing;
+
+pub use cause::CauseIe;
+pub use context::Context;
+pub use fault::IeBad;
+pub use fteid::{Fteid, Fteids};
+pub use kind::IeKind;
+pub use laws::elements_read_back;
+pub use octets::IeOctets;
+pub use qos::QosIe;
+pub use raw::{RawIe, read_ies};
+pub use reading::read_value;
+pub use value::{Ie, IeValue};
+pub use writing::write_ie;
+
+/// Memory ran out.
+pub use std::alloc::AllocError as NoMemory;
+
+#[cfg(test)]
+mod tests;
