@@ -1,0 +1,167 @@
+-- What a fault says: one of a header comes first, and one of an element is of instance 0.
+use Rattle.std.proofs.Common.{◌≡◌, ℕ, ◌+◌, ◌-◌, ◌≤◌, Bool, true, false, eqb, ltb, cond, not, ◌||◌, List, [], ◌∷◌, length, Option, Some, None, Result, Ok, Err, refl, ap, subst, ◌∙◌, arith}
+use Rattle.std.specs.Prelude.{IfSome}
+use Rattle.std.specs.List.{find, list_any, AllByRecursion}
+use Rattle.std.specs.Option.{option_or}
+use Rattle.std.proofs.lemmas.Bool.{eqb-true, ltb-false}
+use Rattle.gtpv2_ie.specs.declared.fault.IeBad.{IeBad}
+use Rattle.gtpv2_ie.specs.declared.raw.RawIe.{RawIe}
+use Rattle.gtpv2_ie.specs.Stand.{ies_of}
+use Rattle.gtpv2_msg.specs.declared.element.ReadIe.{ReadIe}
+use Rattle.gtpv2_msg.specs.declared.fault.CBad.{CBad}
+use Rattle.gtpv2_msg.specs.declared.fault.CBad.TheVariants as bads
+use Rattle.gtpv2_msg.specs.declared.table.Part.{Part}
+use Rattle.gtpv2_msg.specs.Elements.{read_ies, contexts_in}
+use Rattle.gtpv2_msg.specs.Header.{IsRight, version_of, has_piggyback, has_teid, kind_of, end_of, header_len, body_of}
+use Rattle.gtpv2_msg.specs.Kinds.{requests, is_request, is_kind}
+use Rattle.gtpv2_msg.specs.Refusal.{header_fault, has_wrong_length, elements_fault, body_fault, first_fault}
+use Rattle.gtpv2_msg.specs.Required.{Row, required, will_do, is_first, part_octet, element_fault, part_fault, parts_fault, context_fault, inside_fault, contexts_fault, row_fault}
+
+-- a fault of a header
+abbrev OfHeader : CBad → Type 0
+OfHeader (bads.Missing kind instance) = ⊥
+OfHeader (bads.Incorrect kind instance) = ⊥
+OfHeader bad = Unit {0}
+
+-- a fault of an element is of instance 0
+abbrev OfFirst : CBad → Type 0
+OfFirst (bads.Missing kind instance) = instance ≡ 0
+OfFirst (bads.Incorrect kind instance) = instance ≡ 0
+OfFirst bad = Unit {0}
+
+one_test : (P : CBad → Type 0) (test : Bool) (bad : CBad) (rest : Option CBad) → P bad → IfSome rest P → IfSome (cond test (Some bad) rest) P
+one_test P true bad rest first others = first
+one_test P false bad rest first others = others
+
+no_test : (P : CBad → Type 0) (test : Bool) (bad : CBad) → P bad → IfSome (cond test None (Some bad)) P
+no_test P true bad is = tt
+no_test P false bad is = is
+
+either : (P : CBad → Type 0) (first second : Option CBad) → IfSome first P → IfSome second P → IfSome (option_or first second) P
+either P None second is_first is_second = is_second
+either P (Some bad) second is_first is_second = is_first
+
+header_faults : (P : CBad → Type 0) → P bads.Short → P bads.Version → P bads.Piggyback → P bads.Length → P bads.Kind
+    → (octets : List ℕ) → IfSome (header_fault octets) P
+header_faults P short version piggyback len kind octets =
+    one_test P (ltb (length octets) 8) bads.Short _ short
+    (one_test P (not (eqb (version_of octets) 2)) bads.Version _ version
+    (one_test P (has_piggyback octets) bads.Piggyback _ piggyback
+    (one_test P (has_wrong_length octets) bads.Length _ len
+    (one_test P (not (is_kind (kind_of octets))) bads.Kind None kind tt))))
+
+of_part : (part : Part) (ie : Option ReadIe) → IfSome (element_fault part ie) OfFirst
+of_part part None = refl
+of_part part (Some ie) = no_test OfFirst (will_do part ie.element) (bads.Incorrect (part_octet part) 0) refl
+
+of_parts : (ies : List ReadIe) (parts : List Part) → IfSome (parts_fault ies parts) OfFirst
+of_parts ies [] = tt
+of_parts ies (part ∷ parts) =
+    either OfFirst (part_fault ies part) (parts_fault ies parts) (of_part part (find (is_first (part_octet part)) ies)) (of_parts ies parts)
+
+of_context : (inside : List Part) (ies : Option (List ReadIe)) → IfSome (context_fault inside ies) OfFirst
+of_context inside None = refl
+of_context inside (Some ies) = of_parts ies inside
+
+of_inside : (inside : List Part) (contexts : List (Option (List ReadIe))) → IfSome (inside_fault inside contexts) OfFirst
+of_inside inside [] = tt
+of_inside inside (context ∷ contexts) =
+    either OfFirst (context_fault inside context) (inside_fault inside contexts) (of_context inside context) (of_inside inside contexts)
+
+of_contexts : (must : Bool) (inside : List Part) (contexts : List (Option (List ReadIe))) → IfSome (contexts_fault must inside contexts) OfFirst
+of_contexts true inside [] = refl
+of_contexts true inside (context ∷ contexts) = of_inside inside (context ∷ contexts)
+of_contexts false inside contexts = of_inside inside contexts
+
+of_row : (row : Row) (ies : List ReadIe) (contexts : List (Option (List ReadIe))) → IfSome (row_fault row ies contexts) OfFirst
+of_row row ies contexts =
+    either OfFirst (parts_fault ies row.before) (option_or (contexts_fault row.must row.inside contexts) (parts_fault ies row.after)) (of_parts ies row.before)
+    (either OfFirst (contexts_fault row.must row.inside contexts) (parts_fault ies row.after) (of_contexts row.must row.inside contexts) (of_parts ies row.after))
+
+of_body : (kind : ℕ) (octets : List ℕ) (read : Result (List RawIe) IeBad) → IfSome (elements_fault kind octets read) OfFirst
+of_body kind octets (Ok raws) = of_row (required kind) (read_ies octets raws) (contexts_in octets raws)
+of_body kind octets (Err bad) = tt
+
+of_first : (octets : List ℕ) → IfSome (first_fault octets) OfFirst
+of_first octets =
+    either OfFirst (header_fault octets) (body_fault (kind_of octets) (body_of octets)) (header_faults OfFirst tt tt tt tt tt octets)
+    (of_body (kind_of octets) (body_of octets) (ies_of (body_of octets)))
+
+of_some : (P : CBad → Type 0) (fault : Option CBad) (bad : CBad) → IfSome fault P → fault ≡ Some bad → P bad
+of_some P fault bad is told = let at : IfSome (Some bad) P = subst (λ f. IfSome f P) told is in at
+
+pub first_missing : (octets : List ℕ) (kind instance : ℕ) → first_fault octets ≡ Some (bads.Missing kind instance) → instance ≡ 0
+first_missing octets kind instance is = of_some OfFirst (first_fault octets) (bads.Missing kind instance) (of_first octets) is
+
+pub first_incorrect : (octets : List ℕ) (kind instance : ℕ) → first_fault octets ≡ Some (bads.Incorrect kind instance) → instance ≡ 0
+first_incorrect octets kind instance is = of_some OfFirst (first_fault octets) (bads.Incorrect kind instance) (of_first octets) is
+
+-- ---- a header without a fault is right
+
+behind : (header body : Option CBad) (bad : CBad) → IfSome header OfHeader → option_or header body ≡ Some bad → (OfHeader bad → ⊥) → header ≡ None
+behind None body bad is told other = refl
+behind (Some first) body bad is told other = absurd (other (of_some OfHeader (Some first) bad is told))
+
+untold : (test : Bool) (bad : CBad) (rest : Option CBad) → cond test (Some bad) rest ≡ None → (test ≡ false) × (rest ≡ None)
+untold true bad rest none = absurd cc
+untold false bad rest none = (refl, none)
+
+not_false : (test : Bool) → not test ≡ false → test ≡ true
+not_false true is = refl
+not_false false is = absurd cc
+
+neither : (first second : Bool) → (first || second) ≡ false → (first ≡ false) × (second ≡ false)
+neither true second is = absurd cc
+neither false second is = (refl, is)
+
+right_of : (octets : List ℕ) → header_fault octets ≡ None → IsRight octets
+right_of octets none =
+    let short = untold (ltb (length octets) 8) bads.Short _ none in
+    let version = untold (not (eqb (version_of octets) 2)) bads.Version _ short.1 in
+    let piggyback = untold (has_piggyback octets) bads.Piggyback _ version.1 in
+    let len = untold (has_wrong_length octets) bads.Length _ piggyback.1 in
+    let kind = untold (not (is_kind (kind_of octets))) bads.Kind None len.1 in
+    let lens = neither (ltb (length octets) (end_of octets)) (ltb (end_of octets) (header_len (has_teid octets))) len.0 in
+    record {
+      least = ltb-false _ _ short.0;
+      version = eqb-true _ _ (not_false _ version.0);
+      alone = piggyback.0;
+      whole = ltb-false _ _ lens.1;
+      inside = ltb-false _ _ lens.0;
+      kind = not_false _ kind.0;
+    }
+
+right_before : (octets : List ℕ) (bad : CBad) → (OfHeader bad → ⊥) → first_fault octets ≡ Some bad → IsRight octets
+right_before octets bad other is =
+    right_of octets (behind (header_fault octets) (body_fault (kind_of octets) (body_of octets)) bad (header_faults OfHeader tt tt tt tt tt octets) is other)
+
+-- where an element is at fault the header is right
+pub right_missing : (octets : List ℕ) (kind instance : ℕ) → first_fault octets ≡ Some (bads.Missing kind instance) → IsRight octets
+right_missing octets kind instance is = right_before octets (bads.Missing kind instance) (λ none. none) is
+
+pub right_incorrect : (octets : List ℕ) (kind instance : ℕ) → first_fault octets ≡ Some (bads.Incorrect kind instance) → IsRight octets
+right_incorrect octets kind instance is = right_before octets (bads.Incorrect kind instance) (λ none. none) is
+
+-- ---- the answer to a request is a known type
+
+one_below : (most kind x : ℕ) (is any : Bool) → eqb x kind ≡ is → x ≤ most → (any ≡ true → kind ≤ most) → (is || any) ≡ true → kind ≤ most
+one_below most kind x true any same le others some = let equal : x ≡ kind = eqb-true _ _ same in omega (arith, equal, le)
+one_below most kind x false any same le others some = others some
+
+below : (most kind : ℕ) (xs : List ℕ) → AllByRecursion (λ x. x ≤ most) xs → list_any (λ x. eqb x kind) xs ≡ true → kind ≤ most
+below most kind [] all any = absurd cc
+below most kind (x ∷ xs) all any = one_below most kind x (eqb x kind) (list_any (λ y. eqb y kind) xs) refl all.0 (below most kind xs all.1) any
+
+pub request_small : (kind : ℕ) → is_request kind ≡ true → kind ≤ 176
+unfolding is_request
+request_small kind is = below 176 kind requests (omega arith, (omega arith, (omega arith, (omega arith, (omega arith, (omega arith, (omega arith, (omega arith, (omega arith, tt))))))))) is
+
+or_true : (first : Bool) → (first || true) ≡ true
+or_true true = refl
+or_true false = refl
+
+pub answer_known : (kind : ℕ) → is_request kind ≡ true → is_kind (kind + 1) ≡ true
+unfolding is_kind
+answer_known kind is =
+    let back : kind + 1 - 1 ≡ kind = omega arith in
+    ap (λ k. is_request (kind + 1) || is_request k) back ∙ ap (λ b. is_request (kind + 1) || b) is ∙ or_true (is_request (kind + 1))

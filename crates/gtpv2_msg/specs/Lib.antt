@@ -1,0 +1,9 @@
+pub mod Kinds
+pub mod Message
+pub mod Header
+pub mod Required
+pub mod Elements
+pub mod Refusal
+pub mod Spelling
+pub mod Reading
+pub mod Validity
