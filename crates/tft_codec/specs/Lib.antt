@@ -1,0 +1,7 @@
+pub mod Component
+pub mod Filter
+pub mod Tft
+pub mod Spelling
+pub mod Reading
+pub mod Refusal
+pub mod Apply

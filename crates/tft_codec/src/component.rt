@@ -1,0 +1,174 @@
+//! The components of a packet filter.
+
+ghost use Rattle.std.specs.Prelude.{◌≡◌, ◌↔◌, IsTrue, IfSome, IfNone, IfOk, length, nat_eq};
+ghost use Rattle.tft_codec.specs.Component.{type_octet, component_text, IsComponent, AreComponents};
+ghost use Rattle.std.specs.List.{list_any};
+
+use std::alloc::AllocError;
+use std::marker::Model;
+
+/// Component type identifiers (TS 24.008, table 10.5.162).
+pub const REMOTE_ADDRESS: u8 = 0x10;
+
+pub const LOCAL_ADDRESS: u8 = 0x11;
+
+pub const PROTOCOL: u8 = 0x30;
+
+pub const LOCAL_PORT: u8 = 0x40;
+
+pub const LOCAL_PORT_RANGE: u8 = 0x41;
+
+pub const REMOTE_PORT: u8 = 0x50;
+
+pub const REMOTE_PORT_RANGE: u8 = 0x51;
+
+pub const SECURITY_PARAMETER_INDEX: u8 = 0x60;
+
+pub const TYPE_OF_SERVICE: u8 = 0x70;
+
+/// One condition on a packet. Remote is the far end, local the user's.
+#[derive(Clone, Copy, Debug, PartialEq, Eq)]
+pub enum Component {
+    /// IPv4 address and mask.
+    RemoteAddr(u32, u32),
+    /// IPv4 address and mask.
+    LocalAddr(u32, u32),
+    /// Protocol number of the IPv4 header.
+    Protocol(u8),
+    LocalPort(u16),
+    /// Lowest and highest port. One with low above high is fitted by no port.
+    LocalRange(u16, u16),
+    RemotePort(u16),
+    /// Lowest and highest port. One with low above high is fitted by no port.
+    RemoteRange(u16, u16),
+    /// Security parameter index of ESP or AH.
+    Spi(u32),
+    /// Type of service and mask.
+    Tos(u8, u8),
+}
+
+impl Component {
+    /// The type octet. No two components of a filter have the same.
+    pub fn type_octet(&self) -> u8
+        ensures { result ≡ type_octet self.now }
+    {
+        match self {
+            Component::RemoteAddr(_, _) => REMOTE_ADDRESS,
+            Component::LocalAddr(_, _) => LOCAL_ADDRESS,
+            Component::Protocol(_) => PROTOCOL,
+            Component::LocalPort(_) => LOCAL_PORT,
+            Component::LocalRange(_, _) => LOCAL_PORT_RANGE,
+            Component::RemotePort(_) => REMOTE_PORT,
+            Component::RemoteRange(_, _) => REMOTE_PORT_RANGE,
+            Component::Spi(_) => SECURITY_PARAMETER_INDEX,
+            Component::Tos(_, _) => TYPE_OF_SERVICE,
+        }
+    }
+
+    /// How many octets the component takes, the type octet among them: 2 to 9.
+    pub(crate) fn text_len(&self) -> usize
+        ensures { result ≡ length (component_text self.now) }
+    {
+        match self {
+            Component::RemoteAddr(_, _) | Component::LocalAddr(_, _) => 9,
+            Component::Protocol(_) => 2,
+            Component::LocalPort(_) | Component::RemotePort(_) => 3,
+            Component::LocalRange(_, _) | Component::RemoteRange(_, _) | Component::Spi(_) => 5,
+            Component::Tos(_, _) => 3,
+        }
+    }
+
+    /// Each number is in the range of its type.
+    pub(crate) fn known(&self)
+        ensures { IsComponent self.now }
+    {
+        match self {
+            Component::RemoteAddr(first, second) | Component::LocalAddr(first, second) => {
+                let (_first, _second) = (*first, *second);
+            }
+            Component::LocalRange(low, high) | Component::RemoteRange(low, high) => {
+                let (_low, _high) = (*low, *high);
+            }
+            Component::Tos(value, mask) => {
+                let (_value, _mask) = (*value, *mask);
+            }
+            Component::Protocol(number) => {
+                let _number = *number;
+            }
+            Component::LocalPort(port) | Component::RemotePort(port) => {
+                let _port = *port;
+            }
+            Component::Spi(spi) => {
+                let _spi = *spi;
+            }
+        }
+    }
+}
+
+/// Whether one of the components has that type.
+pub(crate) fn has_type(items: &[Component], octet: u8) -> bool
+    ensures { result ≡ list_any (λ c. nat_eq octet (type_octet c)) items.now }
+{
+    items.iter().any(|item| octet == item.type_octet())
+}
+
+/// Whether no two of the components have one type.
+fn are_components(items: &[Component]) -> bool
+    ensures { IsTrue result ↔ AreComponents items.now }
+{
+    for (i, item) in items.iter().enumerate() {
+        item.known();
+        if has_type(&items[..i], item.type_octet()) {
+            return false;
+        }
+    }
+    true
+}
+
+/// The components of one filter, of different types, in the order of their octets.
+#[derive(Debug, Drop)]
+pub struct Components {
+    pub(crate) items: Vec<Component>,
+}
+
+impl Model for Components {
+    ghost use Rattle.std.specs.Prelude.{List};
+    ghost use Rattle.tft_codec.specs.declared.component.Component.{Component};
+    ghost use Rattle.tft_codec.specs.Component.{AreComponents};
+
+    ghost Value = { List Component };
+
+    ghost view = { λ cs. cs.items.items };
+
+    ghost invariant = { λ cs. AreComponents cs.items.items };
+}
+
+impl Components {
+    /// The components of a list; `None` where two of them have one type.
+    pub fn of(items: Vec<Component>) -> Option<Components>
+        ensures made { IfSome result (λ cs. (cs ≡ items.items) × AreComponents items.items) }
+        ensures none { IfNone result (AreComponents items.items → ⊥) }
+    {
+        if are_components(&items) {
+            Some(Components { items })
+        } else {
+            None
+        }
+    }
+
+    pub fn as_slice(&self) -> &[Component]
+        ensures value { result.now ≡ self.now }
+        ensures differ { AreComponents self.now }
+    {
+        &self.items
+    }
+
+    /// A copy of the list.
+    pub fn try_clone(&self) -> Result<Components, AllocError>
+        ensures { IfOk result (λ copy. copy ≡ self.now) }
+    {
+        Ok(Components {
+            items: self.items.clone()?,
+        })
+    }
+}

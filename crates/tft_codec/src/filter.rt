@@ -1,0 +1,249 @@
+//! Packet filters, and lists of them.
+
+ghost use Rattle.std.specs.Prelude.{◌≡◌, ◌↔◌, IsTrue, ◌≤◌, IfSome, IfNone, IfOk, [], length, nat_eq};
+ghost use Rattle.std.specs.List.{list_any};
+ghost use Rattle.tft_codec.specs.Component.{has};
+ghost use Rattle.tft_codec.specs.Filter.{ids, IsFilter, AreFilters, ArePacketFilters, AreIds};
+
+use crate::component::Components;
+use std::alloc::{AllocError, Global};
+use std::marker::Model;
+
+/// A packet filter: a packet fits it where it fits each component.
+#[derive(Debug, Drop)]
+pub struct Filter {
+    /// The packet filter identifier, below 16.
+    pub id: u8,
+    /// 0: as before Release 7, 1: downlink only, 2: uplink only, 3: both.
+    pub direction: u8,
+    /// The evaluation precedence: the lowest is looked at first.
+    pub precedence: u8,
+    pub components: Components,
+}
+
+impl Filter {
+    /// A copy of the filter.
+    pub fn try_clone(&self) -> Result<Filter, AllocError>
+        ensures { IfOk result (λ copy. copy ≡ self.now) }
+    {
+        Ok(Filter {
+            id: self.id,
+            direction: self.direction,
+            precedence: self.precedence,
+            components: self.components.try_clone()?,
+        })
+    }
+}
+
+/// Whether the numbers of a filter fit their bits.
+fn is_filter(filter: &Filter) -> bool
+    ensures { IsTrue result ↔ IsFilter filter.now }
+{
+    let _components = filter.components.as_slice();
+    let _precedence = filter.precedence;
+    filter.id < 16 && filter.direction < 4
+}
+
+/// Whether one of the filters has that identifier.
+pub(crate) fn has_id(filters: &[Filter], id: u8) -> bool
+    ensures { result ≡ list_any (λ f. nat_eq id f.id) filters.now }
+{
+    filters.iter().any(|filter| id == filter.id)
+}
+
+/// Whether a list of filters may be a bearer's.
+fn are_filters(items: &[Filter]) -> bool
+    ensures { IsTrue result ↔ AreFilters items.now }
+{
+    for (i, item) in items.iter().enumerate() {
+        if !is_filter(item) || has_id(&items[..i], item.id) {
+            return false;
+        }
+    }
+    true
+}
+
+/// The copies of some filters.
+pub(crate) fn copies(alloc: Global, items: &[Filter]) -> Result<Vec<Filter>, AllocError>
+    ensures { IfOk result (λ copy. copy.items ≡ items.now) }
+{
+    let mut copy = Vec::new(alloc);
+    for item in items {
+        copy.push(item.try_clone()?)?;
+    }
+    Ok(copy)
+}
+
+/// The filters of a bearer: none to 16, with different identifiers.
+#[derive(Debug, Drop)]
+pub struct Filters {
+    pub(crate) items: Vec<Filter>,
+}
+
+impl Model for Filters {
+    ghost use Rattle.std.specs.Prelude.{List};
+    ghost use Rattle.tft_codec.specs.declared.filter.Filter.{Filter};
+    ghost use Rattle.tft_codec.specs.Filter.{AreFilters};
+
+    ghost Value = { List Filter };
+
+    ghost view = { λ fs. fs.items.items };
+
+    ghost invariant = { λ fs. AreFilters fs.items.items };
+}
+
+impl Filters {
+    /// No filters.
+    pub fn new(alloc: Global) -> Filters
+        ensures { result ≡ [] }
+    {
+        Filters {
+            items: Vec::new(alloc),
+        }
+    }
+
+    /// The filters of a list; `None` where a number is out of its range, or two have one identifier.
+    pub fn of(items: Vec<Filter>) -> Option<Filters>
+        ensures made { IfSome result (λ fs. (fs ≡ items.items) × AreFilters items.items) }
+        ensures none { IfNone result (AreFilters items.items → ⊥) }
+    {
+        if are_filters(&items) {
+            Some(Filters { items })
+        } else {
+            None
+        }
+    }
+
+    pub fn as_slice(&self) -> &[Filter]
+        ensures value { result.now ≡ self.now }
+        ensures valid { AreFilters self.now }
+        ensures few { length self.now ≤ 16 }
+    {
+        &self.items
+    }
+
+    /// A copy of the list.
+    pub fn try_clone(&self, alloc: Global) -> Result<Filters, AllocError>
+        ensures { IfOk result (λ copy. copy ≡ self.now) }
+    {
+        let items = copies(alloc, &self.items)?;
+        Ok(Filters { items })
+    }
+}
+
+/// The packet filter list of a template: 1 to 15 filters, with different identifiers.
+#[derive(Debug, Drop)]
+pub struct PacketFilters {
+    pub(crate) items: Vec<Filter>,
+}
+
+impl Model for PacketFilters {
+    ghost use Rattle.std.specs.Prelude.{List};
+    ghost use Rattle.tft_codec.specs.declared.filter.Filter.{Filter};
+    ghost use Rattle.tft_codec.specs.Filter.{ArePacketFilters};
+
+    ghost Value = { List Filter };
+
+    ghost view = { λ fs. fs.items.items };
+
+    ghost invariant = { λ fs. ArePacketFilters fs.items.items };
+}
+
+impl PacketFilters {
+    /// The filters of a list; `None` where they are no 1 to 15, a number is out of its range, or two have one
+    /// identifier.
+    pub fn of(items: Vec<Filter>) -> Option<PacketFilters>
+        ensures made { IfSome result (λ fs. (fs ≡ items.items) × ArePacketFilters items.items) }
+        ensures none { IfNone result (ArePacketFilters items.items → ⊥) }
+    {
+        if !items.is_empty() && items.len() <= 15 && are_filters(&items) {
+            Some(PacketFilters { items })
+        } else {
+            None
+        }
+    }
+
+    pub fn as_slice(&self) -> &[Filter]
+        ensures value { result.now ≡ self.now }
+        ensures valid { ArePacketFilters self.now }
+    {
+        &self.items
+    }
+
+    /// A copy of the list.
+    pub fn try_clone(&self, alloc: Global) -> Result<PacketFilters, AllocError>
+        ensures { IfOk result (λ copy. copy ≡ self.now) }
+    {
+        let items = copies(alloc, &self.items)?;
+        Ok(PacketFilters { items })
+    }
+}
+
+/// Whether a number is in a list.
+pub(crate) fn contains_id(ids: &[u8], id: u8) -> bool
+    ensures { result ≡ has ids.now id }
+{
+    ids.iter().any(|other| id == *other)
+}
+
+/// Whether a list may be the identifiers of a template.
+fn are_ids(items: &[u8]) -> bool
+    ensures { IsTrue result ↔ AreIds items.now }
+{
+    if items.is_empty() || items.len() > 15 {
+        return false;
+    }
+    for (i, item) in items.iter().enumerate() {
+        if *item >= 16 || contains_id(&items[..i], *item) {
+            return false;
+        }
+    }
+    true
+}
+
+/// The identifiers that a template removes: 1 to 15 different ones.
+#[derive(Debug, Drop)]
+pub struct Ids {
+    pub(crate) items: Vec<u8>,
+}
+
+impl Model for Ids {
+    ghost use Rattle.std.specs.Prelude.{List, ℕ};
+    ghost use Rattle.tft_codec.specs.Filter.{AreIds};
+
+    ghost Value = { List ℕ };
+
+    ghost view = { λ xs. xs.items.items };
+
+    ghost invariant = { λ xs. AreIds xs.items.items };
+}
+
+impl Ids {
+    /// The identifiers of a list; `None` where they are no 1 to 15 different ones below 16.
+    pub fn of(items: Vec<u8>) -> Option<Ids>
+        ensures made { IfSome result (λ xs. (xs ≡ items.items) × AreIds items.items) }
+        ensures none { IfNone result (AreIds items.items → ⊥) }
+    {
+        if are_ids(&items) {
+            Some(Ids { items })
+        } else {
+            None
+        }
+    }
+
+    pub fn as_slice(&self) -> &[u8]
+        ensures value { result.now ≡ self.now }
+        ensures valid { AreIds self.now }
+    {
+        &self.items
+    }
+
+    /// A copy of the list.
+    pub fn try_clone(&self) -> Result<Ids, AllocError>
+        ensures { IfOk result (λ copy. copy ≡ self.now) }
+    {
+        Ok(Ids {
+            items: self.items.clone()?,
+        })
+    }
+}
