@@ -1,0 +1,45 @@
+use Rattle.std.proofs.Common.{◌+◌, [], ◌∷◌, ◌++◌, set, nat_le, ap, sym, ◌∙◌}
+use Rattle.std.proofs.lemmas.Slice.{pushed}
+use Rattle.charging_book.specs.declared.records.TheConstants.{VOLUME_OCTETS}
+use Rattle.charging_book.specs.declared.records.Why.TheVariants.{Volume}
+use Rattle.charging_book.specs.Counters.{with_packet, next_piece, row_from}
+use Rattle.charging_book.proofs.Standing.{is-at, stands-counted, stands-filled}
+use Rattle.charging_book.proofs.accounts.Book.count.Goals as goal
+
+pub returns-in_ok-push-clause-stands : goal.returns-in_ok-push-clause-stands
+returns-in_ok-push-clause-stands c = λ happened taken stands.
+    let old = c.args.self.now in
+    let place = c.place_of-place.result in
+    let counters = c.index.result.now in
+    let moments = c.index-2.result.now in
+    let opens = ap (λ book. book.opens) c.self.view_is in
+    let spans = ap (λ book. book.moments) c.self.view_is in
+    let at = is-at old c.self.inside.opens.items c.self.inside.spans.items place c.args.life counters moments opens spans
+    (rw c.deref.ensures.value at c.place_of-place.ensures.within) (rw c.deref.ensures.value at c.place_of-place.ensures.found)
+    c.index.ensures c.index-2.ensures in
+    stands-filled old _ happened taken c.args.life place (record { up = c.args.up; octets = c.args.octets; at = c.args.at })
+    counters moments stands at c.requires.is_open
+    (ap (λ counted. nat_le VOLUME_OCTETS (counted.up_octets + counted.down_octets)) (sym c.with-counted.ensures) ∙ sym c.is_full.ensures ∙ c.if-is_full.true)
+    (ap (λ xs. set xs place c.next.result) opens ∙ ap (set old.opens place) (c.next.ensures ∙ ap next_piece c.with-counted.ensures))
+    (ap (λ xs. set xs place c.new-then-is_full.result) spans ∙ ap (set old.moments place) c.new-then-is_full.ensures)
+    (pushed (c.new.result ∷ []) (ap (λ book. book.rows) c.self.view_is) c.in_ok-push.was c.push.ensures.items
+    ∙ ap (λ row. old.rows ++ row ∷ []) (c.new.ensures ∙ ap (λ counted. row_from counted c.with-span.result Volume) c.with-counted.ensures
+    ∙ ap (λ span. row_from (with_packet counters c.args.up c.args.octets) span Volume) c.with-span.ensures))
+
+pub returns-else-is_full-clause-stands : goal.returns-else-is_full-clause-stands
+returns-else-is_full-clause-stands c = λ happened taken stands.
+    let old = c.args.self.now in
+    let place = c.place_of-place.result in
+    let counters = c.index.result.now in
+    let moments = c.index-2.result.now in
+    let opens = ap (λ book. book.opens) c.self.view_is in
+    let spans = ap (λ book. book.moments) c.self.view_is in
+    let at = is-at old c.self.inside.opens.items c.self.inside.spans.items place c.args.life counters moments opens spans
+    (rw c.deref.ensures.value at c.place_of-place.ensures.within) (rw c.deref.ensures.value at c.place_of-place.ensures.found)
+    c.index.ensures c.index-2.ensures in
+    stands-counted old _ happened taken c.args.life place (record { up = c.args.up; octets = c.args.octets; at = c.args.at })
+    counters moments stands at c.requires.is_open
+    (ap (λ counted. nat_le VOLUME_OCTETS (counted.up_octets + counted.down_octets)) (sym c.with-counted.ensures) ∙ sym c.is_full.ensures ∙ c.if-is_full.false)
+    (ap (λ xs. set xs place c.with-counted.result) opens ∙ ap (set old.opens place) c.with-counted.ensures)
+    (ap (λ xs. set xs place c.with-span.result) spans ∙ ap (set old.moments place) c.with-span.ensures)
+    (ap (λ book. book.rows) c.self.view_is)

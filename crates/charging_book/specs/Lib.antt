@@ -1,0 +1,6 @@
+pub mod Rows
+pub mod Pieces
+pub mod Counters
+pub mod Happenings
+pub mod Accounts
+pub mod Ledger

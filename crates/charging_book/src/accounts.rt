@@ -1,0 +1,201 @@
+// The book of a subscriber.
+ghost use Rattle.std.specs.Prelude.{◌≡◌, ◌≢◌, ◌<◌, All, Contains, IfNone, IfSome, length, map, slice_index};
+ghost use Rattle.charging_book.specs.Ledger.{EachOctetOnce};
+ghost use Rattle.charging_book.specs.Accounts.{AreBounded};
+
+use super::NoMemory;
+use super::records::{ChargeRow, Open, Span, Why};
+use pc_base::Moment;
+use std::alloc::{AllocError, Global};
+use std::marker::Model;
+
+/// The open counters of a subscriber's lives, and the rows of their finished pieces.
+/// A clause speaks of it by the list of what happened to it since it was new, and by how many of
+/// the rows of that were taken out: it stands for these.
+#[derive(Drop)]
+pub struct Book {
+    opens: Vec<Open>,
+    spans: Vec<Span>,
+    rows: Vec<ChargeRow>,
+}
+
+impl Model for Book {
+    ghost use Rattle.std.specs.Prelude.{◌≡◌, vec_len};
+    ghost use Rattle.charging_book.specs.Accounts.{Accounts, AreCounting};
+
+    ghost Value = { Accounts };
+
+    ghost view = { λ book. record { opens = book.opens.items; moments = book.spans.items; rows = book.rows.items } };
+
+    ghost invariant = { λ book. (vec_len book.spans ≡ vec_len book.opens) × AreCounting book.opens.items };
+}
+
+impl Book {
+    ghost use Rattle.std.specs.Prelude.{◌≡◌, ◌≢◌, ◌-◌, ◌^◌, ◌<◌, ◌≤◌, ℕ, List, [], ◌∷◌, ◌++◌, length, map, All, Contains, OnOk, OnErr, IsTrue, ◌↔◌};
+    ghost use Rattle.charging_book.specs.Happenings.{Happening, started, forwarded, closed, rows_of};
+    ghost use Rattle.charging_book.specs.Accounts.{StandsFor, LifeHasRoom, lives_in};
+
+    /// A book of no life.
+    pub fn new(alloc: Global) -> Book
+        ensures { StandsFor result [] 0 }
+    {
+        Book {
+            opens: Vec::new(alloc),
+            spans: Vec::new(alloc),
+            rows: Vec::new(alloc),
+        }
+    }
+
+    /// A life starts: a bearer became active, with this EBI and QCI (TS 23.401, section 5.3; TS
+    /// 23.203, section 6.1.7).
+    pub fn start(&mut self, life: u64, ebi: u8, qci: u8) -> Result<(), NoMemory>
+        requires closed { All (λ other. other ≢ life) (lives_in self.old) }
+        requires number { life ≤ 2 ^ 61 }
+
+        ensures stands { (happened : List Happening) (taken : ℕ) → StandsFor self.old happened taken
+            → OnOk result (StandsFor self.new (happened ++ started life ebi qci ∷ []) taken) }
+        ensures unchanged { OnErr result (self.new ≡ self.old) }
+    {
+        self.opens.push(Open::new(life, ebi, qci))?;
+        match self.spans.push(Span::new()) {
+            Ok(()) => Ok(()),
+            Err(_) => {
+                let _ = self.opens.pop();
+                Err(AllocError)
+            }
+        }
+    }
+
+    /// A packet of an open life was forwarded, up or down. The piece that it fills gives its row.
+    pub fn count(&mut self, life: u64, up: bool, octets: u32, at: Moment) -> Result<(), NoMemory>
+        requires is_open { Contains (lives_in self.old) life }
+        requires room { LifeHasRoom self.old life }
+
+        ensures stands { (happened : List Happening) (taken : ℕ) → StandsFor self.old happened taken
+            → OnOk result (StandsFor self.new (happened ++ forwarded life (record { up = up; octets = octets; at = at }) ∷ []) taken) }
+        ensures unchanged { OnErr result (self.new ≡ self.old) }
+    {
+        let place = place_of(&self.opens, life);
+        let counted = self.opens[place].with(up, octets);
+        let span = self.spans[place].with(at);
+        if counted.is_full() {
+            self.rows
+                .push(ChargeRow::new(&counted, &span, Why::Volume))?;
+            self.opens[place] = counted.next();
+            self.spans[place] = Span::new();
+        } else {
+            self.opens[place] = counted;
+            self.spans[place] = span;
+        }
+        Ok(())
+    }
+
+    /// Finishes the piece of an open life, also one without packets, and with `Gone` the life.
+    /// Else the next piece begins.
+    pub fn close_one(&mut self, life: u64, why: Why) -> Result<(), NoMemory>
+        requires is_open { Contains (lives_in self.old) life }
+        requires room { LifeHasRoom self.old life }
+
+        ensures stands { (happened : List Happening) (taken : ℕ) → StandsFor self.old happened taken
+            → OnOk result (StandsFor self.new (happened ++ closed life why ∷ []) taken) }
+        ensures unchanged { OnErr result (self.new ≡ self.old) }
+    {
+        let place = place_of(&self.opens, life);
+        let counted = self.opens[place];
+        self.rows
+            .push(ChargeRow::new(&counted, &self.spans[place], why))?;
+        match why {
+            Why::Gone => {
+                let _ = self.opens.remove(place);
+                let _ = self.spans.remove(place);
+                Ok(())
+            }
+            _ => {
+                self.opens[place] = counted.next();
+                self.spans[place] = Span::new();
+                Ok(())
+            }
+        }
+    }
+
+    /// Whether a life is open.
+    pub fn is_open(&self, life: u64) -> bool
+        ensures { IsTrue result ↔ Contains (lives_in self.now) life }
+    {
+        match find_place(&self.opens, life) {
+            Some(_) => true,
+            None => false,
+        }
+    }
+
+    /// Whether a life's counts may still rise: each is at most 2^61 − 20.
+    pub fn has_room(&self, life: u64) -> bool
+        ensures { IsTrue result ↔ LifeHasRoom self.now life }
+    {
+        self.opens
+            .iter()
+            .all(|counted| counted.life != life || counted.has_room())
+    }
+
+    /// The rows that weren't taken out, in the order of what made them.
+    pub fn closed(&self) -> &[ChargeRow]
+        ensures { result.now ≡ self.now.rows }
+    {
+        &self.rows
+    }
+
+    /// Takes these rows out.
+    pub fn take_closed(&mut self) -> Vec<ChargeRow>
+        ensures rows { result.items ≡ self.old.rows }
+        ensures stands { (happened : List Happening) (taken : ℕ) → StandsFor self.old happened taken
+            → StandsFor self.new happened (length (rows_of happened)) }
+    {
+        let alloc = *self.rows.allocator();
+        std::mem::replace(&mut self.rows, Vec::new(alloc))
+    }
+
+    /// The open counters of the lives that aren't over, in the order of their starts.
+    pub fn still_open(&self) -> &[Open]
+        ensures { result.now ≡ self.now.opens }
+    {
+        &self.opens
+    }
+}
+
+/// Each octet that was forwarded for a life, up or down, stands in one of its rows or in its open
+/// counters: their sum is the sum of what was forwarded.
+pub fn each_octet_once()
+    ensures { EachOctetOnce }
+{}
+
+/// No count of a book is above the number of happenings, so its counts may rise as long as fewer
+/// than 2^61 − 20 things happened.
+pub fn counts_are_bounded()
+    ensures { AreBounded }
+{}
+
+// Where a life stands among the open ones, if it does.
+fn find_place(opens: &[Open], life: u64) -> Option<usize>
+    ensures within { IfSome result (λ place. place < length opens.now) }
+    ensures found { IfSome result (λ place. slice_index (map (λ counters. counters.life) opens.now) place ≡ life) }
+    ensures none { IfNone result (All (λ other. other ≢ life) (map (λ counters. counters.life) opens.now)) }
+{
+    for (place, counted) in opens.iter().enumerate() {
+        if counted.life == life {
+            return Some(place);
+        }
+    }
+    None
+}
+
+// Where an open life stands.
+fn place_of(opens: &[Open], life: u64) -> usize
+    requires { Contains (map (λ counters. counters.life) opens.now) life }
+    ensures within { result < length opens.now }
+    ensures found { slice_index (map (λ counters. counters.life) opens.now) result ≡ life }
+{
+    match find_place(opens, life) {
+        Some(place) => place,
+        None => unreachable!(),
+    }
+}
