@@ -1,0 +1,58 @@
+-- The entries of a report and their texts.
+use Rattle.std.specs.Prelude.{ℕ, ◌^◌, ◌/◌, ◌%◌, Option, Some, None, List, [], ◌∷◌, ◌++◌, codes, decimal}
+use Rattle.std.specs.List.{flat_map}
+use Rattle.hex.specs.Hex.{encode_lower}
+use Rattle.pc_base.specs.declared.packet.Verdict.{Verdict}
+use Rattle.pc_base.specs.declared.packet.Verdict.TheVariants as verdict
+use Rattle.gate_model.specs.declared.command.Outcome.{Outcome}
+use Rattle.gate_model.specs.declared.command.Outcome.TheVariants.{Done, No, Again}
+use Rattle.gate_model.specs.declared.command.Reply.{Reply}
+
+-- a note on a line, the reply to a command, the verdict on a packet; commands and packets of a slot are numbered,
+-- and a packet tells how many commands of its slot were done before it
+pub data Entry : Type 0 where
+  noted : (line : ℕ) (text : List ℕ) → Entry
+  replied : (line slot number : ℕ) → Reply → Entry
+  judged : (line slot number commands : ℕ) → Verdict → Entry
+
+-- fields with a space between them, and a newline behind the last
+abbrev pub fields : List (List ℕ) → List ℕ
+fields [] = 10 ∷ []
+fields (field ∷ []) = field ++ 10 ∷ []
+fields (field ∷ more ∷ rest) = field ++ 32 ∷ fields (more ∷ rest)
+
+abbrev pub outcome_word : Outcome → List ℕ
+outcome_word Done = codes "ok"
+outcome_word No = codes "no"
+outcome_word Again = codes "again"
+
+-- a message in hexadecimal, or a dash
+abbrev pub message_word : Option (List ℕ) → List ℕ
+message_word None = codes "-"
+message_word (Some octets) = encode_lower octets
+
+-- an address as four numbers with dots
+abbrev pub dotted : ℕ → List ℕ
+dotted address =
+    decimal (address / 2 ^ 24) ++ 46 ∷ decimal (address / 2 ^ 16 % 2 ^ 8) ++ 46 ∷ decimal (address / 2 ^ 8 % 2 ^ 8)
+    ++ 46 ∷ decimal (address % 2 ^ 8)
+
+abbrev pub verdict_fields : Verdict → List (List ℕ)
+verdict_fields (verdict.Up life octets) = codes "up" ∷ decimal life ∷ encode_lower octets ∷ []
+verdict_fields (verdict.Down life peer octets) =
+    codes "down" ∷ decimal life ∷ dotted peer ∷ encode_lower octets ∷ []
+verdict_fields verdict.NoBearer = codes "nobearer" ∷ []
+verdict_fields verdict.Spoof = codes "spoof" ∷ []
+verdict_fields (verdict.Idle life) = codes "idle" ∷ decimal life ∷ []
+verdict_fields (verdict.Policed life) = codes "policed" ∷ decimal life ∷ []
+
+abbrev pub text_of : Entry → List ℕ
+text_of (noted line text) = fields (codes "N" ∷ decimal line ∷ text ∷ [])
+text_of (replied line slot number reply) =
+    fields (codes "C" ∷ decimal line ∷ decimal slot ∷ decimal number ∷ outcome_word reply.outcome
+    ∷ message_word reply.message ∷ [])
+text_of (judged line slot number commands verdict_) =
+    fields (codes "P" ∷ decimal line ∷ decimal slot ∷ decimal number ∷ decimal commands ∷ verdict_fields verdict_)
+
+abbrev pub texts : List Entry → List ℕ
+texts entries = flat_map text_of entries

@@ -1,0 +1,13 @@
+pub mod Bearers
+pub mod Control
+pub mod Packets
+pub mod Events
+pub mod Heard
+pub mod Yardstick
+pub mod Book
+pub mod Tunnel
+pub mod Decision
+pub mod Entry
+pub mod Run
+pub mod Entered
+pub mod EntryRanges

@@ -1,0 +1,17 @@
+//! Laws of the definitions.
+ghost use Rattle.std.specs.Prelude.{◌≡◌, List, []};
+ghost use Rattle.gate_model.specs.Decision.{Decision, events_at};
+ghost use Rattle.gate_model.specs.Entered.{entries_after};
+ghost use Rattle.gate_model.specs.Entry.{Entry, text_of};
+ghost use Rattle.gate_model.specs.EntryRanges.{IsEntry};
+ghost use Rattle.gate_model.specs.Run.{IsRun};
+
+/// Every trace has a lawful run: that of a gateway which answers each line at once.
+pub fn every_trace_has_a_run()
+    ensures { (made : List Decision) → IsRun made (entries_after [] made) (λ slot. events_at slot made) }
+{}
+
+/// A text belongs to one entry only, among those that a report can hold.
+pub fn texts_tell_entries()
+    ensures { (a b : Entry) → IsEntry a → IsEntry b → text_of a ≡ text_of b → a ≡ b }
+{}

@@ -1,0 +1,17 @@
+//! The definitions of the one-thread gateway: what a command leaves of a session, what becomes of a
+//! packet, which entries a trace may have and what their text is. Beside them stands one plain, slow
+//! program that meets them, as a yardstick for others (TS 23.401, in this project's profile).
+#![tactic(auto)]
+
+mod command;
+mod gateway;
+mod judging;
+mod laws;
+mod session;
+#[cfg(test)]
+mod tests;
+
+pub use command::{Command, Outcome, Reply};
+pub use gateway::{Event, Gateway, Happened};
+pub use laws::{every_trace_has_a_run, texts_tell_entries};
+pub use session::{Bearer, Bearers, Session, step};
