@@ -1,0 +1,41 @@
+-- What a gateway stands for with one line more, by the line's kind.
+use Rattle.std.proofs.Common.{◌≡◌, ℕ, List, [], ◌∷◌, ◌++◌, length, Result, Ok, Err, OnOk, sym, ap, subst}
+use Rattle.pc_base.specs.declared.packet.Peer.{Peer}
+use Rattle.address_book.specs.Book.{slot_in}
+use Rattle.gtpu_codec.specs.Refusal.{first_fault as tunnel_fault}
+use Rattle.trace_lines.specs.Line.{Line}
+use Rattle.trace_lines.specs.declared.line.LineKind.TheVariants.{S1u, Attach}
+use Rattle.gate_model.specs.Book.{with_imsi, booked, booked_by, book_of}
+use Rattle.gate_model.specs.Decision.{Decision, decided, decided_by, decisions, attaching, received}
+use Rattle.gate_model.specs.declared.command.Command.TheVariants as order
+use Rattle.gate_model.proofs.DecisionLemmas.{book_from-push, decisions_from-push}
+use Rattle.pepc.specs.declared.solo.Solo.{Solo}
+use Rattle.pepc.specs.Standing.{Stands, StandsFor}
+
+pub on_ok_map : {T E : Type 0} {P Q : Type 0} (r : Result T E) → (P → Q) → OnOk r P → OnOk r Q
+on_ok_map (Ok x) f p = f p
+on_ok_map (Err e) f p = p
+
+pub booked-attach : (book : List (List ℕ)) (line : Line) (imsi : List ℕ) (enb : Peer) (up down : ℕ) → line.kind ≡ Attach imsi enb up down
+    → booked book line ≡ with_imsi book imsi
+booked-attach book line imsi enb up down is = ap (booked_by book) is
+
+pub decided-attach : (book : List (List ℕ)) (line : Line) (imsi : List ℕ) (enb : Peer) (up down : ℕ) → line.kind ≡ Attach imsi enb up down
+    → decided (booked book line) line ≡ attaching (slot_in (with_imsi book imsi) imsi) (order.Attach enb up down)
+decided-attach book line imsi enb up down is = ap (λ kind. decided_by (booked_by book kind) line.moment kind) is
+
+pub booked-s1u : (book : List (List ℕ)) (line : Line) (octets : List ℕ) → line.kind ≡ S1u octets → booked book line ≡ book
+booked-s1u book line octets is = ap (booked_by book) is
+
+pub decided-s1u : (book : List (List ℕ)) (line : Line) (octets : List ℕ) → line.kind ≡ S1u octets
+    → decided (booked book line) line ≡ received (length book) line.moment octets (tunnel_fault octets)
+decided-s1u book line octets is = ap (λ kind. decided_by (booked_by book kind) line.moment kind) is
+
+-- the book and the decision of the line are all that it adds
+pub stands_for_push : (solo : Solo) (done : List Line) (line : Line) (book : List (List ℕ)) (made : Decision)
+    → booked (book_of done) line ≡ book → decided (booked (book_of done) line) line ≡ made
+    → Stands solo book (decisions done ++ made ∷ []) → StandsFor solo (done ++ line ∷ [])
+stands_for_push solo done line book made same_book same stands =
+    rw (book_from-push [] done line, decisions_from-push [] done line)
+    (subst (λ b. Stands solo b (decisions done ++ decided (booked (book_of done) line) line ∷ [])) (sym same_book)
+    (subst (λ d. Stands solo book (decisions done ++ d ∷ [])) (sym same) stands))

@@ -1,0 +1,60 @@
+use Rattle.std.proofs.Common.{[], ◌∷◌, ◌++◌, ap, ◌∙◌, arith}
+use Rattle.std.specs.Io.KnownBytes.{prepend_known}
+use Rattle.std.proofs.KnownBytes.{prepend_known-nil}
+use Rattle.pc_outside.specs.Held.{Held}
+use Rattle.trace_lines.specs.Line.{Line}
+use Rattle.pepc.proofs.RunLemmas.{begins, goes_on, cut_by, on_err}
+use Rattle.pepc.proofs.run.run_lines.Goals as goal
+
+pub loop-line-init : goal.loop-line-init
+loop-line-init g c = record {
+  progress = (
+    [],
+    begins (g.S.Source.left c.args.source.now) (g.K.Sink.written c.args.sink.now) c.args.gateway.now _ c.args.buf.now.room c.args.report.now.items
+        c.requires.first
+        (ap (λ (b : Held). prepend_known b.front (g.S.Source.left c.args.source.now)) c.requires.fresh ∙ prepend_known-nil (g.S.Source.left c.args.source.now))
+        (ap (λ (b : Held). b.room) c.requires.fresh) c.requires.empty,
+  );
+  source_later = omega arith;
+  sink_later = omega arith;
+}
+
+pub returns-in_err-take_line-in-Line-clause-cut : goal.returns-in_err-take_line-in-Line-clause-cut
+returns-in_err-take_line-in-Line-clause-cut g c =
+    on_err c.from_residual.result
+    (cut_by (g.S.Source.left c.args.source.now) _ _ (g.K.Sink.written c.args.sink.now) (g.K.Sink.written c.loop-line.sink) (g.K.Sink.written c.take_line.new.sink)
+    c.loop-line.gateway c.loop-line.number c.loop-line.least c.loop-line.buf.room c.next_line.new.buf.room c.loop-line.report.items
+    c.loop-line.invariant.progress.0 c.in-Line.line _ c.take_line.result c.in_err-take_line-in-Line.was
+    c.loop-line.invariant.progress.1 c.in-Line.ensures.tells
+    (c.take_line.ensures.cut c.loop-line.invariant.progress.0 c.loop-line.invariant.progress.1.stands)
+    (λ is. ap g.K.Sink.written (c.take_line.ensures.kept is)))
+
+pub loop-line-preserved-in_ok-take_line-in-Line : goal.loop-line-preserved-in_ok-take_line-in-Line
+loop-line-preserved-in_ok-take_line-in-Line g c = record {
+  progress = (
+    c.loop-line.invariant.progress.0 ++ c.in-Line.line ∷ [],
+    goes_on (g.S.Source.left c.args.source.now) _ _ (g.K.Sink.written c.args.sink.now) (g.K.Sink.written c.loop-line.sink) (g.K.Sink.written c.take_line.new.sink)
+        c.loop-line.gateway c.take_line.new.gateway c.loop-line.number c.loop-line.least c.loop-line.buf.room c.next_line.new.buf.room c.line.inside.moment
+        c.loop-line.report.items c.take_line.new.report.items c.loop-line.invariant.progress.0 c.in-Line.line
+        c.loop-line.invariant.progress.1 c.in-Line.ensures.tells c.in-Line.ensures.room (ap (λ (l : Line). l.moment) c.line.view_is)
+        (c.in_ok-take_line-in-Line.ensures.stands c.loop-line.invariant.progress.0 c.loop-line.invariant.progress.1.stands)
+        (c.in_ok-take_line-in-Line.ensures.moved c.loop-line.invariant.progress.0 c.loop-line.invariant.progress.1.stands),
+  );
+  source_later = omega (arith, c.loop-line.invariant.source_later, c.next_line.ensures.later);
+  sink_later = omega (arith, c.loop-line.invariant.sink_later, c.take_line.ensures.later);
+}
+
+pub loop-line-preserved : goal.loop-line-preserved
+loop-line-preserved g c = record {
+  progress = (
+    c.loop-line.invariant.progress.0 ++ c.in-Line.line ∷ [],
+    goes_on (g.S.Source.left c.args.source.now) _ _ (g.K.Sink.written c.args.sink.now) (g.K.Sink.written c.loop-line.sink) (g.K.Sink.written c.take_line.new.sink)
+        c.loop-line.gateway c.take_line.new.gateway c.loop-line.number c.loop-line.least c.loop-line.buf.room c.next_line.new.buf.room c.line.inside.moment
+        c.loop-line.report.items c.take_line.new.report.items c.loop-line.invariant.progress.0 c.in-Line.line
+        c.loop-line.invariant.progress.1 c.in-Line.ensures.tells c.in-Line.ensures.room (ap (λ (l : Line). l.moment) c.line.view_is)
+        (c.in_ok-take_line-in-Line.ensures.stands c.loop-line.invariant.progress.0 c.loop-line.invariant.progress.1.stands)
+        (c.in_ok-take_line-in-Line.ensures.moved c.loop-line.invariant.progress.0 c.loop-line.invariant.progress.1.stands),
+  );
+  source_later = omega (arith, c.loop-line.invariant.source_later, c.next_line.ensures.later);
+  sink_later = omega (arith, c.loop-line.invariant.sink_later, c.take_line.ensures.later);
+}

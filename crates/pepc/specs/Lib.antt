@@ -1,0 +1,9 @@
+pub mod Judgement
+pub mod Row
+pub mod Received
+pub mod Standing
+pub mod Status
+pub mod Words
+pub mod Next
+pub mod Report
+pub mod Progress

@@ -1,0 +1,24 @@
+-- The exit status and the line on standard error.
+use Rattle.std.specs.Prelude.{ℕ, List, [], codes}
+use Rattle.pepc.specs.declared.status.Status.{Status}
+use Rattle.pepc.specs.declared.status.Status.TheVariants as status
+
+abbrev pub code_of : Status → ℕ
+code_of status.Ok = 0
+code_of status.Usage = 2
+code_of status.ReadFault = 3
+code_of status.WriteFault = 4
+code_of status.NoMemory = 5
+code_of status.BadLine = 6
+code_of status.LineLong = 7
+code_of status.TooLong = 8
+
+abbrev pub fault_text_of : Status → List ℕ
+fault_text_of status.Ok = []
+fault_text_of status.Usage = codes "pepc: usage"
+fault_text_of status.ReadFault = codes "pepc: read fault"
+fault_text_of status.WriteFault = codes "pepc: write fault"
+fault_text_of status.NoMemory = codes "pepc: no memory"
+fault_text_of status.BadLine = codes "pepc: bad line"
+fault_text_of status.LineLong = codes "pepc: line too long"
+fault_text_of status.TooLong = codes "pepc: input too long"

@@ -1,0 +1,142 @@
+//! The texts of entries, appended to a report.
+ghost use Rattle.std.specs.Prelude.{◌≡◌, ◌+◌, ◌*◌, ◌^◌, ◌<◌, ◌++◌, ◌∷◌, [], None, length, decimal, OnOk};
+ghost use Rattle.hex.specs.Hex.{encode_lower};
+ghost use Rattle.pc_base.specs.declared.packet.Verdict.TheVariants.{Up};
+ghost use Rattle.pepc.specs.Judgement.{verdict_of};
+ghost use Rattle.gate_model.specs.Entry.{fields, text_of, noted, replied, judged, outcome_word, message_word, verdict_fields};
+
+use crate::judgement::Judgement;
+use gate_model::{Outcome, Reply};
+use pc_base::Slot;
+use std::alloc::AllocError;
+
+/// Appends a field: its octets behind a space.
+fn push_field(report: &mut Vec<u8>, field: &[u8]) -> Result<(), AllocError>
+    ensures { OnOk result (report.new.items ≡ report.old.items ++ 32 ∷ field.now) }
+{
+    report.push(b' ')?;
+    report.extend_from_slice(field)?;
+    Ok(())
+}
+
+/// Appends a number as a field.
+fn push_number(report: &mut Vec<u8>, number: u64) -> Result<(), AllocError>
+    ensures { OnOk result (report.new.items ≡ report.old.items ++ 32 ∷ decimal number) }
+{
+    let mut buffer = itoa::Buffer::new();
+    push_field(report, buffer.format(number).as_bytes())
+}
+
+/// Appends octets in hexadecimal as a field.
+fn push_octets(report: &mut Vec<u8>, octets: &[u8]) -> Result<(), AllocError>
+    ensures { OnOk result (report.new.items ≡ report.old.items ++ 32 ∷ encode_lower octets.now) }
+{
+    report.push(b' ')?;
+    let start = report.len();
+    let digits = octets.len().checked_mul(2).ok_or(AllocError)?;
+    let end = start.checked_add(digits).ok_or(AllocError)?;
+    report.resize(end, 0)?;
+    let _ = hex::encode_to_slice(octets, &mut report.as_mut_slice()[start..]);
+    Ok(())
+}
+
+/// Appends the entry of a note.
+pub fn push_note(report: &mut Vec<u8>, line: u64, note: &str) -> Result<(), AllocError>
+    ensures { OnOk result (report.new.items ≡ report.old.items ++ text_of (noted line note.now)) }
+{
+    report.push(b'N')?;
+    push_number(report, line)?;
+    push_field(report, note.as_bytes())?;
+    report.push(b'\n')?;
+    Ok(())
+}
+
+fn outcome_word(outcome: Outcome) -> &'static str
+    ensures { result.now ≡ outcome_word outcome }
+{
+    match outcome {
+        Outcome::Done => "ok",
+        Outcome::No => "no",
+        Outcome::Again => "again",
+    }
+}
+
+/// Appends the message of a reply as a field, or a dash.
+fn push_message(report: &mut Vec<u8>, reply: &Reply) -> Result<(), AllocError>
+    ensures { OnOk result (report.new.items ≡ report.old.items ++ 32 ∷ message_word reply.now.message) }
+{
+    match &reply.message {
+        None => push_field(report, b"-"),
+        Some(octets) => push_octets(report, octets.as_slice()),
+    }
+}
+
+/// Appends the entry of a command of a slot.
+pub fn push_reply(
+    report: &mut Vec<u8>,
+    line: u64,
+    slot: Slot,
+    number: u64,
+    reply: &Reply,
+) -> Result<(), AllocError>
+    ensures { OnOk result (report.new.items ≡ report.old.items ++ text_of (replied line slot number reply.now)) }
+{
+    report.push(b'C')?;
+    push_number(report, line)?;
+    push_number(report, u64::from(slot.0))?;
+    push_number(report, number)?;
+    push_field(report, outcome_word(reply.outcome).as_bytes())?;
+    push_message(report, reply)?;
+    report.push(b'\n')?;
+    Ok(())
+}
+
+/// Appends the last field of a line.
+fn push_last(report: &mut Vec<u8>, field: &[u8]) -> Result<(), AllocError>
+    ensures { OnOk result (report.new.items ≡ report.old.items ++ 32 ∷ (field.now ++ 10 ∷ [])) }
+{
+    push_field(report, field)?;
+    report.push(b'\n')?;
+    Ok(())
+}
+
+/// Appends the fields of a packet sent up, and the end of its line.
+fn push_up(report: &mut Vec<u8>, life: u64, octets: &[u8]) -> Result<(), AllocError>
+    ensures { OnOk result (report.new.items ≡ report.old.items ++ 32 ∷ fields (verdict_fields (Up life octets.now))) }
+{
+    push_field(report, b"up")?;
+    push_number(report, life)?;
+    push_octets(report, octets)?;
+    report.push(b'\n')?;
+    Ok(())
+}
+
+/// Appends the fields of a verdict, and the end of its line.
+fn push_judgement(report: &mut Vec<u8>, judgement: Judgement<'_>) -> Result<(), AllocError>
+    ensures { OnOk result (report.new.items ≡ report.old.items ++ 32 ∷ fields (verdict_fields (verdict_of judgement.entry))) }
+{
+    match judgement {
+        Judgement::Up { life, octets } => push_up(report, life, octets),
+        Judgement::NoBearer => push_last(report, b"nobearer"),
+        Judgement::Spoof => push_last(report, b"spoof"),
+    }
+}
+
+/// Appends the entry of a packet of a slot, before which so many commands of the slot were done.
+pub fn push_packet(
+    report: &mut Vec<u8>,
+    line: u64,
+    slot: Slot,
+    number: u64,
+    commands: u64,
+    judgement: Judgement<'_>,
+) -> Result<(), AllocError>
+    ensures { OnOk result (report.new.items ≡ report.old.items ++ text_of (judged line slot number commands (verdict_of judgement.entry))) }
+{
+    report.push(b'P')?;
+    push_number(report, line)?;
+    push_number(report, u64::from(slot.0))?;
+    push_number(report, number)?;
+    push_number(report, commands)?;
+    push_judgement(report, judgement)
+}

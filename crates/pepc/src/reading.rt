@@ -1,0 +1,61 @@
+//! The next line of a trace.
+ghost use Rattle.std.specs.Prelude.{◌≡◌, ◌+◌, ◌<◌, ◌≤◌, ◌^◌};
+ghost use Rattle.std.specs.Io.KnownBytes.{prepend_known};
+ghost use Rattle.pc_outside.specs.Faults.{Rises};
+ghost use Rattle.pepc.specs.Next.{Tells, TakesRoom, refused_as};
+
+use pc_base::Moment;
+use pc_outside::{LineBuf, LineRead, Source, read_line};
+use std::alloc::Global;
+use trace_lines::{LineBad, TraceLine};
+
+/// What comes next in a trace.
+pub enum Next {
+    Line(TraceLine),
+    Bad(LineBad),
+    End,
+    LineLong,
+    TooLong,
+    ReadFault,
+    NoMemory,
+}
+
+/// Reads the line of this number, which may have no moment below the least.
+pub fn next_line<S: Source>(
+    alloc: Global,
+    source: &mut S,
+    buf: &mut LineBuf,
+    number: u64,
+    least: Moment,
+) -> Next
+    ensures tells { Tells result number least buf.old.room buf.new.room (prepend_known buf.old.front (S.left source.old))
+        (prepend_known buf.new.front (S.left source.new)) }
+    ensures room { TakesRoom result buf.old.room buf.new.room }
+
+    // A fault is the source's.
+    ensures later { S.faults source.old ≤ S.faults source.new }
+    ensures fault { result ≡ Next.ReadFault → Rises (S.faults source.old) (S.faults source.new) }
+{
+    match read_line(source, buf) {
+        LineRead::Line => {}
+        LineRead::End => return Next::End,
+        LineRead::LineLong => return Next::LineLong,
+        LineRead::TooLong => return Next::TooLong,
+        LineRead::ReadFault => return Next::ReadFault,
+    }
+    match trace_lines::read_line(alloc, buf.line(), number, least) {
+        Ok(line) => Next::Line(line),
+        Err(why) => refused(why),
+    }
+}
+
+// A line that can't be read is bad, unless memory ran out.
+fn refused(why: LineBad) -> Next
+    ensures { result ≡ refused_as why }
+{
+    match why {
+        LineBad::NoMemory => Next::NoMemory,
+        LineBad::Field | LineBad::Number | LineBad::Kind | LineBad::Hex | LineBad::MomentBack =>
+            Next::Bad(why),
+    }
+}

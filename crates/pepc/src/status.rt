@@ -1,0 +1,58 @@
+//! How a run ends.
+ghost use Rattle.std.specs.Prelude.{◌≡◌};
+ghost use Rattle.pepc.specs.Status.{code_of, fault_text_of};
+
+/// How a run ended.
+#[derive(Clone, Copy, Debug, PartialEq, Eq)]
+pub enum Status {
+    /// The input was read to its end, and the whole report written.
+    Ok,
+    /// The words are no command of the program.
+    Usage,
+    /// The source failed; the report of the lines before was written.
+    ReadFault,
+    /// The sink failed; a front of a report was written.
+    WriteFault,
+    /// Memory ran out; a front of a report was written.
+    NoMemory,
+    /// A line is refused; its note is the last line entry.
+    BadLine,
+    /// A line has more than 132,000 octets.
+    LineLong,
+    /// The input has 2^40 octets or more.
+    TooLong,
+}
+
+impl Status {
+    /// The exit status.
+    pub fn code(&self) -> u8
+        ensures { result ≡ code_of self.now }
+    {
+        match self {
+            Status::Ok => 0,
+            Status::Usage => 2,
+            Status::ReadFault => 3,
+            Status::WriteFault => 4,
+            Status::NoMemory => 5,
+            Status::BadLine => 6,
+            Status::LineLong => 7,
+            Status::TooLong => 8,
+        }
+    }
+}
+
+/// The line on standard error for a status; empty where all went well.
+pub fn fault_text(status: Status) -> &'static str
+    ensures { result.now ≡ fault_text_of status }
+{
+    match status {
+        Status::Ok => "",
+        Status::Usage => "pepc: usage",
+        Status::ReadFault => "pepc: read fault",
+        Status::WriteFault => "pepc: write fault",
+        Status::NoMemory => "pepc: no memory",
+        Status::BadLine => "pepc: bad line",
+        Status::LineLong => "pepc: line too long",
+        Status::TooLong => "pepc: input too long",
+    }
+}

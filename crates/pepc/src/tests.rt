@@ -1,0 +1,221 @@
+//! Runs of whole traces.
+use crate::run::run_plain;
+use crate::status::{Status, fault_text};
+use pc_outside::{MemSink, MemSource, Source};
+use std::alloc::{AllocError, Global};
+use std::test::Fail;
+
+// More than any report here has.
+const ROOM: usize = 1_000;
+
+// The status of a run on these octets, given and taken in pieces, and what it wrote. The calls of these
+// numbers fail.
+fn run(
+    alloc: Global,
+    octets: Vec<u8>,
+    piece: usize,
+    reads: &[u64],
+    writes: &[u64],
+) -> Result<(Status, Vec<u8>), AllocError> {
+    let mut words = Vec::new(alloc);
+    words.push(String::from_str(alloc, "solo")?)?;
+    let mut source = MemSource::new(octets, piece.max(1), Vec::from_slice(alloc, reads)?)?;
+    let mut sink = MemSink::new(alloc, ROOM, piece.max(1), Vec::from_slice(alloc, writes)?)?;
+    let status = run_plain(alloc, words.as_slice(), &mut source, &mut sink);
+    Ok((status, Vec::from_slice(alloc, sink.written())?))
+}
+
+const ATTACH_AND_UPLINK: &str = "\
+0 ATTACH 001010000000001 198.51.100.7 00000a01 1000 1000
+5 S1U 30ff001400000011450000140000000040fd00000a2d0002cb007109
+";
+
+const ATTACHED_AND_UP: &str = "\
+C 1 0 0 ok -
+P 2 0 0 1 up 0 450000140000000040fd00000a2d0002cb007109
+";
+
+const OTHER_TUNNELS: &str = "\
+0 ATTACH 001010000000001 198.51.100.7 00000a01 1000 1000
+5 S1U 30ff001500000011450000140000000040fd00000a2d0002cb007109
+5 S1U 30ff001400000021450000140000000040fd00000a2d0002cb007109
+5 S1U 30ff001400000011450000140000000040fd00000a2d0003cb007109
+5 S1U 30ff001400000012450000140000000040fd00000a2d0002cb007109
+5 S1U 30ff0000000000
+5 S1U 50ff000000000011
+5 S1U 20ff000000000011
+5 S1U 3003000000000011
+5 S1U 30ff000000000011
+5 S1U 30ff001400000011650000140000000040fd00000a2d0002cb007109
+5 S1U 30ff001400000011440000140000000040fd00000a2d0002cb007109
+5 S1U 30ff001400000011450000150000000040fd00000a2d0002cb007109
+";
+
+const ALL_REFUSED: &str = "\
+C 1 0 0 ok -
+N 2 s1u length
+N 3 s1u unknown -
+P 4 0 0 1 spoof
+P 5 0 1 1 nobearer
+N 6 s1u short
+N 7 s1u version
+N 8 s1u notgtp
+N 9 s1u kind
+N 10 s1u ip short
+N 11 s1u ip version
+N 12 s1u ip header
+N 13 s1u ip total
+";
+
+const ATTACH_AGAIN: &str = "\
+0 ATTACH 001010000000001 198.51.100.7 00000a01 1000 1000
+1 S1U 30ff001400000011450000140000000040fd00000a2d0002cb007109
+3 ATTACH 001010000000001 198.51.100.7 00000a01 1000 1000
+4 ATTACH 001010000000001 198.51.100.7 00000a01 1000 1000
+5 S1U 30ff001400000011450000140000000040fd00000a2d0002cb007109
+";
+
+const THIRD_LIFE: &str = "\
+C 1 0 0 ok -
+P 2 0 0 1 up 0 450000140000000040fd00000a2d0002cb007109
+C 3 0 1 ok -
+C 4 0 2 ok -
+P 5 0 1 3 up 2 450000140000000040fd00000a2d0002cb007109
+";
+
+const TWO_SUBSCRIBERS: &str = "\
+0 ATTACH 001010123456789 198.51.100.7 00000a01 1000 1000
+0 ATTACH 001010000000002 198.51.100.8 00000b01 1000 1000
+70 S1U 30ff001400000011450000140000000040fd00000a2d0002cb007109
+70 S1U 30ff001400000021450000140000000040fd00000a2d0003cb007109
+100 S1U 30ff001400000011450000140000000040fd00000a2d0002cb007109
+";
+
+const EACH_ITS_OWN: &str = "\
+C 1 0 0 ok -
+C 2 1 0 ok -
+P 3 0 0 1 up 0 450000140000000040fd00000a2d0002cb007109
+P 4 1 0 1 up 0 450000140000000040fd00000a2d0003cb007109
+P 5 0 1 1 up 0 450000140000000040fd00000a2d0002cb007109
+";
+
+const MOMENT_BACK: &str = "\
+5 ATTACH 001010000000001 198.51.100.7 00000a01 1000 1000
+4 S1U 30ff001400000011450000140000000040fd00000a2d0002cb007109
+5 S1U 30ff001400000011450000140000000040fd00000a2d0002cb007109
+";
+
+#[test]
+fn reports(rt: HostRuntime) -> Result<(), Fail> {
+    let alloc = rt.alloc();
+    let rows = [
+        ("", "", Status::Ok),
+        (ATTACH_AND_UPLINK, ATTACHED_AND_UP, Status::Ok),
+        (OTHER_TUNNELS, ALL_REFUSED, Status::Ok),
+        (ATTACH_AGAIN, THIRD_LIFE, Status::Ok),
+        (TWO_SUBSCRIBERS, EACH_ITS_OWN, Status::Ok),
+        (
+            MOMENT_BACK,
+            "C 1 0 0 ok -\nN 2 line moment\n",
+            Status::BadLine,
+        ),
+        ("0 S1U 30", "N 1 s1u short\n", Status::Ok),
+        ("1\n", "N 1 line field\n", Status::BadLine),
+        ("01 S1U 30\n", "N 1 line number\n", Status::BadLine),
+        ("1 S1X 30\n", "N 1 line kind\n", Status::BadLine),
+        ("1 S1U 3\n", "N 1 line hex\n", Status::BadLine),
+    ];
+    for (trace, report, status) in rows {
+        for piece in [7, 100_000] {
+            let octets = Vec::from_slice(alloc, trace.as_bytes())?;
+            let (got, written) = run(alloc, octets, piece, &[], &[])?;
+            assert_eq!(rt; written.as_slice(), report.as_bytes(), "{trace}");
+            assert_eq!(rt; got, status, "{trace}");
+        }
+    }
+    Ok(())
+}
+
+#[test]
+fn failing_ends(rt: HostRuntime) -> Result<(), Fail> {
+    let alloc = rt.alloc();
+    let trace = || Vec::from_slice(alloc, ATTACH_AND_UPLINK.as_bytes());
+
+    let (status, written) = run(alloc, trace()?, 1_000, &[1], &[])?;
+    assert_eq!(rt; status, Status::ReadFault);
+    assert_eq!(rt; written.as_slice(), ATTACHED_AND_UP.as_bytes());
+
+    let (status, written) = run(alloc, trace()?, 1_000, &[], &[0])?;
+    assert_eq!(rt; status, Status::WriteFault);
+    assert!(rt; written.is_empty());
+
+    let (status, written) = run(alloc, trace()?, 20, &[], &[1])?;
+    assert_eq!(rt; status, Status::WriteFault);
+    assert_eq!(rt; written.as_slice(), b"C 1 0 0 ok -\nP 2 0 0".as_slice());
+    Ok(())
+}
+
+#[test]
+fn long_line(rt: HostRuntime) -> Result<(), Fail> {
+    let rows = [
+        (132_000, "N 1 line field\n", Status::BadLine),
+        (132_001, "", Status::LineLong),
+    ];
+    for (length, report, status) in rows {
+        let mut octets = Vec::new(rt.alloc());
+        octets.resize(length, b'1')?;
+        let (got, written) = run(rt.alloc(), octets, 100_000, &[], &[])?;
+        assert_eq!(rt; got, status);
+        assert_eq!(rt; written.as_slice(), report.as_bytes());
+    }
+    Ok(())
+}
+
+#[test]
+fn other_words(rt: HostRuntime) -> Result<(), Fail> {
+    let alloc = rt.alloc();
+    let rows: [&[&str]; 7] = [
+        &[],
+        &["drive"],
+        &["Solo"],
+        &["solo", "solo"],
+        &["solo", "--places"],
+        &["--help"],
+        &[""],
+    ];
+    for row in rows {
+        let mut words = Vec::new(alloc);
+        for word in row {
+            words.push(String::from_str(alloc, word)?)?;
+        }
+        let octets = Vec::from_slice(alloc, ATTACH_AND_UPLINK.as_bytes())?;
+        let mut source = MemSource::new(octets, 3, Vec::new(alloc))?;
+        let mut sink = MemSink::new(alloc, ROOM, 3, Vec::new(alloc))?;
+        let status = run_plain(alloc, words.as_slice(), &mut source, &mut sink);
+        assert_eq!(rt; status, Status::Usage);
+        assert!(rt; sink.written().is_empty());
+
+        let mut first = [0; 3];
+        assert!(rt; source.read(&mut first).is_ok());
+        assert_eq!(rt; first, *b"0 A");
+    }
+    Ok(())
+}
+
+#[test]
+fn statuses(rt: HostRuntime) {
+    let rows = [
+        (Status::Ok, 0, ""),
+        (Status::Usage, 2, "pepc: usage"),
+        (Status::ReadFault, 3, "pepc: read fault"),
+        (Status::WriteFault, 4, "pepc: write fault"),
+        (Status::NoMemory, 5, "pepc: no memory"),
+        (Status::BadLine, 6, "pepc: bad line"),
+        (Status::LineLong, 7, "pepc: line too long"),
+        (Status::TooLong, 8, "pepc: input too long"),
+    ];
+    for (status, code, text) in rows {
+        assert_eq!(rt; status.code(), code);
+        assert_eq!(rt; fault_text(status), text);
+    }
+}
