@@ -11,6 +11,14 @@ has_version octet = octet / 32 == VERSION
 abbrev pub is_gtp : ℕ → Bool
 is_gtp octet = octet / 16 % 2 == 1
 
+-- bit 3, E: the next type is there
+abbrev pub has_extensions : ℕ → Bool
+has_extensions octet = octet / 4 % 2 == 1
+
+-- bit 2, S: the sequence number is there
+abbrev pub has_seq : ℕ → Bool
+has_seq octet = octet / 2 % 2 == 1
+
 -- bits 3 to 1: E, S or PN is set, so four octets follow octet 8
 abbrev pub has_options : ℕ → Bool
 has_options octet = not (octet % 8 == 0)

@@ -1,4 +1,6 @@
+pub mod Extension
 pub mod Head
 pub mod Kind
 pub mod Refusal
 pub mod Spelling
+pub mod Text

@@ -1,7 +1,11 @@
 //! The octets before the body.
-ghost use Rattle.std.specs.Prelude.{◌≡◌};
-ghost use Rattle.gtpu_codec.specs.Head.{has_version, is_gtp, has_options};
+ghost use Rattle.std.specs.Prelude.{◌≡◌, ℕ, ◌≤◌, ◌↔◌, Option, List, length, IsTrue, IsNone, IfSome, IsSomeAnd};
+ghost use Rattle.gtpu_codec.specs.Head.{has_version, is_gtp, has_extensions, has_seq, has_options};
+ghost use Rattle.gtpu_codec.specs.Refusal.{breaks_chain};
+ghost use Rattle.gtpu_codec.specs.Spelling.{SpellsCounted};
+ghost use Rattle.gtpu_codec.specs.declared.TheConstants.{OPTIONS_LEN};
 
+use crate::extension::skip_headers;
 use crate::{GtpUKind, VERSION};
 use pc_base::Teid;
 
@@ -28,9 +32,52 @@ pub fn is_gtp(flags: u8) -> bool
     flags / 16 % 2 == 1
 }
 
+/// Whether octet 1 has flag E set.
+fn has_extensions(flags: u8) -> bool
+    ensures { result ≡ has_extensions flags }
+{
+    flags / 4 % 2 == 1
+}
+
+/// Whether octet 1 has flag S set.
+fn has_seq(flags: u8) -> bool
+    ensures { result ≡ has_seq flags }
+{
+    flags / 2 % 2 == 1
+}
+
 /// Whether octet 1 has flag E, S or PN set.
 pub fn has_options(flags: u8) -> bool
     ensures { result ≡ has_options flags }
 {
     flags % 8 != 0
+}
+
+/// The sequence number and the body among the octets that the length counts; None where the chain of
+/// extension headers breaks.
+pub fn read_counted(flags: u8, counted: &[u8]) -> Option<(Option<u16>, &[u8])>
+    requires { IsTrue (has_options flags) → OPTIONS_LEN ≤ length counted.now }
+    ensures found { IfSome result (λ r. SpellsCounted flags (has_options flags) counted.now r.0 r.1.now) }
+    ensures only { (seq : Option ℕ) (body : List ℕ) → SpellsCounted flags (has_options flags) counted.now seq body
+        → IsSomeAnd result (λ r. (r.0 ≡ seq) × (r.1.now ≡ body)) }
+    ensures broken { IsNone result ↔ IsTrue (breaks_chain flags counted.now) }
+{
+    if !has_options(flags) {
+        return Some((None, counted));
+    }
+    let [seq_high, seq_low, _, next_type, rest @ ..] = counted else {
+        unreachable!()
+    };
+    let seq = if has_seq(flags) {
+        Some(0x100 * u16::from(*seq_high) + u16::from(*seq_low))
+    } else {
+        None
+    };
+    if !has_extensions(flags) {
+        return Some((seq, rest));
+    }
+    match skip_headers(*next_type, rest) {
+        Some(body) => Some((seq, body)),
+        None => None,
+    }
 }

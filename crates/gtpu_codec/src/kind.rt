@@ -1,7 +1,7 @@
 //! The types of message.
 ghost use Rattle.std.specs.Prelude.{◌≡◌, IfSome};
 ghost use Rattle.gtpu_codec.specs.declared.kind.GtpUKind.{GtpUKind};
-ghost use Rattle.gtpu_codec.specs.Kind.{type_octet};
+ghost use Rattle.gtpu_codec.specs.Kind.{kind_of, type_octet};
 
 /// The types of message that are spoken here (TS 29.281, table 6.1-1).
 #[derive(Clone, Copy, Debug, PartialEq, Eq)]
@@ -15,8 +15,10 @@ pub enum GtpUKind {
 
 impl GtpUKind {
     /// The type of message with this type octet; None where it isn't spoken here.
+    #[tactic(auto, unfolding(crate::specs::Kind::kind_of))]
     pub fn from_octet(octet: u8) -> Option<GtpUKind>
         ensures value { IfSome result (λ kind. type_octet kind ≡ octet) }
+        ensures listed { result ≡ kind_of octet }
         ensures found { (kind : GtpUKind) → type_octet kind ≡ octet → result ≡ Some kind }
     {
         match octet {

@@ -3,17 +3,22 @@
 //! of a received message and what a message does are left to others.
 #![tactic(auto)]
 
+mod extension;
 mod fault;
 mod head;
 mod kind;
+mod message;
 mod reading;
 #[cfg(test)]
 mod tests;
+mod writing;
 
 pub use fault::UBad;
 pub use head::GtpUHead;
 pub use kind::GtpUKind;
+pub use message::GtpU;
 pub use reading::read;
+pub use writing::{reads_back, write};
 
 /// How many octets follow octet 8 where flag E, S or PN is set (TS 29.281, section 5.1).
 pub const OPTIONS_LEN: usize = 4;
