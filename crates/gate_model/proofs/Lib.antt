@@ -6,3 +6,6 @@ pub mod AtEvents
 pub mod LawfulRun
 pub mod DecisionLemmas
 pub mod SessionLemmas
+pub mod ChargeLemmas
+pub mod LawfulCharges
+pub mod LedgerLemmas

@@ -1,9 +1,16 @@
 -- What a line means to the gateway: a command of a slot, a packet of a slot, or a note alone.
-use Rattle.std.specs.Prelude.{ℕ, ◌==◌, nat_lt, if◌then◌else◌, Option, Some, None, List, [], ◌∷◌, length, codes}
+use Rattle.std.specs.Prelude.{ℕ, ◌==◌, nat_lt, if◌then◌else◌, Option, Some, None, unwrap_or, List, [], ◌∷◌, ◌++◌, length, codes}
 use Rattle.std.specs.List.{filter_map}
 use Rattle.address_book.specs.Book.{slot_in}
 use Rattle.gtpu_codec.specs.Refusal.{first_fault as tunnel_fault}
+use Rattle.gtpu_codec.specs.Text.{spelling}
 use Rattle.gtpu_codec.specs.declared.fault.UBad.{UBad}
+use Rattle.gtpu_codec.specs.declared.kind.GtpUKind.{GtpUKind}
+use Rattle.gtpu_codec.specs.declared.kind.GtpUKind.TheVariants as kind
+use Rattle.gtpu_codec.specs.declared.message.GtpU.{GtpU}
+use Rattle.gtpu_codec.specs.declared.message.GtpU.TheVariants.{EchoResponse, ErrorIndication}
+use Rattle.hex.specs.Hex.{encode_lower}
+use Rattle.gate_model.specs.declared.TheConstants.{GATEWAY_ADDR}
 use Rattle.gtpu_codec.specs.declared.fault.UBad.TheVariants as tunnel_bad
 use Rattle.ipv4_packet.specs.Refusal.{first_fault}
 use Rattle.ipv4_packet.specs.Packet.{packet_of}
@@ -15,7 +22,7 @@ use Rattle.trace_lines.specs.declared.line.LineKind.{LineKind}
 use Rattle.trace_lines.specs.declared.line.LineKind.TheVariants.{S1u, Attach}
 use Rattle.trace_lines.specs.declared.line.TraceLine.{TraceLine}
 use Rattle.gate_model.specs.Book.{booked}
-use Rattle.gate_model.specs.Tunnel.{teid_in, body_in, bearer_of}
+use Rattle.gate_model.specs.Tunnel.{kind_in, teid_in, seq_in, body_in, bearer_of}
 use Rattle.gate_model.specs.declared.command.Command.{Command}
 use Rattle.gate_model.specs.declared.command.Command.TheVariants as order
 use Rattle.gate_model.specs.declared.gateway.Event.{Event}
@@ -51,16 +58,33 @@ carried moment slot index payload None = packet slot (record {
   octets = packet_of payload;
 })
 
+-- a message of the gateway, in the words of a note
+abbrev pub told : List ℕ → GtpU → List ℕ
+told word message = word ++ 32 ∷ encode_lower (spelling message)
+
+-- a tunnel that isn't there is told to the sender
+abbrev pub unknown : ℕ → Decision
+unknown teid = note (told (codes "s1u unknown") (ErrorIndication 0 teid GATEWAY_ADDR))
+
 -- a tunnel is a bearer's where its TEID is one of a slot in the book
-abbrev pub tunnelled : ℕ → ℕ → List ℕ → Option (ℕ × ℕ) → Decision
-tunnelled slots moment payload None = note (codes "s1u unknown -")
-tunnelled slots moment payload (Some (slot, index)) =
-    if nat_lt slot slots then carried moment slot index payload (first_fault payload)
-    else note (codes "s1u unknown -")
+abbrev pub tunnelled : ℕ → ℕ → ℕ → List ℕ → Option (ℕ × ℕ) → Decision
+tunnelled slots moment teid payload None = unknown teid
+tunnelled slots moment teid payload (Some (slot, index)) =
+    if nat_lt slot slots then carried moment slot index payload (first_fault payload) else unknown teid
+
+-- an echo is answered, a G-PDU is a packet, and the other kinds are noted
+abbrev pub received_kind : ℕ → ℕ → List ℕ → Option GtpUKind → Decision
+received_kind slots moment octets (Some kind.EchoRequest) = note (told (codes "s1u echo") (EchoResponse (unwrap_or (seq_in octets) 0)))
+received_kind slots moment octets (Some kind.EchoResponse) = note (codes "s1u noted")
+received_kind slots moment octets (Some kind.ErrorIndication) = note (codes "s1u noted")
+received_kind slots moment octets (Some kind.EndMarker) = note (codes "s1u noted")
+received_kind slots moment octets (Some kind.Gpdu) =
+    tunnelled slots moment (teid_in octets) (body_in octets) (bearer_of (teid_in octets))
+received_kind slots moment octets None = note (codes "s1u kind")
 
 abbrev pub received : ℕ → ℕ → List ℕ → Option UBad → Decision
 received slots moment octets (Some bad) = note (tunnel_note bad)
-received slots moment octets None = tunnelled slots moment (body_in octets) (bearer_of (teid_in octets))
+received slots moment octets None = received_kind slots moment octets (kind_in octets)
 
 -- an order to attach is a command of its IMSI's slot, if a slot was left for it
 abbrev pub attaching : Option ℕ → Command → Decision

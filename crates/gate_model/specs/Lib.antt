@@ -9,5 +9,7 @@ pub mod Tunnel
 pub mod Decision
 pub mod Entry
 pub mod Run
+pub mod Charges
 pub mod Entered
 pub mod EntryRanges
+pub mod Ledger

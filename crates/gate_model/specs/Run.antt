@@ -6,7 +6,7 @@ use Rattle.pc_base.specs.declared.packet.Verdict.{Verdict}
 use Rattle.gate_model.specs.declared.command.Reply.{Reply}
 use Rattle.gate_model.specs.declared.gateway.Event.{Event}
 use Rattle.gate_model.specs.Decision.{Decision, command, packet, note, events_at}
-use Rattle.gate_model.specs.Entry.{Entry, noted, replied, judged}
+use Rattle.gate_model.specs.Entry.{Entry, noted, replied, judged, charged, left_open}
 use Rattle.gate_model.specs.Events.{commands_of, packets_of, at_commands, at_packets, reply_after, verdict_after}
 
 -- an entry answers a line by its number: a note in the note's words, a command or packet for its slot
@@ -20,6 +20,8 @@ Answers n (command slot _) (noted line told) = ⊥
 Answers n (command slot _) (judged line s number commands verdict) = ⊥
 Answers n (packet slot _) (noted line told) = ⊥
 Answers n (packet slot _) (replied line s number reply) = ⊥
+Answers n made (charged s row) = ⊥
+Answers n made (left_open s counters) = ⊥
 
 -- each line has one entry, in line order
 abbrev pub AnswersAll : ℕ → List Decision → List Entry → Type 0
@@ -33,26 +35,36 @@ abbrev pub command_number : ℕ → Entry → Option ℕ
 command_number slot (noted line text) = None
 command_number slot (replied line s number reply) = if s == slot then Some number else None
 command_number slot (judged line s number commands verdict) = None
+command_number slot (charged s row) = None
+command_number slot (left_open s counters) = None
 
 abbrev pub reply_told : ℕ → Entry → Option Reply
 reply_told slot (noted line text) = None
 reply_told slot (replied line s number reply) = if s == slot then Some reply else None
 reply_told slot (judged line s number commands verdict) = None
+reply_told slot (charged s row) = None
+reply_told slot (left_open s counters) = None
 
 abbrev pub packet_number : ℕ → Entry → Option ℕ
 packet_number slot (noted line text) = None
 packet_number slot (replied line s number reply) = None
 packet_number slot (judged line s number commands verdict) = if s == slot then Some number else None
+packet_number slot (charged s row) = None
+packet_number slot (left_open s counters) = None
 
 abbrev pub commands_told : ℕ → Entry → Option ℕ
 commands_told slot (noted line text) = None
 commands_told slot (replied line s number reply) = None
 commands_told slot (judged line s number commands verdict) = if s == slot then Some commands else None
+commands_told slot (charged s row) = None
+commands_told slot (left_open s counters) = None
 
 abbrev pub verdict_told : ℕ → Entry → Option Verdict
 verdict_told slot (noted line text) = None
 verdict_told slot (replied line s number reply) = None
 verdict_told slot (judged line s number commands verdict) = if s == slot then Some verdict else None
+verdict_told slot (charged s row) = None
+verdict_told slot (left_open s counters) = None
 
 -- how many commands stand before a packet
 abbrev pub commands_before : List Event → Packet → ℕ

@@ -4,6 +4,7 @@ ghost use Rattle.gate_model.specs.Decision.{Decision, events_at};
 ghost use Rattle.gate_model.specs.Entered.{entries_after};
 ghost use Rattle.gate_model.specs.Entry.{Entry, text_of};
 ghost use Rattle.gate_model.specs.EntryRanges.{IsEntry};
+ghost use Rattle.gate_model.specs.Ledger.{EachOctetCharged};
 ghost use Rattle.gate_model.specs.Run.{IsRun};
 
 /// Every trace has a lawful run: that of a gateway which answers each line at once.
@@ -14,4 +15,10 @@ pub fn every_trace_has_a_run()
 /// A text belongs to one entry only, among those that a report can hold.
 pub fn texts_tell_entries()
     ensures { (a b : Entry) → IsEntry a → IsEntry b → text_of a ≡ text_of b → a ≡ b }
+{}
+
+/// Billing is exact: in a lawful run the charging records and open counters of each bearer's life have, each way,
+/// just the octets of its forwarded packets.
+pub fn each_octet_is_charged()
+    ensures { EachOctetCharged }
 {}

@@ -3,6 +3,9 @@
 //! program that meets them, as a yardstick for others (TS 23.401, in this project's profile).
 #![tactic(auto)]
 
+/// The gateway's own address, 192.0.2.1.
+pub const GATEWAY_ADDR: u32 = 0xc000_0201;
+
 mod command;
 mod gateway;
 mod judging;
@@ -13,5 +16,5 @@ mod tests;
 
 pub use command::{Command, Outcome, Reply};
 pub use gateway::{Event, Gateway, Happened};
-pub use laws::{every_trace_has_a_run, texts_tell_entries};
+pub use laws::{each_octet_is_charged, every_trace_has_a_run, texts_tell_entries};
 pub use session::{Bearer, Bearers, Session, step};

@@ -51,7 +51,15 @@ impl Model for Bearers {
 
 impl Bearers {
     ghost use Rattle.std.specs.Prelude.{◌≡◌};
+    ghost use Rattle.std.specs.Option.{option_to_list};
     ghost use Rattle.gate_model.specs.Packets.{bearer_at};
+
+    /// The one bearer, if there is one.
+    pub fn only(&self) -> Option<Bearer>
+        ensures { self.now ≡ option_to_list result }
+    {
+        self.default
+    }
 
     /// The bearer of an index.
     pub fn at(&self, index: u8) -> Option<Bearer>
