@@ -1,4 +1,6 @@
 pub mod RowLemmas
+pub mod BookLemmas
+pub mod ChargeLemmas
 pub mod TunnelLemmas
 pub mod StandingLemmas
 pub mod AdmissionLemmas
@@ -6,3 +8,5 @@ pub mod LineLemmas
 pub mod NextLemmas
 pub mod RunLemmas
 pub mod ReportLemmas
+pub mod ChargeTexts
+pub mod SlotLemmas

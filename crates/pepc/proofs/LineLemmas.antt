@@ -1,5 +1,5 @@
 -- What a gateway stands for with one line more, by the line's kind.
-use Rattle.std.proofs.Common.{◌≡◌, ℕ, List, [], ◌∷◌, ◌++◌, length, Result, Ok, Err, OnOk, sym, ap, subst}
+use Rattle.std.proofs.Common.{◌≡◌, ℕ, List, [], ◌∷◌, ◌++◌, length, Result, Ok, Err, OnOk, sym, ap, subst, ◌∙◌}
 use Rattle.pc_base.specs.declared.packet.Peer.{Peer}
 use Rattle.address_book.specs.Book.{slot_in}
 use Rattle.gtpu_codec.specs.Refusal.{first_fault as tunnel_fault}
@@ -7,6 +7,8 @@ use Rattle.trace_lines.specs.Line.{Line}
 use Rattle.trace_lines.specs.declared.line.LineKind.TheVariants.{S1u, Attach}
 use Rattle.gate_model.specs.Book.{with_imsi, booked, booked_by, book_of}
 use Rattle.gate_model.specs.Decision.{Decision, decided, decided_by, decisions, attaching, received}
+use Rattle.gate_model.specs.Entered.{entry_after}
+use Rattle.gate_model.specs.Entry.{text_of}
 use Rattle.gate_model.specs.declared.command.Command.TheVariants as order
 use Rattle.gate_model.proofs.DecisionLemmas.{book_from-push, decisions_from-push}
 use Rattle.pepc.specs.declared.solo.Solo.{Solo}
@@ -39,3 +41,19 @@ stands_for_push solo done line book made same_book same stands =
     rw (book_from-push [] done line, decisions_from-push [] done line)
     (subst (λ b. Stands solo b (decisions done ++ decided (booked (book_of done) line) line ∷ [])) (sym same_book)
     (subst (λ d. Stands solo book (decisions done ++ d ∷ [])) (sym same) stands))
+
+-- what octets mean where a gateway has so many slots, they mean by the book that it stands for
+pub received_in_book : (solo : Solo) (book : List (List ℕ)) (made : List Decision) (slots moment : ℕ) (octets : List ℕ) (meant : Decision)
+    → slots ≡ length solo.book → Stands solo book made → meant ≡ received slots moment octets (tunnel_fault octets)
+    → meant ≡ received (length book) moment octets (tunnel_fault octets)
+received_in_book solo book made slots moment octets meant slots_is stands is =
+    is ∙ ap (λ n. received n moment octets (tunnel_fault octets)) (slots_is ∙ ap length stands.same_book)
+
+-- and what is told of a meaning is told of its equal
+pub told_of_equal : {E : Type 0} (result : Result (Unit {0}) E) (old new : List ℕ) (made : List Decision) (one other : Decision) → one ≡ other
+    → OnOk result (new ≡ old ++ text_of (entry_after made one)) → OnOk result (new ≡ old ++ text_of (entry_after made other))
+told_of_equal result old new made one other same told = subst (λ d. OnOk result (new ≡ old ++ text_of (entry_after made d))) same told
+
+pub stands_of_equal : {E : Type 0} (result : Result (Unit {0}) E) (solo : Solo) (book : List (List ℕ)) (made : List Decision) (one other : Decision) → one ≡ other
+    → OnOk result (Stands solo book (made ++ one ∷ [])) → OnOk result (Stands solo book (made ++ other ∷ []))
+stands_of_equal result solo book made one other same stands = subst (λ d. OnOk result (Stands solo book (made ++ d ∷ []))) same stands

@@ -17,6 +17,9 @@ use Rattle.gate_model.specs.declared.gateway.Event.TheVariants as event
 use Rattle.pepc.specs.declared.solo.Solo.{Solo}
 use Rattle.pepc.specs.declared.subscriber.Subscriber.{Subscriber}
 use Rattle.pepc.specs.Row.{RowStands}
+use Rattle.charging_book.specs.Accounts.{Accounts}
+use Rattle.pepc.specs.Account.{BookStands, HasBook}
+use Rattle.pepc.specs.Places.{HasAt}
 use Rattle.pepc.specs.Standing.{HasRow, Stands}
 
 -- a decision that is none of a slot's leaves its events
@@ -31,65 +34,90 @@ counted_push : (n : ℕ) (made : List Decision) (one : Decision) → n ≡ lengt
 counted_push n made one is = omega (arith, length-append made (one ∷ []))
 
 pub stands_noted : (solo new : Solo) (book : List (List ℕ)) (made : List Decision) (text : List ℕ) → Stands solo book made
-    → new.lines ≡ solo.lines + 1 → new.book ≡ solo.book → new.subscribers.items ≡ solo.subscribers.items
+    → new.lines ≡ solo.lines + 1 → new.book ≡ solo.book → new.subscribers.items ≡ solo.subscribers.items → new.accounts.items ≡ solo.accounts.items
     → Stands new book (made ++ note text ∷ [])
-stands_noted solo new book made text stands lines same_book same = record {
+stands_noted solo new book made text stands lines same_book same same_accounts = record {
   counted = lines ∙ counted_push solo.lines made (note text) stands.counted;
   same_book = same_book ∙ stands.same_book;
   rows = ap length same ∙ stands.rows;
+  books = ap length same_accounts ∙ stands.books;
+  each_book = λ slot within.
+      rw (same_accounts, events_at-other slot made (note text) refl) (stands.each_book slot within);
   each = λ slot within.
       rw (same, events_at-other slot made (note text) refl) (stands.each slot within);
   none_beyond = λ slot beyond. events_at-other slot made (note text) refl ∙ stands.none_beyond slot beyond;
 }
 
--- the row that is found at a slot stands for its events
-pub row_at : (subscribers : List Subscriber) (slot place : ℕ) (events : List Event) (row : Subscriber) → HasRow subscribers slot events
-    → place ≡ slot → row ≡ get_or subscribers place row → RowStands slot row events
-row_at subscribers slot place events row has at is =
-    let same : has.row ≡ row = sym (get_or_from_slice_get subscribers slot has.row row has.found) ∙ ap (λ k. get_or subscribers k row) (sym at) ∙ sym is in
-    subst (λ r. RowStands slot r events) same has.stands
+-- what is found at a place is what holds there
+pub value_at : {X : Type 0} (items : List X) (slot place : ℕ) (P : X → Type 0) (value : X) → HasAt items slot P → place ≡ slot
+    → value ≡ get_or items place value → P value
+value_at items slot place P value has at is =
+    let same : has.value ≡ value = sym (get_or_from_slice_get items slot has.value value has.found) ∙ ap (λ k. get_or items k value) (sym at) ∙ sym is in
+    subst P same has.holds
 
-has_row_set : (subscribers : List Subscriber) (slot : ℕ) (events : List Event) (row : Subscriber) → slot < length subscribers
-    → RowStands slot row events → HasRow (set subscribers slot row) slot events
-has_row_set subscribers slot events row within stands = record {
-  row = row;
+-- the row and the book that are found at a slot's place
+pub row_of_slot : (solo : Solo) (book : List (List ℕ)) (made : List Decision) (slot place : ℕ) (row : Subscriber) → Stands solo book made → slot < length book
+    → place ≡ slot → row ≡ get_or solo.subscribers.items place row → RowStands slot row (events_at slot made)
+row_of_slot solo book made slot place row stands within at is =
+    value_at solo.subscribers.items slot place (λ r. RowStands slot r (events_at slot made)) row (stands.each slot within) at is
+
+pub book_of_slot : (solo : Solo) (book : List (List ℕ)) (made : List Decision) (slot place : ℕ) (account : Accounts) → Stands solo book made → slot < length book
+    → place ≡ slot → account ≡ get_or solo.accounts.items place account → BookStands slot account (events_at slot made)
+book_of_slot solo book made slot place account stands within at is =
+    value_at solo.accounts.items slot place (λ b. BookStands slot b (events_at slot made)) account (stands.each_book slot within) at is
+
+pub has_at_set : {X : Type 0} (items : List X) (slot : ℕ) (P : X → Type 0) (value : X) → slot < length items → P value → HasAt (set items slot value) slot P
+has_at_set items slot P value within holds = record {
+  value = value;
   found =
-      let inside : slot < length (set subscribers slot row) = omega (arith, length-set subscribers slot row) in
-      slice_get-get_or (set subscribers slot row) slot row inside ∙ ap (λ r. Some r) (get_or-set_same subscribers slot row row within);
-  stands = stands;
+      let inside : slot < length (set items slot value) = omega (arith, length-set items slot value) in
+      slice_get-get_or (set items slot value) slot value inside ∙ ap (λ r. Some r) (get_or-set_same items slot value value within);
+  holds = holds;
 }
 
-has_row_other : (subscribers : List Subscriber) (own slot : ℕ) (events : List Event) (row : Subscriber) → slot < length subscribers → slot ≢ own
-    → HasRow subscribers slot events → HasRow (set subscribers own row) slot events
-has_row_other subscribers own slot events row within other has = record {
-  row = has.row;
+pub has_at_other : {X : Type 0} (items : List X) (own slot : ℕ) (P : X → Type 0) (value : X) → slot < length items → slot ≢ own
+    → HasAt items slot P → HasAt (set items own value) slot P
+has_at_other items own slot P value within other has = record {
+  value = has.value;
   found =
-      let inside : slot < length (set subscribers own row) = omega (arith, length-set subscribers own row) in
-      slice_get-get_or (set subscribers own row) slot has.row inside
-      ∙ ap (λ r. Some r) (get_or-set_other subscribers own slot row has.row other)
-      ∙ sym (slice_get-get_or subscribers slot has.row within) ∙ has.found;
-  stands = has.stands;
+      let inside : slot < length (set items own value) = omega (arith, length-set items own value) in
+      slice_get-get_or (set items own value) slot has.value inside
+      ∙ ap (λ r. Some r) (get_or-set_other items own slot value has.value other)
+      ∙ sym (slice_get-get_or items slot has.value within) ∙ has.found;
+  holds = has.holds;
 }
 
--- the row of one slot was set to one that stands for an event more
-pub stands_more : (solo new : Solo) (book : List (List ℕ)) (made : List Decision) (one : Decision) (own place : ℕ) (row : Subscriber) (e : Event)
+-- the row and the book of one slot were set to ones that stand for an event more
+pub stands_more : (solo new : Solo) (book : List (List ℕ)) (made : List Decision) (one : Decision) (own place : ℕ) (row : Subscriber) (account : Accounts) (e : Event)
     → Stands solo book made → own < length book → place ≡ own
     → new.lines ≡ solo.lines + 1 → new.book ≡ solo.book → new.subscribers.items ≡ set solo.subscribers.items place row
-    → RowStands own row (events_at own made ++ e ∷ [])
+    → new.accounts.items ≡ set solo.accounts.items place account
+    → RowStands own row (events_at own made ++ e ∷ []) → BookStands own account (events_at own made ++ e ∷ [])
     → event_at own one ≡ Some e → ((slot : ℕ) → slot ≢ own → event_at slot one ≡ None)
     → Stands new book (made ++ one ∷ [])
-stands_more solo new book made one own place row e stands within at lines same_book written row_stands is_own is_other =
+stands_more solo new book made one own place row account e stands within at lines same_book written charged row_stands book_stands is_own is_other =
     let items : new.subscribers.items ≡ set solo.subscribers.items own row = written ∙ ap (λ k. set solo.subscribers.items k row) at in
+    let accounts : new.accounts.items ≡ set solo.accounts.items own account = charged ∙ ap (λ k. set solo.accounts.items k account) at in
     record {
       counted = lines ∙ counted_push solo.lines made one stands.counted;
       same_book = same_book ∙ stands.same_book;
       rows = ap length items ∙ length-set solo.subscribers.items own row ∙ stands.rows;
+      books = ap length accounts ∙ length-set solo.accounts.items own account ∙ stands.books;
+      each_book = λ slot inside.
+          elim (cases_eq slot own) [
+            | inl same ↦ subst (λ s. HasBook new.accounts.items s (events_at s (made ++ one ∷ []))) (sym same)
+                (rw (accounts, events_at-own own made one e is_own)
+                (has_at_set solo.accounts.items own (λ b. BookStands own b (events_at own made ++ e ∷ [])) account (omega (arith, stands.books)) book_stands))
+            | inr other ↦ rw (accounts, events_at-other slot made one (is_other slot other))
+                (has_at_other solo.accounts.items own slot (λ b. BookStands slot b (events_at slot made)) account (omega (arith, stands.books)) other (stands.each_book slot inside))
+          ];
       each = λ slot inside.
           elim (cases_eq slot own) [
             | inl same ↦ subst (λ s. HasRow new.subscribers.items s (events_at s (made ++ one ∷ []))) (sym same)
-                (rw (items, events_at-own own made one e is_own) (has_row_set solo.subscribers.items own (events_at own made ++ e ∷ []) row (omega (arith, stands.rows)) row_stands))
+                (rw (items, events_at-own own made one e is_own)
+                (has_at_set solo.subscribers.items own (λ r. RowStands own r (events_at own made ++ e ∷ [])) row (omega (arith, stands.rows)) row_stands))
             | inr other ↦ rw (items, events_at-other slot made one (is_other slot other))
-                (has_row_other solo.subscribers.items own slot (events_at slot made) row (omega (arith, stands.rows)) other (stands.each slot inside))
+                (has_at_other solo.subscribers.items own slot (λ r. RowStands slot r (events_at slot made)) row (omega (arith, stands.rows)) other (stands.each slot inside))
           ];
       none_beyond = λ slot beyond.
           let other : slot ≢ own = omega arith in

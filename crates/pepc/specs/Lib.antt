@@ -1,6 +1,8 @@
 pub mod Judgement
 pub mod Row
+pub mod Places
 pub mod Received
+pub mod Account
 pub mod Standing
 pub mod Status
 pub mod Words

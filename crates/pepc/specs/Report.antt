@@ -1,9 +1,11 @@
 -- The report of a trace, and what a status says of it.
-use Rattle.std.specs.Prelude.{◌≡◌, ℕ, ◌⊎◌, List, [], ◌∷◌, ◌++◌, Option, IfSome, codes}
+use Rattle.std.specs.Prelude.{◌≡◌, ℕ, ◌⊎◌, List, [], ◌∷◌, ◌++◌, length, Option, IfSome, codes}
 use Rattle.std.specs.Io.KnownBytes.{Appends}
 use Rattle.trace_lines.specs.Input.{Input, Stop, bad, long, big, ended, input_of}
 use Rattle.trace_lines.specs.Line.{Line}
 use Rattle.trace_lines.specs.Word.{word_of}
+use Rattle.gate_model.specs.Book.{book_of}
+use Rattle.gate_model.specs.Charges.{charges}
 use Rattle.gate_model.specs.Decision.{decisions}
 use Rattle.gate_model.specs.Entry.{Entry, noted, texts}
 use Rattle.gate_model.specs.Run.{IsRun}
@@ -18,12 +20,12 @@ stop_entry (long number) = []
 stop_entry big = []
 stop_entry ended = []
 
--- the text is that of a lawful run of the lines, at which the input stops so
+-- the text is that of a lawful run of the lines, at which the input stops so, and of what it is charged
 pub record IsReport (lines : List Line) (stop : Stop) (text : List ℕ) : Type 0 where
   pub entries : List Entry
   pub events : ℕ → List Event
   pub run : IsRun (decisions lines) entries events
-  pub written : text ≡ texts (entries ++ stop_entry stop)
+  pub written : text ≡ texts (entries ++ stop_entry stop ++ charges (length (book_of lines)) events)
 
 -- the report of some first lines
 pub record IsFrontReport (input : Input) (text : List ℕ) : Type 0 where

@@ -3,11 +3,12 @@ ghost use Rattle.std.specs.Prelude.{◌≡◌, ◌+◌, ◌*◌, ◌^◌, ◌<�
 ghost use Rattle.hex.specs.Hex.{encode_lower};
 ghost use Rattle.pc_base.specs.declared.packet.Verdict.TheVariants.{Up};
 ghost use Rattle.pepc.specs.Judgement.{verdict_of};
-ghost use Rattle.gate_model.specs.Entry.{fields, text_of, noted, replied, judged, outcome_word, message_word, verdict_fields};
+ghost use Rattle.gate_model.specs.Entry.{fields, text_of, noted, replied, judged, charged, left_open, outcome_word, message_word, moment_word, why_word, verdict_fields};
 
 use crate::judgement::Judgement;
+use charging_book::{ChargeRow, Open, Why};
 use gate_model::{Outcome, Reply};
-use pc_base::Slot;
+use pc_base::{Moment, Slot};
 use std::alloc::AllocError;
 
 /// Appends a field: its octets behind a space.
@@ -139,4 +140,122 @@ pub fn push_packet(
     push_number(report, number)?;
     push_number(report, commands)?;
     push_judgement(report, judgement)
+}
+
+/// Appends a moment as a field, or a dash.
+fn push_moment(report: &mut Vec<u8>, moment: Option<Moment>) -> Result<(), AllocError>
+    ensures { OnOk result (report.new.items ≡ report.old.items ++ 32 ∷ moment_word moment) }
+{
+    match moment {
+        None => push_field(report, b"-"),
+        Some(moment) => push_number(report, moment.0),
+    }
+}
+
+fn why_word(why: Why) -> &'static str
+    ensures { result.now ≡ why_word why }
+{
+    match why {
+        Why::Volume => "volume",
+        Why::Qos => "qos",
+        Why::Gone => "gone",
+    }
+}
+
+/// Appends why a piece was finished, and the end of its line.
+fn push_why(report: &mut Vec<u8>, why: Why) -> Result<(), AllocError>
+    ensures { OnOk result (report.new.items ≡ report.old.items ++ 32 ∷ (why_word why ++ 10 ∷ [])) }
+{
+    push_last(report, why_word(why).as_bytes())
+}
+
+/// Appends the letter of an entry, its slot, and which piece of which bearer it tells of.
+fn push_piece(
+    report: &mut Vec<u8>,
+    letter: u8,
+    slot: Slot,
+    life: u64,
+    ebi: u8,
+    qci: u8,
+    seq: u64,
+) -> Result<(), AllocError>
+    ensures { OnOk result (report.new.items ≡ report.old.items ++ letter ∷ 32 ∷ (decimal slot ++ 32 ∷ (decimal life ++ 32 ∷ (decimal ebi ++ 32 ∷ (decimal qci ++ 32 ∷ decimal seq))))) }
+{
+    report.push(letter)?;
+    push_number(report, u64::from(slot.0))?;
+    push_number(report, life)?;
+    push_number(report, u64::from(ebi))?;
+    push_number(report, u64::from(qci))?;
+    push_number(report, seq)?;
+    Ok(())
+}
+
+/// Appends what a piece counts.
+fn push_counts(
+    report: &mut Vec<u8>,
+    up_octets: u64,
+    down_octets: u64,
+    up_packets: u64,
+    down_packets: u64,
+) -> Result<(), AllocError>
+    ensures { OnOk result (report.new.items ≡ report.old.items ++ 32 ∷ (decimal up_octets ++ 32 ∷ (decimal down_octets ++ 32 ∷ (decimal up_packets ++ 32 ∷ decimal down_packets)))) }
+{
+    push_number(report, up_octets)?;
+    push_number(report, down_octets)?;
+    push_number(report, up_packets)?;
+    push_number(report, down_packets)
+}
+
+/// Appends the moments of a piece's first and last packet and why it was finished, and the end of its line.
+fn push_ending(
+    report: &mut Vec<u8>,
+    first: Option<Moment>,
+    last: Option<Moment>,
+    why: Why,
+) -> Result<(), AllocError>
+    ensures { OnOk result (report.new.items ≡ report.old.items
+        ++ 32 ∷ (moment_word first ++ 32 ∷ (moment_word last ++ 32 ∷ (why_word why ++ 10 ∷ [])))) }
+{
+    push_moment(report, first)?;
+    push_moment(report, last)?;
+    push_why(report, why)
+}
+
+/// Appends a charging record of a slot.
+pub fn push_row(report: &mut Vec<u8>, slot: Slot, row: &ChargeRow) -> Result<(), AllocError>
+    ensures { OnOk result (report.new.items ≡ report.old.items ++ text_of (charged slot row.now)) }
+{
+    push_piece(report, b'R', slot, row.life, row.ebi, row.qci, row.seq)?;
+    push_counts(
+        report,
+        row.up_octets,
+        row.down_octets,
+        row.up_packets,
+        row.down_packets,
+    )?;
+    push_ending(report, row.first, row.last, row.why)
+}
+
+/// Appends the open counters of a bearer of a slot.
+pub fn push_open(report: &mut Vec<u8>, slot: Slot, counters: &Open) -> Result<(), AllocError>
+    ensures { OnOk result (report.new.items ≡ report.old.items ++ text_of (left_open slot counters.now)) }
+{
+    push_piece(
+        report,
+        b'O',
+        slot,
+        counters.life,
+        counters.ebi,
+        counters.qci,
+        counters.seq,
+    )?;
+    push_counts(
+        report,
+        counters.up_octets,
+        counters.down_octets,
+        counters.up_packets,
+        counters.down_packets,
+    )?;
+    report.push(b'\n')?;
+    Ok(())
 }

@@ -2,6 +2,7 @@
 //! the command line and the standard streams, and tells its status.
 #![tactic(auto)]
 
+mod charges;
 mod entry_text;
 mod judgement;
 mod reading;

@@ -1,20 +1,22 @@
 //! What came from an eNodeB: a packet of a bearer, or a note.
-ghost use Rattle.std.specs.Prelude.{◌≡◌, ◌+◌, ℕ};
+ghost use Rattle.std.specs.Prelude.{◌≡◌, ◌+◌, ℕ, Option, Some};
 ghost use Rattle.gtpu_codec.specs.Refusal.{first_fault as tunnel_fault};
 ghost use Rattle.ipv4_packet.specs.Refusal.{first_fault as ip_fault};
 ghost use Rattle.gate_model.specs.Decision.{tunnel_note, ip_note, carried, tunnelled, received};
 ghost use Rattle.gate_model.specs.Tunnel.{bearer_of};
 ghost use Rattle.pepc.specs.Received.{decision_of, IsInBook};
 
-use gtpu_codec::UBad;
+use gtpu_codec::{GtpUKind, UBad};
 use ipv4_packet::{Ip4, IpBad};
 use pc_base::{Slot, Teid, TeidUse, slot_of_teid};
-
-const UNKNOWN: &str = "s1u unknown -";
 
 /// What the octets of an eNodeB's message come to.
 pub enum Received<'a> {
     Note(&'static str),
+    /// An echo to be answered with this sequence number.
+    Echo(u16),
+    /// A tunnel that isn't there.
+    Unknown(Teid),
     /// A packet that came up on a bearer of a slot.
     Packet {
         slot: Slot,
@@ -29,19 +31,25 @@ pub fn receive(octets: &[u8], slots: u32) -> Received<'_>
     ensures in_book { IsInBook slots result }
 {
     match gtpu_codec::read(octets) {
-        Ok((head, body)) => take_from(head.teid, body, slots),
+        Ok((head, body)) => match head.kind {
+            GtpUKind::EchoRequest => Received::Echo(head.seq.unwrap_or(0)),
+            GtpUKind::EchoResponse | GtpUKind::ErrorIndication | GtpUKind::EndMarker => {
+                Received::Note("s1u noted")
+            }
+            GtpUKind::Gpdu => take_from(head.teid, body, slots),
+        },
         Err(bad) => Received::Note(tunnel_note(bad)),
     }
 }
 
 // What came through the tunnel of a TEID.
 fn take_from(teid: Teid, body: &[u8], slots: u32) -> Received<'_>
-    ensures decision { (moment : ℕ) → decision_of moment result ≡ tunnelled slots moment body.now (bearer_of teid) }
+    ensures decision { (moment : ℕ) → decision_of moment result ≡ tunnelled slots moment teid body.now (bearer_of teid) }
     ensures in_book { IsInBook slots result }
 {
     match bearer_of(teid) {
         Some((slot, index)) if slot.0 < slots => carry(slot, index, body),
-        _ => Received::Note(UNKNOWN),
+        _ => Received::Unknown(teid),
     }
 }
 

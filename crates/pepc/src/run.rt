@@ -88,12 +88,13 @@ fn write_block<K: Sink>(sink: &mut K, report: &mut Vec<u8>) -> Result<(), Unwrit
 
 // Answers a line.
 fn take_line<K: Sink>(
+    alloc: Global,
     gateway: &mut Solo,
     line: &TraceLine,
     sink: &mut K,
     report: &mut Vec<u8>,
 ) -> Result<(), Unwritten>
-    requires { (done : List Line) × StandsFor gateway.old done × (length done < 2 ^ 61) }
+    requires { (done : List Line) × StandsFor gateway.old done × (length done < 2 ^ 58) }
 
     ensures stands { (done : List Line) → StandsFor gateway.old done → OnOk result (StandsFor gateway.new (done ++ line.now ∷ [])) }
     ensures moved { (done : List Line) → StandsFor gateway.old done
@@ -105,7 +106,7 @@ fn take_line<K: Sink>(
     ensures later { K.faults sink.old ≤ K.faults sink.new }
     ensures fault { result ≡ Err Unwritten.WriteFault → Rises (K.faults sink.old) (K.faults sink.new) }
 {
-    gateway.enter(line, report)?;
+    gateway.enter(alloc, line, report)?;
     write_block(sink, report)
 }
 
@@ -149,7 +150,7 @@ fn run_lines<S: Source, K: Sink>(
     loop {
         match next_line(alloc, source, buf, number, least) {
             Next::Line(line) => {
-                take_line(gateway, &line, sink, report)?;
+                take_line(alloc, gateway, &line, sink, report)?;
                 least = line.moment;
                 number += 1;
             }
@@ -187,9 +188,10 @@ fn status_without(why: Unwritten) -> Status
     }
 }
 
-// Writes the last block.
-fn end_run<K: Sink>(ending: Ending, sink: &mut K, report: &mut Vec<u8>) -> Status
-    ensures whole { (start old : Option (List ℕ)) (gateway : Solo) → Ends ending start old (K.written sink.old) report.old.items gateway
+// Appends what is charged, and writes the last block.
+fn end_run<K: Sink>(ending: Ending, gateway: &Solo, sink: &mut K, report: &mut Vec<u8>) -> Status
+    requires { (done : List Line) × StandsFor gateway.now done }
+    ensures whole { (start old : Option (List ℕ)) → Ends ending start old (K.written sink.old) report.old.items gateway.now
         → Runs result start old (K.written sink.new) }
     ensures read_fault { result ≡ Status.ReadFault → ending ≡ Ending.ReadFault }
     ensures no_usage { result ≡ Status.Usage → ⊥ }
@@ -197,6 +199,9 @@ fn end_run<K: Sink>(ending: Ending, sink: &mut K, report: &mut Vec<u8>) -> Statu
     ensures later { K.faults sink.old ≤ K.faults sink.new }
     ensures write_fault { result ≡ Status.WriteFault → Rises (K.faults sink.old) (K.faults sink.new) }
 {
+    if gateway.push_charges(report).is_err() {
+        return Status::NoMemory;
+    }
     match write_report(sink, report) {
         Ok(()) => status_at(ending),
         Err(why) => status_without(why),
@@ -219,7 +224,7 @@ fn solo<S: Source, K: Sink>(alloc: Global, source: &mut S, sink: &mut K) -> Stat
     let mut gateway = Solo::new(alloc);
     let mut report = Vec::new(alloc);
     match run_lines(alloc, source, sink, &mut buf, &mut gateway, &mut report) {
-        Ok(ending) => end_run(ending, sink, &mut report),
+        Ok(ending) => end_run(ending, &gateway, sink, &mut report),
         Err(why) => status_without(why),
     }
 }

@@ -1,22 +1,28 @@
 //! The gateway on one thread: each line is answered at once.
 ghost use Rattle.std.specs.Prelude.{◌≡◌, ◌+◌, ◌^◌, ◌<◌, ◌∷◌, ◌++◌, [], ℕ, List, length, OnOk, IfOk, IfSome, IfNone};
 ghost use Rattle.gate_model.specs.Book.{book_of, with_imsi};
-ghost use Rattle.gate_model.specs.Decision.{Decision, command as command_of, packet as packet_of, note, attaching, received};
-ghost use Rattle.gate_model.specs.Entry.{text_of};
+ghost use Rattle.gate_model.specs.Decision.{Decision, command as command_of, packet as packet_of, note, attaching, received, told};
+ghost use Rattle.gate_model.specs.Entry.{text_of, texts};
 ghost use Rattle.gate_model.specs.Entered.{entry_after};
+ghost use Rattle.std.specs.String.{string_bytes};
+ghost use Rattle.gtpu_codec.specs.Text.{payload_len};
 ghost use Rattle.gtpu_codec.specs.Refusal.{first_fault as tunnel_fault};
 ghost use Rattle.address_book.specs.Book.{slot_in};
+ghost use Rattle.ipv4_packet.specs.Packet.{IsPacket};
 ghost use Rattle.trace_lines.specs.Line.{Line};
 ghost use Rattle.pepc.specs.Judgement.{uplink as uplink_of};
-ghost use Rattle.pepc.specs.Standing.{Stands, StandsFor, entry_at};
+ghost use Rattle.pepc.specs.Standing.{Stands, StandsFor, charges_of, entry_at};
 
+use crate::charges::{add_book, change_life, charge, push_charges};
 use crate::entry_text::{push_note, push_packet, push_reply};
 use crate::receive::{Received, receive};
 use crate::subscriber::Subscriber;
 use address_book::{AddressBook, AdmitNo};
-use gate_model::Command;
+use charging_book::Book;
+use gate_model::{Command, GATEWAY_ADDR};
+use gtpu_codec::GtpU;
 use ipv4_packet::Ip4;
-use pc_base::{Imsi, Moment, Slot};
+use pc_base::{Addr4, Imsi, Moment, Slot};
 use std::alloc::{AllocError, Global};
 use trace_lines::{LineKind, TraceLine};
 
@@ -26,6 +32,7 @@ pub struct Solo {
     lines: u64,
     book: AddressBook,
     subscribers: Vec<Subscriber>,
+    accounts: Vec<Book>,
 }
 
 impl Solo {
@@ -37,12 +44,13 @@ impl Solo {
             lines: 0,
             book: AddressBook::new(alloc),
             subscribers: Vec::new(alloc),
+            accounts: Vec::new(alloc),
         }
     }
 
     // A line that comes to a note alone.
     fn note(&mut self, text: &str, report: &mut Vec<u8>) -> Result<(), AllocError>
-        requires { (book : List (List ℕ)) × (made : List Decision) × Stands self.old book made × (length made < 2 ^ 61) }
+        requires { (book : List (List ℕ)) × (made : List Decision) × Stands self.old book made × (length made < 2 ^ 58) }
 
         ensures told { (book : List (List ℕ)) (made : List Decision) → Stands self.old book made
             → OnOk result (report.new.items ≡ report.old.items ++ text_of (entry_after made (note text.now))) }
@@ -54,6 +62,7 @@ impl Solo {
         self.lines = line;
         Ok(())
     }
+
     // A command of a slot in the book.
     fn command(
         &mut self,
@@ -61,7 +70,7 @@ impl Solo {
         command: &Command,
         report: &mut Vec<u8>,
     ) -> Result<(), AllocError>
-        requires { (book : List (List ℕ)) × (made : List Decision) × Stands self.old book made × (slot < length book) × (length made < 2 ^ 61) }
+        requires { (book : List (List ℕ)) × (made : List Decision) × Stands self.old book made × (slot < length book) × (length made < 2 ^ 58) }
 
         ensures told { (book : List (List ℕ)) (made : List Decision) → Stands self.old book made → slot < length book
             → OnOk result (report.new.items ≡ report.old.items ++ text_of (entry_after made (command_of slot command.now))) }
@@ -69,8 +78,12 @@ impl Solo {
             → OnOk result (Stands self.new book (made ++ command_of slot command.now ∷ [])) }
     {
         let line = self.lines + 1;
-        let subscriber = &mut self.subscribers[slot.0 as usize];
+        let place = slot.0 as usize;
+        let subscriber = &mut self.subscribers[place];
+        let old = subscriber.bearer();
         let (number, reply) = subscriber.command(command);
+        let new = subscriber.bearer();
+        change_life(&mut self.accounts[place], old, new)?;
         push_reply(report, line, slot, number, &reply)?;
         self.lines = line;
         Ok(())
@@ -85,7 +98,7 @@ impl Solo {
         packet: &Ip4<'_>,
         report: &mut Vec<u8>,
     ) -> Result<(), AllocError>
-        requires { (book : List (List ℕ)) × (made : List Decision) × Stands self.old book made × (slot < length book) × (length made < 2 ^ 61) }
+        requires { (book : List (List ℕ)) × (made : List Decision) × Stands self.old book made × (slot < length book) × (length made < 2 ^ 58) }
 
         ensures told { (book : List (List ℕ)) (made : List Decision) → Stands self.old book made → slot < length book
             → OnOk result (report.new.items ≡ report.old.items ++ text_of (entry_after made (packet_of slot (uplink_of moment index packet.now)))) }
@@ -93,14 +106,22 @@ impl Solo {
             → OnOk result (Stands self.new book (made ++ packet_of slot (uplink_of moment index packet.now) ∷ [])) }
     {
         let line = self.lines + 1;
-        let subscriber = &mut self.subscribers[slot.0 as usize];
+        let place = slot.0 as usize;
+        let subscriber = &mut self.subscribers[place];
         let (number, commands, judgement) = subscriber.uplink(index, packet);
+        charge(
+            &mut self.accounts[place],
+            judgement,
+            len_of(packet.octets()),
+            moment,
+        )?;
         push_packet(report, line, slot, number, commands, judgement)?;
         self.lines = line;
         Ok(())
     }
+
     // The slot of an IMSI, which gets a row if it is new; None where the pool is used up.
-    fn admit(&mut self, imsi: Imsi) -> Result<Option<Slot>, AllocError>
+    fn admit(&mut self, alloc: Global, imsi: Imsi) -> Result<Option<Slot>, AllocError>
         ensures slot { IfOk result (λ slot. slot ≡ slot_in self.new.book imsi) }
         ensures stands { (book : List (List ℕ)) (made : List Decision) → Stands self.old book made
             → OnOk result (Stands self.new (with_imsi book imsi) made) }
@@ -110,6 +131,7 @@ impl Solo {
             Ok(slot) => {
                 self.subscribers
                     .extend_from_slice(&[Subscriber::new(slot)])?;
+                add_book(alloc, &mut self.accounts)?;
                 Ok(Some(slot))
             }
             Err(AdmitNo::PoolUsed) => Ok(None),
@@ -120,18 +142,19 @@ impl Solo {
     // An order to attach.
     fn attach(
         &mut self,
+        alloc: Global,
         imsi: Imsi,
         order: &Command,
         report: &mut Vec<u8>,
     ) -> Result<(), AllocError>
-        requires { (book : List (List ℕ)) × (made : List Decision) × Stands self.old book made × (length made < 2 ^ 61) }
+        requires { (book : List (List ℕ)) × (made : List Decision) × Stands self.old book made × (length made < 2 ^ 58) }
 
         ensures told { (book : List (List ℕ)) (made : List Decision) → Stands self.old book made
             → OnOk result (report.new.items ≡ report.old.items ++ text_of (entry_after made (attaching (slot_in (with_imsi book imsi) imsi) order.now))) }
         ensures stands { (book : List (List ℕ)) (made : List Decision) → Stands self.old book made
             → OnOk result (Stands self.new (with_imsi book imsi) (made ++ attaching (slot_in (with_imsi book imsi) imsi) order.now ∷ [])) }
     {
-        match self.admit(imsi)? {
+        match self.admit(alloc, imsi)? {
             Some(slot) => self.command(slot, order, report),
             None => self.note("pool", report),
         }
@@ -140,11 +163,12 @@ impl Solo {
     // A message of an eNodeB.
     fn receive(
         &mut self,
+        alloc: Global,
         moment: Moment,
         octets: &[u8],
         report: &mut Vec<u8>,
     ) -> Result<(), AllocError>
-        requires { (book : List (List ℕ)) × (made : List Decision) × Stands self.old book made × (length made < 2 ^ 61) }
+        requires { (book : List (List ℕ)) × (made : List Decision) × Stands self.old book made × (length made < 2 ^ 58) }
 
         ensures told { (book : List (List ℕ)) (made : List Decision) → Stands self.old book made
             → OnOk result (report.new.items ≡ report.old.items ++ text_of (entry_after made (received (length book) moment octets.now (tunnel_fault octets.now)))) }
@@ -153,6 +177,19 @@ impl Solo {
     {
         match receive(octets, self.book.len()) {
             Received::Note(text) => self.note(text, report),
+            Received::Echo(seq) => {
+                let text = told(alloc, "s1u echo", &GtpU::EchoResponse { seq })?;
+                self.note(text.as_str(), report)
+            }
+            Received::Unknown(teid) => {
+                let peer = Addr4(GATEWAY_ADDR);
+                let text = told(
+                    alloc,
+                    "s1u unknown",
+                    &GtpU::ErrorIndication { seq: 0, teid, peer },
+                )?;
+                self.note(text.as_str(), report)
+            }
             Received::Packet {
                 slot,
                 index,
@@ -161,10 +198,24 @@ impl Solo {
         }
     }
 
+    /// Appends what all subscribers are charged.
+    pub fn push_charges(&self, report: &mut Vec<u8>) -> Result<(), AllocError>
+        requires { (done : List Line) × StandsFor self.now done }
+        ensures { (done : List Line) → StandsFor self.now done
+            → OnOk result (report.new.items ≡ report.old.items ++ texts (charges_of done)) }
+    {
+        push_charges(report, self.accounts.as_slice())
+    }
+
     /// Answers a line: its entry's text is appended to the report. After want of memory the gateway may
     /// only be dropped.
-    pub fn enter(&mut self, line: &TraceLine, report: &mut Vec<u8>) -> Result<(), AllocError>
-        requires { (done : List Line) × StandsFor self.old done × (length done < 2 ^ 61) }
+    pub fn enter(
+        &mut self,
+        alloc: Global,
+        line: &TraceLine,
+        report: &mut Vec<u8>,
+    ) -> Result<(), AllocError>
+        requires { (done : List Line) × StandsFor self.old done × (length done < 2 ^ 58) }
 
         ensures told { (done : List Line) → StandsFor self.old done
             → OnOk result (report.new.items ≡ report.old.items ++ text_of (entry_at done line.now)) }
@@ -183,9 +234,30 @@ impl Solo {
                     up: *up,
                     down: *down,
                 };
-                self.attach(*imsi, &order, report)
+                self.attach(alloc, *imsi, &order, report)
             }
-            LineKind::S1u(octets) => self.receive(line.moment, octets.as_slice(), report),
+            LineKind::S1u(octets) => self.receive(alloc, line.moment, octets.as_slice(), report),
         }
     }
+}
+
+// How many octets a packet has.
+fn len_of(packet: &[u8]) -> u32
+    requires { IsPacket packet.now }
+    ensures { result ≡ length packet.now }
+{
+    packet.len() as u32
+}
+
+// A message of the gateway, in the words of a note.
+fn told(alloc: Global, word: &str, message: &GtpU) -> Result<String, AllocError>
+    requires { payload_len message.now < 2 ^ 16 }
+    ensures { IfOk result (λ text. string_bytes text ≡ told word.now message.now) }
+{
+    let octets = gtpu_codec::write(alloc, message)?;
+    let digits = hex::encode(alloc, octets.as_slice())?;
+    let mut text = String::from_str(alloc, word)?;
+    text.push_str(" ")?;
+    text.push_str(digits.as_str())?;
+    Ok(text)
 }

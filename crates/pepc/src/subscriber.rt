@@ -1,5 +1,6 @@
 //! One subscriber of the gateway.
 ghost use Rattle.std.specs.Prelude.{◌≡◌, ◌^◌, ◌<◌, ◌∷◌, ◌++◌, [], ℕ, List, length};
+ghost use Rattle.std.specs.Option.{option_to_list};
 ghost use Rattle.gate_model.specs.Events.{commands_of, packets_of, reply_after, verdict_after};
 ghost use Rattle.gate_model.specs.declared.gateway.Event.{Event};
 ghost use Rattle.gate_model.specs.declared.gateway.Event.TheVariants.{Command as command_event, Packet as packet_event};
@@ -8,7 +9,7 @@ ghost use Rattle.pepc.specs.Judgement.{verdict_of, uplink};
 ghost use Rattle.pepc.specs.Row.{RowStands};
 
 use crate::judgement::Judgement;
-use gate_model::{Command, Reply, Session, step};
+use gate_model::{Bearer, Command, Reply, Session, step};
 use ipv4_packet::Ip4;
 use pc_base::{Slot, addr_of};
 
@@ -30,6 +31,13 @@ impl Subscriber {
             commands: 0,
             packets: 0,
         }
+    }
+
+    /// Its bearer, if it has one.
+    pub fn bearer(&self) -> Option<Bearer>
+        ensures { self.now.session.bearers ≡ option_to_list result }
+    {
+        self.session.bearers.only()
     }
 
     /// Does a command: its number among the subscriber's, and the reply.

@@ -33,6 +33,12 @@ const ATTACH_AND_UPLINK: &str = "\
 const ATTACHED_AND_UP: &str = "\
 C 1 0 0 ok -
 P 2 0 0 1 up 0 450000140000000040fd00000a2d0002cb007109
+O 0 0 5 9 0 20 0 1 0
+";
+
+const EXTENSION_HEADER: &str = "\
+0 ATTACH 001010000000001 198.51.100.7 00000a01 1000 1000
+5 S1U 32ff001800000011ffff0000450000140000000040fd00000a2d0002cb007109
 ";
 
 const OTHER_TUNNELS: &str = "\
@@ -44,27 +50,34 @@ const OTHER_TUNNELS: &str = "\
 5 S1U 30ff0000000000
 5 S1U 50ff000000000011
 5 S1U 20ff000000000011
+5 S1U 34ff00040000001100000085
 5 S1U 3003000000000011
 5 S1U 30ff000000000011
 5 S1U 30ff001400000011650000140000000040fd00000a2d0002cb007109
 5 S1U 30ff001400000011440000140000000040fd00000a2d0002cb007109
 5 S1U 30ff001400000011450000150000000040fd00000a2d0002cb007109
+5 S1U 320100040000000000070000
+5 S1U 30fe000000000011
 ";
 
 const ALL_REFUSED: &str = "\
 C 1 0 0 ok -
 N 2 s1u length
-N 3 s1u unknown -
+N 3 s1u unknown 321a001000000000000000001000000021850004c0000201
 P 4 0 0 1 spoof
 P 5 0 1 1 nobearer
 N 6 s1u short
 N 7 s1u version
 N 8 s1u notgtp
-N 9 s1u kind
-N 10 s1u ip short
-N 11 s1u ip version
-N 12 s1u ip header
-N 13 s1u ip total
+N 9 s1u extension
+N 10 s1u kind
+N 11 s1u ip short
+N 12 s1u ip version
+N 13 s1u ip header
+N 14 s1u ip total
+N 15 s1u echo 3202000600000000000700000e00
+N 16 s1u noted
+O 0 0 5 9 0 0 0 0 0
 ";
 
 const ATTACH_AGAIN: &str = "\
@@ -81,6 +94,9 @@ P 2 0 0 1 up 0 450000140000000040fd00000a2d0002cb007109
 C 3 0 1 ok -
 C 4 0 2 ok -
 P 5 0 1 3 up 2 450000140000000040fd00000a2d0002cb007109
+R 0 0 5 9 0 20 0 1 0 1 1 gone
+R 0 1 5 9 0 0 0 0 0 - - gone
+O 0 2 5 9 0 20 0 1 0
 ";
 
 const TWO_SUBSCRIBERS: &str = "\
@@ -97,6 +113,8 @@ C 2 1 0 ok -
 P 3 0 0 1 up 0 450000140000000040fd00000a2d0002cb007109
 P 4 1 0 1 up 0 450000140000000040fd00000a2d0003cb007109
 P 5 0 1 1 up 0 450000140000000040fd00000a2d0002cb007109
+O 0 0 5 9 0 40 0 2 0
+O 1 0 5 9 0 20 0 1 0
 ";
 
 const MOMENT_BACK: &str = "\
@@ -111,12 +129,13 @@ fn reports(rt: HostRuntime) -> Result<(), Fail> {
     let rows = [
         ("", "", Status::Ok),
         (ATTACH_AND_UPLINK, ATTACHED_AND_UP, Status::Ok),
+        (EXTENSION_HEADER, ATTACHED_AND_UP, Status::Ok),
         (OTHER_TUNNELS, ALL_REFUSED, Status::Ok),
         (ATTACH_AGAIN, THIRD_LIFE, Status::Ok),
         (TWO_SUBSCRIBERS, EACH_ITS_OWN, Status::Ok),
         (
             MOMENT_BACK,
-            "C 1 0 0 ok -\nN 2 line moment\n",
+            "C 1 0 0 ok -\nN 2 line moment\nO 0 0 5 9 0 0 0 0 0\n",
             Status::BadLine,
         ),
         ("0 S1U 30", "N 1 s1u short\n", Status::Ok),

@@ -1,0 +1,9 @@
+use Rattle.std.proofs.Common.{◌≡◌, ℕ, List, ◌++◌}
+use Rattle.gate_model.specs.Charges.{open_counters}
+use Rattle.gate_model.specs.Entry.{texts}
+use Rattle.gate_model.specs.declared.gateway.Event.{Event}
+use Rattle.pepc.specs.Account.{AreBooks}
+use Rattle.pepc.proofs.charges.push_counters.Given as goal
+
+abbrev pub invariant-loop-place : goal.invariant-loop-place
+invariant-loop-place l = (events : ℕ → List Event) → AreBooks l.accounts events → l.report.items ≡ l.initial.report.items ++ texts (open_counters events l.place)
