@@ -73,3 +73,30 @@ fn attach_and_uplink(rt: HostRuntime) -> Result<(), Fail> {
     }
     Ok(())
 }
+
+#[test]
+fn two_subscribers(rt: HostRuntime) -> Result<(), Fail> {
+    let alloc = rt.alloc();
+    let mut first = Gateway::new(alloc, Slot(0));
+    let mut second = Gateway::new(alloc, Slot(1));
+    let events = [
+        (0, attach(), ("ok", 0)),
+        (1, attach(), ("ok", 0)),
+        (1, packet(alloc, 0, 3)?, ("up", 0)),
+        (0, packet(alloc, 0, 2)?, ("up", 0)),
+        (1, packet(alloc, 0, 2)?, ("spoof", 0)),
+        (0, attach(), ("ok", 0)),
+        (0, packet(alloc, 0, 2)?, ("up", 1)),
+        (1, packet(alloc, 0, 3)?, ("up", 0)),
+    ];
+    for (place, (slot, event, want)) in events.iter().enumerate() {
+        assert!(rt; place < 8);
+        let happened = if *slot == 0 {
+            first.event(event)?
+        } else {
+            second.event(event)?
+        };
+        assert_eq!(rt; told(&happened), *want, "at {place}");
+    }
+    Ok(())
+}
