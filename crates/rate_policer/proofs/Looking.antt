@@ -9,11 +9,12 @@ use Rattle.rate_policer.specs.Conforming.{burst, volume, Conforms}
 abbrev pub FitsSince : ℕ → Cost → Cost → List Cost → Type 0
 FitsSince rate cost earlier since = cost.millibits + volume since ≤ burst rate + rate * (cost.at - earlier.at)
 
--- it fits with what passed since the cost of a place
+-- so it does with those from a place on
 abbrev pub FitsFrom : ℕ → List Cost → Cost → ℕ → Type 0
 FitsFrom rate passed cost place = (before after : List Cost) (earlier : Cost) → passed ≡ before ++ earlier ∷ after
     → length before ≡ place → FitsSince rate cost earlier (earlier ∷ after)
 
+-- what the program computes at a place says that
 pub fits_from : (rate : ℕ) (passed : List Cost) (cost earlier : Cost) (place : ℕ) → earlier ≡ get_or passed place earlier
     → FitsSince rate cost earlier (drop place passed) → FitsFrom rate passed cost place
 fits_from rate passed cost item place is fits before after earlier e here =
@@ -24,6 +25,7 @@ fits_from rate passed cost item place is fits before after earlier e here =
     ∙ get_or-append_seam before earlier after item in
     subst (λ (c : Cost). FitsSince rate cost c (earlier ∷ after)) same (subst (λ (since : List Cost). FitsSince rate cost item since) rest fits)
 
+-- a cost conforms where it is within the burst and fits from each place
 pub conforms_from : (rate : ℕ) (passed : List Cost) (cost : Cost) → cost.millibits ≤ burst rate
     → ((place : ℕ) → place < length passed → FitsFrom rate passed cost place) → Conforms rate passed cost
 conforms_from rate passed cost alone each = record {
@@ -32,6 +34,7 @@ conforms_from rate passed cost alone each = record {
       each (length before) (omega (arith, ap length e, length-append before (earlier ∷ after))) before after earlier e refl;
 }
 
+-- a conforming cost fits by what the program computes at each place
 pub fits_at : (rate : ℕ) (passed : List Cost) (cost earlier : Cost) (place : ℕ) → Conforms rate passed cost
     → place < length passed → earlier ≡ get_or passed place earlier → FitsSince rate cost earlier (drop place passed)
 fits_at rate passed cost earlier place conforms inside is =

@@ -27,6 +27,7 @@ pub record Within {X : Type 0} (xs before after : List X) (x y : X) : Type 0 whe
   pub split : xs ≡ before ++ x ∷ rest
   pub is : after ≡ rest ++ y ∷ []
 
+-- a list with one more element splits at that one or at an older one
 pub split_push : {X : Type 0} (xs before after : List X) (x y : X) → xs ++ y ∷ [] ≡ before ++ x ∷ after
     → AtEnd xs before after x y ⊎ Within xs before after x y
 split_push xs before [] x y e =
@@ -38,6 +39,7 @@ split_push xs before (z ∷ zs) x y e =
     (e ∙ ap (λ rest. before ++ x ∷ rest) last.is ∙ sym (append_assoc before (x ∷ last.front) (last.last ∷ []))) in
     inr (record { rest = last.front; split = same.0; is = last.is ∙ ap (λ w. last.front ++ w ∷ []) (sym same.1) })
 
+-- what holds of each element holds of the one at a split
 pub All-split : {X : Type 0} (P : X → Type 0) (xs before after : List X) (x : X) → xs ≡ before ++ x ∷ after → All P xs → P x
 All-split P xs before after x e all =
     let inside : length before < length (before ++ x ∷ after) = omega (arith, length-append before (x ∷ after)) in

@@ -9,16 +9,16 @@ use Rattle.rate_policer.proofs.Splits.{AtEnd, Within, split_push, All-split}
 use Rattle.rate_policer.proofs.Volumes.{volume-one, volume-push}
 use Rattle.rate_policer.proofs.Levels.{brought-between, level_at-moved, within_charged}
 
--- none of these passed behind a moment
+-- none of these passed after a moment
 abbrev pub AreBy : ℕ → List Cost → Type 0
 AreBy at passed = All (λ cost. cost.at ≤ at) passed
 
--- a cost that waits for what is brought from `at` on
+-- what two costs together need at the first one's moment, beyond what is brought until the later one's
 abbrev pub joined : ℕ → Cost → Cost → Cost
 joined rate first later =
     record { at = first.at; millibits = later.millibits + first.millibits - rate * (later.at - first.at) }
 
--- a later cost fits with what passed since an earlier one, where it fits joined with the last one
+-- a later cost fits with what passed since an earlier one, where joined with the last one it conforms
 pub since_push : (rate : ℕ) (passed before after : List Cost) (last later earlier : Cost)
     → AreBy last.at passed → last.at ≤ later.at → Conforms rate passed (joined rate last later)
     → AtEnd passed before after earlier last ⊎ Within passed before after earlier last
@@ -37,6 +37,7 @@ since_push rate passed before after last later earlier past high conforms (inr i
     let brought = brought-between rate earlier.at last.at later.at low high in
     omega (arith, whole, since, brought)
 
+-- a cost conforms behind one more, where joined with that it conformed before
 pub conforms_push : (rate : ℕ) (passed : List Cost) (last later : Cost)
     → AreBy last.at passed → last.at ≤ later.at → later.millibits ≤ burst rate → Conforms rate passed (joined rate last later)
     → Conforms rate (passed ++ last ∷ []) later
@@ -46,7 +47,7 @@ conforms_push rate passed last later past high alone conforms = record {
       since_push rate passed before after last later earlier past high conforms (split_push passed before after earlier last e);
 }
 
--- and the other way round, where nothing more would have fitted at the moment of the last one
+-- and the other way round, where no octets at all conformed at the moment of the last one
 pub conforms_joined : (rate : ℕ) (passed : List Cost) (last later : Cost)
     → AreBy last.at passed → last.at ≤ later.at → Conforms rate passed (record { at = last.at; millibits = 0 })
     → Conforms rate (passed ++ last ∷ []) later → Conforms rate passed (joined rate last later)

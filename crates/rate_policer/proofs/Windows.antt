@@ -19,7 +19,7 @@ pub policed_grow : PolicedListsGrow
 policed_grow rate passed last policed conforms before after cost e =
     conforms_split rate passed before after last cost policed conforms (split_push passed before after cost last e)
 
--- these passed in this order, from one moment to another
+-- a policed list with this window, of costs from one moment to another
 record Passes (rate : ℕ) (before window after : List Cost) (from to : ℕ) : Type 0 where
   policed : ArePoliced rate ((before ++ window) ++ after)
   timed : All (λ cost. (from ≤ cost.at) × (cost.at ≤ to)) window
