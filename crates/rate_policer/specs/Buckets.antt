@@ -1,0 +1,30 @@
+-- A bucket as contracts see it, and the lists of passed costs that it stands for.
+use Rattle.std.specs.Prelude.{ℕ, ◌+◌, ◌-◌, ◌*◌, ◌≤◌, ◌↔◌, min, List, All}
+use Rattle.rate_policer.specs.declared.cost.Cost.{Cost}
+use Rattle.rate_policer.specs.Conforming.{burst, Conforms}
+
+-- a rate, and the level in millibits at the moment of the last ask
+pub record BucketState : Type 0 where
+  pub rate : ℕ
+  pub level : ℕ
+  pub last : ℕ
+
+-- the rate of a bucket · the moment of its last ask
+abbrev pub rate_of : BucketState → ℕ
+rate_of bucket = bucket.rate
+
+abbrev pub last_of : BucketState → ℕ
+last_of bucket = bucket.last
+
+-- the level at a moment: what the rate has brought since the last ask is added, up to the burst
+abbrev pub level_at : BucketState → ℕ → ℕ
+level_at bucket at = min (burst bucket.rate) (bucket.level + bucket.rate * (at - bucket.last))
+
+-- a cost is within the level at its moment
+abbrev pub LetsThrough : BucketState → Cost → Type 0
+LetsThrough bucket cost = cost.millibits ≤ level_at bucket cost.at
+
+-- these costs passed, and from its last ask on the bucket lets through just what conforms to them
+pub record StandsFor (bucket : BucketState) (passed : List Cost) : Type 0 where
+  pub past : All (λ cost. cost.at ≤ bucket.last) passed
+  pub same : (cost : Cost) → bucket.last ≤ cost.at → LetsThrough bucket cost ↔ Conforms bucket.rate passed cost
