@@ -9,3 +9,8 @@ pub mod SessionLemmas
 pub mod ChargeLemmas
 pub mod LawfulCharges
 pub mod LedgerLemmas
+pub mod OneRunOrder
+pub mod OneRunForms
+pub mod OneRunCounts
+pub mod OneRunEntries
+pub mod OneRun

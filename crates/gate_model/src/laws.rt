@@ -1,15 +1,28 @@
 //! Laws of the definitions.
-ghost use Rattle.std.specs.Prelude.{◌≡◌, List, []};
+ghost use Rattle.std.specs.Prelude.{◌≡◌, ℕ, List, []};
+ghost use Rattle.gate_model.specs.Charges.{charges};
 ghost use Rattle.gate_model.specs.Decision.{Decision, events_at};
 ghost use Rattle.gate_model.specs.Entered.{entries_after};
 ghost use Rattle.gate_model.specs.Entry.{Entry, text_of};
 ghost use Rattle.gate_model.specs.EntryRanges.{IsEntry};
 ghost use Rattle.gate_model.specs.Ledger.{EachOctetCharged};
 ghost use Rattle.gate_model.specs.Run.{IsRun};
+ghost use Rattle.gate_model.specs.declared.gateway.Event.{Event};
 
 /// Every trace has a lawful run: that of a gateway which answers each line at once.
 pub fn every_trace_has_a_run()
     ensures { (made : List Decision) → IsRun made (entries_after [] made) (λ slot. events_at slot made) }
+{}
+
+/// Two lawful runs of the same lines are one: the same entries, the same order of each slot's events, so the same
+/// charges.
+pub fn one_lawful_run()
+    ensures entries { (made : List Decision) (entries : List Entry) (events : ℕ → List Event)
+        → IsRun made entries events → entries ≡ entries_after [] made }
+    ensures events { (made : List Decision) (entries : List Entry) (events : ℕ → List Event)
+        → IsRun made entries events → (slot : ℕ) → events slot ≡ events_at slot made }
+    ensures charges { (made : List Decision) (entries : List Entry) (events : ℕ → List Event)
+        → IsRun made entries events → (slots : ℕ) → charges slots events ≡ charges slots (λ slot. events_at slot made) }
 {}
 
 /// A text belongs to one entry only, among those that a report can hold.
