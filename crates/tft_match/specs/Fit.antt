@@ -1,0 +1,70 @@
+-- Which packets fit a filter (TS 24.008, 10.5.6.12). Remote is the far end, local the user's.
+use Rattle.std.specs.Prelude.{◌≡◌, ℕ, ◌≤◌, List, [], ◌∷◌, Option, Some, bit_and, IsTrue, IsSomeAnd}
+use Rattle.std.specs.List.{All}
+use Rattle.std.specs.Option.{option_map}
+use Rattle.ipv4_packet.specs.Fields.{tos_of, protocol_of, source_of, destination_of}
+use Rattle.ipv4_packet.specs.Payload.{ports_of, spi_of}
+use Rattle.tft_codec.specs.Component.{has}
+use Rattle.tft_codec.specs.declared.component.Component.{Component}
+use Rattle.tft_codec.specs.declared.component.Component.TheVariants.{RemoteAddr, LocalAddr, Protocol, LocalPort, LocalRange, RemotePort, RemoteRange, Spi, Tos}
+use Rattle.tft_codec.specs.declared.filter.Filter.{Filter}
+use Rattle.tft_match.specs.declared.direction.Direction.{Direction}
+use Rattle.tft_match.specs.declared.direction.Direction.TheVariants.{Up, Down}
+use Rattle.tft_match.specs.declared.direction.TheConstants.{BEFORE_RELEASE_7, DOWNLINK_ONLY, UPLINK_ONLY, BIDIRECTIONAL}
+
+-- the direction fields of the filters that count for packets of a direction
+abbrev pub counted : Direction → List ℕ
+counted Down = BEFORE_RELEASE_7 ∷ DOWNLINK_ONLY ∷ BIDIRECTIONAL ∷ []
+counted Up = UPLINK_ONLY ∷ BIDIRECTIONAL ∷ []
+
+abbrev pub CountsIn : Direction → ℕ → Type 0
+CountsIn direction field = IsTrue (has (counted direction) field)
+
+-- a downlink packet comes from the far end, and an uplink packet goes there
+abbrev pub remote_address : Direction → List ℕ → ℕ
+remote_address Down packet = source_of packet
+remote_address Up packet = destination_of packet
+
+abbrev pub local_address : Direction → List ℕ → ℕ
+local_address Down packet = destination_of packet
+local_address Up packet = source_of packet
+
+-- the ports, where the packet has any
+abbrev pub source_port : List ℕ → Option ℕ
+source_port packet = option_map (λ ports. ports.0) (ports_of packet)
+
+abbrev pub destination_port : List ℕ → Option ℕ
+destination_port packet = option_map (λ ports. ports.1) (ports_of packet)
+
+abbrev pub remote_port : Direction → List ℕ → Option ℕ
+remote_port Down packet = source_port packet
+remote_port Up packet = destination_port packet
+
+abbrev pub local_port : Direction → List ℕ → Option ℕ
+local_port Down packet = destination_port packet
+local_port Up packet = source_port packet
+
+-- two numbers have the same bits where the mask has ones
+abbrev pub AgreeUnder : ℕ → ℕ → ℕ → Type 0
+AgreeUnder mask wanted value = bit_and wanted mask ≡ bit_and value mask
+
+-- there is a port, from low to high
+abbrev pub IsWithin : ℕ → ℕ → Option ℕ → Type 0
+IsWithin low high port = IsSomeAnd port (λ n. (low ≤ n) × (n ≤ high))
+
+-- the table of components: what each asks of a packet; it doesn't hold where the packet has no such field
+abbrev pub Holds : Direction → List ℕ → Component → Type 0
+Holds direction packet (RemoteAddr address mask) = AgreeUnder mask address (remote_address direction packet)
+Holds direction packet (LocalAddr address mask) = AgreeUnder mask address (local_address direction packet)
+Holds direction packet (Protocol number) = protocol_of packet ≡ number
+Holds direction packet (LocalPort port) = local_port direction packet ≡ Some port
+Holds direction packet (LocalRange low high) = IsWithin low high (local_port direction packet)
+Holds direction packet (RemotePort port) = remote_port direction packet ≡ Some port
+Holds direction packet (RemoteRange low high) = IsWithin low high (remote_port direction packet)
+Holds direction packet (Spi index) = spi_of packet ≡ Some index
+Holds direction packet (Tos value mask) = AgreeUnder mask value (tos_of packet)
+
+-- a packet of that direction fits the filter
+pub record Fits (direction : Direction) (packet : List ℕ) (filter : Filter) : Type 0 where
+  pub counts : CountsIn direction filter.direction
+  pub each : All (Holds direction packet) filter.components

@@ -1,0 +1,63 @@
+//! Whether a packet fits a filter.
+ghost use Rattle.std.specs.Prelude.{◌↔◌, IsTrue, All};
+ghost use Rattle.tft_match.specs.Fit.{AgreeUnder, IsWithin, Holds, Fits};
+
+use crate::direction::{Direction, counts_in};
+use crate::fields::{local_address, local_port, remote_address, remote_port};
+use ipv4_packet::Ip4;
+use tft_codec::{Component, Filter};
+
+/// Whether a packet of this direction fits a filter: the filter counts for the direction, and each
+/// of its components holds. A filter of no components is fitted by every packet.
+pub fn matches(filter: &Filter, packet: &Ip4<'_>, direction: Direction) -> bool
+    ensures { IsTrue result ↔ Fits direction packet.now filter.now }
+{
+    counts_in(direction, filter.direction)
+        && all_hold(filter.components.as_slice(), packet, direction)
+}
+
+fn all_hold(components: &[Component], packet: &Ip4<'_>, direction: Direction) -> bool
+    ensures { IsTrue result ↔ All (Holds direction packet.now) components.now }
+{
+    components
+        .iter()
+        .all(|component| holds(component, packet, direction))
+}
+
+/// Whether a packet meets a component.
+fn holds(component: &Component, packet: &Ip4<'_>, direction: Direction) -> bool
+    ensures { IsTrue result ↔ Holds direction packet.now component.now }
+{
+    match component {
+        Component::RemoteAddr(address, mask) => {
+            agree_under(*mask, *address, remote_address(packet, direction))
+        }
+        Component::LocalAddr(address, mask) => {
+            agree_under(*mask, *address, local_address(packet, direction))
+        }
+        Component::Protocol(number) => packet.protocol() == *number,
+        Component::LocalPort(port) => local_port(packet, direction) == Some(*port),
+        Component::LocalRange(low, high) => is_within(*low, *high, local_port(packet, direction)),
+        Component::RemotePort(port) => remote_port(packet, direction) == Some(*port),
+        Component::RemoteRange(low, high) => is_within(*low, *high, remote_port(packet, direction)),
+        Component::Spi(index) => packet.spi() == Some(*index),
+        Component::Tos(value, mask) => *value & *mask == packet.tos() & *mask,
+    }
+}
+
+/// Whether two addresses have the same bits where the mask has ones.
+fn agree_under(mask: u32, wanted: u32, address: u32) -> bool
+    ensures { IsTrue result ↔ AgreeUnder mask wanted address }
+{
+    wanted & mask == address & mask
+}
+
+/// Whether there is a port, from the lowest to the highest of a range.
+fn is_within(low: u16, high: u16, found: Option<u16>) -> bool
+    ensures { IsTrue result ↔ IsWithin low high found }
+{
+    match found {
+        Some(port) => low <= port && port <= high,
+        None => false,
+    }
+}
