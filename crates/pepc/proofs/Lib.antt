@@ -10,3 +10,4 @@ pub mod RunLemmas
 pub mod ReportLemmas
 pub mod ChargeTexts
 pub mod SlotLemmas
+pub mod OneReport

@@ -5,6 +5,7 @@
 mod charges;
 mod entry_text;
 mod judgement;
+mod laws;
 mod reading;
 mod receive;
 mod run;
