@@ -1,10 +1,10 @@
 -- The steps of `read_line` make its answer.
-use Rattle.std.proofs.Common.{◌≡◌, ℕ, ◌≤◌, List, [], ◌∷◌, ◌++◌, length, take, Option, None, Some, sym, ◌∙◌, ap, refl, inl, append_assoc, arith}
+use Rattle.std.proofs.Common.{◌≡◌, ℕ, ◌≤◌, false, List, [], ◌∷◌, ◌++◌, length, take, Option, None, Some, sym, ◌∙◌, ap, refl, subst, append_assoc, arith}
 use Rattle.std.specs.Io.KnownBytes.{Consumes, prepend_known}
 use Rattle.pc_outside.specs.declared.line_buffer.TheConstants.{LINE_MAX, NEWLINE}
 use Rattle.pc_outside.specs.declared.reading.LineRead.{LineRead}
 use Rattle.pc_outside.specs.declared.reading.LineRead.TheVariants.{Line, End, ReadFault, LineLong, TooLong}
-use Rattle.pc_outside.specs.Line.{NoNewline}
+use Rattle.pc_outside.specs.Line.{NoNewline, HoldsLine}
 use Rattle.pc_outside.specs.LineReads.{GivesNone, Answers, Reads}
 use Rattle.pc_outside.specs.Held.{Held, HasStopped}
 use Rattle.pc_outside.specs.Steps.{Settles}
@@ -17,14 +17,15 @@ pub record IsReading (start now : Held) (left left_now : Option (List ℕ)) (see
   pub consumed : Consumes left left_now given
   pub room : now.room ≡ start.room
   pub line : now.line ≡ []
+  pub not_last : now.last ≡ false
   pub held : seen ≤ length now.front
   pub short : seen ≤ LINE_MAX
   pub no_newline : NoNewline (take seen now.front)
 
 -- an answer about the octets held, whatever is left behind them, is one about all that was left
 pub reads-of_answers : (read : LineRead) (start now new : Held) (left left_now : Option (List ℕ)) (seen : ℕ) → IsReading start now left left_now seen
-    → ((behind : List ℕ) → left_now ≡ Some behind → Answers read now.room new.room (now.front ++ behind) (new.front ++ behind) new.line)
-    → Reads read start.room new.room (prepend_known start.front left) (prepend_known new.front left_now) new.line
+    → ((behind : List ℕ) → left_now ≡ Some behind → Answers read now.room new.room (now.front ++ behind) (new.front ++ behind) new.line new.last)
+    → Reads read start.room new.room (prepend_known start.front left) (prepend_known new.front left_now) new.line new.last
 reads-of_answers read start now new None left_now seen so_far answers = tt
 reads-of_answers read start now new (Some xs) None seen so_far answers = absurd so_far.consumed
 reads-of_answers read start now new (Some xs) (Some ys) seen so_far answers =
@@ -33,30 +34,33 @@ reads-of_answers read start now new (Some xs) (Some ys) seen so_far answers =
     rw (← all, ← so_far.room) (answers ys refl)
 
 -- nothing is given
-gives_none : (now new : Held) (behind : List ℕ) → now.line ≡ [] → new ≡ now
-    → GivesNone now.room new.room (now.front ++ behind) (new.front ++ behind) new.line
-gives_none now new behind line same = record {
+gives_none : (now new : Held) (behind : List ℕ) → now.line ≡ [] → now.last ≡ false → new ≡ now
+    → GivesNone now.room new.room (now.front ++ behind) (new.front ++ behind) new.line new.last
+gives_none now new behind line not_last same = record {
   octets_stay = ap (λ held. held.front ++ behind) same;
   room_stays = ap (λ held. held.room) same;
   no_line = ap (λ held. held.line) same ∙ line;
+  not_last = ap (λ held. held.last) same ∙ not_last;
 }
 
 -- what is held gives the answer, whatever comes behind it
-pub settles-behind : (read : LineRead) (now new : Held) (behind : List ℕ) → now.line ≡ [] → Settles read now new
-    → Answers read now.room new.room (now.front ++ behind) (new.front ++ behind) new.line
-settles-behind Line now new behind line gives = record {
-  no_newline = gives.no_newline;
-  short = gives.short;
-  form = inl (record {
-    parts = ap (λ xs. xs ++ behind) gives.whole.parts ∙ append_assoc new.line (NEWLINE ∷ new.front) behind;
-    given = gives.whole.given;
-  });
-}
-settles-behind End now new behind line gives = absurd gives
-settles-behind ReadFault now new behind line gives = absurd gives
-settles-behind LineLong now new behind line gives =
+pub settles-behind : (read : LineRead) (now new : Held) (behind : List ℕ) → now.line ≡ [] → now.last ≡ false → Settles read now new
+    → Answers read now.room new.room (now.front ++ behind) (new.front ++ behind) new.line new.last
+settles-behind Line now new behind line not_last gives =
+    subst (λ last. HoldsLine now.room new.room (now.front ++ behind) (new.front ++ behind) new.line last) (sym (gives.last ∙ not_last))
+    (record {
+      no_newline = gives.no_newline;
+      short = gives.short;
+      form = record {
+        parts = ap (λ xs. xs ++ behind) gives.whole.parts ∙ append_assoc new.line (NEWLINE ∷ new.front) behind;
+        given = gives.whole.given;
+      };
+    })
+settles-behind End now new behind line not_last gives = absurd gives
+settles-behind ReadFault now new behind line not_last gives = absurd gives
+settles-behind LineLong now new behind line not_last gives =
     let long = gives.1 in (
-      gives_none now new behind line gives.0,
+      gives_none now new behind line not_last gives.0,
       record {
         front = long.front;
         rest = long.rest ++ behind;
@@ -66,9 +70,9 @@ settles-behind LineLong now new behind line gives =
         within = long.within;
       },
     )
-settles-behind TooLong now new behind line gives =
+settles-behind TooLong now new behind line not_last gives =
     let full = gives.1 in (
-      gives_none now new behind line gives.0,
+      gives_none now new behind line not_last gives.0,
       record {
         front = full.front;
         rest = full.rest ++ behind;

@@ -1,5 +1,5 @@
 -- What the search for a newline tells of the octets held.
-use Rattle.std.proofs.Common.{◌≡◌, ℕ, ◌+◌, ◌-◌, ◌<◌, ◌≤◌, List, [], ◌∷◌, ◌++◌, length, take, drop, slice_range, sym, ◌∙◌, ap, subst, arith, length-take}
+use Rattle.std.proofs.Common.{◌≡◌, ℕ, ◌+◌, ◌-◌, ◌<◌, ◌≤◌, Bool, List, [], ◌∷◌, ◌++◌, length, take, drop, slice_range, sym, ◌∙◌, ap, subst, refl, arith, length-take}
 use Rattle.std.proofs.lemmas.List.{take-append-drop, take_all, append-nil}
 use Rattle.std.proofs.lemmas.List.Edits.{length-between}
 use Rattle.pc_outside.specs.declared.line_buffer.TheConstants.{LINE_MAX, INPUT_MAX, NEWLINE}
@@ -9,17 +9,18 @@ use Rattle.pc_outside.specs.Steps.{GivesWhole}
 use Rattle.pc_outside.proofs.Parts.{part-front, part-behind}
 
 -- a newline was found within a line's length
-pub found_whole : (octets line : List ℕ) (from to len taken : ℕ) → from ≤ to → to ≤ length octets → taken ≤ INPUT_MAX
+pub found_whole : (octets line : List ℕ) (from to len taken : ℕ) (last : Bool) → from ≤ to → to ≤ length octets → taken ≤ INPUT_MAX
     → len < to - from → len ≤ LINE_MAX → NoNewline (take len (slice_range octets from to))
     → drop len (slice_range octets from to) ≡ NEWLINE ∷ drop (len + 1) (slice_range octets from to)
     → GivesWhole
-    (record { line = line; front = slice_range octets from to; room = INPUT_MAX + (to - from) - taken })
+    (record { line = line; last = last; front = slice_range octets from to; room = INPUT_MAX + (to - from) - taken })
     (record {
       line = slice_range octets from (from + len);
+      last = last;
       front = slice_range octets (from + len + 1) to;
       room = INPUT_MAX + (to - (from + len + 1)) - taken;
     })
-found_whole octets line from to len taken ordered within bounded inside short no_newline newline =
+found_whole octets line from to len taken last ordered within bounded inside short no_newline newline =
     let front = slice_range octets from to in
     let given = slice_range octets from (from + len) in
     let is_front : given ≡ take len front = part-front octets from to len (omega arith) in
@@ -34,6 +35,7 @@ found_whole octets line from to len taken ordered within bounded inside short no
             ∙ ap (λ place. slice_range octets place to) next));
         given = omega arith;
       };
+      last = refl;
     }
 
 -- no newline within a line's length, and more octets than that

@@ -1,13 +1,15 @@
 -- What a line buffer holds.
-use Rattle.std.specs.Prelude.{ℕ, ◌<◌, ◌≤◌, List, length}
+use Rattle.std.specs.Prelude.{ℕ, ◌<◌, ◌≤◌, Bool, List, length}
 use Rattle.pc_outside.specs.Line.{NoNewline, BeginsLong, FillsRoom}
 use Rattle.pc_outside.specs.declared.line_buffer.TheConstants.{LINE_MAX}
 use Rattle.pc_outside.specs.declared.reading.LineRead.{LineRead}
 use Rattle.pc_outside.specs.declared.reading.LineRead.TheVariants.{Line, End, ReadFault, LineLong, TooLong}
 
--- the line that was read last, the octets read and not yet given, and the room from their front on
+-- the line that was read last, whether the input ends with it, the octets read and not yet given, and the
+-- room from their front on
 pub record Held : Type 0 where
   pub line : List ℕ
+  pub last : Bool
   pub front : List ℕ
   pub room : ℕ
 

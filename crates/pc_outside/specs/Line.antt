@@ -1,5 +1,5 @@
 -- A line at the front of octets, by the octets alone. A room is how many octets may still be given.
-use Rattle.std.specs.Prelude.{◌≡◌, ◌≢◌, ℕ, ◌+◌, ◌<◌, ◌≤◌, ◌⊎◌, List, [], ◌∷◌, ◌++◌, length, All}
+use Rattle.std.specs.Prelude.{◌≡◌, ◌≢◌, ℕ, ◌+◌, ◌<◌, ◌≤◌, Bool, true, false, List, [], ◌∷◌, ◌++◌, length, All}
 use Rattle.pc_outside.specs.declared.line_buffer.TheConstants.{LINE_MAX, NEWLINE}
 
 -- none of the octets ends a line
@@ -19,11 +19,16 @@ pub record IsLastLine (room after : ℕ) (octets rest line : List ℕ) : Type 0 
   pub given : room ≡ length line + after
   pub more : 0 < after
 
+-- the line is the last one, or its newline is there
+abbrev pub EndsLine : Bool → ℕ → ℕ → List ℕ → List ℕ → List ℕ → Type 0
+EndsLine false room after octets rest line = IsWholeLine room after octets rest line
+EndsLine true room after octets rest line = IsLastLine room after octets rest line
+
 -- with this room the octets begin with the line, and then come the rest and its room
-pub record HoldsLine (room after : ℕ) (octets rest line : List ℕ) : Type 0 where
+pub record HoldsLine (room after : ℕ) (octets rest line : List ℕ) (last : Bool) : Type 0 where
   pub no_newline : NoNewline line
   pub short : length line ≤ LINE_MAX
-  pub form : IsWholeLine room after octets rest line ⊎ IsLastLine room after octets rest line
+  pub form : EndsLine last room after octets rest line
 
 -- within the room the octets begin with more than a line may have
 pub record BeginsLong (room : ℕ) (octets : List ℕ) : Type 0 where

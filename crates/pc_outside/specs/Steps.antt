@@ -1,5 +1,5 @@
 -- The steps of `read_line`: what is held settles an answer, gains octets, or is all there is.
-use Rattle.std.specs.Prelude.{◌≡◌, ℕ, ◌<◌, ◌≤◌, List, [], ◌++◌, length, Option}
+use Rattle.std.specs.Prelude.{◌≡◌, ℕ, ◌<◌, ◌≤◌, true, List, [], ◌++◌, length, Option}
 use Rattle.std.specs.Io.KnownBytes.{Consumes}
 use Rattle.pc_outside.specs.Line.{NoNewline, IsWholeLine, IsLastLine, BeginsLong, FillsRoom}
 use Rattle.pc_outside.specs.Held.{Held}
@@ -12,6 +12,7 @@ pub record GivesWhole (old new : Held) : Type 0 where
   pub no_newline : NoNewline new.line
   pub short : length new.line ≤ LINE_MAX
   pub whole : IsWholeLine old.room new.room old.front new.front new.line
+  pub last : new.last ≡ old.last
 
 -- what is held gives the answer, whatever comes behind it
 abbrev pub Settles : LineRead → Held → Held → Type 0
@@ -29,12 +30,14 @@ pub record Gains (old new : Held) (left left_now : Option (List ℕ)) (count : �
   pub counted : length given ≡ count
   pub room : new.room ≡ old.room
   pub line : new.line ≡ old.line
+  pub last : new.last ≡ old.last
 
 -- an unfinished line is the last one
 pub record GivesLast (old new : Held) : Type 0 where
   pub no_newline : NoNewline new.line
   pub short : length new.line ≤ LINE_MAX
-  pub last : IsLastLine old.room new.room old.front new.front new.line
+  pub form : IsLastLine old.room new.room old.front new.front new.line
+  pub last : new.last ≡ true
 
 -- at the end of the source this is the answer
 abbrev pub Finishes : LineRead → Held → Held → Type 0

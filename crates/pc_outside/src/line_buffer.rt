@@ -35,6 +35,9 @@ pub struct LineBuf {
     // The line that was read last.
     line_from: usize,
     line_to: usize,
+
+    // Whether the source was at its end behind that line.
+    last: bool,
     taken: u64,
 }
 
@@ -47,6 +50,7 @@ impl Model for LineBuf {
 
     ghost view = { λ buf. record {
       line = slice_range buf.octets.items buf.line_from buf.line_to;
+      last = buf.last;
       front = slice_range buf.octets.items buf.from buf.to;
       room = INPUT_MAX + (buf.to - buf.from) - buf.taken;
     } };
@@ -57,7 +61,7 @@ impl Model for LineBuf {
 }
 
 impl LineBuf {
-    ghost use Rattle.std.specs.Prelude.{◌≡◌, ◌+◌, ◌≤◌, [], length, take, IfOk, IfSome, IfNone, OnErr};
+    ghost use Rattle.std.specs.Prelude.{◌≡◌, ◌+◌, ◌≤◌, [], false, length, take, IfOk, IfSome, IfNone, OnErr};
     ghost use Rattle.std.specs.Io.KnownBytes.{IsAtEnd, Keeps};
     ghost use Rattle.pc_outside.specs.Faults.{Rises};
     ghost use Rattle.pc_outside.specs.Line.{NoNewline};
@@ -66,7 +70,7 @@ impl LineBuf {
 
     /// A buffer that nothing was read into. All its memory is taken here.
     pub fn new(alloc: Global) -> Result<LineBuf, NoMemory>
-        ensures { IfOk result (λ buf. buf ≡ record { line = []; front = []; room = INPUT_MAX }) }
+        ensures { IfOk result (λ buf. buf ≡ record { line = []; last = false; front = []; room = INPUT_MAX }) }
     {
         let octets = vec![in alloc; 0u8; BUFFER_LEN]?;
         Ok(LineBuf {
@@ -75,6 +79,7 @@ impl LineBuf {
             to: 0,
             line_from: 0,
             line_to: 0,
+            last: false,
             taken: 0,
         })
     }
@@ -84,6 +89,14 @@ impl LineBuf {
         ensures { result.now ≡ self.now.line }
     {
         &self.octets[self.line_from..self.line_to]
+    }
+
+    /// Whether the line that was read last is the input's last one: no newline ended it, and the source was
+    /// at its end behind it. After any answer but `Line` it is false.
+    pub fn is_last(&self) -> bool
+        ensures { result ≡ self.now.last }
+    {
+        self.last
     }
 
     /// How many octets were read so far.
@@ -100,10 +113,11 @@ impl LineBuf {
     }
 
     pub(super) fn forget_line(&mut self)
-        ensures { self.new ≡ record self.old { line = [] } }
+        ensures { self.new ≡ record self.old { line = []; last = false } }
     {
         self.line_from = 0;
         self.line_to = 0;
+        self.last = false;
     }
 
     // The answer that the octets held give, whatever comes behind them. The first `seen` of them
@@ -166,6 +180,7 @@ impl LineBuf {
         }
         self.line_from = self.from;
         self.line_to = self.to;
+        self.last = true;
         self.from = self.to;
         LineRead::Line
     }

@@ -13,7 +13,7 @@ use super::sources::{Failed, Source};
 #[derive(Clone, Copy, Debug, PartialEq, Eq)]
 pub enum LineRead {
     /// The next line is in the buffer, without its newline. A last line without newline counts
-    /// where it isn't empty.
+    /// where it isn't empty, and the buffer tells that it is the last one.
     Line,
 
     /// The source is at its end, and nothing is left.
@@ -34,11 +34,11 @@ pub enum LineRead {
 pub fn read_line<S: Source>(source: &mut S, buf: &mut LineBuf) -> LineRead
     // The octets that the source tells, behind those held, give the answer.
     ensures octets { Reads result buf.old.room buf.new.room (prepend_known buf.old.front (S.left source.old))
-        (prepend_known buf.new.front (S.left source.new)) buf.new.line }
+        (prepend_known buf.new.front (S.left source.new)) buf.new.line buf.new.last }
 
     // Whatever it tells, those held and some that it gave do.
     ensures held { (given : List ℕ) × Answers result buf.old.room buf.new.room (buf.old.front ++ given)
-        buf.new.front buf.new.line }
+        buf.new.front buf.new.line buf.new.last }
 
     // A fault is the source's, and comes only where more octets are needed.
     ensures later { S.faults source.old ≤ S.faults source.new }

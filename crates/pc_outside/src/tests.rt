@@ -2,8 +2,8 @@ use super::*;
 use std::alloc::{AllocError, Global};
 use std::test::Fail;
 
-// The answers until the end or a stop, as text: a line and `|`, `!` a fault, `.` the end, `L` and
-// `T` the stops.
+// The answers until the end or a stop, as text: a line and `|`, or `$` where it is the last one, `!` a
+// fault, `.` the end, `L` and `T` the stops.
 fn answers(
     alloc: Global,
     octets: &[u8],
@@ -19,7 +19,7 @@ fn answers(
         match read_line(&mut source, &mut buf) {
             LineRead::Line => {
                 text.extend_from_slice(buf.line())?;
-                text.extend_from_slice(b"|")?;
+                text.push(if buf.is_last() { b'$' } else { b'|' })?;
             }
             LineRead::ReadFault => text.extend_from_slice(b"!")?,
             LineRead::LineLong => text.extend_from_slice(b"L")?,
@@ -39,8 +39,8 @@ fn lines_over_pieces(rt: HostRuntime) -> Result<(), Fail> {
         (b"", b"."),
         (b"\n", b"|."),
         (b"ab\n\ncd\n", b"ab||cd|."),
-        (b"ab\ncd", b"ab|cd|."),
-        (b"\n\nx", b"||x|."),
+        (b"ab\ncd", b"ab|cd$."),
+        (b"\n\nx", b"||x$."),
     ];
     for (octets, want) in texts {
         for piece in [1, 3, 64] {
@@ -54,7 +54,7 @@ fn lines_over_pieces(rt: HostRuntime) -> Result<(), Fail> {
 #[test]
 fn faults_lose_nothing(rt: HostRuntime) -> Result<(), Fail> {
     let got = answers(rt.alloc(), b"abcd\nef", 3, &[0, 2, 5])?;
-    assert_eq!(rt; got.as_slice(), b"!!abcd|!ef|.".as_slice());
+    assert_eq!(rt; got.as_slice(), b"!!abcd|!ef$.".as_slice());
     Ok(())
 }
 

@@ -1,3 +1,4 @@
+pub mod ToldLemmas
 pub mod RowLemmas
 pub mod BookLemmas
 pub mod ChargeLemmas

@@ -1,78 +1,115 @@
 -- What is next in an input, by what reading a line found and what the line means.
-use Rattle.std.proofs.Common.{◌≡◌, ℕ, ◌+◌, List, Option, None, Some, Ok, Err, ◌⊎◌, inl, inr, ap, ◌∙◌}
+use Rattle.std.proofs.Common.{◌≡◌, ℕ, ◌+◌, Bool, true, false, List, [], ◌∷◌, ◌++◌, Option, None, Some, Ok, Err, ◌⊎◌, inl, inr, ap, ◌∙◌}
 use Rattle.pc_outside.specs.Line.{HoldsLine}
 use Rattle.pc_outside.specs.LineReads.{Reads}
 use Rattle.pc_outside.specs.declared.reading.LineRead.TheVariants as read
-use Rattle.trace_lines.specs.Input.{bad, stopped, line_then, input_within}
-use Rattle.trace_lines.specs.Line.{Line as TheLine}
+use Rattle.trace_lines.specs.Input.{bad, newline, stopped, after_lines, line_then, input_within}
+use Rattle.trace_lines.specs.Line.{Line}
 use Rattle.trace_lines.specs.Meaning.{line_meaning}
 use Rattle.trace_lines.specs.declared.bad.LineBad.{LineBad}
 use Rattle.trace_lines.specs.declared.bad.LineBad.TheVariants as why
 use Rattle.trace_lines.proofs.InputLemmas.{whole_line, last_line, at_end, line_long, input_big}
-use Rattle.pepc.specs.Next.{Says, Tells, refused_as}
-use Rattle.pepc.specs.declared.reading.Next.TheVariants.{Line, End, LineLong, TooLong}
+use Rattle.pepc.specs.Next.{SaysLine, Says, Tells, refused_as}
+use Rattle.pepc.specs.declared.reading.Next.TheVariants as next
+
+-- a line and its newline say what the line means, and then what stands behind them says
+says_whole : (number least room after : ℕ) (octets rest line : List ℕ) → HoldsLine room after octets rest line false → (behind : List ℕ)
+    → input_within room number least (line ++ newline ∷ behind) ≡ line_then number (line_meaning least number line) (λ l. input_within after (number + 1) l.moment behind)
+says_whole number least room after octets rest line holds behind =
+    rw (holds.form.given) (whole_line after number least line behind holds.no_newline holds.short)
 
 -- octets with a line in front say what the line means, and then what the rest says
-pub says_held : (number least room after : ℕ) (octets rest line : List ℕ) → HoldsLine room after octets rest line
+says_held : (number least room after : ℕ) (octets rest line : List ℕ) (last : Bool) → HoldsLine room after octets rest line last
     → input_within room number least octets ≡ line_then number (line_meaning least number line) (λ l. input_within after (number + 1) l.moment rest)
-says_held number least room after octets rest line holds =
-    elim (holds.form) [
-      | inl whole ↦ rw (whole.given, whole.parts) (whole_line after number least line rest holds.no_newline holds.short)
-      | inr last ↦ rw (last.given, last.whole, last.none_left) (last_line after number least line holds.no_newline holds.short last.some last.more)
-    ]
+says_held number least room after octets rest line false holds = rw (holds.form.parts) (says_whole number least room after octets rest line holds rest)
+says_held number least room after octets rest line true holds =
+    rw (holds.form.given, holds.form.whole, holds.form.none_left)
+    (last_line after number least line holds.no_newline holds.short holds.form.some holds.form.more)
 
-pub tells_line : (number least room after : ℕ) (octets rest : Option (List ℕ)) (text : List ℕ) (line : TheLine)
-    → Reads read.Line room after octets rest text → line_meaning least number text ≡ Ok line → Tells (Line line) number least room after octets rest
-tells_line number least room after None rest text line reads means = tt
-tells_line number least room after (Some octets) None text line reads means = absurd reads
-tells_line number least room after (Some octets) (Some rest) text line reads means =
-    says_held number least room after octets rest text reads ∙ ap (λ m. line_then number m (λ l. input_within after (number + 1) l.moment rest)) means
+says_line : (number least room after : ℕ) (octets rest text : List ℕ) (line : Line)
+    → HoldsLine room after octets rest text false → line_meaning least number text ≡ Ok line → SaysLine line number least room after octets rest
+says_line number least room after octets rest text line holds means = record {
+  text = text;
+  parts = holds.form.parts;
+  says = λ behind. says_whole number least room after octets rest text holds behind
+      ∙ ap (λ m. line_then number m (λ l. input_within after (number + 1) l.moment behind)) means;
+}
 
-says_refused : (number least room after : ℕ) (octets rest text : List ℕ) (bad_one : LineBad)
-    → HoldsLine room after octets rest text → line_meaning least number text ≡ Err bad_one → input_within room number least octets ≡ stopped (bad number bad_one)
-says_refused number least room after octets rest text bad_one holds means =
-    says_held number least room after octets rest text holds ∙ ap (λ m. line_then number m (λ l. input_within after (number + 1) l.moment rest)) means
+pub tells_line : (number least room after : ℕ) (octets rest : Option (List ℕ)) (text : List ℕ) (last : Bool) (line : Line)
+    → Reads read.Line room after octets rest text last → last ≡ false → line_meaning least number text ≡ Ok line
+    → Tells (next.Line line) number least room after octets rest
+tells_line number least room after None rest text last line reads is means = tt
+tells_line number least room after (Some octets) None text last line reads is means = absurd reads
+tells_line number least room after (Some octets) (Some rest) text true line reads is means = cc
+tells_line number least room after (Some octets) (Some rest) text false line reads is means =
+    says_line number least room after octets rest text line reads means
 
-says_refused_as : (number least room after : ℕ) (octets rest text : List ℕ) (bad_one : LineBad)
-    → HoldsLine room after octets rest text → (bad_one ≡ why.NoMemory) ⊎ (line_meaning least number text ≡ Err bad_one)
+pub tells_last : (number least room after : ℕ) (octets rest : Option (List ℕ)) (text : List ℕ) (last : Bool) (line : Line)
+    → Reads read.Line room after octets rest text last → last ≡ true → line_meaning least number text ≡ Ok line
+    → Tells (next.Last line) number least room after octets rest
+tells_last number least room after None rest text last line reads is means = tt
+tells_last number least room after (Some octets) None text last line reads is means = absurd reads
+tells_last number least room after (Some octets) (Some rest) text false line reads is means = cc
+tells_last number least room after (Some octets) (Some rest) text true line reads is means = (
+  says_held number least room after octets rest text true reads
+      ∙ ap (λ m. line_then number m (λ l. input_within after (number + 1) l.moment rest)) means
+      ∙ ap (λ behind. after_lines (line ∷ []) (input_within after (number + 1) line.moment behind)) reads.form.none_left
+      ∙ ap (after_lines (line ∷ [])) (at_end after (number + 1) line.moment reads.form.more),
+  reads.form.none_left,
+)
+
+says_refused : (number least room after : ℕ) (octets rest text : List ℕ) (last : Bool) (bad_one : LineBad)
+    → HoldsLine room after octets rest text last → line_meaning least number text ≡ Err bad_one → input_within room number least octets ≡ stopped (bad number bad_one)
+says_refused number least room after octets rest text last bad_one holds means =
+    says_held number least room after octets rest text last holds ∙ ap (λ m. line_then number m (λ l. input_within after (number + 1) l.moment rest)) means
+
+says_refused_as : (number least room after : ℕ) (octets rest text : List ℕ) (last : Bool) (bad_one : LineBad)
+    → HoldsLine room after octets rest text last → (bad_one ≡ why.NoMemory) ⊎ (line_meaning least number text ≡ Err bad_one)
     → Says (refused_as bad_one) number least room after octets rest
-says_refused_as number least room after octets rest text why.Field holds (inr means) = says_refused number least room after octets rest text why.Field holds means
-says_refused_as number least room after octets rest text why.Number holds (inr means) = says_refused number least room after octets rest text why.Number holds means
-says_refused_as number least room after octets rest text why.Kind holds (inr means) = says_refused number least room after octets rest text why.Kind holds means
-says_refused_as number least room after octets rest text why.Hex holds (inr means) = says_refused number least room after octets rest text why.Hex holds means
-says_refused_as number least room after octets rest text why.MomentBack holds (inr means) = says_refused number least room after octets rest text why.MomentBack holds means
-says_refused_as number least room after octets rest text why.NoMemory holds (inr means) = tt
-says_refused_as number least room after octets rest text why.Field holds (inl is) = cc
-says_refused_as number least room after octets rest text why.Number holds (inl is) = cc
-says_refused_as number least room after octets rest text why.Kind holds (inl is) = cc
-says_refused_as number least room after octets rest text why.Hex holds (inl is) = cc
-says_refused_as number least room after octets rest text why.MomentBack holds (inl is) = cc
-says_refused_as number least room after octets rest text why.NoMemory holds (inl is) = tt
+says_refused_as number least room after octets rest text last why.Field holds (inr means) = says_refused number least room after octets rest text last why.Field holds means
+says_refused_as number least room after octets rest text last why.Number holds (inr means) = says_refused number least room after octets rest text last why.Number holds means
+says_refused_as number least room after octets rest text last why.Kind holds (inr means) = says_refused number least room after octets rest text last why.Kind holds means
+says_refused_as number least room after octets rest text last why.Hex holds (inr means) = says_refused number least room after octets rest text last why.Hex holds means
+says_refused_as number least room after octets rest text last why.MomentBack holds (inr means) = says_refused number least room after octets rest text last why.MomentBack holds means
+says_refused_as number least room after octets rest text last why.NoMemory holds (inr means) = tt
+says_refused_as number least room after octets rest text last why.Field holds (inl is) = cc
+says_refused_as number least room after octets rest text last why.Number holds (inl is) = cc
+says_refused_as number least room after octets rest text last why.Kind holds (inl is) = cc
+says_refused_as number least room after octets rest text last why.Hex holds (inl is) = cc
+says_refused_as number least room after octets rest text last why.MomentBack holds (inl is) = cc
+says_refused_as number least room after octets rest text last why.NoMemory holds (inl is) = tt
 
-pub tells_refused : (number least room after : ℕ) (octets rest : Option (List ℕ)) (text : List ℕ) (bad_one : LineBad)
-    → Reads read.Line room after octets rest text → (bad_one ≡ why.NoMemory) ⊎ (line_meaning least number text ≡ Err bad_one)
+pub tells_refused : (number least room after : ℕ) (octets rest : Option (List ℕ)) (text : List ℕ) (last : Bool) (bad_one : LineBad)
+    → Reads read.Line room after octets rest text last → (bad_one ≡ why.NoMemory) ⊎ (line_meaning least number text ≡ Err bad_one)
     → Tells (refused_as bad_one) number least room after octets rest
-tells_refused number least room after None rest text bad_one reads means = tt
-tells_refused number least room after (Some octets) None text bad_one reads means = absurd reads
-tells_refused number least room after (Some octets) (Some rest) text bad_one reads means =
-    says_refused_as number least room after octets rest text bad_one reads means
+tells_refused number least room after None rest text last bad_one reads means = tt
+tells_refused number least room after (Some octets) None text last bad_one reads means = absurd reads
+tells_refused number least room after (Some octets) (Some rest) text last bad_one reads means =
+    says_refused_as number least room after octets rest text last bad_one reads means
 
-pub tells_end : (number least room after : ℕ) (octets rest : Option (List ℕ)) (text : List ℕ)
-    → Reads read.End room after octets rest text → Tells End number least room after octets rest
-tells_end number least room after None rest text reads = tt
-tells_end number least room after (Some octets) None text reads = absurd reads
-tells_end number least room after (Some octets) (Some rest) text reads = rw (reads.1) (at_end room number least reads.2)
+pub tells_end : (number least room after : ℕ) (octets rest : Option (List ℕ)) (text : List ℕ) (last : Bool)
+    → Reads read.End room after octets rest text last → Tells next.End number least room after octets rest
+tells_end number least room after None rest text last reads = tt
+tells_end number least room after (Some octets) None text last reads = absurd reads
+tells_end number least room after (Some octets) (Some rest) text last reads =
+    (rw (reads.1) (at_end room number least reads.2), reads.0.octets_stay ∙ reads.1)
 
-pub tells_long : (number least room after : ℕ) (octets rest : Option (List ℕ)) (text : List ℕ)
-    → Reads read.LineLong room after octets rest text → Tells LineLong number least room after octets rest
-tells_long number least room after None rest text reads = tt
-tells_long number least room after (Some octets) None text reads = absurd reads
-tells_long number least room after (Some octets) (Some rest) text reads =
+pub tells_long : (number least room after : ℕ) (octets rest : Option (List ℕ)) (text : List ℕ) (last : Bool)
+    → Reads read.LineLong room after octets rest text last → Tells next.LineLong number least room after octets rest
+tells_long number least room after None rest text last reads = tt
+tells_long number least room after (Some octets) None text last reads = absurd reads
+tells_long number least room after (Some octets) (Some rest) text last reads =
     rw (reads.1.parts) (line_long room number least reads.1.front reads.1.rest reads.1.no_newline reads.1.long reads.1.within)
 
-pub tells_big : (number least room after : ℕ) (octets rest : Option (List ℕ)) (text : List ℕ)
-    → Reads read.TooLong room after octets rest text → Tells TooLong number least room after octets rest
-tells_big number least room after None rest text reads = tt
-tells_big number least room after (Some octets) None text reads = absurd reads
-tells_big number least room after (Some octets) (Some rest) text reads =
+pub tells_big : (number least room after : ℕ) (octets rest : Option (List ℕ)) (text : List ℕ) (last : Bool)
+    → Reads read.TooLong room after octets rest text last → Tells next.TooLong number least room after octets rest
+tells_big number least room after None rest text last reads = tt
+tells_big number least room after (Some octets) None text last reads = absurd reads
+tells_big number least room after (Some octets) (Some rest) text last reads =
     rw (reads.1.parts, ← reads.1.full) (input_big number least reads.1.front reads.1.rest reads.1.no_newline reads.1.short)
+
+pub tells_fault : (number least room after : ℕ) (octets rest : Option (List ℕ)) (text : List ℕ) (last : Bool)
+    → Reads read.ReadFault room after octets rest text last → Tells next.ReadFault number least room after octets rest
+tells_fault number least room after None rest text last reads = tt
+tells_fault number least room after (Some octets) None text last reads = absurd reads
+tells_fault number least room after (Some octets) (Some rest) text last reads = (reads.octets_stay, reads.room_stays)

@@ -1,11 +1,14 @@
 -- How a run goes on, ends and is cut.
-use Rattle.std.proofs.Common.{◌≡◌, ℕ, ◌+◌, ◌<◌, ◌^◌, List, [], ◌∷◌, ◌++◌, Option, None, Some, Result, Ok, Err, OnErr, refl, sym, ap, subst, ◌∙◌, arith, append_assoc, append-nil, length-append}
+use Rattle.std.proofs.Common.{◌≡◌, ℕ, ◌+◌, ◌<◌, ◌^◌, List, [], ◌∷◌, ◌++◌, Option, None, Some, Result, Ok, Err, OnErr, inl, inr, refl, sym, ap, subst, ◌∙◌, arith, append_assoc, append-nil, length-append}
+use Rattle.std.specs.Io.KnownBytes.{prepend_known}
 use Rattle.std.proofs.KnownBytes.{Appends-trans, Appends-nil}
 use Rattle.std.proofs.lemmas.Grind.{flat_map-append}
 use Rattle.pc_outside.specs.Fronts.{AppendsFront}
-use Rattle.trace_lines.specs.Input.{Input, Stop, bad, long, big, ended, stopped, after_lines, input_within}
+use Rattle.pc_outside.specs.Held.{Held, IsUnfinished}
+use Rattle.trace_lines.specs.Input.{Input, Stop, bad, long, big, ended, newline, stopped, after_lines, input_within, input_of}
 use Rattle.trace_lines.specs.Line.{Line}
 use Rattle.trace_lines.specs.declared.bad.LineBad.{LineBad}
+use Rattle.trace_lines.proofs.InputLemmas.{at_end}
 use Rattle.gate_model.specs.Decision.{decisions}
 use Rattle.gate_model.specs.Entry.{Entry, text_of, texts}
 use Rattle.gate_model.specs.Entered.{entries_after}
@@ -17,10 +20,12 @@ use Rattle.pepc.specs.declared.run.Ending.TheVariants.{Ended, ReadFault, BadLine
 use Rattle.pepc.specs.declared.run.Unwritten.{Unwritten}
 use Rattle.pepc.specs.declared.run.Unwritten.TheVariants as unwritten
 use Rattle.pepc.specs.declared.solo.Solo.{Solo}
-use Rattle.pepc.specs.Next.{Tells}
-use Rattle.pepc.specs.Progress.{Moves, ReadSoFar, Progress, Begins, Stops, Ends, Cuts}
+use Rattle.pepc.specs.Next.{SaysLine, Says, Tells}
+use Rattle.pepc.specs.Progress.{Moves, HasRead, Progress, Begins, Stops, Fails, Reached, Ends, Cuts}
 use Rattle.pepc.specs.Report.{stop_entry}
 use Rattle.pepc.specs.Standing.{StandsFor, entry_at}
+use Rattle.pepc.specs.Told.{WhereTold}
+use Rattle.pepc.proofs.ToldLemmas.{told_then}
 
 pub texts-push : (entries : List Entry) (entry : Entry) → texts (entries ++ entry ∷ []) ≡ texts entries ++ text_of entry
 texts-push entries entry = flat_map-append text_of entries (entry ∷ []) ∙ ap (λ t. texts entries ++ t) (append-nil (text_of entry))
@@ -33,14 +38,42 @@ entries-push done line = ap (entries_after []) (decisions_from-push [] done line
 after_lines-push : (done : List Line) (line : Line) (input : Input) → after_lines done (after_lines (line ∷ []) input) ≡ after_lines (done ++ line ∷ []) input
 after_lines-push done line input = ap (λ lines. record { lines = lines; stop = input.stop }) (sym (append_assoc done (line ∷ []) input.lines))
 
-read_more : (start a b : Option (List ℕ)) (number least room after : ℕ) (done : List Line) (line : Line)
-    → ReadSoFar start a number least room done → Tells (next.Line line) number least room after a b
-    → ReadSoFar start b (number + 1) line.moment after (done ++ line ∷ [])
-read_more None a b number least room after done line read tells = tt
-read_more (Some octets) None b number least room after done line read tells = absurd read
-read_more (Some octets) (Some ahead) None number least room after done line read tells = absurd tells
-read_more (Some octets) (Some ahead) (Some rest) number least room after done line read tells =
-    read ∙ ap (after_lines done) tells ∙ after_lines-push done line (input_within after (number + 1) line.moment rest)
+-- a text behind others, and what stands behind it
+regrouped : (gone text behind : List ℕ) → gone ++ text ++ newline ∷ [] ++ behind ≡ gone ++ (text ++ newline ∷ behind)
+regrouped gone text behind = append_assoc (gone ++ text) (newline ∷ []) behind ∙ append_assoc gone text (newline ∷ behind)
+
+-- a line and its newline are gone through too
+read_more : (number least room after : ℕ) (done : List Line) (line : Line) (octets ahead rest : List ℕ)
+    → HasRead octets ahead number least room done → SaysLine line number least room after ahead rest
+    → HasRead octets rest (number + 1) line.moment after (done ++ line ∷ [])
+read_more number least room after done line octets ahead rest read line_said = record {
+  gone = read.gone ++ line_said.text ++ newline ∷ [];
+  parts = read.parts ∙ ap (λ t. read.gone ++ t) line_said.parts ∙ sym (regrouped read.gone line_said.text rest);
+  lines = inr (read.gone ++ line_said.text, refl);
+  says = λ behind. ap input_of (regrouped read.gone line_said.text behind)
+      ∙ read.says (line_said.text ++ newline ∷ behind)
+      ∙ ap (after_lines done) (line_said.says behind)
+      ∙ after_lines-push done line (input_within after (number + 1) line.moment behind);
+}
+
+told_more : (start a b : Option (List ℕ)) (number least room after : ℕ) (done : List Line) (line : Line)
+    → WhereTold start a (λ octets rest. HasRead octets rest number least room done) → Tells (next.Line line) number least room after a b
+    → WhereTold start b (λ octets rest. HasRead octets rest (number + 1) line.moment after (done ++ line ∷ []))
+told_more start a b number least room after done line read tells =
+    told_then start a b (λ octets rest. HasRead octets rest number least room done) (λ octets rest. Says (next.Line line) number least room after octets rest)
+    (λ octets rest. HasRead octets rest (number + 1) line.moment after (done ++ line ∷ []))
+    (read_more number least room after done line) read tells
+
+-- what was written and what waits, with the text of one line more
+said_more : (sent waiting front rest : List ℕ) (done : List Line) (line : Line) → sent ++ waiting ≡ texts (entries_after [] (decisions done))
+    → waiting ++ text_of (entry_at done line) ≡ front ++ rest → (sent ++ front) ++ rest ≡ texts (entries_after [] (decisions (done ++ line ∷ [])))
+said_more sent waiting front rest done line said parts =
+    append_assoc sent front rest
+    ∙ ap (λ w. sent ++ w) (sym parts)
+    ∙ sym (append_assoc sent waiting (text_of (entry_at done line)))
+    ∙ ap (λ w. w ++ text_of (entry_at done line)) said
+    ∙ sym (texts-push (entries_after [] (decisions done)) (entry_at done line))
+    ∙ ap texts (sym (entries-push done line))
 
 -- a line was read and answered
 pub goes_on : (start a b old mid new : Option (List ℕ)) (gateway after_it : Solo) (number least room after at : ℕ) (waiting left : List ℕ) (done : List Line) (line : Line)
@@ -52,91 +85,147 @@ goes_on start a b old mid new gateway after_it number least room after at waitin
   stands = stands;
   counted = omega (arith, so_far.counted, length-append done (line ∷ []));
   roomy = omega (arith, so_far.roomy, length-append done (line ∷ []));
-  read = subst (λ m. ReadSoFar start b (number + 1) m after (done ++ line ∷ [])) (sym moment)
-      (read_more start a b number least room after done line so_far.read tells);
+  read = subst (λ m. WhereTold start b (λ octets rest. HasRead octets rest (number + 1) m after (done ++ line ∷ []))) (sym moment)
+      (told_more start a b number least room after done line so_far.read tells);
   sent = so_far.sent ++ moves.sent;
   written = Appends-trans old mid new so_far.sent moves.sent so_far.written moves.written;
-  said =
-      append_assoc so_far.sent moves.sent left
-      ∙ ap (λ w. so_far.sent ++ w) (sym moves.parts)
-      ∙ sym (append_assoc so_far.sent waiting (text_of (entry_at done line)))
-      ∙ ap (λ w. w ++ text_of (entry_at done line)) so_far.said
-      ∙ sym (texts-push (entries_after [] (decisions done)) (entry_at done line))
-      ∙ ap texts (sym (entries-push done line));
+  said = said_more so_far.sent waiting moves.sent left done line so_far.said moves.parts;
 }
 
-begins_so : (start a : Option (List ℕ)) (number least room : ℕ) (done : List Line) → ReadSoFar start a number least room done → Begins start done
-begins_so None a number least room done read = tt
-begins_so (Some octets) None number least room done read = absurd read
-begins_so (Some octets) (Some rest) number least room done read = (input_within room number least rest, read)
+-- the octets say the lines that were read, and then what those ahead say
+begins_so : (number least room : ℕ) (done : List Line) (octets ahead : List ℕ) → HasRead octets ahead number least room done
+    → input_of octets ≡ after_lines done (input_within room number least ahead)
+begins_so number least room done octets ahead read = ap input_of read.parts ∙ read.says ahead
 
-stops_so : (start a b : Option (List ℕ)) (number least room after : ℕ) (done : List Line) (one : Next) (stop : Stop)
-    → ((octets rest : List ℕ) → Tells one number least room after (Some octets) (Some rest) → input_within room number least octets ≡ stopped stop)
-    → ReadSoFar start a number least room done → Tells one number least room after a b → Stops start done stop
-stops_so None a b number least room after done one stop says read tells = tt
-stops_so (Some octets) None b number least room after done one stop says read tells = absurd read
-stops_so (Some octets) (Some ahead) None number least room after done one stop says read tells = absurd tells
-stops_so (Some octets) (Some ahead) (Some rest) number least room after done one stop says read tells =
-    read ∙ ap (after_lines done) (says ahead rest tells) ∙ ap (λ lines. record { lines = lines; stop = stop }) (append-nil done)
+stops_so : (number least room : ℕ) (done : List Line) (stop : Stop) (octets ahead : List ℕ) → HasRead octets ahead number least room done
+    → input_within room number least ahead ≡ stopped stop → Stops octets done stop
+stops_so number least room done stop octets ahead read says =
+    begins_so number least room done octets ahead read ∙ ap (after_lines done) says
+    ∙ ap (λ lines. record { lines = lines; stop = stop }) (append-nil done)
+
+-- one line more, and what comes behind it
+begins_more : (number least room : ℕ) (done : List Line) (line : Line) (behind : Input) (octets ahead : List ℕ) → HasRead octets ahead number least room done
+    → input_within room number least ahead ≡ after_lines (line ∷ []) behind → input_of octets ≡ after_lines (done ++ line ∷ []) behind
+begins_more number least room done line behind octets ahead read says =
+    begins_so number least room done octets ahead read ∙ ap (after_lines done) says ∙ after_lines-push done line behind
+
+-- nothing is left of octets of which none are
+none_left : (held left : List ℕ) → held ++ left ≡ [] → left ≡ []
+none_left [] left none = none
+none_left (octet ∷ held) left none = cc
+
+-- what is told of what is next, behind what was read
+told_next : (start a left : Option (List ℕ)) (held : List ℕ) (number least room after : ℕ) (done : List Line) (one : Next) (R : List ℕ → List ℕ → Type 0)
+    → ((octets ahead rest : List ℕ) → HasRead octets ahead number least room done → Says one number least room after ahead (held ++ rest) → R octets rest)
+    → WhereTold start a (λ octets rest. HasRead octets rest number least room done) → Tells one number least room after a (prepend_known held left)
+    → WhereTold start left R
+told_next None a left held number least room after done one R follows read tells = tt
+told_next (Some octets) None left held number least room after done one R follows read tells = absurd read
+told_next (Some octets) (Some ahead) None held number least room after done one R follows read tells = absurd tells
+told_next (Some octets) (Some ahead) (Some rest) held number least room after done one R follows read tells = follows octets ahead rest read tells
 
 -- what waits has no entry of the stop
-unsaid : (sent waiting : List ℕ) (entries : List Entry) → sent ++ waiting ≡ texts entries → sent ++ waiting ≡ texts (entries ++ [])
-unsaid sent waiting entries said = said ∙ ap texts (sym (append-nil entries))
+unsaid : (told : List ℕ) (entries : List Entry) → told ≡ texts entries → told ≡ texts (entries ++ [])
+unsaid told entries said = said ∙ ap texts (sym (append-nil entries))
 
-pub ends_ended : (start a b old new : Option (List ℕ)) (gateway : Solo) (number least room after : ℕ) (waiting : List ℕ) (done : List Line)
-    → Progress start a old new gateway number least room waiting done → Tells next.End number least room after a b → Ends Ended start old new waiting gateway
-ends_ended start a b old new gateway number least room after waiting done so_far tells = record {
+pub ends_ended : (start a left old new : Option (List ℕ)) (gateway : Solo) (number least room after : ℕ) (held waiting : List ℕ) (done : List Line)
+    → Progress start a old new gateway number least room waiting done → Tells next.End number least room after a (prepend_known held left)
+    → Ends Ended start left old new waiting gateway
+ends_ended start a left old new gateway number least room after held waiting done so_far tells = record {
   done = done;
   stands = so_far.stands;
-  reached = stops_so start a b number least room after done next.End ended (λ octets rest says. says) so_far.read tells;
+  reached = told_next start a left held number least room after done next.End (λ octets rest. Reached Ended octets rest done)
+      (λ octets ahead rest read says. (stops_so number least room done ended octets ahead read says.0, none_left held rest says.1)) so_far.read tells;
   sent = so_far.sent;
   written = so_far.written;
-  said = unsaid so_far.sent waiting (entries_after [] (decisions done)) so_far.said;
+  said = unsaid (so_far.sent ++ waiting) (entries_after [] (decisions done)) so_far.said;
 }
 
-pub ends_long : (start a b old new : Option (List ℕ)) (gateway : Solo) (number least room after : ℕ) (waiting : List ℕ) (done : List Line)
-    → Progress start a old new gateway number least room waiting done → Tells next.LineLong number least room after a b → Ends LineLong start old new waiting gateway
-ends_long start a b old new gateway number least room after waiting done so_far tells = record {
-  done = done;
-  stands = so_far.stands;
-  reached = subst (λ n. Stops start done (long n)) so_far.counted
-      (stops_so start a b number least room after done next.LineLong (long number) (λ octets rest says. says) so_far.read tells);
-  sent = so_far.sent;
-  written = so_far.written;
-  said = unsaid so_far.sent waiting (entries_after [] (decisions done)) so_far.said;
+-- the last line was read and answered
+pub ends_last : (start a left old mid new : Option (List ℕ)) (gateway after_it : Solo) (number least room after : ℕ) (held waiting later : List ℕ) (done : List Line) (line : Line)
+    → Progress start a old mid gateway number least room waiting done → Tells (next.Last line) number least room after a (prepend_known held left)
+    → StandsFor after_it (done ++ line ∷ []) → Moves mid new (waiting ++ text_of (entry_at done line)) later
+    → Ends Ended start left old new later after_it
+ends_last start a left old mid new gateway after_it number least room after held waiting later done line so_far tells stands moves = record {
+  done = done ++ line ∷ [];
+  stands = stands;
+  reached = told_next start a left held number least room after done (next.Last line) (λ octets rest. Reached Ended octets rest (done ++ line ∷ []))
+      (λ octets ahead rest read says. (
+        begins_more number least room done line (stopped ended) octets ahead read says.0
+            ∙ ap (λ lines. record { lines = lines; stop = ended }) (append-nil (done ++ line ∷ [])),
+        none_left held rest says.1,
+      )) so_far.read tells;
+  sent = so_far.sent ++ moves.sent;
+  written = Appends-trans old mid new so_far.sent moves.sent so_far.written moves.written;
+  said = unsaid ((so_far.sent ++ moves.sent) ++ later) (entries_after [] (decisions (done ++ line ∷ [])))
+      (said_more so_far.sent waiting moves.sent later done line so_far.said moves.parts);
 }
 
-pub ends_big : (start a b old new : Option (List ℕ)) (gateway : Solo) (number least room after : ℕ) (waiting : List ℕ) (done : List Line)
-    → Progress start a old new gateway number least room waiting done → Tells next.TooLong number least room after a b → Ends TooLong start old new waiting gateway
-ends_big start a b old new gateway number least room after waiting done so_far tells = record {
+pub ends_long : (start a left old new : Option (List ℕ)) (gateway : Solo) (number least room after : ℕ) (held waiting : List ℕ) (done : List Line)
+    → Progress start a old new gateway number least room waiting done → Tells next.LineLong number least room after a (prepend_known held left)
+    → Ends LineLong start left old new waiting gateway
+ends_long start a left old new gateway number least room after held waiting done so_far tells = record {
   done = done;
   stands = so_far.stands;
-  reached = stops_so start a b number least room after done next.TooLong big (λ octets rest says. says) so_far.read tells;
+  reached = subst (λ n. WhereTold start left (λ octets rest. Stops octets done (long n))) so_far.counted
+      (told_next start a left held number least room after done next.LineLong (λ octets rest. Stops octets done (long number))
+      (λ octets ahead rest read says. stops_so number least room done (long number) octets ahead read says) so_far.read tells);
   sent = so_far.sent;
   written = so_far.written;
-  said = unsaid so_far.sent waiting (entries_after [] (decisions done)) so_far.said;
+  said = unsaid (so_far.sent ++ waiting) (entries_after [] (decisions done)) so_far.said;
 }
 
-pub ends_fault : (start a old new : Option (List ℕ)) (gateway : Solo) (number least room : ℕ) (waiting : List ℕ) (done : List Line)
-    → Progress start a old new gateway number least room waiting done → Ends ReadFault start old new waiting gateway
-ends_fault start a old new gateway number least room waiting done so_far = record {
+pub ends_big : (start a left old new : Option (List ℕ)) (gateway : Solo) (number least room after : ℕ) (held waiting : List ℕ) (done : List Line)
+    → Progress start a old new gateway number least room waiting done → Tells next.TooLong number least room after a (prepend_known held left)
+    → Ends TooLong start left old new waiting gateway
+ends_big start a left old new gateway number least room after held waiting done so_far tells = record {
   done = done;
   stands = so_far.stands;
-  reached = begins_so start a number least room done so_far.read;
+  reached = told_next start a left held number least room after done next.TooLong (λ octets rest. Stops octets done big)
+      (λ octets ahead rest read says. stops_so number least room done big octets ahead read says) so_far.read tells;
   sent = so_far.sent;
   written = so_far.written;
-  said = unsaid so_far.sent waiting (entries_after [] (decisions done)) so_far.said;
+  said = unsaid (so_far.sent ++ waiting) (entries_after [] (decisions done)) so_far.said;
+}
+
+-- the octets held are an unfinished line
+fails_so : (number least room : ℕ) (done : List Line) (now : Held) (octets ahead rest : List ℕ) → IsUnfinished now
+    → HasRead octets ahead number least room done → now.front ++ rest ≡ ahead → now.room ≡ room → Fails octets rest done
+fails_so number least room done now octets ahead rest unfinished read stays same = record {
+  whole = read.gone;
+  unfinished = now.front;
+  parts = read.parts ∙ ap (λ t. read.gone ++ t) (sym stays) ∙ sym (append_assoc read.gone now.front rest);
+  lines = read.lines;
+  no_newline = unfinished.no_newline;
+  stops = ap input_of (sym (append-nil read.gone)) ∙ read.says []
+      ∙ ap (after_lines done) (at_end room number least (omega (arith, unfinished.more, same)))
+      ∙ ap (λ lines. record { lines = lines; stop = ended }) (append-nil done);
+  begins = (input_within room number least ahead, begins_so number least room done octets ahead read);
+}
+
+pub ends_fault : (start a left old new : Option (List ℕ)) (gateway : Solo) (number least room : ℕ) (now : Held) (waiting : List ℕ) (done : List Line)
+    → Progress start a old new gateway number least room waiting done → Tells next.ReadFault number least room now.room a (prepend_known now.front left)
+    → IsUnfinished now → Ends ReadFault start left old new waiting gateway
+ends_fault start a left old new gateway number least room now waiting done so_far tells unfinished = record {
+  done = done;
+  stands = so_far.stands;
+  reached = told_next start a left now.front number least room now.room done next.ReadFault (λ octets rest. Fails octets rest done)
+      (λ octets ahead rest read says. fails_so number least room done now octets ahead rest unfinished read says.0 says.1) so_far.read tells;
+  sent = so_far.sent;
+  written = so_far.written;
+  said = unsaid (so_far.sent ++ waiting) (entries_after [] (decisions done)) so_far.said;
 }
 
 -- a bad line has its entry
-pub ends_bad : (start a b old new : Option (List ℕ)) (gateway : Solo) (number least room after : ℕ) (waiting more : List ℕ) (done : List Line) (why : LineBad)
-    → Progress start a old new gateway number least room waiting done → Tells (next.Bad why) number least room after a b
-    → more ≡ waiting ++ texts (stop_entry (bad number why)) → Ends (BadLine why) start old new more gateway
-ends_bad start a b old new gateway number least room after waiting more done why so_far tells is = record {
+pub ends_bad : (start a left old new : Option (List ℕ)) (gateway : Solo) (number least room after : ℕ) (held waiting more : List ℕ) (done : List Line) (why : LineBad)
+    → Progress start a old new gateway number least room waiting done → Tells (next.Bad why) number least room after a (prepend_known held left)
+    → more ≡ waiting ++ texts (stop_entry (bad number why)) → Ends (BadLine why) start left old new more gateway
+ends_bad start a left old new gateway number least room after held waiting more done why so_far tells is = record {
   done = done;
   stands = so_far.stands;
-  reached = subst (λ n. Stops start done (bad n why)) so_far.counted
-      (stops_so start a b number least room after done (next.Bad why) (bad number why) (λ octets rest says. says) so_far.read tells);
+  reached = subst (λ n. WhereTold start left (λ octets rest. Stops octets done (bad n why))) so_far.counted
+      (told_next start a left held number least room after done (next.Bad why) (λ octets rest. Stops octets done (bad number why))
+      (λ octets ahead rest read says. stops_so number least room done (bad number why) octets ahead read says) so_far.read tells);
   sent = so_far.sent;
   written = so_far.written;
   said =
@@ -147,47 +236,59 @@ ends_bad start a b old new gateway number least room after waiting more done why
       ∙ ap (λ n. texts (entries_after [] (decisions done) ++ stop_entry (bad n why))) so_far.counted;
 }
 
--- no more is written than was
-pub cut_here : (start a old new : Option (List ℕ)) (gateway : Solo) (number least room : ℕ) (waiting : List ℕ) (done : List Line)
-    → Progress start a old new gateway number least room waiting done → Cuts start old new
-cut_here start a old new gateway number least room waiting done so_far = record {
+-- no more is written than was, whatever is next
+pub cut_here : (start a left old new : Option (List ℕ)) (gateway : Solo) (number least room after : ℕ) (held waiting : List ℕ) (done : List Line) (one : Next)
+    → Progress start a old new gateway number least room waiting done → Tells one number least room after a (prepend_known held left)
+    → Cuts start left old new
+cut_here start a left old new gateway number least room after held waiting done one so_far tells = record {
   done = done;
-  reached = begins_so start a number least room done so_far.read;
+  reached = told_next start a left held number least room after done one (λ octets rest. Begins octets done)
+      (λ octets ahead rest read says. (input_within room number least ahead, begins_so number least room done octets ahead read)) so_far.read tells;
   sent = so_far.sent;
   more = waiting;
   written = so_far.written;
   said = so_far.said;
 }
 
+-- what is next begins with this line
+abbrev pub GivesLine : Next → Line → ℕ → ℕ → ℕ → ℕ → Type 0
+GivesLine one line number least room after =
+    (ahead rest : List ℕ) → Says one number least room after ahead rest → (behind : Input) × (input_within room number least ahead ≡ after_lines (line ∷ []) behind)
+
+pub gives_line : (line : Line) (number least room after : ℕ) → GivesLine (next.Line line) line number least room after
+gives_line line number least room after = λ ahead rest says.
+    (input_within after (number + 1) line.moment rest, ap (input_within room number least) says.parts ∙ says.says rest)
+
+pub gives_last : (line : Line) (number least room after : ℕ) → GivesLine (next.Last line) line number least room after
+gives_last line number least room after = λ ahead rest says. (stopped ended, says.0)
+
 -- the sink failed within the block behind a line
-pub cut_behind : (start a b old mid new : Option (List ℕ)) (gateway : Solo) (number least room after : ℕ) (waiting : List ℕ) (done : List Line) (line : Line)
-    → Progress start a old mid gateway number least room waiting done → Tells (next.Line line) number least room after a b
-    → AppendsFront mid new (waiting ++ text_of (entry_at done line)) → Cuts start old new
-cut_behind start a b old mid new gateway number least room after waiting done line so_far tells cut = record {
+cut_behind : (start a left old mid new : Option (List ℕ)) (gateway : Solo) (number least room after : ℕ) (held waiting : List ℕ) (done : List Line) (one : Next) (line : Line)
+    → GivesLine one line number least room after
+    → Progress start a old mid gateway number least room waiting done → Tells one number least room after a (prepend_known held left)
+    → AppendsFront mid new (waiting ++ text_of (entry_at done line)) → Cuts start left old new
+cut_behind start a left old mid new gateway number least room after held waiting done one line gives so_far tells cut = record {
   done = done ++ line ∷ [];
-  reached = begins_so start b (number + 1) line.moment after (done ++ line ∷ []) (read_more start a b number least room after done line so_far.read tells);
+  reached = told_next start a left held number least room after done one (λ octets rest. Begins octets (done ++ line ∷ []))
+      (λ octets ahead rest read says.
+      let more = gives ahead (held ++ rest) says in
+      (more.0, begins_more number least room done line more.0 octets ahead read more.1)) so_far.read tells;
   sent = so_far.sent ++ cut.front;
   more = cut.rest;
   written = Appends-trans old mid new so_far.sent cut.front so_far.written cut.appended;
-  said =
-      append_assoc so_far.sent cut.front cut.rest
-      ∙ ap (λ w. so_far.sent ++ w) (sym cut.parts)
-      ∙ sym (append_assoc so_far.sent waiting (text_of (entry_at done line)))
-      ∙ ap (λ w. w ++ text_of (entry_at done line)) so_far.said
-      ∙ sym (texts-push (entries_after [] (decisions done)) (entry_at done line))
-      ∙ ap texts (sym (entries-push done line));
+  said = said_more so_far.sent waiting cut.front cut.rest done line so_far.said cut.parts;
 }
 
 -- an error of answering a line cuts the report
-pub cut_by : (start a b old mid new : Option (List ℕ)) (gateway : Solo) (number least room after : ℕ) (waiting : List ℕ) (done : List Line) (line : Line)
-    (why : Unwritten) (answer : Result (Unit {0}) Unwritten) → answer ≡ Err why
-    → Progress start a old mid gateway number least room waiting done → Tells (next.Line line) number least room after a b
+pub cut_by : (start a left old mid new : Option (List ℕ)) (gateway : Solo) (number least room after : ℕ) (held waiting : List ℕ) (done : List Line) (one : Next) (line : Line)
+    (why : Unwritten) (answer : Result (Unit {0}) Unwritten) → answer ≡ Err why → GivesLine one line number least room after
+    → Progress start a old mid gateway number least room waiting done → Tells one number least room after a (prepend_known held left)
     → (answer ≡ Err unwritten.WriteFault → AppendsFront mid new (waiting ++ text_of (entry_at done line)))
-    → (answer ≡ Err unwritten.NoMemory → new ≡ mid) → Cuts start old new
-cut_by start a b old mid new gateway number least room after waiting done line unwritten.WriteFault answer is so_far tells cut kept =
-    cut_behind start a b old mid new gateway number least room after waiting done line so_far tells (cut is)
-cut_by start a b old mid new gateway number least room after waiting done line unwritten.NoMemory answer is so_far tells cut kept =
-    rw (kept is) (cut_here start a old mid gateway number least room waiting done so_far)
+    → (answer ≡ Err unwritten.NoMemory → new ≡ mid) → Cuts start left old new
+cut_by start a left old mid new gateway number least room after held waiting done one line unwritten.WriteFault answer is gives so_far tells cut kept =
+    cut_behind start a left old mid new gateway number least room after held waiting done one line gives so_far tells (cut is)
+cut_by start a left old mid new gateway number least room after held waiting done one line unwritten.NoMemory answer is gives so_far tells cut kept =
+    rw (kept is) (cut_here start a left old mid gateway number least room after held waiting done one so_far tells)
 
 pub on_err : {T E : Type 0} {P : Type 0} (r : Result T E) → P → OnErr r P
 on_err (Ok x) p = tt
@@ -200,12 +301,13 @@ begins start old gateway ahead room waiting stands same full none = record {
   stands = stands;
   counted = refl;
   roomy = omega arith;
-  read = subst (λ a. ReadSoFar start a 1 0 room []) (sym same) (subst (λ r. ReadSoFar start start 1 0 r []) (sym full) (first start));
+  read = subst (λ a. WhereTold start a (λ octets rest. HasRead octets rest 1 0 room [])) (sym same)
+      (subst (λ r. WhereTold start start (λ octets rest. HasRead octets rest 1 0 r [])) (sym full) (first start));
   sent = [];
   written = Appends-nil old;
   said = none;
 }
   where
-    first : (start : Option (List ℕ)) → ReadSoFar start start 1 0 (2 ^ 40) []
+    first : (start : Option (List ℕ)) → WhereTold start start (λ octets rest. HasRead octets rest 1 0 (2 ^ 40) [])
     first None = tt
-    first (Some octets) = refl
+    first (Some octets) = record { gone = []; parts = refl; lines = inl refl; says = λ behind. refl }

@@ -6,6 +6,7 @@ pub mod Account
 pub mod Standing
 pub mod Status
 pub mod Words
+pub mod Told
 pub mod Next
 pub mod Report
 pub mod Progress

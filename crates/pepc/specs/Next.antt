@@ -1,43 +1,52 @@
 -- What is next in an input, by what the octets say from a line on.
-use Rattle.std.specs.Prelude.{◌≡◌, ℕ, ◌+◌, ◌<◌, List, [], ◌∷◌, Option, None, Some}
-use Rattle.trace_lines.specs.Input.{bad, long, big, ended, stopped, after_lines, input_within}
+use Rattle.std.specs.Prelude.{◌≡◌, ℕ, ◌+◌, ◌<◌, List, [], ◌∷◌, ◌++◌, Option}
+use Rattle.trace_lines.specs.Input.{bad, long, big, ended, newline, stopped, after_lines, input_within}
+use Rattle.trace_lines.specs.Line.{Line}
 use Rattle.trace_lines.specs.declared.bad.LineBad.{LineBad}
 use Rattle.trace_lines.specs.declared.bad.LineBad.TheVariants as why
+use Rattle.pepc.specs.Told.{WhereTold}
 use Rattle.pepc.specs.declared.reading.Next.{Next}
-use Rattle.pepc.specs.declared.reading.Next.TheVariants.{Line, Bad, End, LineLong, TooLong, ReadFault, NoMemory}
+use Rattle.pepc.specs.declared.reading.Next.TheVariants as next
 
--- what the octets say with this room, and then what the rest says with the room left
+-- the octets begin with a text and its newline, which say this line and then what stands behind them
+pub record SaysLine (line : Line) (number least room after : ℕ) (octets rest : List ℕ) : Type 0 where
+  pub text : List ℕ
+  pub parts : octets ≡ text ++ newline ∷ rest
+  pub says : (behind : List ℕ) → input_within room number least (text ++ newline ∷ behind)
+      ≡ after_lines (line ∷ []) (input_within after (number + 1) line.moment behind)
+
+-- what the octets say with this room, and what rest and room they leave
 abbrev pub Says : Next → ℕ → ℕ → ℕ → ℕ → List ℕ → List ℕ → Type 0
-Says (Line line) number least room after octets rest =
-    input_within room number least octets ≡ after_lines (line ∷ []) (input_within after (number + 1) line.moment rest)
-Says (Bad why) number least room after octets rest = input_within room number least octets ≡ stopped (bad number why)
-Says End number least room after octets rest = input_within room number least octets ≡ stopped ended
-Says LineLong number least room after octets rest = input_within room number least octets ≡ stopped (long number)
-Says TooLong number least room after octets rest = input_within room number least octets ≡ stopped big
-Says ReadFault number least room after octets rest = Unit {0}
-Says NoMemory number least room after octets rest = Unit {0}
+Says (next.Line line) number least room after octets rest = SaysLine line number least room after octets rest
+Says (next.Last line) number least room after octets rest =
+    (input_within room number least octets ≡ after_lines (line ∷ []) (stopped ended)) × (rest ≡ [])
+Says (next.Bad why) number least room after octets rest = input_within room number least octets ≡ stopped (bad number why)
+Says next.End number least room after octets rest = (input_within room number least octets ≡ stopped ended) × (rest ≡ [])
+Says next.LineLong number least room after octets rest = input_within room number least octets ≡ stopped (long number)
+Says next.TooLong number least room after octets rest = input_within room number least octets ≡ stopped big
+Says next.ReadFault number least room after octets rest = (rest ≡ octets) × (after ≡ room)
+Says next.NoMemory number least room after octets rest = Unit {0}
 
 -- the same, where the octets are told
 abbrev pub Tells : Next → ℕ → ℕ → ℕ → ℕ → Option (List ℕ) → Option (List ℕ) → Type 0
-Tells next number least room after None now = Unit {0}
-Tells next number least room after (Some octets) None = ⊥
-Tells next number least room after (Some octets) (Some rest) = Says next number least room after octets rest
+Tells what number least room after start now = WhereTold start now (λ octets rest. Says what number least room after octets rest)
 
--- each line takes room
+-- a line that more may follow takes room
 abbrev pub TakesRoom : Next → ℕ → ℕ → Type 0
-TakesRoom (Line line) room after = after < room
-TakesRoom (Bad why) room after = Unit {0}
-TakesRoom End room after = Unit {0}
-TakesRoom LineLong room after = Unit {0}
-TakesRoom TooLong room after = Unit {0}
-TakesRoom ReadFault room after = Unit {0}
-TakesRoom NoMemory room after = Unit {0}
+TakesRoom (next.Line line) room after = after < room
+TakesRoom (next.Last line) room after = Unit {0}
+TakesRoom (next.Bad why) room after = Unit {0}
+TakesRoom next.End room after = Unit {0}
+TakesRoom next.LineLong room after = Unit {0}
+TakesRoom next.TooLong room after = Unit {0}
+TakesRoom next.ReadFault room after = Unit {0}
+TakesRoom next.NoMemory room after = Unit {0}
 
 -- a line that can't be read
 abbrev pub refused_as : LineBad → Next
-refused_as why.Field = Bad why.Field
-refused_as why.Number = Bad why.Number
-refused_as why.Kind = Bad why.Kind
-refused_as why.Hex = Bad why.Hex
-refused_as why.MomentBack = Bad why.MomentBack
-refused_as why.NoMemory = NoMemory
+refused_as why.Field = next.Bad why.Field
+refused_as why.Number = next.Bad why.Number
+refused_as why.Kind = next.Bad why.Kind
+refused_as why.Hex = next.Bad why.Hex
+refused_as why.MomentBack = next.Bad why.MomentBack
+refused_as why.NoMemory = next.NoMemory

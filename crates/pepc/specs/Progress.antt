@@ -1,6 +1,7 @@
 -- How far a run has come.
-use Rattle.std.specs.Prelude.{◌≡◌, ℕ, ◌+◌, ◌≤◌, ◌^◌, List, [], ◌++◌, length, Option, None, Some}
+use Rattle.std.specs.Prelude.{◌≡◌, ℕ, ◌+◌, ◌≤◌, ◌^◌, List, [], ◌++◌, length, Option}
 use Rattle.std.specs.Io.KnownBytes.{Appends}
+use Rattle.pc_outside.specs.Line.{NoNewline}
 use Rattle.trace_lines.specs.Input.{Input, Stop, bad, long, big, ended, after_lines, input_within, input_of}
 use Rattle.trace_lines.specs.Line.{Line}
 use Rattle.gate_model.specs.Decision.{decisions}
@@ -13,8 +14,9 @@ use Rattle.pepc.specs.declared.run.Unwritten.TheVariants as unwritten
 use Rattle.pepc.specs.declared.status.Status.{Status}
 use Rattle.pepc.specs.declared.status.Status.TheVariants as status
 use Rattle.pepc.specs.declared.solo.Solo.{Solo}
-use Rattle.pepc.specs.Report.{stop_entry}
+use Rattle.pepc.specs.Report.{stop_entry, IsWholeLines}
 use Rattle.pepc.specs.Standing.{StandsFor}
+use Rattle.pepc.specs.Told.{WhereTold}
 
 -- a front of what waits is written, and the rest waits
 pub record Moves (old new : Option (List ℕ)) (before after : List ℕ) : Type 0 where
@@ -22,19 +24,19 @@ pub record Moves (old new : Option (List ℕ)) (before after : List ℕ) : Type 
   pub written : Appends old new sent
   pub parts : before ≡ sent ++ after
 
--- where the octets are told, these lines were read, and the octets ahead say the rest
-abbrev pub ReadSoFar : Option (List ℕ) → Option (List ℕ) → ℕ → ℕ → ℕ → List Line → Type 0
-ReadSoFar None ahead number least room done = Unit {0}
-ReadSoFar (Some octets) None number least room done = ⊥
-ReadSoFar (Some octets) (Some rest) number least room done =
-    input_of octets ≡ after_lines done (input_within room number least rest)
+-- whole lines were read before the octets ahead: they say these lines, and then what stands behind them says the rest
+pub record HasRead (octets ahead : List ℕ) (number least room : ℕ) (done : List Line) : Type 0 where
+  pub gone : List ℕ
+  pub parts : octets ≡ gone ++ ahead
+  pub lines : IsWholeLines gone
+  pub says : (behind : List ℕ) → input_of (gone ++ behind) ≡ after_lines done (input_within room number least behind)
 
 -- these lines are done: the gateway stands for them, and what was written and what waits are their entries' texts
 pub record Progress (start ahead old new : Option (List ℕ)) (gateway : Solo) (number least room : ℕ) (waiting : List ℕ) (done : List Line) : Type 0 where
   pub stands : StandsFor gateway done
   pub counted : number ≡ length done + 1
   pub roomy : length done + room ≤ 2 ^ 40
-  pub read : ReadSoFar start ahead number least room done
+  pub read : WhereTold start ahead (λ octets rest. HasRead octets rest number least room done)
   pub sent : List ℕ
   pub written : Appends old new sent
   pub said : sent ++ waiting ≡ texts (entries_after [] (decisions done))
@@ -47,36 +49,45 @@ stop_of (BadLine why) number = bad number why
 stop_of LineLong number = long number
 stop_of TooLong number = big
 
--- where the octets are told, they begin with these lines
-abbrev pub Begins : Option (List ℕ) → List Line → Type 0
-Begins None done = Unit {0}
-Begins (Some octets) done = (behind : Input) × (input_of octets ≡ after_lines done behind)
+-- octets begin with these lines
+abbrev pub Begins : List ℕ → List Line → Type 0
+Begins octets done = (behind : Input) × (input_of octets ≡ after_lines done behind)
 
--- and stop behind them, unless the source failed
-abbrev pub Stops : Option (List ℕ) → List Line → Stop → Type 0
-Stops None done stop = Unit {0}
-Stops (Some octets) done stop = input_of octets ≡ record { lines = done; stop = stop }
+-- and stop behind them
+abbrev pub Stops : List ℕ → List Line → Stop → Type 0
+Stops octets done stop = input_of octets ≡ record { lines = done; stop = stop }
 
-abbrev pub Reached : Ending → Option (List ℕ) → List Line → Type 0
-Reached Ended start done = Stops start done ended
-Reached ReadFault start done = Begins start done
-Reached (BadLine why) start done = Stops start done (bad (length done + 1) why)
-Reached LineLong start done = Stops start done (long (length done + 1))
-Reached TooLong start done = Stops start done big
+-- no more came than whole lines, which are these, and an unfinished one
+pub record Fails (octets left : List ℕ) (done : List Line) : Type 0 where
+  pub whole : List ℕ
+  pub unfinished : List ℕ
+  pub parts : octets ≡ whole ++ unfinished ++ left
+  pub lines : IsWholeLines whole
+  pub no_newline : NoNewline unfinished
+  pub stops : Stops whole done ended
+  pub begins : Begins octets done
+
+-- where the lines ended so: the octets that a source had, and those that it has left
+abbrev pub Reached : Ending → List ℕ → List ℕ → List Line → Type 0
+Reached Ended octets left done = Stops octets done ended × (left ≡ [])
+Reached ReadFault octets left done = Fails octets left done
+Reached (BadLine why) octets left done = Stops octets done (bad (length done + 1) why)
+Reached LineLong octets left done = Stops octets done (long (length done + 1))
+Reached TooLong octets left done = Stops octets done big
 
 -- no more lines come, and what was written and what waits are the texts of all entries
-pub record Ends (ending : Ending) (start old new : Option (List ℕ)) (waiting : List ℕ) (gateway : Solo) : Type 0 where
+pub record Ends (ending : Ending) (start left old new : Option (List ℕ)) (waiting : List ℕ) (gateway : Solo) : Type 0 where
   pub done : List Line
   pub stands : StandsFor gateway done
-  pub reached : Reached ending start done
+  pub reached : WhereTold start left (λ octets rest. Reached ending octets rest done)
   pub sent : List ℕ
   pub written : Appends old new sent
   pub said : sent ++ waiting ≡ texts (entries_after [] (decisions done) ++ stop_entry (stop_of ending (length done + 1)))
 
 -- the report was cut: what was written is a front of the texts of some first lines
-pub record Cuts (start old new : Option (List ℕ)) : Type 0 where
+pub record Cuts (start left old new : Option (List ℕ)) : Type 0 where
   pub done : List Line
-  pub reached : Begins start done
+  pub reached : WhereTold start left (λ octets rest. Begins octets done)
   pub sent : List ℕ
   pub more : List ℕ
   pub written : Appends old new sent

@@ -1,7 +1,8 @@
 -- The report of a trace, and what a status says of it.
-use Rattle.std.specs.Prelude.{◌≡◌, ℕ, ◌⊎◌, List, [], ◌∷◌, ◌++◌, length, Option, IfSome, codes}
+use Rattle.std.specs.Prelude.{◌≡◌, ℕ, ◌⊎◌, List, [], ◌∷◌, ◌++◌, length, Option, codes}
 use Rattle.std.specs.Io.KnownBytes.{Appends}
-use Rattle.trace_lines.specs.Input.{Input, Stop, bad, long, big, ended, input_of}
+use Rattle.pc_outside.specs.Line.{NoNewline}
+use Rattle.trace_lines.specs.Input.{Input, Stop, bad, long, big, ended, newline, input_of}
 use Rattle.trace_lines.specs.Line.{Line}
 use Rattle.trace_lines.specs.Word.{word_of}
 use Rattle.gate_model.specs.Book.{book_of}
@@ -12,6 +13,7 @@ use Rattle.gate_model.specs.Run.{IsRun}
 use Rattle.gate_model.specs.declared.gateway.Event.{Event}
 use Rattle.pepc.specs.declared.status.Status.{Status}
 use Rattle.pepc.specs.declared.status.Status.TheVariants as status
+use Rattle.pepc.specs.Told.{WhereTold}
 
 -- a bad line has its note behind the entries of the lines before it
 abbrev pub stop_entry : Stop → List Entry
@@ -27,6 +29,25 @@ pub record IsReport (lines : List Line) (stop : Stop) (text : List ℕ) : Type 0
   pub run : IsRun (decisions lines) entries events
   pub written : text ≡ texts (entries ++ stop_entry stop ++ charges (length (book_of lines)) events)
 
+-- the report of a whole input
+abbrev pub IsInputReport : Input → List ℕ → Type 0
+IsInputReport input text = IsReport input.lines input.stop text
+
+-- no octets, or octets that end with a newline
+abbrev pub IsWholeLines : List ℕ → Type 0
+IsWholeLines octets = (octets ≡ []) ⊎ ((front : List ℕ) × (octets ≡ front ++ newline ∷ []))
+
+-- What was taken of the octets is whole lines and an unfinished one, and these are left. The report is that of
+-- the whole lines, none of which is bad or long.
+pub record IsFaultReport (octets left text : List ℕ) : Type 0 where
+  pub whole : List ℕ
+  pub unfinished : List ℕ
+  pub parts : octets ≡ whole ++ unfinished ++ left
+  pub lines : IsWholeLines whole
+  pub no_newline : NoNewline unfinished
+  pub stop : (input_of whole).stop ≡ ended
+  pub report : IsInputReport (input_of whole) text
+
 -- the report of some first lines
 pub record IsFrontReport (input : Input) (text : List ℕ) : Type 0 where
   pub front : List Line
@@ -37,7 +58,7 @@ pub record IsFrontReport (input : Input) (text : List ℕ) : Type 0 where
 -- a front of the report of some first lines, or of the whole one
 pub record IsCutReport (input : Input) (text : List ℕ) : Type 0 where
   pub more : List ℕ
-  pub whole : IsFrontReport input (text ++ more) ⊎ IsReport input.lines input.stop (text ++ more)
+  pub whole : IsFrontReport input (text ++ more) ⊎ IsInputReport input (text ++ more)
 
 -- the input stops at a bad line, or at a long one
 abbrev pub IsBad : Stop → Type 0
@@ -52,23 +73,19 @@ IsLong (long number) = Unit {0}
 IsLong big = ⊥
 IsLong ended = ⊥
 
--- what a run with this status wrote of the report of an input
-abbrev pub ReportsInput : Status → Input → List ℕ → Type 0
-ReportsInput status.Ok input text = (input.stop ≡ ended) × IsReport input.lines input.stop text
-ReportsInput status.Usage input text = text ≡ []
-ReportsInput status.ReadFault input text = IsFrontReport input text
-ReportsInput status.WriteFault input text = IsCutReport input text
-ReportsInput status.NoMemory input text = IsCutReport input text
-ReportsInput status.BadLine input text = IsBad input.stop × IsReport input.lines input.stop text
-ReportsInput status.LineLong input text = IsLong input.stop × IsReport input.lines input.stop text
-ReportsInput status.TooLong input text = (input.stop ≡ big) × IsReport input.lines input.stop text
-
--- the same for the octets of a source
-abbrev pub Reports : Status → List ℕ → List ℕ → Type 0
-Reports ending octets text = ReportsInput ending (input_of octets) text
+-- what a run with this status wrote, where the source had these octets and has those left
+abbrev pub Reports : Status → List ℕ → List ℕ → List ℕ → Type 0
+Reports status.Ok octets left text = ((input_of octets).stop ≡ ended) × (left ≡ []) × IsInputReport (input_of octets) text
+Reports status.Usage octets left text = text ≡ []
+Reports status.ReadFault octets left text = IsFaultReport octets left text
+Reports status.WriteFault octets left text = IsCutReport (input_of octets) text
+Reports status.NoMemory octets left text = IsCutReport (input_of octets) text
+Reports status.BadLine octets left text = IsBad (input_of octets).stop × IsInputReport (input_of octets) text
+Reports status.LineLong octets left text = IsLong (input_of octets).stop × IsInputReport (input_of octets) text
+Reports status.TooLong octets left text = ((input_of octets).stop ≡ big) × IsInputReport (input_of octets) text
 
 -- octets were appended to what a sink tells, and they are the report of what a source told
-pub record Runs (ending : Status) (start old new : Option (List ℕ)) : Type 0 where
+pub record Runs (ending : Status) (start left old new : Option (List ℕ)) : Type 0 where
   pub text : List ℕ
   pub written : Appends old new text
-  pub report : IfSome start (λ octets. Reports ending octets text)
+  pub report : WhereTold start left (λ octets rest. Reports ending octets rest text)

@@ -2,6 +2,7 @@
 ghost use Rattle.std.specs.Prelude.{◌≡◌, ◌+◌, ◌<◌, ◌≤◌, ◌^◌};
 ghost use Rattle.std.specs.Io.KnownBytes.{prepend_known};
 ghost use Rattle.pc_outside.specs.Faults.{Rises};
+ghost use Rattle.pc_outside.specs.Held.{IsUnfinished};
 ghost use Rattle.pepc.specs.Next.{Tells, TakesRoom, refused_as};
 
 use pc_base::Moment;
@@ -11,7 +12,10 @@ use trace_lines::{LineBad, TraceLine};
 
 /// What comes next in a trace.
 pub enum Next {
+    /// A line that a newline ends.
     Line(TraceLine),
+    /// The last line: no newline ends it, and the source is at its end behind it.
+    Last(TraceLine),
     Bad(LineBad),
     End,
     LineLong,
@@ -32,9 +36,10 @@ pub fn next_line<S: Source>(
         (prepend_known buf.new.front (S.left source.new)) }
     ensures room { TakesRoom result buf.old.room buf.new.room }
 
-    // A fault is the source's.
+    // A fault is the source's, and comes only where more octets of a line are needed.
     ensures later { S.faults source.old ≤ S.faults source.new }
     ensures fault { result ≡ Next.ReadFault → Rises (S.faults source.old) (S.faults source.new) }
+    ensures unfinished { result ≡ Next.ReadFault → IsUnfinished buf.new }
 {
     match read_line(source, buf) {
         LineRead::Line => {}
@@ -44,6 +49,7 @@ pub fn next_line<S: Source>(
         LineRead::ReadFault => return Next::ReadFault,
     }
     match trace_lines::read_line(alloc, buf.line(), number, least) {
+        Ok(line) if buf.is_last() => Next::Last(line),
         Ok(line) => Next::Line(line),
         Err(why) => refused(why),
     }

@@ -1,5 +1,5 @@
 //! A run of `solo`: line after line is read and answered, and the report written in blocks.
-ghost use Rattle.std.specs.Prelude.{◌≡◌, ◌+◌, ◌<◌, ◌≤◌, ◌^◌, ◌∷◌, ◌++◌, ◌↔◌, [], ℕ, List, Option, length, codes, map, Ok, Err, Some, OnOk, OnErr, IfOk, IfSome};
+ghost use Rattle.std.specs.Prelude.{◌≡◌, ◌+◌, ◌<◌, ◌≤◌, ◌^◌, ◌∷◌, ◌++◌, ◌↔◌, [], false, ℕ, List, Option, length, codes, map, Ok, Err, OnOk, OnErr, IfOk};
 ghost use Rattle.std.specs.Io.KnownBytes.{Appends, Keeps};
 ghost use Rattle.std.specs.String.{string_bytes};
 ghost use Rattle.pc_outside.specs.Faults.{Rises};
@@ -10,6 +10,7 @@ ghost use Rattle.gate_model.specs.Entry.{text_of};
 ghost use Rattle.pepc.specs.Standing.{StandsFor, entry_at};
 ghost use Rattle.pepc.specs.Progress.{Moves, Ends, Cuts, status_at, status_without};
 ghost use Rattle.pepc.specs.Report.{Reports, Runs};
+ghost use Rattle.pepc.specs.Told.{WhereTold};
 ghost use Rattle.pepc.specs.Words.{IsSolo};
 ghost use Rattle.pepc.specs.declared.solo.Solo.{Solo};
 
@@ -133,12 +134,12 @@ fn run_lines<S: Source, K: Sink>(
     gateway: &mut Solo,
     report: &mut Vec<u8>,
 ) -> Result<Ending, Unwritten>
-    requires fresh { buf.old ≡ record { line = []; front = []; room = 2 ^ 40 } }
+    requires fresh { buf.old ≡ record { line = []; last = false; front = []; room = 2 ^ 40 } }
     requires first { StandsFor gateway.old [] }
     requires empty { report.old.items ≡ [] }
 
-    ensures ended { IfOk result (λ ending. Ends ending (S.left source.old) (K.written sink.old) (K.written sink.new) report.new.items gateway.new) }
-    ensures cut { OnErr result (Cuts (S.left source.old) (K.written sink.old) (K.written sink.new)) }
+    ensures ended { IfOk result (λ ending. Ends ending (S.left source.old) (S.left source.new) (K.written sink.old) (K.written sink.new) report.new.items gateway.new) }
+    ensures cut { OnErr result (Cuts (S.left source.old) (S.left source.new) (K.written sink.old) (K.written sink.new)) }
 
     ensures source_later { S.faults source.old ≤ S.faults source.new }
     ensures sink_later { K.faults sink.old ≤ K.faults sink.new }
@@ -153,6 +154,10 @@ fn run_lines<S: Source, K: Sink>(
                 take_line(alloc, gateway, &line, sink, report)?;
                 least = line.moment;
                 number += 1;
+            }
+            Next::Last(line) => {
+                take_line(alloc, gateway, &line, sink, report)?;
+                return Ok(Ending::Ended);
             }
             Next::Bad(why) => {
                 push_note(report, number, bad_note(why))?;
@@ -191,8 +196,8 @@ fn status_without(why: Unwritten) -> Status
 // Appends what is charged, and writes the last block.
 fn end_run<K: Sink>(ending: Ending, gateway: &Solo, sink: &mut K, report: &mut Vec<u8>) -> Status
     requires { (done : List Line) × StandsFor gateway.now done }
-    ensures whole { (start old : Option (List ℕ)) → Ends ending start old (K.written sink.old) report.old.items gateway.now
-        → Runs result start old (K.written sink.new) }
+    ensures whole { (start left old : Option (List ℕ)) → Ends ending start left old (K.written sink.old) report.old.items gateway.now
+        → Runs result start left old (K.written sink.new) }
     ensures read_fault { result ≡ Status.ReadFault → ending ≡ Ending.ReadFault }
     ensures no_usage { result ≡ Status.Usage → ⊥ }
 
@@ -210,7 +215,7 @@ fn end_run<K: Sink>(ending: Ending, gateway: &Solo, sink: &mut K, report: &mut V
 
 // Does the command `solo`.
 fn solo<S: Source, K: Sink>(alloc: Global, source: &mut S, sink: &mut K) -> Status
-    ensures runs { Runs result (S.left source.old) (K.written sink.old) (K.written sink.new) }
+    ensures runs { Runs result (S.left source.old) (S.left source.new) (K.written sink.old) (K.written sink.new) }
     ensures no_usage { result ≡ Status.Usage → ⊥ }
 
     ensures source_later { S.faults source.old ≤ S.faults source.new }
@@ -242,7 +247,7 @@ pub fn run_plain<S: Source, K: Sink>(
 
     // What is written is that of the status, where source and sink tell their octets.
     ensures report { (text : List ℕ) × Appends (K.written sink.old) (K.written sink.new) text
-        × IfSome (S.left source.old) (λ octets. Reports result octets text) }
+        × WhereTold (S.left source.old) (S.left source.new) (λ octets left. Reports result octets left text) }
 
     // Faults are those of the source and the sink.
     ensures source_later { S.faults source.old ≤ S.faults source.new }

@@ -9,7 +9,7 @@ pub enum Status {
     Ok,
     /// The words are no command of the program.
     Usage,
-    /// The source failed; the report of the lines before was written.
+    /// The source failed; the report of the lines that a newline had ended by then was written.
     ReadFault,
     /// The sink failed; a front of a report was written.
     WriteFault,

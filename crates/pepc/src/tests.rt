@@ -36,6 +36,11 @@ P 2 0 0 1 up 0 450000140000000040fd00000a2d0002cb007109
 O 0 0 5 9 0 20 0 1 0
 ";
 
+const ATTACHED: &str = "\
+C 1 0 0 ok -
+O 0 0 5 9 0 0 0 0 0
+";
+
 const EXTENSION_HEADER: &str = "\
 0 ATTACH 001010000000001 198.51.100.7 00000a01 1000 1000
 5 S1U 32ff001800000011ffff0000450000140000000040fd00000a2d0002cb007109
@@ -156,13 +161,38 @@ fn reports(rt: HostRuntime) -> Result<(), Fail> {
 }
 
 #[test]
-fn failing_ends(rt: HostRuntime) -> Result<(), Fail> {
+fn failing_reads(rt: HostRuntime) -> Result<(), Fail> {
+    let alloc = rt.alloc();
+    let open_line = ATTACH_AND_UPLINK.trim_end();
+    let rows = [
+        // Behind the last newline, and within each line.
+        (
+            ATTACH_AND_UPLINK,
+            1_000,
+            1,
+            ATTACHED_AND_UP,
+            Status::ReadFault,
+        ),
+        (ATTACH_AND_UPLINK, 60, 1, ATTACHED, Status::ReadFault),
+        (ATTACH_AND_UPLINK, 20, 1, "", Status::ReadFault),
+        // At a last line without newline: before the end is known, and behind it.
+        (open_line, 1_000, 1, ATTACHED, Status::ReadFault),
+        (open_line, 1_000, 2, ATTACHED_AND_UP, Status::Ok),
+        ("1 S1X 30", 1_000, 2, "N 1 line kind\n", Status::BadLine),
+    ];
+    for (trace, piece, failing, report, want) in rows {
+        let octets = Vec::from_slice(alloc, trace.as_bytes())?;
+        let (status, written) = run(alloc, octets, piece, &[failing], &[])?;
+        assert_eq!(rt; status, want, "{trace}");
+        assert_eq!(rt; written.as_slice(), report.as_bytes(), "{trace}");
+    }
+    Ok(())
+}
+
+#[test]
+fn failing_writes(rt: HostRuntime) -> Result<(), Fail> {
     let alloc = rt.alloc();
     let trace = || Vec::from_slice(alloc, ATTACH_AND_UPLINK.as_bytes());
-
-    let (status, written) = run(alloc, trace()?, 1_000, &[1], &[])?;
-    assert_eq!(rt; status, Status::ReadFault);
-    assert_eq!(rt; written.as_slice(), ATTACHED_AND_UP.as_bytes());
 
     let (status, written) = run(alloc, trace()?, 1_000, &[], &[0])?;
     assert_eq!(rt; status, Status::WriteFault);

@@ -1,21 +1,30 @@
-use Rattle.std.proofs.Common.{sym}
-use Rattle.pepc.proofs.NextLemmas.{tells_line, tells_refused, tells_end, tells_long, tells_big}
+use Rattle.std.proofs.Common.{sym, ◌∙◌}
+use Rattle.pepc.proofs.NextLemmas.{tells_line, tells_last, tells_refused, tells_end, tells_long, tells_big, tells_fault}
 use Rattle.pepc.proofs.reading.next_line.Goals as goal
 
 pub returns-in-End-clause-tells : goal.returns-in-End-clause-tells
-returns-in-End-clause-tells g c = tells_end c.args.number c.args.least _ _ _ _ _ c.in-End.ensures.octets
+returns-in-End-clause-tells g c = tells_end c.args.number c.args.least _ _ _ _ _ _ c.in-End.ensures.octets
 
 pub returns-in-LineLong-clause-tells : goal.returns-in-LineLong-clause-tells
-returns-in-LineLong-clause-tells g c = tells_long c.args.number c.args.least _ _ _ _ _ c.in-LineLong.ensures.octets
+returns-in-LineLong-clause-tells g c = tells_long c.args.number c.args.least _ _ _ _ _ _ c.in-LineLong.ensures.octets
 
 pub returns-in-TooLong-clause-tells : goal.returns-in-TooLong-clause-tells
-returns-in-TooLong-clause-tells g c = tells_big c.args.number c.args.least _ _ _ _ _ c.in-TooLong.ensures.octets
+returns-in-TooLong-clause-tells g c = tells_big c.args.number c.args.least _ _ _ _ _ _ c.in-TooLong.ensures.octets
+
+pub returns-in-ReadFault-clause-tells : goal.returns-in-ReadFault-clause-tells
+returns-in-ReadFault-clause-tells g c = tells_fault c.args.number c.args.least _ _ _ _ _ _ c.in-ReadFault.ensures.octets
 
 pub returns-in-Ok-clause-tells : goal.returns-in-Ok-clause-tells
 returns-in-Ok-clause-tells g c =
-    tells_line c.args.number c.args.least _ _ _ _ c.line.result.now c.in-Ok.line (rw (sym c.line.ensures) at c.in-Line.ensures.octets) c.in-Ok.ensures.line
+    tells_last c.args.number c.args.least _ _ _ _ c.line.result.now _ c.in-Ok.line (rw (sym c.line.ensures) at c.in-Line.ensures.octets)
+    (sym c.is_last.ensures ∙ c.if-is_last.true) c.in-Ok.ensures.line
+
+pub returns-in-Ok-2-clause-tells : goal.returns-in-Ok-2-clause-tells
+returns-in-Ok-2-clause-tells g c =
+    tells_line c.args.number c.args.least _ _ _ _ c.line.result.now _ c.in-Ok.line (rw (sym c.line.ensures) at c.in-Line.ensures.octets)
+    (sym c.is_last.ensures ∙ c.if-is_last.false) c.in-Ok.ensures.line
 
 pub returns-in-Err-clause-tells : goal.returns-in-Err-clause-tells
 returns-in-Err-clause-tells g c =
     rw c.refused.ensures
-    (tells_refused c.args.number c.args.least _ _ _ _ c.line.result.now c.in-Err.why (rw (sym c.line.ensures) at c.in-Line.ensures.octets) c.in-Err.ensures.refusal)
+    (tells_refused c.args.number c.args.least _ _ _ _ c.line.result.now _ c.in-Err.why (rw (sym c.line.ensures) at c.in-Line.ensures.octets) c.in-Err.ensures.refusal)

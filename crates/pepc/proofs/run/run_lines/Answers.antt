@@ -1,9 +1,10 @@
-use Rattle.std.proofs.Common.{[], ◌∷◌, ◌++◌, ap, ◌∙◌, arith}
+use Rattle.std.proofs.Common.{[], ◌∷◌, ◌++◌, refl, ap, ◌∙◌, arith}
 use Rattle.std.specs.Io.KnownBytes.{prepend_known}
 use Rattle.std.proofs.KnownBytes.{prepend_known-nil}
 use Rattle.pc_outside.specs.Held.{Held}
 use Rattle.trace_lines.specs.Line.{Line}
-use Rattle.pepc.proofs.RunLemmas.{begins, goes_on, cut_by, on_err}
+use Rattle.pepc.specs.declared.reading.Next.TheVariants as next
+use Rattle.pepc.proofs.RunLemmas.{begins, goes_on, ends_last, ends_fault, cut_by, gives_line, gives_last, on_err}
 use Rattle.pepc.proofs.run.run_lines.Goals as goal
 
 pub loop-line-init : goal.loop-line-init
@@ -22,9 +23,10 @@ loop-line-init g c = record {
 pub returns-in_err-take_line-in-Line-clause-cut : goal.returns-in_err-take_line-in-Line-clause-cut
 returns-in_err-take_line-in-Line-clause-cut g c =
     on_err c.from_residual.result
-    (cut_by (g.S.Source.left c.args.source.now) _ _ (g.K.Sink.written c.args.sink.now) (g.K.Sink.written c.loop-line.sink) (g.K.Sink.written c.take_line.new.sink)
-    c.loop-line.gateway c.loop-line.number c.loop-line.least c.loop-line.buf.room c.next_line.new.buf.room c.loop-line.report.items
-    c.loop-line.invariant.progress.0 c.in-Line.line _ c.take_line.result c.in_err-take_line-in-Line.was
+    (cut_by (g.S.Source.left c.args.source.now) _ (g.S.Source.left c.next_line.new.source) (g.K.Sink.written c.args.sink.now) (g.K.Sink.written c.loop-line.sink) (g.K.Sink.written c.take_line.new.sink)
+    c.loop-line.gateway c.loop-line.number c.loop-line.least c.loop-line.buf.room c.next_line.new.buf.room c.next_line.new.buf.front c.loop-line.report.items
+    c.loop-line.invariant.progress.0 (next.Line c.in-Line.line) c.in-Line.line _ c.take_line.result c.in_err-take_line-in-Line.was
+    (gives_line c.in-Line.line c.loop-line.number c.loop-line.least c.loop-line.buf.room c.next_line.new.buf.room)
     c.loop-line.invariant.progress.1 c.in-Line.ensures.tells
     (c.take_line.ensures.cut c.loop-line.invariant.progress.0 c.loop-line.invariant.progress.1.stands)
     (λ is. ap g.K.Sink.written (c.take_line.ensures.kept is)))
@@ -58,3 +60,29 @@ loop-line-preserved g c = record {
   source_later = omega (arith, c.loop-line.invariant.source_later, c.next_line.ensures.later);
   sink_later = omega (arith, c.loop-line.invariant.sink_later, c.take_line.ensures.later);
 }
+
+pub returns-in_err-take_line-in-Last-clause-cut : goal.returns-in_err-take_line-in-Last-clause-cut
+returns-in_err-take_line-in-Last-clause-cut g c =
+    on_err c.from_residual-in_err-take_line-in-Last.result
+    (cut_by (g.S.Source.left c.args.source.now) _ (g.S.Source.left c.next_line.new.source) (g.K.Sink.written c.args.sink.now) (g.K.Sink.written c.loop-line.sink) (g.K.Sink.written c.take_line-in-Last.new.sink)
+    c.loop-line.gateway c.loop-line.number c.loop-line.least c.loop-line.buf.room c.next_line.new.buf.room c.next_line.new.buf.front c.loop-line.report.items
+    c.loop-line.invariant.progress.0 (next.Last c.in-Last.line) c.in-Last.line _ c.take_line-in-Last.result c.in_err-take_line-in-Last.was
+    (gives_last c.in-Last.line c.loop-line.number c.loop-line.least c.loop-line.buf.room c.next_line.new.buf.room)
+    c.loop-line.invariant.progress.1 c.in-Last.ensures.tells
+    (c.take_line-in-Last.ensures.cut c.loop-line.invariant.progress.0 c.loop-line.invariant.progress.1.stands)
+    (λ is. ap g.K.Sink.written (c.take_line-in-Last.ensures.kept is)))
+
+pub returns-in-Last-clause-ended : goal.returns-in-Last-clause-ended
+returns-in-Last-clause-ended g c =
+    ends_last (g.S.Source.left c.args.source.now) _ (g.S.Source.left c.next_line.new.source) (g.K.Sink.written c.args.sink.now) (g.K.Sink.written c.loop-line.sink) (g.K.Sink.written c.take_line-in-Last.new.sink)
+    c.loop-line.gateway c.take_line-in-Last.new.gateway c.loop-line.number c.loop-line.least c.loop-line.buf.room c.next_line.new.buf.room c.next_line.new.buf.front
+    c.loop-line.report.items c.take_line-in-Last.new.report.items c.loop-line.invariant.progress.0 c.in-Last.line
+    c.loop-line.invariant.progress.1 c.in-Last.ensures.tells
+    (c.in_ok-take_line-in-Last.ensures.stands c.loop-line.invariant.progress.0 c.loop-line.invariant.progress.1.stands)
+    (c.in_ok-take_line-in-Last.ensures.moved c.loop-line.invariant.progress.0 c.loop-line.invariant.progress.1.stands)
+
+pub returns-in-ReadFault-clause-ended : goal.returns-in-ReadFault-clause-ended
+returns-in-ReadFault-clause-ended g c =
+    ends_fault (g.S.Source.left c.args.source.now) _ (g.S.Source.left c.next_line.new.source) (g.K.Sink.written c.args.sink.now) (g.K.Sink.written c.loop-line.sink)
+    c.loop-line.gateway c.loop-line.number c.loop-line.least c.loop-line.buf.room c.next_line.new.buf c.loop-line.report.items
+    c.loop-line.invariant.progress.0 c.loop-line.invariant.progress.1 c.in-ReadFault.ensures.tells (c.in-ReadFault.ensures.unfinished refl)

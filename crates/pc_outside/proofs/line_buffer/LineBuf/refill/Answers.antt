@@ -17,4 +17,5 @@ returns-clause-gains g c =
       counted = length-between now at (at + count) (omega (arith, c.in_ok-count.ensures.count, c.in_ok-count.ensures.len)) ∙ omega arith;
       room = rw (← c.self.view_is) (omega arith);
       line = sym c.requires.no_line;
+      last = ap (λ held. held.last) c.self.view_is;
     }

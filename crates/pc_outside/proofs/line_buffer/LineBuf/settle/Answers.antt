@@ -6,7 +6,7 @@ use Rattle.pc_outside.proofs.line_buffer.LineBuf.settle.Goals as goal
 pub returns-in-Some-clause-settled : goal.returns-in-Some-clause-settled
 returns-in-Some-clause-settled c =
     rw (← c.self.view_is)
-    (found_whole c.self.inside.octets.items _ c.self.inside.from c.self.inside.to c.in-Some.len c.self.inside.taken
+    (found_whole c.self.inside.octets.items _ c.self.inside.from c.self.inside.to c.in-Some.len c.self.inside.taken _
     (omega arith) (omega arith) (omega arith)
     (omega (arith, c.in-Some.ensures.within, length-take {A = ℕ})) c.in-Some.ensures.short
     (rw c.deref.ensures.value at c.in-Some.ensures.line) (rw c.deref.ensures.value at c.in-Some.ensures.newline))
