@@ -7,6 +7,7 @@ pub mod StandingLemmas
 pub mod AdmissionLemmas
 pub mod LineLemmas
 pub mod NextLemmas
+pub mod ReadLemmas
 pub mod RunLemmas
 pub mod ReportLemmas
 pub mod ChargeTexts

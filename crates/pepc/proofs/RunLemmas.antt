@@ -1,14 +1,13 @@
 -- How a run goes on, ends and is cut.
-use Rattle.std.proofs.Common.{◌≡◌, ℕ, ◌+◌, ◌<◌, ◌^◌, List, [], ◌∷◌, ◌++◌, Option, None, Some, Result, Ok, Err, OnErr, inl, inr, refl, sym, ap, subst, ◌∙◌, arith, append_assoc, append-nil, length-append}
+use Rattle.std.proofs.Common.{◌≡◌, ℕ, ◌+◌, ◌<◌, ◌^◌, List, [], ◌∷◌, ◌++◌, Option, None, Some, Result, Ok, Err, OnErr, inl, refl, sym, ap, subst, ◌∙◌, arith, append_assoc, append-nil, length-append}
 use Rattle.std.specs.Io.KnownBytes.{prepend_known}
 use Rattle.std.proofs.KnownBytes.{Appends-trans, Appends-nil}
 use Rattle.std.proofs.lemmas.Grind.{flat_map-append}
 use Rattle.pc_outside.specs.Fronts.{AppendsFront}
 use Rattle.pc_outside.specs.Held.{Held, IsUnfinished}
-use Rattle.trace_lines.specs.Input.{Input, Stop, bad, long, big, ended, newline, stopped, after_lines, input_within, input_of}
+use Rattle.trace_lines.specs.Input.{bad, long, big, ended, stopped, input_within}
 use Rattle.trace_lines.specs.Line.{Line}
 use Rattle.trace_lines.specs.declared.bad.LineBad.{LineBad}
-use Rattle.trace_lines.proofs.InputLemmas.{at_end}
 use Rattle.gate_model.specs.Decision.{decisions}
 use Rattle.gate_model.specs.Entry.{Entry, text_of, texts}
 use Rattle.gate_model.specs.Entered.{entries_after}
@@ -20,12 +19,12 @@ use Rattle.pepc.specs.declared.run.Ending.TheVariants.{Ended, ReadFault, BadLine
 use Rattle.pepc.specs.declared.run.Unwritten.{Unwritten}
 use Rattle.pepc.specs.declared.run.Unwritten.TheVariants as unwritten
 use Rattle.pepc.specs.declared.solo.Solo.{Solo}
-use Rattle.pepc.specs.Next.{SaysLine, Says, Tells}
+use Rattle.pepc.specs.Next.{Tells}
 use Rattle.pepc.specs.Progress.{Moves, HasRead, Progress, Begins, Stops, Fails, Reached, Ends, Cuts}
 use Rattle.pepc.specs.Report.{stop_entry}
 use Rattle.pepc.specs.Standing.{StandsFor, entry_at}
 use Rattle.pepc.specs.Told.{WhereTold}
-use Rattle.pepc.proofs.ToldLemmas.{told_then}
+use Rattle.pepc.proofs.ReadLemmas.{told_more, begins_so, stops_so, begins_more, none_left, told_next, fails_so, GivesLine}
 
 pub texts-push : (entries : List Entry) (entry : Entry) → texts (entries ++ entry ∷ []) ≡ texts entries ++ text_of entry
 texts-push entries entry = flat_map-append text_of entries (entry ∷ []) ∙ ap (λ t. texts entries ++ t) (append-nil (text_of entry))
@@ -34,35 +33,6 @@ texts-push entries entry = flat_map-append text_of entries (entry ∷ []) ∙ ap
 pub entries-push : (done : List Line) (line : Line)
     → entries_after [] (decisions (done ++ line ∷ [])) ≡ entries_after [] (decisions done) ++ entry_at done line ∷ []
 entries-push done line = ap (entries_after []) (decisions_from-push [] done line) ∙ entries_after-push [] (decisions done) _
-
-after_lines-push : (done : List Line) (line : Line) (input : Input) → after_lines done (after_lines (line ∷ []) input) ≡ after_lines (done ++ line ∷ []) input
-after_lines-push done line input = ap (λ lines. record { lines = lines; stop = input.stop }) (sym (append_assoc done (line ∷ []) input.lines))
-
--- a text behind others, and what stands behind it
-regrouped : (gone text behind : List ℕ) → gone ++ text ++ newline ∷ [] ++ behind ≡ gone ++ (text ++ newline ∷ behind)
-regrouped gone text behind = append_assoc (gone ++ text) (newline ∷ []) behind ∙ append_assoc gone text (newline ∷ behind)
-
--- a line and its newline are gone through too
-read_more : (number least room after : ℕ) (done : List Line) (line : Line) (octets ahead rest : List ℕ)
-    → HasRead octets ahead number least room done → SaysLine line number least room after ahead rest
-    → HasRead octets rest (number + 1) line.moment after (done ++ line ∷ [])
-read_more number least room after done line octets ahead rest read line_said = record {
-  gone = read.gone ++ line_said.text ++ newline ∷ [];
-  parts = read.parts ∙ ap (λ t. read.gone ++ t) line_said.parts ∙ sym (regrouped read.gone line_said.text rest);
-  lines = inr (read.gone ++ line_said.text, refl);
-  says = λ behind. ap input_of (regrouped read.gone line_said.text behind)
-      ∙ read.says (line_said.text ++ newline ∷ behind)
-      ∙ ap (after_lines done) (line_said.says behind)
-      ∙ after_lines-push done line (input_within after (number + 1) line.moment behind);
-}
-
-told_more : (start a b : Option (List ℕ)) (number least room after : ℕ) (done : List Line) (line : Line)
-    → WhereTold start a (λ octets rest. HasRead octets rest number least room done) → Tells (next.Line line) number least room after a b
-    → WhereTold start b (λ octets rest. HasRead octets rest (number + 1) line.moment after (done ++ line ∷ []))
-told_more start a b number least room after done line read tells =
-    told_then start a b (λ octets rest. HasRead octets rest number least room done) (λ octets rest. Says (next.Line line) number least room after octets rest)
-    (λ octets rest. HasRead octets rest (number + 1) line.moment after (done ++ line ∷ []))
-    (read_more number least room after done line) read tells
 
 -- what was written and what waits, with the text of one line more
 said_more : (sent waiting front rest : List ℕ) (done : List Line) (line : Line) → sent ++ waiting ≡ texts (entries_after [] (decisions done))
@@ -91,38 +61,6 @@ goes_on start a b old mid new gateway after_it number least room after at waitin
   written = Appends-trans old mid new so_far.sent moves.sent so_far.written moves.written;
   said = said_more so_far.sent waiting moves.sent left done line so_far.said moves.parts;
 }
-
--- the octets say the lines that were read, and then what those ahead say
-begins_so : (number least room : ℕ) (done : List Line) (octets ahead : List ℕ) → HasRead octets ahead number least room done
-    → input_of octets ≡ after_lines done (input_within room number least ahead)
-begins_so number least room done octets ahead read = ap input_of read.parts ∙ read.says ahead
-
-stops_so : (number least room : ℕ) (done : List Line) (stop : Stop) (octets ahead : List ℕ) → HasRead octets ahead number least room done
-    → input_within room number least ahead ≡ stopped stop → Stops octets done stop
-stops_so number least room done stop octets ahead read says =
-    begins_so number least room done octets ahead read ∙ ap (after_lines done) says
-    ∙ ap (λ lines. record { lines = lines; stop = stop }) (append-nil done)
-
--- one line more, and what comes behind it
-begins_more : (number least room : ℕ) (done : List Line) (line : Line) (behind : Input) (octets ahead : List ℕ) → HasRead octets ahead number least room done
-    → input_within room number least ahead ≡ after_lines (line ∷ []) behind → input_of octets ≡ after_lines (done ++ line ∷ []) behind
-begins_more number least room done line behind octets ahead read says =
-    begins_so number least room done octets ahead read ∙ ap (after_lines done) says ∙ after_lines-push done line behind
-
--- nothing is left of octets of which none are
-none_left : (held left : List ℕ) → held ++ left ≡ [] → left ≡ []
-none_left [] left none = none
-none_left (octet ∷ held) left none = cc
-
--- what is told of what is next, behind what was read
-told_next : (start a left : Option (List ℕ)) (held : List ℕ) (number least room after : ℕ) (done : List Line) (one : Next) (R : List ℕ → List ℕ → Type 0)
-    → ((octets ahead rest : List ℕ) → HasRead octets ahead number least room done → Says one number least room after ahead (held ++ rest) → R octets rest)
-    → WhereTold start a (λ octets rest. HasRead octets rest number least room done) → Tells one number least room after a (prepend_known held left)
-    → WhereTold start left R
-told_next None a left held number least room after done one R follows read tells = tt
-told_next (Some octets) None left held number least room after done one R follows read tells = absurd read
-told_next (Some octets) (Some ahead) None held number least room after done one R follows read tells = absurd tells
-told_next (Some octets) (Some ahead) (Some rest) held number least room after done one R follows read tells = follows octets ahead rest read tells
 
 -- what waits has no entry of the stop
 unsaid : (told : List ℕ) (entries : List Entry) → told ≡ texts entries → told ≡ texts (entries ++ [])
@@ -188,21 +126,6 @@ ends_big start a left old new gateway number least room after held waiting done 
   said = unsaid (so_far.sent ++ waiting) (entries_after [] (decisions done)) so_far.said;
 }
 
--- the octets held are an unfinished line
-fails_so : (number least room : ℕ) (done : List Line) (now : Held) (octets ahead rest : List ℕ) → IsUnfinished now
-    → HasRead octets ahead number least room done → now.front ++ rest ≡ ahead → now.room ≡ room → Fails octets rest done
-fails_so number least room done now octets ahead rest unfinished read stays same = record {
-  whole = read.gone;
-  unfinished = now.front;
-  parts = read.parts ∙ ap (λ t. read.gone ++ t) (sym stays) ∙ sym (append_assoc read.gone now.front rest);
-  lines = read.lines;
-  no_newline = unfinished.no_newline;
-  stops = ap input_of (sym (append-nil read.gone)) ∙ read.says []
-      ∙ ap (after_lines done) (at_end room number least (omega (arith, unfinished.more, same)))
-      ∙ ap (λ lines. record { lines = lines; stop = ended }) (append-nil done);
-  begins = (input_within room number least ahead, begins_so number least room done octets ahead read);
-}
-
 pub ends_fault : (start a left old new : Option (List ℕ)) (gateway : Solo) (number least room : ℕ) (now : Held) (waiting : List ℕ) (done : List Line)
     → Progress start a old new gateway number least room waiting done → Tells next.ReadFault number least room now.room a (prepend_known now.front left)
     → IsUnfinished now → Ends ReadFault start left old new waiting gateway
@@ -249,18 +172,6 @@ cut_here start a left old new gateway number least room after held waiting done 
   written = so_far.written;
   said = so_far.said;
 }
-
--- what is next begins with this line
-abbrev pub GivesLine : Next → Line → ℕ → ℕ → ℕ → ℕ → Type 0
-GivesLine one line number least room after =
-    (ahead rest : List ℕ) → Says one number least room after ahead rest → (behind : Input) × (input_within room number least ahead ≡ after_lines (line ∷ []) behind)
-
-pub gives_line : (line : Line) (number least room after : ℕ) → GivesLine (next.Line line) line number least room after
-gives_line line number least room after = λ ahead rest says.
-    (input_within after (number + 1) line.moment rest, ap (input_within room number least) says.parts ∙ says.says rest)
-
-pub gives_last : (line : Line) (number least room after : ℕ) → GivesLine (next.Last line) line number least room after
-gives_last line number least room after = λ ahead rest says. (stopped ended, says.0)
 
 -- the sink failed within the block behind a line
 cut_behind : (start a left old mid new : Option (List ℕ)) (gateway : Solo) (number least room after : ℕ) (held waiting : List ℕ) (done : List Line) (one : Next) (line : Line)

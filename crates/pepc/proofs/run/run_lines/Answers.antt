@@ -4,7 +4,8 @@ use Rattle.std.proofs.KnownBytes.{prepend_known-nil}
 use Rattle.pc_outside.specs.Held.{Held}
 use Rattle.trace_lines.specs.Line.{Line}
 use Rattle.pepc.specs.declared.reading.Next.TheVariants as next
-use Rattle.pepc.proofs.RunLemmas.{begins, goes_on, ends_last, ends_fault, cut_by, gives_line, gives_last, on_err}
+use Rattle.pepc.proofs.ReadLemmas.{gives_line, gives_last}
+use Rattle.pepc.proofs.RunLemmas.{begins, goes_on, ends_last, ends_fault, cut_by, on_err}
 use Rattle.pepc.proofs.run.run_lines.Goals as goal
 
 pub loop-line-init : goal.loop-line-init

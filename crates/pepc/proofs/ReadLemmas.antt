@@ -1,0 +1,101 @@
+-- What octets say, behind those of the lines that were read.
+use Rattle.std.proofs.Common.{◌≡◌, ℕ, ◌+◌, List, [], ◌∷◌, ◌++◌, Option, None, Some, inr, refl, sym, ap, ◌∙◌, arith, append_assoc, append-nil}
+use Rattle.std.specs.Io.KnownBytes.{prepend_known}
+use Rattle.pc_outside.specs.Held.{Held, IsUnfinished}
+use Rattle.trace_lines.specs.Input.{Input, Stop, ended, newline, stopped, after_lines, input_within, input_of}
+use Rattle.trace_lines.specs.Line.{Line}
+use Rattle.trace_lines.proofs.InputLemmas.{at_end}
+use Rattle.pepc.specs.declared.reading.Next.{Next}
+use Rattle.pepc.specs.declared.reading.Next.TheVariants as next
+use Rattle.pepc.specs.Next.{SaysLine, Says, Tells}
+use Rattle.pepc.specs.Progress.{HasRead, Stops, Fails}
+use Rattle.pepc.specs.Told.{WhereTold}
+use Rattle.pepc.proofs.ToldLemmas.{told_then}
+
+after_lines-push : (done : List Line) (line : Line) (input : Input) → after_lines done (after_lines (line ∷ []) input) ≡ after_lines (done ++ line ∷ []) input
+after_lines-push done line input = ap (λ lines. record { lines = lines; stop = input.stop }) (sym (append_assoc done (line ∷ []) input.lines))
+
+-- a text behind others, and what stands behind it
+regrouped : (gone text behind : List ℕ) → gone ++ text ++ newline ∷ [] ++ behind ≡ gone ++ (text ++ newline ∷ behind)
+regrouped gone text behind = append_assoc (gone ++ text) (newline ∷ []) behind ∙ append_assoc gone text (newline ∷ behind)
+
+-- a line and its newline are gone through too
+read_more : (number least room after : ℕ) (done : List Line) (line : Line) (octets ahead rest : List ℕ)
+    → HasRead octets ahead number least room done → SaysLine line number least room after ahead rest
+    → HasRead octets rest (number + 1) line.moment after (done ++ line ∷ [])
+read_more number least room after done line octets ahead rest read line_said = record {
+  gone = read.gone ++ line_said.text ++ newline ∷ [];
+  parts = read.parts ∙ ap (λ t. read.gone ++ t) line_said.parts ∙ sym (regrouped read.gone line_said.text rest);
+  lines = inr (read.gone ++ line_said.text, refl);
+  says = λ behind. ap input_of (regrouped read.gone line_said.text behind)
+      ∙ read.says (line_said.text ++ newline ∷ behind)
+      ∙ ap (after_lines done) (line_said.says behind)
+      ∙ after_lines-push done line (input_within after (number + 1) line.moment behind);
+}
+
+pub told_more : (start a b : Option (List ℕ)) (number least room after : ℕ) (done : List Line) (line : Line)
+    → WhereTold start a (λ octets rest. HasRead octets rest number least room done) → Tells (next.Line line) number least room after a b
+    → WhereTold start b (λ octets rest. HasRead octets rest (number + 1) line.moment after (done ++ line ∷ []))
+told_more start a b number least room after done line read tells =
+    told_then start a b (λ octets rest. HasRead octets rest number least room done) (λ octets rest. Says (next.Line line) number least room after octets rest)
+    (λ octets rest. HasRead octets rest (number + 1) line.moment after (done ++ line ∷ []))
+    (read_more number least room after done line) read tells
+
+-- the octets say the lines that were read, and then what those ahead say
+pub begins_so : (number least room : ℕ) (done : List Line) (octets ahead : List ℕ) → HasRead octets ahead number least room done
+    → input_of octets ≡ after_lines done (input_within room number least ahead)
+begins_so number least room done octets ahead read = ap input_of read.parts ∙ read.says ahead
+
+pub stops_so : (number least room : ℕ) (done : List Line) (stop : Stop) (octets ahead : List ℕ) → HasRead octets ahead number least room done
+    → input_within room number least ahead ≡ stopped stop → Stops octets done stop
+stops_so number least room done stop octets ahead read says =
+    begins_so number least room done octets ahead read ∙ ap (after_lines done) says
+    ∙ ap (λ lines. record { lines = lines; stop = stop }) (append-nil done)
+
+-- one line more, and what comes behind it
+pub begins_more : (number least room : ℕ) (done : List Line) (line : Line) (behind : Input) (octets ahead : List ℕ) → HasRead octets ahead number least room done
+    → input_within room number least ahead ≡ after_lines (line ∷ []) behind → input_of octets ≡ after_lines (done ++ line ∷ []) behind
+begins_more number least room done line behind octets ahead read says =
+    begins_so number least room done octets ahead read ∙ ap (after_lines done) says ∙ after_lines-push done line behind
+
+-- nothing is left of octets of which none are
+pub none_left : (held left : List ℕ) → held ++ left ≡ [] → left ≡ []
+none_left [] left none = none
+none_left (octet ∷ held) left none = cc
+
+-- what is told of what is next, behind what was read
+pub told_next : (start a left : Option (List ℕ)) (held : List ℕ) (number least room after : ℕ) (done : List Line) (one : Next) (R : List ℕ → List ℕ → Type 0)
+    → ((octets ahead rest : List ℕ) → HasRead octets ahead number least room done → Says one number least room after ahead (held ++ rest) → R octets rest)
+    → WhereTold start a (λ octets rest. HasRead octets rest number least room done) → Tells one number least room after a (prepend_known held left)
+    → WhereTold start left R
+told_next None a left held number least room after done one R follows read tells = tt
+told_next (Some octets) None left held number least room after done one R follows read tells = absurd read
+told_next (Some octets) (Some ahead) None held number least room after done one R follows read tells = absurd tells
+told_next (Some octets) (Some ahead) (Some rest) held number least room after done one R follows read tells = follows octets ahead rest read tells
+
+-- the octets held are an unfinished line
+pub fails_so : (number least room : ℕ) (done : List Line) (now : Held) (octets ahead rest : List ℕ) → IsUnfinished now
+    → HasRead octets ahead number least room done → now.front ++ rest ≡ ahead → now.room ≡ room → Fails octets rest done
+fails_so number least room done now octets ahead rest unfinished read stays same = record {
+  whole = read.gone;
+  unfinished = now.front;
+  parts = read.parts ∙ ap (λ t. read.gone ++ t) (sym stays) ∙ sym (append_assoc read.gone now.front rest);
+  lines = read.lines;
+  no_newline = unfinished.no_newline;
+  stops = ap input_of (sym (append-nil read.gone)) ∙ read.says []
+      ∙ ap (after_lines done) (at_end room number least (omega (arith, unfinished.more, same)))
+      ∙ ap (λ lines. record { lines = lines; stop = ended }) (append-nil done);
+  begins = (input_within room number least ahead, begins_so number least room done octets ahead read);
+}
+
+-- what is next begins with this line
+abbrev pub GivesLine : Next → Line → ℕ → ℕ → ℕ → ℕ → Type 0
+GivesLine one line number least room after =
+    (ahead rest : List ℕ) → Says one number least room after ahead rest → (behind : Input) × (input_within room number least ahead ≡ after_lines (line ∷ []) behind)
+
+pub gives_line : (line : Line) (number least room after : ℕ) → GivesLine (next.Line line) line number least room after
+gives_line line number least room after = λ ahead rest says.
+    (input_within after (number + 1) line.moment rest, ap (input_within room number least) says.parts ∙ says.says rest)
+
+pub gives_last : (line : Line) (number least room after : ℕ) → GivesLine (next.Last line) line number least room after
+gives_last line number least room after = λ ahead rest says. (stopped ended, says.0)
