@@ -8,6 +8,12 @@ const DATAGRAM: [u8; 28] = [
     0x0a, 0x2d, 0x00, 0x02, 0x13, 0xc4, 0x27, 0x10, 0x00, 0x08, 0x00, 0x00,
 ];
 
+// A header alone, of protocol 253, from 10.45.0.2 to 203.0.113.9.
+const HEADER: [u8; 20] = [
+    0x45, 0x00, 0x00, 0x14, 0x00, 0x00, 0x00, 0x00, 0x40, 0xfd, 0x00, 0x00, 0x0a, 0x2d, 0x00, 0x02,
+    0xcb, 0x00, 0x71, 0x09,
+];
+
 // The second fragment of the example in RFC 791, appendix A, with its 216 octets cut to 24.
 const FRAGMENT: [u8; 24] = [
     0x45, 0x00, 0x00, 0x18, 0x00, 0x6f, 0x00, 0x20, 0x7b, 0x06, 0x00, 0x00, 0xc0, 0x00, 0x02, 0x01,
@@ -64,22 +70,33 @@ fn ports_and_index_by_protocol(rt: HostRuntime) -> Result<(), Fail> {
 #[test]
 fn refused_in_order(rt: HostRuntime) {
     for len in 0..20 {
-        assert!(rt; refusal(&DATAGRAM[..len]) == Some(IpBad::Short));
+        assert!(rt; refusal(&HEADER[..len]) == Some(IpBad::Short));
     }
     let changes = [
         (0, 0x65, Some(IpBad::Version)),
         (0, 0x44, Some(IpBad::Header)),
+        (0, 0x46, Some(IpBad::Header)),
         (0, 0x4f, Some(IpBad::Header)),
-        (0, 0x47, None),
         (3, 19, Some(IpBad::Total)),
         (3, 20, None),
-        (3, 29, Some(IpBad::Total)),
+        (3, 21, Some(IpBad::Total)),
     ];
     for (place, octet, expected) in changes {
-        let mut octets = DATAGRAM;
+        let mut octets = HEADER;
         octets[place] = octet;
         assert!(rt; refusal(&octets) == expected);
     }
+}
+
+#[test]
+fn octets_behind_the_packet_are_left(rt: HostRuntime) -> Result<(), Fail> {
+    // A header of seven words, and a total length that ends within the octets.
+    for (place, octet, len) in [(0, 0x47, 28), (3, 20, 20), (3, 27, 27)] {
+        let mut octets = DATAGRAM;
+        octets[place] = octet;
+        assert_eq!(rt; Ip4::read(&octets)?.octets().len(), len);
+    }
+    Ok(())
 }
 
 fn refusal(octets: &[u8]) -> Option<IpBad> {
