@@ -1,3 +1,4 @@
 pub mod Fit
+pub mod Ends
 pub mod Choice
 pub mod Walk

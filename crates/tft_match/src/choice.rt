@@ -2,10 +2,12 @@
 ghost use Rattle.std.specs.Prelude.{◌≡◌, ◌↔◌, IsTrue, ℕ, List, [], ◌∷◌, ◌++◌, Option};
 ghost use Rattle.tft_codec.specs.declared.tft.BearerFilters.{BearerFilters};
 ghost use Rattle.tft_match.specs.Choice.{IsBefore, HasDefault, Takes};
+ghost use Rattle.tft_match.specs.Ends.{AreEnds};
 ghost use Rattle.tft_match.specs.Walk.{IsFirstRank, Leads};
 
 use crate::direction::Direction;
-use crate::fitting::matches;
+use crate::ends::{Ends, ends_of};
+use crate::fitting::fits;
 use ipv4_packet::Ip4;
 use tft_codec::BearerFilters;
 
@@ -31,15 +33,23 @@ pub fn choose(rows: &[BearerFilters], packet: &Ip4<'_>) -> Option<u8>
 fn first_rank(rows: &[BearerFilters], packet: &Ip4<'_>) -> Option<Rank>
     ensures { IsFirstRank rows.now packet.now result }
 {
+    let ends = ends_of(packet, Direction::Down);
     let mut first = None;
     for row in rows {
-        first = first_with(first, row, packet);
+        first = first_with(first, row, packet, &ends);
     }
     first
 }
 
 /// The first rank of the rows so far, with one row more.
-fn first_with(before: Option<Rank>, row: &BearerFilters, packet: &Ip4<'_>) -> Option<Rank>
+fn first_with(
+    before: Option<Rank>,
+    row: &BearerFilters,
+    packet: &Ip4<'_>,
+    ends: &Ends,
+) -> Option<Rank>
+    requires ends { AreEnds packet.now ends.now }
+    requires down { ends.now.direction ≡ Direction.Down }
     ensures { (rows : List BearerFilters) → IsFirstRank rows packet.now before
         → IsFirstRank (rows ++ row.now ∷ []) packet.now result }
 {
@@ -47,7 +57,7 @@ fn first_with(before: Option<Rank>, row: &BearerFilters, packet: &Ip4<'_>) -> Op
     for filter in row.filters.as_slice() {
         let rank = (filter.precedence, row.index, filter.id);
         // The order costs less than the components, so it is asked first.
-        if leads(rank, first) && matches(filter, packet, Direction::Down) {
+        if leads(rank, first) && fits(filter, packet, ends) {
             first = Some(rank);
         }
     }

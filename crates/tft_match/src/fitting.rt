@@ -1,9 +1,10 @@
 //! Whether a packet fits a filter.
 ghost use Rattle.std.specs.Prelude.{◌↔◌, IsTrue, All};
+ghost use Rattle.tft_match.specs.Ends.{AreEnds};
 ghost use Rattle.tft_match.specs.Fit.{AgreeUnder, IsWithin, Holds, Fits};
 
 use crate::direction::{Direction, counts_in};
-use crate::fields::{local_address, local_port, remote_address, remote_port};
+use crate::ends::{Ends, ends_of};
 use ipv4_packet::Ip4;
 use tft_codec::{Component, Filter};
 
@@ -12,34 +13,40 @@ use tft_codec::{Component, Filter};
 pub fn matches(filter: &Filter, packet: &Ip4<'_>, direction: Direction) -> bool
     ensures { IsTrue result ↔ Fits direction packet.now filter.now }
 {
-    counts_in(direction, filter.direction)
-        && all_hold(filter.components.as_slice(), packet, direction)
+    fits(filter, packet, &ends_of(packet, direction))
 }
 
-fn all_hold(components: &[Component], packet: &Ip4<'_>, direction: Direction) -> bool
-    ensures { IsTrue result ↔ All (Holds direction packet.now) components.now }
+/// The same, where the ends of the packet are found.
+pub(crate) fn fits(filter: &Filter, packet: &Ip4<'_>, ends: &Ends) -> bool
+    requires { AreEnds packet.now ends.now }
+    ensures { IsTrue result ↔ Fits ends.now.direction packet.now filter.now }
+{
+    counts_in(ends.direction, filter.direction)
+        && all_hold(filter.components.as_slice(), packet, ends)
+}
+
+fn all_hold(components: &[Component], packet: &Ip4<'_>, ends: &Ends) -> bool
+    requires { AreEnds packet.now ends.now }
+    ensures { IsTrue result ↔ All (Holds ends.now.direction packet.now) components.now }
 {
     components
         .iter()
-        .all(|component| holds(component, packet, direction))
+        .all(|component| holds(component, packet, ends))
 }
 
 /// Whether a packet meets a component.
-fn holds(component: &Component, packet: &Ip4<'_>, direction: Direction) -> bool
-    ensures { IsTrue result ↔ Holds direction packet.now component.now }
+fn holds(component: &Component, packet: &Ip4<'_>, ends: &Ends) -> bool
+    requires { AreEnds packet.now ends.now }
+    ensures { IsTrue result ↔ Holds ends.now.direction packet.now component.now }
 {
     match component {
-        Component::RemoteAddr(address, mask) => {
-            agree_under(*mask, *address, remote_address(packet, direction))
-        }
-        Component::LocalAddr(address, mask) => {
-            agree_under(*mask, *address, local_address(packet, direction))
-        }
+        Component::RemoteAddr(address, mask) => agree_under(*mask, *address, ends.remote_address),
+        Component::LocalAddr(address, mask) => agree_under(*mask, *address, ends.local_address),
         Component::Protocol(number) => packet.protocol() == *number,
-        Component::LocalPort(port) => local_port(packet, direction) == Some(*port),
-        Component::LocalRange(low, high) => is_within(*low, *high, local_port(packet, direction)),
-        Component::RemotePort(port) => remote_port(packet, direction) == Some(*port),
-        Component::RemoteRange(low, high) => is_within(*low, *high, remote_port(packet, direction)),
+        Component::LocalPort(port) => ends.local_port == Some(*port),
+        Component::LocalRange(low, high) => is_within(*low, *high, ends.local_port),
+        Component::RemotePort(port) => ends.remote_port == Some(*port),
+        Component::RemoteRange(low, high) => is_within(*low, *high, ends.remote_port),
         Component::Spi(index) => packet.spi() == Some(*index),
         Component::Tos(value, mask) => *value & *mask == packet.tos() & *mask,
     }

@@ -6,7 +6,7 @@
 
 mod choice;
 mod direction;
-mod fields;
+mod ends;
 mod fitting;
 mod laws;
 

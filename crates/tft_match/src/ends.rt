@@ -1,0 +1,43 @@
+//! What a packet has at its remote and at its local end, found once for all filters.
+ghost use Rattle.std.specs.Prelude.{◌≡◌};
+ghost use Rattle.tft_match.specs.Ends.{AreEnds};
+
+use crate::direction::Direction;
+use ipv4_packet::Ip4;
+
+/// Where a packet goes, and its addresses and ports by that; it may have no ports.
+#[derive(Drop)]
+pub(crate) struct Ends {
+    pub(crate) direction: Direction,
+    pub(crate) remote_address: u32,
+    pub(crate) local_address: u32,
+    pub(crate) remote_port: Option<u16>,
+    pub(crate) local_port: Option<u16>,
+}
+
+/// A downlink packet comes from the far end, and an uplink packet goes there.
+pub(crate) fn ends_of(packet: &Ip4<'_>, direction: Direction) -> Ends
+    ensures ends { AreEnds packet.now result }
+    ensures direction { result.direction ≡ direction }
+{
+    let (source_port, destination_port) = match packet.ports() {
+        Some((source, destination)) => (Some(source), Some(destination)),
+        None => (None, None),
+    };
+    match direction {
+        Direction::Down => Ends {
+            direction,
+            remote_address: packet.source(),
+            local_address: packet.destination(),
+            remote_port: source_port,
+            local_port: destination_port,
+        },
+        Direction::Up => Ends {
+            direction,
+            remote_address: packet.destination(),
+            local_address: packet.source(),
+            remote_port: destination_port,
+            local_port: source_port,
+        },
+    }
+}
