@@ -75,6 +75,7 @@ fn write_report<K: Sink>(sink: &mut K, report: &mut Vec<u8>) -> Result<(), Unwri
 // The same, where a block is there.
 fn write_block<K: Sink>(sink: &mut K, report: &mut Vec<u8>) -> Result<(), Unwritten>
     ensures moved { OnOk result (Moves (K.written sink.old) (K.written sink.new) report.old.items report.new.items) }
+    ensures less { OnOk result (length report.new.items < BLOCK) }
     ensures cut { OnErr result (AppendsFront (K.written sink.old) (K.written sink.new) report.old.items) }
     ensures no_other { OnErr result (result ≡ Err Unwritten.WriteFault) }
 
