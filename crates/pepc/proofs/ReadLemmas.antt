@@ -77,11 +77,13 @@ told_next (Some octets) (Some ahead) (Some rest) held number least room after do
 pub fails_so : (number least room : ℕ) (done : List Line) (now : Held) (octets ahead rest : List ℕ) → IsUnfinished now
     → HasRead octets ahead number least room done → now.front ++ rest ≡ ahead → now.room ≡ room → Fails octets rest done
 fails_so number least room done now octets ahead rest unfinished read stays same = record {
-  whole = read.gone;
-  unfinished = now.front;
-  parts = read.parts ∙ ap (λ t. read.gone ++ t) (sym stays) ∙ sym (append_assoc read.gone now.front rest);
-  lines = read.lines;
-  no_newline = unfinished.no_newline;
+  taken = record {
+    whole = read.gone;
+    unfinished = now.front;
+    parts = read.parts ∙ ap (λ t. read.gone ++ t) (sym stays) ∙ sym (append_assoc read.gone now.front rest);
+    lines = read.lines;
+    no_newline = unfinished.no_newline;
+  };
   stops = ap input_of (sym (append-nil read.gone)) ∙ read.says []
       ∙ ap (after_lines done) (at_end room number least (omega (arith, unfinished.more, same)))
       ∙ ap (λ lines. record { lines = lines; stop = ended }) (append-nil done);

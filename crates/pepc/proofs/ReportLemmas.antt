@@ -71,13 +71,9 @@ reports_ending : (ending : Ending) (octets left text : List ℕ) (done : List Li
 reports_ending Ended octets left text done reached said =
     (stop_is octets done ended reached.0, reached.1, whole_of octets done ended text reached.0 said)
 reports_ending ReadFault octets left text done reached said = record {
-  whole = reached.whole;
-  unfinished = reached.unfinished;
-  parts = reached.parts;
-  lines = reached.lines;
-  no_newline = reached.no_newline;
-  stop = stop_is reached.whole done ended reached.stops;
-  report = whole_of reached.whole done ended text reached.stops said;
+  taken = reached.taken;
+  stop = stop_is reached.taken.whole done ended reached.stops;
+  report = whole_of reached.taken.whole done ended text reached.stops said;
 }
 reports_ending (BadLine why) octets left text done reached said =
     (subst IsBad (sym (stop_is octets done (bad (length done + 1) why) reached)) tt, whole_of octets done (bad (length done + 1) why) text reached said)

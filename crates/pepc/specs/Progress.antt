@@ -1,7 +1,6 @@
 -- How far a run has come.
 use Rattle.std.specs.Prelude.{◌≡◌, ℕ, ◌+◌, ◌≤◌, ◌^◌, List, [], ◌++◌, length, Option}
 use Rattle.std.specs.Io.KnownBytes.{Appends}
-use Rattle.pc_outside.specs.Line.{NoNewline}
 use Rattle.trace_lines.specs.Input.{Input, Stop, bad, long, big, ended, after_lines, input_within, input_of}
 use Rattle.trace_lines.specs.Line.{Line}
 use Rattle.gate_model.specs.Decision.{decisions}
@@ -14,7 +13,7 @@ use Rattle.pepc.specs.declared.run.Unwritten.TheVariants as unwritten
 use Rattle.pepc.specs.declared.status.Status.{Status}
 use Rattle.pepc.specs.declared.status.Status.TheVariants as status
 use Rattle.pepc.specs.declared.solo.Solo.{Solo}
-use Rattle.pepc.specs.Report.{stop_entry, IsWholeLines}
+use Rattle.pepc.specs.Report.{stop_entry, IsWholeLines, Taken}
 use Rattle.pepc.specs.Standing.{StandsFor}
 use Rattle.pepc.specs.Told.{WhereTold}
 
@@ -57,14 +56,10 @@ Begins octets done = (behind : Input) × (input_of octets ≡ after_lines done b
 abbrev pub Stops : List ℕ → List Line → Stop → Type 0
 Stops octets done stop = input_of octets ≡ record { lines = done; stop = stop }
 
--- no more came than whole lines, which are these, and an unfinished one
+-- the whole lines that were taken are these
 pub record Fails (octets left : List ℕ) (done : List Line) : Type 0 where
-  pub whole : List ℕ
-  pub unfinished : List ℕ
-  pub parts : octets ≡ whole ++ unfinished ++ left
-  pub lines : IsWholeLines whole
-  pub no_newline : NoNewline unfinished
-  pub stops : Stops whole done ended
+  pub taken : Taken octets left
+  pub stops : Stops taken.whole done ended
   pub begins : Begins octets done
 
 -- where the lines ended so: the octets that a source had, and those that it has left

@@ -37,16 +37,19 @@ IsInputReport input text = IsReport input.lines input.stop text
 abbrev pub IsWholeLines : List ℕ → Type 0
 IsWholeLines octets = (octets ≡ []) ⊎ ((front : List ℕ) × (octets ≡ front ++ newline ∷ []))
 
--- What was taken of the octets is whole lines and an unfinished one, and these are left. The report is that of
--- the whole lines, none of which is bad or long.
-pub record IsFaultReport (octets left text : List ℕ) : Type 0 where
+-- what was taken of the octets is whole lines and an unfinished one, and these are left
+pub record Taken (octets left : List ℕ) : Type 0 where
   pub whole : List ℕ
   pub unfinished : List ℕ
   pub parts : octets ≡ whole ++ unfinished ++ left
   pub lines : IsWholeLines whole
   pub no_newline : NoNewline unfinished
-  pub stop : (input_of whole).stop ≡ ended
-  pub report : IsInputReport (input_of whole) text
+
+-- the report of the whole lines that were taken, none of which is bad or long
+pub record IsFaultReport (octets left text : List ℕ) : Type 0 where
+  pub taken : Taken octets left
+  pub stop : (input_of taken.whole).stop ≡ ended
+  pub report : IsInputReport (input_of taken.whole) text
 
 -- the report of some first lines
 pub record IsFrontReport (input : Input) (text : List ℕ) : Type 0 where
