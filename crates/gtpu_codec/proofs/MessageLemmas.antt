@@ -45,14 +45,17 @@ message_is octets head body spelled =
     let fault : first_fault octets ≡ None = no_fault octets head body spelled in
     let kind : kind_of (type_in octets) ≡ Some head.kind = ap kind_of spelled.3 ∙ kind_is_found head.kind in
     let teid : teid_in octets ≡ head.teid = sym spelled.4 in
-    let seq : seq_in flags counted ≡ head.seq = seq_spelled flags (has_options flags) counted head.seq body refl spelled.6 in
-    let same : carried flags counted ≡ body = carried_spelled flags (has_options flags) counted head.seq body refl spelled.6 in
+    let seq : seq_in flags counted ≡ head.seq
+    = seq_spelled flags (has_options flags) counted head.seq body refl spelled.6 in
+    let same : carried flags counted ≡ body
+    = carried_spelled flags (has_options flags) counted head.seq body refl spelled.6 in
     rw (fault, kind) (λ i. Some (record { kind = head.kind; teid = teid i; seq = seq i }, same i))
 
 -- ---- the message is spelled
 
 -- a chain of tests that found no fault
-passed : (b : Bool) (fault : UBad) (later : Option UBad) → cond b (Some fault) later ≡ None → (b ≡ false) × (later ≡ None)
+passed : (b : Bool) (fault : UBad) (later : Option UBad) → cond b (Some fault) later ≡ None
+    → (b ≡ false) × (later ≡ None)
 passed true fault later e = absurd cc
 passed false fault later e = (refl, e)
 
@@ -97,7 +100,8 @@ are_passed octets none =
     let is_there = passed (ends_early flags (length_in octets) there) bad.Length chain is_proper.1 in
     let is_chain = passed (breaks_chain flags (counted_in octets)) bad.Extension kind is_there.1 in
     let is_known = passed (is_none (kind_of (type_in octets))) bad.Kind None is_chain.1 in
-    let lengths = neither (nat_lt there (length_in octets)) (has_options flags && nat_lt (length_in octets) 4) is_there.0 in
+    let lengths = neither (nat_lt there (length_in octets))
+    (has_options flags && nat_lt (length_in octets) 4) is_there.0 in
     record {
       whole = ltb-false (length octets) 8 is_whole.0;
       version = not_false (has_version flags) is_version.0;
@@ -127,7 +131,8 @@ body_spelled : (extensions : Bool) (next : ℕ) (octets : List ℕ)
     → SpellsBody extensions next octets (cond extensions (unwrap_or (body_behind 0 (next ∷ octets)) []) octets)
 body_spelled false next octets whole = refl
 body_spelled true next octets whole =
-    found_is_chain next octets (unwrap_or (body_behind 0 (next ∷ octets)) []) (some_body (body_behind 0 (next ∷ octets)) whole)
+    found_is_chain next octets (unwrap_or (body_behind 0 (next ∷ octets)) [])
+    (some_body (body_behind 0 (next ∷ octets)) whole)
 
 counted_spelled : (flags : ℕ) (options : Bool) (counted : List ℕ) → has_options flags ≡ options
     → (options && nat_lt (length counted) 4) ≡ false → breaks_chain flags counted ≡ false
@@ -145,8 +150,10 @@ counted_spelled flags true counted some long whole = (
 spelled_with : (octets : List ℕ) (kind : GtpUKind) → ArePassed octets → kind_of (type_in octets) ≡ Some kind
     → Spells octets (head_with octets kind) (carried (flags_in octets) (counted_in octets))
 spelled_with octets kind tests found =
-    let size : length (counted_in octets) ≡ length_in octets = length-take-le (length_in octets) (drop 8 octets) tests.there in
-    let options : (has_options (flags_in octets) && nat_lt (length (counted_in octets)) 4) ≡ false = rw size tests.options in (
+    let size : length (counted_in octets) ≡ length_in octets
+    = length-take-le (length_in octets) (drop 8 octets) tests.there in
+    let options : (has_options (flags_in octets) && nat_lt (length (counted_in octets)) 4) ≡ false
+    = rw size tests.options in (
       tests.whole,
       tests.version,
       tests.gtp,
@@ -164,7 +171,8 @@ faultless_spells octets none =
     let kind = some_found (kind_of (type_in octets)) tests.known in
     (head_with octets kind.0, carried (flags_in octets) (counted_in octets), spelled_with octets kind.0 tests kind.1)
 
-message_by_kind : (octets : List ℕ) (head : GtpUHead) (body : List ℕ) (found : Option GtpUKind) → first_fault octets ≡ None
+message_by_kind : (octets : List ℕ) (head : GtpUHead) (body : List ℕ) (found : Option GtpUKind)
+    → first_fault octets ≡ None
     → kind_of (type_in octets) ≡ found
     → option_map (message_with octets) found ≡ Some (head, body)
     → Spells octets head body
@@ -173,7 +181,8 @@ message_by_kind octets head body (Some kind) none is message =
     let same : message_with octets kind ≡ (head, body) = cc in
     subst (λ (p : GtpUHead × List ℕ). Spells octets p.0 p.1) same (spelled_with octets kind (are_passed octets none) is)
 
-message_by_fault : (octets : List ℕ) (head : GtpUHead) (body : List ℕ) (fault : Option UBad) → first_fault octets ≡ fault
+message_by_fault : (octets : List ℕ) (head : GtpUHead) (body : List ℕ) (fault : Option UBad)
+    → first_fault octets ≡ fault
     → cond (is_some fault) None
     (option_map (message_with octets) (kind_of (type_in octets)))
     ≡ Some (head, body)

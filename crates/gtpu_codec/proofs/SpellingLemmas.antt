@@ -90,10 +90,12 @@ no_fault octets head body spelled =
     let whole : nat_lt (length octets) 8 ≡ false = le-ltb (length octets) 8 spelled.0 in
     rw whole (rw spelled.1 (rw spelled.2 (rw early (rw chain (rw known refl)))))
 
--- what spells a message is read, and each fault is refused, where what is read is spelled and a refusal is the first fault
+-- What spells a message is read, and each fault is refused: where what is read is spelled, and a refusal is the
+-- first fault.
 pub both_ways : {X : Type 0} (now : X → List ℕ) (octets : List ℕ) (result : Result (GtpUHead × X) UBad)
     → IfOk result (λ r. Spells octets r.0 (now r.1)) → IfErr result (λ bad. first_fault octets ≡ Some bad)
-    → ((head : GtpUHead) (body : List ℕ) → Spells octets head body → IsOkAnd result (λ r. (r.0 ≡ head) × (now r.1 ≡ body)))
+    → ((head : GtpUHead) (body : List ℕ) → Spells octets head body
+    → IsOkAnd result (λ r. (r.0 ≡ head) × (now r.1 ≡ body)))
     × IfSome (first_fault octets) (λ bad. result ≡ Err bad)
 both_ways now octets (Ok (found, rest)) spelled fault =
     let none : first_fault octets ≡ None = no_fault octets found (now rest) spelled in

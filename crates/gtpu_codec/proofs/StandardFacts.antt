@@ -34,7 +34,8 @@ unfolding kind_of
 n_pdu-message = refl
 
 -- flag E: a header of four octets, and one of eight behind it
-one_header-message : message_of (gpdu 0x34 9 (0 ∷ 0 ∷ 0 ∷ 0x85 ∷ 1 ∷ 0x10 ∷ 0x09 ∷ 0 ∷ 69 ∷ [])) ≡ Some (plain kind.Gpdu, 69 ∷ [])
+one_header-message : message_of (gpdu 0x34 9 (0 ∷ 0 ∷ 0 ∷ 0x85 ∷ 1 ∷ 0x10 ∷ 0x09 ∷ 0 ∷ 69 ∷ []))
+    ≡ Some (plain kind.Gpdu, 69 ∷ [])
 unfolding kind_of
 one_header-message = refl
 

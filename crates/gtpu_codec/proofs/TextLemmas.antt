@@ -17,7 +17,8 @@ text_again : (kind : GtpUKind) (teid : ℕ) (seq : Option ℕ) (body more : List
 text_again kind teid None body more fits any short =
     let octets : List ℕ = text kind teid None body ++ more in
     let size : length_in octets ≡ length body = be16-again (length body) [] short in
-    let counted : counted_in octets ≡ body = ap (λ n. take n (body ++ more)) size ∙ take_at body more (length body) refl in (
+    let counted : counted_in octets ≡ body
+    = ap (λ n. take n (body ++ more)) size ∙ take_at body more (length body) refl in (
       omega arith,
       refl,
       refl,
@@ -49,6 +50,7 @@ spelled_again (EchoRequest seq) more fits =
 spelled_again (EchoResponse seq) more fits =
     text_again kind.EchoResponse 0 (Some seq) (body_of (EchoResponse seq)) more (omega arith) fits (omega arith)
 spelled_again (ErrorIndication seq teid peer) more fits =
-    text_again kind.ErrorIndication 0 (Some seq) (body_of (ErrorIndication seq teid peer)) more (omega arith) fits.0 (omega arith)
+    text_again kind.ErrorIndication 0 (Some seq) (body_of (ErrorIndication seq teid peer)) more (omega arith) fits.0
+    (omega arith)
 spelled_again (EndMarker teid) more fits = text_again kind.EndMarker teid None [] more fits tt (omega arith)
 spelled_again (Gpdu teid payload) more fits = text_again kind.Gpdu teid None payload more fits.0 tt fits.1

@@ -17,7 +17,8 @@ carried flags counted =
 
 -- the head of a message of this type
 abbrev pub head_with : List ℕ → GtpUKind → GtpUHead
-head_with octets kind = record { kind = kind; teid = teid_in octets; seq = seq_in (flags_in octets) (counted_in octets) }
+head_with octets kind =
+    record { kind = kind; teid = teid_in octets; seq = seq_in (flags_in octets) (counted_in octets) }
 
 -- that head, and what the message carries
 abbrev pub message_with : List ℕ → GtpUKind → GtpUHead × List ℕ

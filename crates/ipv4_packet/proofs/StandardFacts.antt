@@ -9,7 +9,8 @@ use Rattle.ipv4_packet.specs.Payload.{ports_of, spi_of}
 -- five words, by version and IHL, total length, flags and fragment offset, protocol; then what follows
 abbrev datagram : ℕ → ℕ → ℕ → ℕ → ℕ → ℕ → List ℕ → List ℕ
 datagram first high low flags offset protocol following =
-    first ∷ 0 ∷ high ∷ low ∷ 0 ∷ 111 ∷ flags ∷ offset ∷ 123 ∷ protocol ∷ 0 ∷ 0 ∷ 10 ∷ 45 ∷ 0 ∷ 2 ∷ 203 ∷ 0 ∷ 113 ∷ 9 ∷ following
+    first ∷ 0 ∷ high ∷ low ∷ 0 ∷ 111 ∷ flags ∷ offset ∷ 123 ∷ protocol ∷ 0 ∷ 0 ∷ 10 ∷ 45 ∷ 0 ∷ 2 ∷ 203 ∷ 0 ∷ 113 ∷ 9
+    ∷ following
 
 -- example 1: one octet of data, of protocol 1
 abbrev minimal : List ℕ

@@ -12,14 +12,16 @@ abbrev pub begins : ℕ → ℕ → List ℕ → Bool
 begins protocol least packet =
     protocol_of packet == protocol && (fragment_offset_of packet == 0) && nat_le least (length (payload_of packet))
 
--- the source and the destination port of TCP (protocol 6; RFC 9293, 3.1), UDP (17; RFC 768) and SCTP (132; RFC 9260, 3.1)
+-- The source and the destination port of TCP (protocol 6; RFC 9293, 3.1), UDP (17; RFC 768) and SCTP (132;
+-- RFC 9260, 3.1).
 abbrev pub ports_of : List ℕ → Option (ℕ × ℕ)
 ports_of packet =
     if begins 6 4 packet || begins 17 4 packet || begins 132 4 packet
     then Some (be16_at (payload_of packet) 0, be16_at (payload_of packet) 2)
     else None
 
--- the security parameters index, at the front of ESP (protocol 50; RFC 4303, 2) and behind four octets in AH (51; RFC 4302, 2)
+-- The security parameters index, at the front of ESP (protocol 50; RFC 4303, 2) and behind four octets in AH (51;
+-- RFC 4302, 2).
 abbrev pub spi_of : List ℕ → Option ℕ
 spi_of packet =
     if begins 50 4 packet then Some (be32_at (payload_of packet) 0)
