@@ -1,5 +1,5 @@
 -- Lines cut into epochs.
-use Rattle.std.proofs.Common.{◌≡◌, ℕ, ◌<◌, Bool, true, false, List, [], ◌∷◌, ◌++◌, length, refl, sym, ap, subst, ◌∙◌, arith, inl, inr, append_assoc, append-nil, length-append, if◌then◌else◌}
+use Rattle.std.proofs.Common.{◌≡◌, ◌<◌, Bool, true, false, List, [], ◌∷◌, ◌++◌, length, refl, sym, ap, ◌∙◌, arith, inl, inr, append_assoc, append-nil, length-append, if◌then◌else◌}
 use Rattle.std.specs.List.{flat_map}
 use Rattle.trace_lines.specs.Line.{Line}
 use Rattle.trace_lines.specs.Epochs.{ends_epoch, epochs_behind, epochs_of, NoneEnds, IsEpoch, AreCut, AreEpochs}

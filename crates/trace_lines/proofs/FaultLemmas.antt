@@ -1,5 +1,5 @@
 -- The first fault of a text is why it isn't read.
-use Rattle.std.proofs.Common.{◌≡◌, ℕ, ◌^◌, ◌-◌, Bool, true, false, List, [], ◌∷◌, refl, sym, ap, ◌∙◌, Option, Some, None, Result, Ok, Err, if◌then◌else◌, codes, nat_lt, unwrap_or, is_some}
+use Rattle.std.proofs.Common.{◌≡◌, ℕ, ◌^◌, ◌-◌, Bool, true, false, List, [], ◌∷◌, refl, ap, ◌∙◌, Option, Some, None, Result, Ok, Err, if◌then◌else◌, codes, nat_lt, unwrap_or, is_some}
 use Rattle.std.specs.Option.{ok_or, is_none}
 use Rattle.std.specs.Result.{result_err}
 use Rattle.std.specs.Str.{bytes_eq}
@@ -8,14 +8,14 @@ use Rattle.text_fields.specs.Number.{number_in}
 use Rattle.text_fields.specs.Address.{address_of}
 use Rattle.text_fields.specs.Hexadecimal.{octets_of}
 use Rattle.trace_lines.specs.declared.bad.LineBad.{LineBad}
-use Rattle.trace_lines.specs.declared.bad.LineBad.TheVariants.{Number, Hex, Field, Kind, MomentBack}
+use Rattle.trace_lines.specs.declared.bad.LineBad.TheVariants.{Number, Hex, Field, MomentBack}
 use Rattle.trace_lines.specs.declared.line.LineKind.{LineKind}
 use Rattle.trace_lines.specs.declared.line.LineKind.TheVariants as kind
 use Rattle.trace_lines.specs.Line.{Line}
 use Rattle.trace_lines.specs.Arguments.{imsi_of, teid_of}
 use Rattle.trace_lines.specs.Refused.{◌>>=◌}
-use Rattle.trace_lines.specs.Meaning.{number_meaning, message_meaning, attach_meaning, bearer_meaning, filters_meaning, drop_meaning, ambr_meaning, move_meaning, fence_meaning, as_kind, kind_meaning, moment_meaning, line_of_fields, line_meaning}
-use Rattle.trace_lines.specs.Refusal.{Form, an_imsi, an_address, a_teid, a_number, some_octets, a_session_rate, a_bearer_rate, an_ebi, forms_of, kind_fault, argument_fault, or_else, moment_of, fields_fault, first_fault}
+use Rattle.trace_lines.specs.Meaning.{message_meaning, attach_meaning, bearer_meaning, filters_meaning, drop_meaning, ambr_meaning, move_meaning, fence_meaning, as_kind, kind_meaning, moment_meaning, line_of_fields, line_meaning}
+use Rattle.trace_lines.specs.Refusal.{Form, an_imsi, an_address, a_teid, a_number, some_octets, a_session_rate, a_bearer_rate, an_ebi, forms_of, kind_fault, or_else, moment_of, fields_fault, first_fault}
 
 -- an argument is read, or its refusal is the fault
 read_or : {A B : Type 0} (value : Option A) (why : LineBad) (f : A → Result B LineBad) (fault : Option LineBad)

@@ -1,15 +1,13 @@
 -- The kinds of line: which fields a kind has, and which kind fields are.
-use Rattle.std.proofs.Common.{◌≡◌, ℕ, ◌^◌, ◌-◌, ◌<◌, ◌≤◌, Bool, true, false, List, [], ◌∷◌, map, refl, sym, ap, ◌∙◌, arith, Option, Some, None, Result, Ok, Err, if◌then◌else◌, codes, lit<}
+use Rattle.std.proofs.Common.{◌≡◌, ℕ, ◌^◌, ◌-◌, ◌<◌, Bool, true, false, List, [], ◌∷◌, map, refl, sym, ap, ◌∙◌, arith, Option, Some, None, Result, Ok, Err, if◌then◌else◌, codes, lit<}
 use Rattle.std.specs.Prelude.{decimal}
-use Rattle.std.specs.Int.{w32, to_be_bytes}
 use Rattle.std.specs.Option.{ok_or}
 use Rattle.std.specs.Str.{bytes_eq}
 use Rattle.std.proofs.lemmas.Slice.Eq.{bytes_eq-Decides}
 use Rattle.hex.specs.Hex.{encode_lower}
-use Rattle.pc_base.specs.Imsi.{IsImsi}
 use Rattle.pc_base.specs.declared.packet.Peer.{Peer}
 use Rattle.text_fields.specs.Number.{number_in}
-use Rattle.text_fields.specs.Address.{dotted, address_of}
+use Rattle.text_fields.specs.Address.{address_of}
 use Rattle.text_fields.specs.Hexadecimal.{in_lower_case, octets_of}
 use Rattle.trace_lines.specs.declared.bad.LineBad.{LineBad}
 use Rattle.trace_lines.specs.declared.bad.LineBad.TheVariants.{Number, Hex}
@@ -19,7 +17,7 @@ use Rattle.trace_lines.specs.Arguments.{imsi_of, teid_of}
 use Rattle.trace_lines.specs.Line.{IsOctets, IsKind}
 use Rattle.trace_lines.specs.Text.{kind_word, arguments}
 use Rattle.trace_lines.specs.Refused.{◌>>=◌}
-use Rattle.trace_lines.specs.Meaning.{number_meaning, message_meaning, attach_meaning, bearer_meaning, filters_meaning, drop_meaning, ambr_meaning, move_meaning, fence_meaning, as_kind, kind_meaning}
+use Rattle.trace_lines.specs.Meaning.{message_meaning, attach_meaning, bearer_meaning, filters_meaning, drop_meaning, ambr_meaning, move_meaning, fence_meaning, as_kind, kind_meaning}
 use Rattle.trace_lines.proofs.FormLemmas.{imsi_taken, imsi_given, number_taken, number_given, address_taken, address_given, teid_taken, teid_given, octets_taken, octets_given}
 
 -- a word and arguments are those of a kind, up to the case of hexadecimal digits

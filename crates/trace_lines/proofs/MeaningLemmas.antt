@@ -1,5 +1,5 @@
 -- A text and the lines that it means.
-use Rattle.std.proofs.Common.{◌≡◌, ◌≢◌, ℕ, ◌^◌, ◌-◌, ◌+◌, ◌<◌, ◌≤◌, ◌==◌, Bool, true, false, List, [], ◌∷◌, length, length-append, get_or, not, map, All, refl, sym, ap, ◌∙◌, arith, Option, Some, None, Result, Ok, Err, if◌then◌else◌, cond, nat_lt, lit<, inl, inr}
+use Rattle.std.proofs.Common.{◌≡◌, ◌≢◌, ℕ, ◌^◌, ◌-◌, ◌<◌, ◌≤◌, ◌==◌, Bool, true, false, List, [], ◌∷◌, length, length-append, get_or, not, map, All, refl, sym, ap, ◌∙◌, arith, Option, Some, Result, Ok, Err, cond, nat_lt, lit<}
 use Rattle.std.specs.Prelude.{decimal, codes}
 use Rattle.std.specs.List.{list_any, list_all, join_with_byte}
 use Rattle.std.specs.Option.{ok_or}
@@ -8,11 +8,8 @@ use Rattle.std.proofs.lemmas.List.{length-map}
 use Rattle.std.proofs.lemmas.List.Elements.{All-map}
 use Rattle.std.proofs.lemmas.List.Sums.{AllPass-from_list_all}
 use Rattle.std.proofs.lemmas.List.Splits.{length-slice_split}
-use Rattle.std.specs.Int.{w32, to_be_bytes}
-use Rattle.hex.specs.Hex.{encode_lower}
-use Rattle.text_fields.specs.Fields.{AllLack, space, pieces, fields_of, joined, is_empty, has_empty_field}
+use Rattle.text_fields.specs.Fields.{AllLack, space, fields_of, joined, is_empty, has_empty_field}
 use Rattle.text_fields.specs.Number.{number_in}
-use Rattle.text_fields.specs.Address.{dotted}
 use Rattle.text_fields.specs.Hexadecimal.{lower, in_lower_case}
 use Rattle.text_fields.proofs.DigitLemmas.{number_read, number_only}
 use Rattle.text_fields.proofs.FieldLemmas.{pieces-joined, joined-pieces, pieces_lack}
@@ -24,7 +21,7 @@ use Rattle.trace_lines.specs.Line.{Line, IsLine, IsKind}
 use Rattle.trace_lines.specs.Text.{Means, kind_word, arguments, line_fields, line_text, lowered_fields, lowered}
 use Rattle.trace_lines.specs.Refused.{◌>>=◌}
 use Rattle.trace_lines.specs.Meaning.{number_meaning, kind_meaning, moment_meaning, line_of_fields, line_meaning}
-use Rattle.trace_lines.proofs.FormLemmas.{IsPlain, IsField, kept, number_taken, number_given, field-decimal, field-imsi, field-dotted, field-teid, field-encode_lower}
+use Rattle.trace_lines.proofs.FormLemmas.{IsField, kept, field-decimal, field-imsi, field-dotted, field-teid, field-encode_lower}
 use Rattle.trace_lines.proofs.KindLemmas.{Says, taken, bound, some_from_ok, kind_given, kind_taken}
 
 lower_other : (octet : ℕ) → octet ≢ 32 → lower octet ≢ 32

@@ -1,9 +1,8 @@
 -- A message's octets are the rest of a line: no digit is a space.
-use Rattle.std.proofs.Common.{◌≡◌, ◌≢◌, ℕ, Bool, true, false, ◌<◌, List, [], ◌∷◌, length, get_or, map, All, refl, sym, ap, ◌∙◌, arith, Option, Some, None, Result, Ok, Err, cond, ◌==◌}
+use Rattle.std.proofs.Common.{◌≡◌, ◌≢◌, ℕ, Bool, true, false, ◌<◌, List, [], ◌∷◌, length, All, refl, sym, ap, ◌∙◌, arith, Option, Some, None, Ok, Err, cond, ◌==◌}
 use Rattle.std.specs.Int.{w32, from_be_bytes}
 use Rattle.std.specs.List.{join_with_byte}
 use Rattle.std.specs.Option.{ok_or, option_map}
-use Rattle.std.proofs.lemmas.List.{length-map}
 use Rattle.std.proofs.lemmas.List.Elements.{All-cons, All-head, All-tail, All-nil}
 use Rattle.std.proofs.lemmas.List.Splits.{length-slice_split}
 use Rattle.hex.specs.Hex.{encode_lower}
@@ -12,10 +11,9 @@ use Rattle.text_fields.specs.Hexadecimal.{lower, in_lower_case, octets_of}
 use Rattle.text_fields.proofs.FieldLemmas.{pieces-joined, joined-pieces}
 use Rattle.trace_lines.specs.declared.bad.LineBad.{LineBad}
 use Rattle.trace_lines.specs.declared.bad.LineBad.TheVariants.{Hex, Field}
-use Rattle.trace_lines.specs.declared.line.LineKind.{LineKind}
 use Rattle.trace_lines.specs.Arguments.{teid_of}
 use Rattle.trace_lines.specs.Meaning.{message_meaning}
-use Rattle.trace_lines.proofs.FormLemmas.{IsPlain, octets_given, field-encode_lower}
+use Rattle.trace_lines.proofs.FormLemmas.{octets_given, field-encode_lower}
 
 lacks_before : (text other : List ℕ) → in_lower_case text ≡ other → All (λ octet. octet ≢ 32) other → All (λ octet. octet ≢ 32) text
 lacks_before [] other same lacks = All-nil (λ octet. octet ≢ 32)

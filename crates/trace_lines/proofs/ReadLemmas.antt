@@ -1,5 +1,5 @@
 -- An answer that is what the text means, or want of memory, in the words of lines, texts and faults.
-use Rattle.std.proofs.Common.{◌≡◌, ℕ, ◌≤◌, ◌⊎◌, List, length, refl, sym, ap, ◌∙◌, Option, Some, None, Result, Ok, Err, inl, inr, if◌then◌else◌, Bool, true, false, cond}
+use Rattle.std.proofs.Common.{◌≡◌, ℕ, ◌≤◌, ◌⊎◌, List, length, refl, sym, ap, ◌∙◌, Option, Some, None, Result, Ok, Err, inl, inr, if◌then◌else◌, Bool, true, false}
 use Rattle.std.specs.Prelude.{IfOk, IfErr, IfSome}
 use Rattle.std.specs.Result.{result_err}
 use Rattle.text_fields.specs.Fields.{fields_of, has_empty_field}
@@ -7,7 +7,7 @@ use Rattle.trace_lines.specs.declared.bad.LineBad.{LineBad}
 use Rattle.trace_lines.specs.declared.bad.LineBad.TheVariants.{NoMemory, Field}
 use Rattle.trace_lines.specs.Line.{Line}
 use Rattle.trace_lines.specs.Text.{Means, line_text}
-use Rattle.trace_lines.specs.Memory.{OrNoMemory}
+use Rattle.wire_octets.specs.Memory.{OrNoMemory}
 use Rattle.trace_lines.specs.Meaning.{line_meaning, line_of_fields}
 use Rattle.trace_lines.specs.Refusal.{first_fault}
 use Rattle.trace_lines.proofs.FaultLemmas.{fault_is}

@@ -1,7 +1,6 @@
 -- What a line of a trace says, as a value, and the ranges that it keeps.
 use Rattle.std.specs.Prelude.{ℕ, ◌<◌, ◌≤◌, ◌^◌, List, length, All}
 use Rattle.pc_base.specs.Imsi.{IsImsi}
-use Rattle.pc_base.specs.declared.packet.Peer.{Peer}
 use Rattle.trace_lines.specs.declared.line.LineKind.{LineKind}
 use Rattle.trace_lines.specs.declared.line.LineKind.TheVariants as kind
 

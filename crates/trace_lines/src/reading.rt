@@ -3,7 +3,8 @@ ghost use Rattle.text_fields.specs.Fields.{fields_of, has_empty_field};
 ghost use Rattle.trace_lines.specs.Line.{Line};
 ghost use Rattle.trace_lines.specs.Text.{Means, line_text};
 ghost use Rattle.trace_lines.specs.Refusal.{first_fault};
-ghost use Rattle.trace_lines.specs.Memory.{OrNoMemory, wants_octets};
+ghost use Rattle.wire_octets.specs.Memory.{OrNoMemory};
+ghost use Rattle.trace_lines.specs.Memory.{wants_octets};
 ghost use Rattle.trace_lines.specs.Meaning.{line_meaning, line_of_fields};
 ghost use Rattle.trace_lines.specs.declared.bad.LineBad.TheVariants.{NoMemory, Field};
 

@@ -1,4 +1,4 @@
-use Rattle.trace_lines.proofs.ReadLemmas.{whole_read, whole_refused, want_of_memory}
+use Rattle.trace_lines.proofs.ReadLemmas.{whole_read, whole_refused}
 use Rattle.trace_lines.proofs.reading.read_whole.Goals as goal
 
 pub returns-in-Ok-clause-line : goal.returns-in-Ok-clause-line
