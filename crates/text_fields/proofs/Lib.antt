@@ -1,0 +1,5 @@
+pub mod CutLemmas
+pub mod DigitLemmas
+pub mod HexadecimalLemmas
+pub mod FieldLemmas
+pub mod AddressLemmas
