@@ -1,6 +1,7 @@
 pub mod Places
 pub mod Steps
 pub mod Standing
+pub mod Pieces
+pub mod Partition
 pub mod LedgerSums
-pub mod LedgerSteps
 pub mod Bounds

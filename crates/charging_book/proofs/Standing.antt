@@ -6,9 +6,8 @@ use Rattle.std.proofs.lemmas.List.{append-nil, drop-append-le, get_or-map, map_p
 use Rattle.std.proofs.lemmas.List.Sums.{sum_by-append, fold-append}
 use Rattle.charging_book.specs.declared.records.Why.{Why}
 use Rattle.charging_book.specs.declared.records.Why.TheVariants.{Volume, Qos, Gone}
-use Rattle.charging_book.specs.declared.records.TheConstants.{VOLUME_OCTETS}
 use Rattle.charging_book.specs.Rows.{Counters, Moments}
-use Rattle.charging_book.specs.Pieces.{Forwarded, Item, packet, mark, is_full, finishes, piece_after, finished, last_piece, last_at, up_octets, down_octets, up_packets, down_packets, open_of, moments_of, row_of}
+use Rattle.charging_book.specs.Pieces.{volume, Forwarded, Item, packet, mark, is_full, finishes, piece_after, finished, last_piece, last_at, up_octets, down_octets, up_packets, down_packets, open_of, moments_of, row_of}
 use Rattle.charging_book.specs.Counters.{with_packet, next_piece, no_moments, with_moment, row_from}
 use Rattle.charging_book.specs.Happenings.{Happening, started, forwarded, closed, Story, with_item, story_step, story_of, lives_step, lives_of, open_at, moments_at, rows_at, rows_of, MayHappen}
 use Rattle.charging_book.specs.Accounts.{Accounts, lives_in, StandsFor}
@@ -194,7 +193,7 @@ filled piece p full =
 -- a packet that doesn't fill its piece
 pub stands-counted : (book new : Accounts) (happened : List Happening) (taken life place : ℕ) (p : Forwarded) (counters : Counters) (moments : Moments)
     → StandsFor book happened taken → IsAt book place life counters moments → Contains (lives_in book) life
-    → nat_le VOLUME_OCTETS ((with_packet counters p.up p.octets).up_octets + (with_packet counters p.up p.octets).down_octets) ≡ false
+    → nat_le volume ((with_packet counters p.up p.octets).up_octets + (with_packet counters p.up p.octets).down_octets) ≡ false
     → new.opens ≡ set book.opens place (with_packet counters p.up p.octets)
     → new.moments ≡ set book.moments place (with_moment moments p.at) → new.rows ≡ book.rows
     → StandsFor new (happened ++ forwarded life p ∷ []) taken
@@ -205,7 +204,7 @@ stands-counted book new happened taken life place p counters moments stands at i
     let seq = length (finished story.items) in
     let more : with_packet counters p.up p.octets ≡ open_of life story.ebi story.qci seq (piece ++ p ∷ []) =
     ap (λ c. with_packet c p.up p.octets) known.2 ∙ counters-push life story.ebi story.qci seq piece p in
-    let not_full : is_full (piece ++ p ∷ []) ≡ false = sym (ap (λ c. nat_le VOLUME_OCTETS (c.up_octets + c.down_octets)) more) ∙ room in
+    let not_full : is_full (piece ++ p ∷ []) ≡ false = sym (ap (λ c. nat_le volume (c.up_octets + c.down_octets)) more) ∙ room in
     let done = unfilled piece p not_full in
     let step = own-forwarded life p story in
     let now_open : with_packet counters p.up p.octets ≡ open_at (happened ++ forwarded life p ∷ []) life =
@@ -224,7 +223,7 @@ stands-counted book new happened taken life place p counters moments stands at i
 -- one that fills it
 pub stands-filled : (book new : Accounts) (happened : List Happening) (taken life place : ℕ) (p : Forwarded) (counters : Counters) (moments : Moments)
     → StandsFor book happened taken → IsAt book place life counters moments → Contains (lives_in book) life
-    → nat_le VOLUME_OCTETS ((with_packet counters p.up p.octets).up_octets + (with_packet counters p.up p.octets).down_octets) ≡ true
+    → nat_le volume ((with_packet counters p.up p.octets).up_octets + (with_packet counters p.up p.octets).down_octets) ≡ true
     → new.opens ≡ set book.opens place (next_piece (with_packet counters p.up p.octets))
     → new.moments ≡ set book.moments place no_moments
     → new.rows ≡ book.rows ++ row_from (with_packet counters p.up p.octets) (with_moment moments p.at) Volume ∷ []
@@ -236,7 +235,7 @@ stands-filled book new happened taken life place p counters moments stands at is
     let seq = length (finished story.items) in
     let more : with_packet counters p.up p.octets ≡ open_of life story.ebi story.qci seq (piece ++ p ∷ []) =
     ap (λ c. with_packet c p.up p.octets) known.2 ∙ counters-push life story.ebi story.qci seq piece p in
-    let full : is_full (piece ++ p ∷ []) ≡ true = sym (ap (λ c. nat_le VOLUME_OCTETS (c.up_octets + c.down_octets)) more) ∙ room in
+    let full : is_full (piece ++ p ∷ []) ≡ true = sym (ap (λ c. nat_le volume (c.up_octets + c.down_octets)) more) ∙ room in
     let done = filled piece p full in
     let step = own-forwarded life p story in
     let now_open : next_piece (with_packet counters p.up p.octets) ≡ open_at (happened ++ forwarded life p ∷ []) life =

@@ -1,8 +1,8 @@
 -- A book as contracts see it, and the happenings that it stands for.
 use Rattle.std.specs.Prelude.{◌≡◌, ℕ, ◌+◌, ◌<◌, ◌≤◌, List, length, map, drop, All}
-use Rattle.charging_book.specs.declared.records.TheConstants.{VOLUME_OCTETS}
 use Rattle.charging_book.specs.Rows.{Counters, Moments, Charged}
 use Rattle.charging_book.specs.Counters.{HasRoom}
+use Rattle.charging_book.specs.Pieces.{volume}
 use Rattle.charging_book.specs.Happenings.{Happening, lives_of, opens_of, moments_at, rows_of, IsLawful}
 
 -- the open counters and moments of the lives that aren't over, and the rows that weren't taken
@@ -29,7 +29,7 @@ pub record StandsFor (book : Accounts) (happened : List Happening) (taken : ℕ)
 
 -- each piece has fewer octets than fill one
 abbrev pub AreCounting : List Counters → Type 0
-AreCounting opens = All (λ counters. counters.up_octets + counters.down_octets < VOLUME_OCTETS) opens
+AreCounting opens = All (λ counters. counters.up_octets + counters.down_octets < volume) opens
 
 -- no count of these counters is above a number
 pub record IsBounded (most : ℕ) (counters : Counters) : Type 0 where

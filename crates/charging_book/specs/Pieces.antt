@@ -1,7 +1,6 @@
 -- A life's story is its forwarded packets and marks. It is cut into pieces at marks, and right after
 -- the packet that fills a piece.
 use Rattle.std.specs.Prelude.{ℕ, ◌+◌, Bool, not, nat_le, List, [], ◌∷◌, ◌++◌, fold, sum_by, count_by, Option, None, Some, if◌then◌else◌}
-use Rattle.charging_book.specs.declared.records.TheConstants.{VOLUME_OCTETS}
 use Rattle.charging_book.specs.declared.records.Why.{Why}
 use Rattle.charging_book.specs.declared.records.Why.TheVariants.{Volume}
 use Rattle.charging_book.specs.Rows.{Counters, Moments, Charged}
@@ -29,9 +28,13 @@ up_packets piece = count_by (λ p. p.up) piece
 abbrev pub down_packets : List Forwarded → ℕ
 down_packets piece = count_by (λ p. not p.up) piece
 
+-- how many octets fill a piece
+abbrev pub volume : ℕ
+volume = 1000000
+
 -- whether a piece is full
 abbrev pub is_full : List Forwarded → Bool
-is_full piece = nat_le VOLUME_OCTETS (up_octets piece + down_octets piece)
+is_full piece = nat_le volume (up_octets piece + down_octets piece)
 
 -- the moment of the first packet
 abbrev pub first_at : List Forwarded → Option ℕ

@@ -1,12 +1,12 @@
 // The book of a subscriber.
 ghost use Rattle.std.specs.Prelude.{◌≡◌, ◌≢◌, ◌<◌, All, Contains, IfNone, IfSome, length, map, slice_index};
-ghost use Rattle.charging_book.specs.Ledger.{EachOctetOnce};
+ghost use Rattle.charging_book.specs.Ledger.{LedgersArePartitions, EachOctetOnce, EachPacketOnce};
 ghost use Rattle.charging_book.specs.Accounts.{AreBounded};
 
 use super::NoMemory;
 use super::records::{ChargeRow, Open, Span, Why};
 use pc_base::Moment;
-use std::alloc::{AllocError, Global};
+use std::alloc::Global;
 use std::marker::Model;
 
 /// The open counters of a subscriber's lives, and the rows of their finished pieces.
@@ -59,9 +59,9 @@ impl Book {
         self.opens.push(Open::new(life, ebi, qci))?;
         match self.spans.push(Span::new()) {
             Ok(()) => Ok(()),
-            Err(_) => {
+            Err(failed) => {
                 let _ = self.opens.pop();
-                Err(AllocError)
+                Err(failed.into())
             }
         }
     }
@@ -162,10 +162,12 @@ impl Book {
     }
 }
 
-/// Each octet that was forwarded for a life, up or down, stands in one of its rows or in its open
-/// counters: their sum is the sum of what was forwarded.
-pub fn each_octet_once()
-    ensures { EachOctetOnce }
+/// The ledger is a partition: the pieces that a life's rows and open counters tell, one behind another, are just
+/// the packets that were forwarded for it, in their order. So they have its octets and its packets, each way.
+pub fn each_packet_once()
+    ensures pieces { LedgersArePartitions }
+    ensures octets { EachOctetOnce }
+    ensures packets { EachPacketOnce }
 {}
 
 /// No count of a book is above the number of happenings, so its counts may rise as long as fewer

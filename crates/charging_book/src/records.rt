@@ -85,8 +85,7 @@ impl Model for Open {
 
 impl Open {
     ghost use Rattle.std.specs.Prelude.{◌≡◌, ◌+◌, ◌-◌, ◌<◌, ◌≤◌, ◌^◌, [], nat_le, IsTrue, ◌↔◌};
-    ghost use Rattle.charging_book.specs.declared.records.TheConstants.{VOLUME_OCTETS};
-    ghost use Rattle.charging_book.specs.Pieces.{open_of};
+    ghost use Rattle.charging_book.specs.Pieces.{volume, open_of};
     ghost use Rattle.charging_book.specs.Counters.{with_packet, next_piece, HasRoom};
 
     pub(super) fn new(life: u64, ebi: u8, qci: u8) -> Open
@@ -107,7 +106,7 @@ impl Open {
 
     // The counters with one packet more.
     pub(super) fn with(&self, up: bool, octets: u32) -> Open
-        requires octets { self.now.up_octets + self.now.down_octets < VOLUME_OCTETS }
+        requires octets { self.now.up_octets + self.now.down_octets < volume }
         requires room { HasRoom self.now }
         ensures { result ≡ with_packet self.now up octets }
     {
@@ -148,7 +147,7 @@ impl Open {
 
     pub(super) fn is_full(&self) -> bool
         requires { self.now.up_octets + self.now.down_octets < 2 ^ 64 }
-        ensures { result ≡ nat_le VOLUME_OCTETS (self.now.up_octets + self.now.down_octets) }
+        ensures { result ≡ nat_le volume (self.now.up_octets + self.now.down_octets) }
     {
         self.up_octets + self.down_octets >= VOLUME_OCTETS
     }

@@ -1,26 +1,31 @@
--- The octets of forwarded packets are those that are charged.
-use Rattle.std.proofs.Common.{◌≡◌, ◌≢◌, ℕ, zero, suc, ◌==◌, ◌<◌, ◌≤◌, Bool, true, false, Option, Some, None, List, [], ◌∷◌, ◌++◌, length, map, cond, sum_by, refl, ap, ◌∙◌, inl, inr, arith, zero-add, eqb, if◌then◌else◌}
-use Rattle.std.specs.List.{filter_map, flat_map}
+-- The forwarded packets are those that are charged.
+use Rattle.std.proofs.Common.{◌≡◌, ◌≢◌, ℕ, zero, suc, ◌+◌, ◌==◌, ◌<◌, Bool, true, false, not, Option, Some, None, List, [], ◌∷◌, ◌++◌, map, cond, sum_by, refl, sym, ap, ◌∙◌, inl, inr, arith, eqb, eq-eqb, if◌then◌else◌}
+use Rattle.std.specs.List.{cons_option, filter_map, flat_map}
 use Rattle.std.proofs.lemmas.Bool.{cases_eq, ne_eqb}
 use Rattle.std.proofs.lemmas.Grind.{flat_map-append}
-use Rattle.std.proofs.lemmas.List.Sums.{sum_by-cons, sum_by-append}
+use Rattle.std.proofs.lemmas.List.{append-nil, map-append}
+use Rattle.std.proofs.lemmas.List.Elements.{filter_map-append}
+use Rattle.std.proofs.lemmas.List.Sums.{sum_by-cons}
 use Rattle.pc_base.specs.Addresses.{addr_of}
 use Rattle.pc_base.specs.declared.packet.Packet.{Packet}
 use Rattle.pc_base.specs.declared.packet.Verdict.TheVariants as verdict
 use Rattle.pc_base.specs.declared.packet.Way.{Way}
 use Rattle.pc_base.specs.declared.packet.Way.TheVariants.{Up, Down}
 use Rattle.ipv4_packet.specs.Fields.{source_of}
-use Rattle.charging_book.specs.Happenings.{rows_of, opens_of}
-use Rattle.charging_book.specs.Ledger.{charged_octets, open_octets, octets_by, forwarded_octets}
+use Rattle.charging_book.specs.Happenings.{Happening, rows_of, opens_of}
+use Rattle.charging_book.specs.Ledger.{packet_by, packets_of, octets_in, packets_in, rows_for, opens_for, TellPieces, TellLast, charged_octets, open_octets, charged_packets, open_packets}
+use Rattle.charging_book.specs.Pieces.{Forwarded}
 use Rattle.charging_book.specs.Rows.{Charged, Counters}
-use Rattle.charging_book.proofs.LedgerSteps.{each_octet_once}
-use Rattle.gate_model.specs.Charges.{gone, begun, by_verdict, by_event, happenings_from, happenings, records_of, open_counters_of, records, open_counters}
+use Rattle.charging_book.proofs.LedgerSums.{each_octet_once, each_packet_once}
+use Rattle.charging_book.proofs.Partition.{ledgers_are_partitions}
+use Rattle.gate_model.specs.Charges.{gone, begun, by_verdict, by_event, happenings_from, happenings, records_of, open_counters_of, records, open_counters, charges}
 use Rattle.gate_model.specs.Control.{default_bearer}
+use Rattle.gate_model.specs.Decision.{Decision}
 use Rattle.gate_model.specs.Entry.{Entry, noted, replied, judged, charged, left_open}
 use Rattle.gate_model.specs.Events.{at_packets, session_after, verdict_after}
-use Rattle.gate_model.specs.Ledger.{forwarded_by, octets_forwarded, octets_charged, EachOctetCharged}
+use Rattle.gate_model.specs.Ledger.{Sent, sent_by, packet_sent, row_told, counters_told, sent_of, octets_sent, packets_sent, IsPartition, ReportsArePartitions, EachOctetCharged, EachPacketCharged}
 use Rattle.gate_model.specs.Packets.{bearer_at, sent_on, judged_by}
-use Rattle.gate_model.specs.Run.{verdict_told, counted_to}
+use Rattle.gate_model.specs.Run.{IsRun, verdict_told, counted_to}
 use Rattle.gate_model.specs.declared.command.Command.TheVariants.{Attach}
 use Rattle.gate_model.specs.declared.gateway.Event.{Event}
 use Rattle.gate_model.specs.declared.gateway.Event.TheVariants as event
@@ -30,165 +35,179 @@ use Rattle.gate_model.proofs.LawfulCharges.{happenings_lawful}
 use Rattle.gate_model.proofs.LineByLine.{eqb_same}
 
 -- the entries forward what the verdicts that they tell forward
-told_octets : (slot life : ℕ) (up : Bool) (entries : List Entry)
-    → sum_by (octets_forwarded slot up life) entries ≡ sum_by (forwarded_by up life) (filter_map (verdict_told slot) entries)
-told_octets slot life up [] = refl
-told_octets slot life up (noted line text ∷ entries) =
-    omega (arith, sum_by-cons (octets_forwarded slot up life) (noted line text) entries, told_octets slot life up entries)
-told_octets slot life up (replied line s number reply ∷ entries) =
-    omega (arith, sum_by-cons (octets_forwarded slot up life) (replied line s number reply) entries, told_octets slot life up entries)
-told_octets slot life up (judged line s number commands v ∷ entries) =
-    let more = told_octets slot life up entries in
-    let first = sum_by-cons (octets_forwarded slot up life) (judged line s number commands v) entries in
-    elim (cases_eq s slot) [
-      | inl same ↦
-          let test : eqb s slot ≡ true = rw same (eqb_same slot) in
-          let own : octets_forwarded slot up life (judged line s number commands v) ≡ forwarded_by up life v = rw test refl in
-          let told : filter_map (verdict_told slot) (judged line s number commands v ∷ entries) ≡ v ∷ filter_map (verdict_told slot) entries = rw test refl in
-          first ∙ omega (arith, own, more, ap (sum_by (forwarded_by up life)) told, sum_by-cons (forwarded_by up life) v (filter_map (verdict_told slot) entries))
-      | inr other ↦
-          let test : eqb s slot ≡ false = ne_eqb s slot other in
-          let none : octets_forwarded slot up life (judged line s number commands v) ≡ 0 = rw test refl in
-          let told : filter_map (verdict_told slot) (judged line s number commands v ∷ entries) ≡ filter_map (verdict_told slot) entries = rw test refl in
-          first ∙ omega (arith, none, more, ap (sum_by (forwarded_by up life)) told)
-    ]
-told_octets slot life up (charged s row ∷ entries) =
-    omega (arith, sum_by-cons (octets_forwarded slot up life) (charged s row) entries, told_octets slot life up entries)
-told_octets slot life up (left_open s counters ∷ entries) =
-    omega (arith, sum_by-cons (octets_forwarded slot up life) (left_open s counters) entries, told_octets slot life up entries)
+told_packets : (slot life : ℕ) (entries : List Entry)
+    → filter_map (packet_sent slot life) entries ≡ filter_map (sent_by life) (filter_map (verdict_told slot) entries)
+told_packets slot life [] = refl
+told_packets slot life (noted line text ∷ entries) = told_packets slot life entries
+told_packets slot life (replied line s number reply ∷ entries) = told_packets slot life entries
+told_packets slot life (judged line s number commands v ∷ entries) = elim (cases_eq s slot) [
+  | inl same ↦ rw (eq-eqb s slot same) (ap (cons_option (sent_by life v)) (told_packets slot life entries))
+  | inr other ↦ rw (ne_eqb s slot other) (told_packets slot life entries)
+]
+told_packets slot life (charged s row ∷ entries) = told_packets slot life entries
+told_packets slot life (left_open s counters ∷ entries) = told_packets slot life entries
 
 -- lives that end, and one that starts, forward nothing
-attach_octets : (life : ℕ) (up : Bool) (bearers : List Bearer) (new : Bearer) → forwarded_octets up life (map gone bearers ++ begun new ∷ []) ≡ 0
-attach_octets life up [] new = refl
-attach_octets life up (bearer ∷ bearers) new =
-    omega (arith, sum_by-cons (octets_by up life) (gone bearer) (map gone bearers ++ begun new ∷ []), attach_octets life up bearers new)
+attach_packets : (life : ℕ) (bearers : List Bearer) (new : Bearer) → packets_of life (map gone bearers ++ begun new ∷ []) ≡ []
+attach_packets life [] new = refl
+attach_packets life (bearer ∷ bearers) new = attach_packets life bearers new
 
 -- a packet that goes up has its own octets
-up_octets_are : (life : ℕ) (up : Bool) (packet : Packet) (found : Option Bearer) (slot : ℕ)
-    → forwarded_octets up life (by_verdict packet (sent_on found slot packet.octets)) ≡ forwarded_by up life (sent_on found slot packet.octets)
-up_octets_are life up packet None slot = refl
-up_octets_are life up packet (Some bearer) slot = by_test (source_of packet.octets == addr_of slot)
+up_packet : (life : ℕ) (packet : Packet) (found : Option Bearer) (slot : ℕ)
+    → map sent_of (packets_of life (by_verdict packet (sent_on found slot packet.octets))) ≡ filter_map (sent_by life) (sent_on found slot packet.octets ∷ [])
+up_packet life packet None slot = refl
+up_packet life packet (Some bearer) slot = by_test (source_of packet.octets == addr_of slot)
   where
     by_test : (test : Bool)
-        → forwarded_octets up life (by_verdict packet (cond test (verdict.Up bearer.life packet.octets) verdict.Spoof))
-        ≡ forwarded_by up life (cond test (verdict.Up bearer.life packet.octets) verdict.Spoof)
-    by_test true = by_way up
-      where
-        by_way : (way : Bool) → forwarded_octets way life (by_verdict packet (verdict.Up bearer.life packet.octets)) ≡ forwarded_by way life (verdict.Up bearer.life packet.octets)
-        by_way true = zero-add _ ∙ ap (λ n. if bearer.life == life then n else 0) (zero-add (length packet.octets))
-        by_way false = zero-add _
+        → map sent_of (packets_of life (by_verdict packet (cond test (verdict.Up bearer.life packet.octets) verdict.Spoof)))
+        ≡ filter_map (sent_by life) (cond test (verdict.Up bearer.life packet.octets) verdict.Spoof ∷ [])
+    by_test true = elim (cases_eq bearer.life life) [
+      | inl same ↦ rw (eq-eqb bearer.life life same) refl
+      | inr other ↦ rw (ne_eqb bearer.life life other) refl
+    ]
     by_test false = refl
 
-packet_octets : (life : ℕ) (up : Bool) (packet : Packet) (session : Session) (way : Way)
-    → forwarded_octets up life (by_verdict packet (judged_by session packet.octets way)) ≡ forwarded_by up life (judged_by session packet.octets way)
-packet_octets life up packet session (Up index) =
-    up_octets_are life up packet (if session.live then bearer_at index session.bearers else None) session.slot
-packet_octets life up packet session Down = refl
+packet_is : (life : ℕ) (packet : Packet) (session : Session) (way : Way)
+    → map sent_of (packets_of life (by_verdict packet (judged_by session packet.octets way))) ≡ filter_map (sent_by life) (judged_by session packet.octets way ∷ [])
+packet_is life packet session (Up index) = up_packet life packet (if session.live then bearer_at index session.bearers else None) session.slot
+packet_is life packet session Down = refl
+
+sent-append : (life : ℕ) (event later : List Happening)
+    → map sent_of (packets_of life (event ++ later)) ≡ map sent_of (packets_of life event) ++ map sent_of (packets_of life later)
+sent-append life event later =
+    ap (map sent_of) (filter_map-append (packet_by life) event later) ∙ map-append sent_of (packets_of life event) (packets_of life later)
 
 -- the happenings forward what the verdicts forward
-verdict_octets : (slot life : ℕ) (up : Bool) (before later : List Event)
-    → sum_by (forwarded_by up life) (at_packets (verdict_after slot) before later) ≡ forwarded_octets up life (happenings_from slot before later)
-verdict_octets slot life up before [] = refl
-verdict_octets slot life up before (event.Command (Attach enb own down) ∷ later) =
+happened_packets : (slot life : ℕ) (before later : List Event)
+    → map sent_of (packets_of life (happenings_from slot before later)) ≡ filter_map (sent_by life) (at_packets (verdict_after slot) before later)
+happened_packets slot life before [] = refl
+happened_packets slot life before (event.Command (Attach enb own down) ∷ later) =
     let now = event.Command (Attach enb own down) in
-    let more = verdict_octets slot life up (before ++ now ∷ []) later in
-    let none : forwarded_octets up life (by_event slot before now) ≡ 0 = attach_octets life up (session_after slot before).bearers
-    (default_bearer (session_after slot before).lives enb) in
-    let parts = sum_by-append (octets_by up life) (by_event slot before now) (happenings_from slot (before ++ now ∷ []) later) in
-    omega (arith, more, none, parts)
-verdict_octets slot life up before (event.Packet packet ∷ later) =
+    let none = attach_packets life (session_after slot before).bearers (default_bearer (session_after slot before).lives enb) in
+    sent-append life (by_event slot before now) (happenings_from slot (before ++ now ∷ []) later)
+    ∙ ap (λ ps. map sent_of ps ++ map sent_of (packets_of life (happenings_from slot (before ++ now ∷ []) later))) none
+    ∙ happened_packets slot life (before ++ now ∷ []) later
+happened_packets slot life before (event.Packet packet ∷ later) =
     let now = event.Packet packet in
-    let more = verdict_octets slot life up (before ++ now ∷ []) later in
-    let own : forwarded_octets up life (by_event slot before now) ≡ forwarded_by up life (verdict_after slot before packet) =
-    packet_octets life up packet (session_after slot before) packet.way in
-    let first = sum_by-cons (forwarded_by up life) (verdict_after slot before packet) (at_packets (verdict_after slot) (before ++ now ∷ []) later) in
-    let parts = sum_by-append (octets_by up life) (by_event slot before now) (happenings_from slot (before ++ now ∷ []) later) in
-    omega (arith, more, own, first, parts)
+    let rest = at_packets (verdict_after slot) (before ++ now ∷ []) later in
+    sent-append life (by_event slot before now) (happenings_from slot (before ++ now ∷ []) later)
+    ∙ ap (λ ps. ps ++ map sent_of (packets_of life (happenings_from slot (before ++ now ∷ []) later))) (packet_is life packet (session_after slot before) packet.way)
+    ∙ ap (λ ps. filter_map (sent_by life) (verdict_after slot before packet ∷ []) ++ ps) (happened_packets slot life (before ++ now ∷ []) later)
+    ∙ sym (filter_map-append (sent_by life) (verdict_after slot before packet ∷ []) rest)
 
--- the records of a slot have what its rows have, and nothing of another slot's · the same of counters counters
-own_records : (slot life : ℕ) (up : Bool) (rows : List Charged) → sum_by (octets_charged slot up life) (map (charged slot) rows) ≡ charged_octets up life rows
-own_records slot life up [] = refl
-own_records slot life up (row ∷ rows) =
-    let test : eqb slot slot ≡ true = eqb_same slot in
-    let own : octets_charged slot up life (charged slot row) ≡ (if row.life == life then (if up then row.up_octets else row.down_octets) else 0) = rw test refl in
-    omega (
-      arith,
-      own,
-      own_records slot life up rows,
-      sum_by-cons (octets_charged slot up life) (charged slot row) (map (charged slot) rows),
-      sum_by-cons (λ (r : Charged). if r.life == life then (if up then r.up_octets else r.down_octets) else 0) row rows,
-    )
+-- what the entries of a run forward is what its events do
+run_packets : (made : List Decision) (entries : List Entry) (events : ℕ → List Event) (slot life : ℕ) → IsRun made entries events
+    → map sent_of (packets_of life (happenings slot (events slot))) ≡ filter_map (packet_sent slot life) entries
+run_packets made entries events slot life run =
+    happened_packets slot life [] (events slot)
+    ∙ ap (filter_map (sent_by life)) (sym (run.histories slot).verdicts)
+    ∙ sym (told_packets slot life entries)
 
-other_records : (slot s life : ℕ) (up : Bool) → s ≢ slot → (rows : List Charged) → sum_by (octets_charged slot up life) (map (charged s) rows) ≡ 0
-other_records slot s life up other [] = refl
-other_records slot s life up other (row ∷ rows) =
-    let test : eqb s slot ≡ false = ne_eqb s slot other in
-    let none : octets_charged slot up life (charged s row) ≡ 0 = rw test refl in
-    omega (arith, none, other_records slot s life up other rows, sum_by-cons (octets_charged slot up life) (charged s row) (map (charged s) rows))
+-- what is told of one slot, out of the entries of all slots
+module _ {X : Type 0} (f : Entry → Option X) (of : ℕ → List Entry) where
+  one_more : (n : ℕ) → filter_map f (flat_map of (counted_to (suc n))) ≡ filter_map f (flat_map of (counted_to n)) ++ filter_map f (of n)
+  one_more n =
+      ap (filter_map f) (flat_map-append of (counted_to n) (n ∷ []))
+      ∙ filter_map-append f (flat_map of (counted_to n)) (flat_map of (n ∷ []))
+      ∙ ap (λ es. filter_map f (flat_map of (counted_to n)) ++ filter_map f es) (append-nil (of n))
 
-own_counters : (slot life : ℕ) (up : Bool) (opens : List Counters) → sum_by (octets_charged slot up life) (map (left_open slot) opens) ≡ open_octets up life opens
-own_counters slot life up [] = refl
-own_counters slot life up (counters ∷ opens) =
-    let test : eqb slot slot ≡ true = eqb_same slot in
-    let own : octets_charged slot up life (left_open slot counters) ≡ (if counters.life == life then (if up then counters.up_octets else counters.down_octets) else 0) = rw test refl in
-    omega (
-      arith,
-      own,
-      own_counters slot life up opens,
-      sum_by-cons (octets_charged slot up life) (left_open slot counters) (map (left_open slot) opens),
-      sum_by-cons (λ (o : Counters). if o.life == life then (if up then o.up_octets else o.down_octets) else 0) counters opens,
-    )
+  none_of : (slots : ℕ) → ((s : ℕ) → s < slots → filter_map f (of s) ≡ []) → filter_map f (flat_map of (counted_to slots)) ≡ []
+  none_of zero none = refl
+  none_of (suc n) none =
+      one_more n ∙ ap (λ xs. xs ++ filter_map f (of n)) (none_of n (λ s below. none s (omega (arith, below)))) ∙ none n (omega arith)
 
-other_counters : (slot s life : ℕ) (up : Bool) → s ≢ slot → (opens : List Counters) → sum_by (octets_charged slot up life) (map (left_open s) opens) ≡ 0
-other_counters slot s life up other [] = refl
-other_counters slot s life up other (counters ∷ opens) =
-    let test : eqb s slot ≡ false = ne_eqb s slot other in
-    let none : octets_charged slot up life (left_open s counters) ≡ 0 = rw test refl in
-    omega (arith, none, other_counters slot s life up other opens, sum_by-cons (octets_charged slot up life) (left_open s counters) (map (left_open s) opens))
+  one_of : (slot slots : ℕ) → slot < slots → ((s : ℕ) → s ≢ slot → filter_map f (of s) ≡ []) → filter_map f (flat_map of (counted_to slots)) ≡ filter_map f (of slot)
+  one_of slot zero within others = absurd (omega (arith, within))
+  one_of slot (suc n) within others = elim (cases_eq n slot) [
+    | inl same ↦
+        one_more n
+        ∙ ap (λ xs. xs ++ filter_map f (of n)) (none_of n (λ s below. others s (λ is. omega (arith, is, below, same))))
+        ∙ ap (λ s. filter_map f (of s)) same
+    | inr other ↦
+        one_more n
+        ∙ ap (λ xs. filter_map f (flat_map of (counted_to n)) ++ xs) (others n other)
+        ∙ append-nil (filter_map f (flat_map of (counted_to n)))
+        ∙ one_of slot n (omega (arith, within, other)) others
+  ]
 
--- of the entries of all slots only those of one count
-module _ (slot : ℕ) (weight : Entry → ℕ) (of : ℕ → List Entry) (others : (s : ℕ) → s ≢ slot → sum_by weight (of s) ≡ 0) where
-  none_yet : (slots : ℕ) → slots ≤ slot → sum_by weight (flat_map of (counted_to slots)) ≡ 0
-  none_yet zero few = refl
-  none_yet (suc n) few =
-      let differs : n ≢ slot = λ same. omega (arith, same, few) in
-      omega (
-        arith,
-        none_yet n (omega (arith, few)),
-        others n differs,
-        ap (sum_by weight) (flat_map-append of (counted_to n) (n ∷ [])),
-        sum_by-append weight (flat_map of (counted_to n)) (flat_map of (n ∷ [])),
-        sum_by-append weight (of n) [],
-      )
+-- the records of a slot tell its rows, and nothing of another slot · its open counters
+own_rows : (slot : ℕ) (rows : List Charged) → filter_map (row_told slot) (map (charged slot) rows) ≡ rows
+own_rows slot [] = refl
+own_rows slot (row ∷ rows) = rw (eqb_same slot) (ap (λ rs. row ∷ rs) (own_rows slot rows))
 
-  pub one_counts : (slots : ℕ) → slot < slots → sum_by weight (flat_map of (counted_to slots)) ≡ sum_by weight (of slot)
-  one_counts zero within = omega (arith, within)
-  one_counts (suc n) within =
-      let parts = ap (sum_by weight) (flat_map-append of (counted_to n) (n ∷ [])) in
-      let sums = sum_by-append weight (flat_map of (counted_to n)) (flat_map of (n ∷ [])) in
-      let last = sum_by-append weight (of n) [] in
-      elim (cases_eq n slot) [
-        | inl same ↦ omega (arith, parts, sums, last, none_yet n (omega (arith, same)), ap (λ s. sum_by weight (of s)) same)
-        | inr other ↦ omega (arith, parts, sums, last, others n other, one_counts n (omega (arith, within, other)))
-      ]
+other_rows : (slot s : ℕ) (rows : List Charged) → s ≢ slot → filter_map (row_told slot) (map (charged s) rows) ≡ []
+other_rows slot s [] other = refl
+other_rows slot s (row ∷ rows) other = rw (ne_eqb s slot other) (other_rows slot s rows other)
+
+no_rows : (slot s : ℕ) (opens : List Counters) → filter_map (row_told slot) (map (left_open s) opens) ≡ []
+no_rows slot s [] = refl
+no_rows slot s (counters ∷ opens) = no_rows slot s opens
+
+own_opens : (slot : ℕ) (opens : List Counters) → filter_map (counters_told slot) (map (left_open slot) opens) ≡ opens
+own_opens slot [] = refl
+own_opens slot (counters ∷ opens) = rw (eqb_same slot) (ap (λ os. counters ∷ os) (own_opens slot opens))
+
+other_opens : (slot s : ℕ) (opens : List Counters) → s ≢ slot → filter_map (counters_told slot) (map (left_open s) opens) ≡ []
+other_opens slot s [] other = refl
+other_opens slot s (counters ∷ opens) other = rw (ne_eqb s slot other) (other_opens slot s opens other)
+
+no_opens : (slot s : ℕ) (rows : List Charged) → filter_map (counters_told slot) (map (charged s) rows) ≡ []
+no_opens slot s [] = refl
+no_opens slot s (row ∷ rows) = no_opens slot s rows
+
+charged_rows : (events : ℕ → List Event) (slots slot : ℕ) → slot < slots → filter_map (row_told slot) (charges slots events) ≡ rows_of (happenings slot (events slot))
+charged_rows events slots slot within =
+    filter_map-append (row_told slot) (records events slots) (open_counters events slots)
+    ∙ ap (λ rs. filter_map (row_told slot) (records events slots) ++ rs)
+    (none_of (row_told slot) (λ s. open_counters_of s (events s)) slots (λ s below. no_rows slot s (opens_of (happenings s (events s)))))
+    ∙ append-nil (filter_map (row_told slot) (records events slots))
+    ∙ one_of (row_told slot) (λ s. records_of s (events s)) slot slots within (λ s other. other_rows slot s (rows_of (happenings s (events s))) other)
+    ∙ own_rows slot (rows_of (happenings slot (events slot)))
+
+charged_opens : (events : ℕ → List Event) (slots slot : ℕ) → slot < slots → filter_map (counters_told slot) (charges slots events) ≡ opens_of (happenings slot (events slot))
+charged_opens events slots slot within =
+    filter_map-append (counters_told slot) (records events slots) (open_counters events slots)
+    ∙ ap (λ os. os ++ filter_map (counters_told slot) (open_counters events slots))
+    (none_of (counters_told slot) (λ s. records_of s (events s)) slots (λ s below. no_opens slot s (rows_of (happenings s (events s)))))
+    ∙ one_of (counters_told slot) (λ s. open_counters_of s (events s)) slot slots within (λ s other. other_opens slot s (opens_of (happenings s (events s))) other)
+    ∙ own_opens slot (opens_of (happenings slot (events slot)))
+
+pub reports_are_partitions : ReportsArePartitions
+reports_are_partitions made entries events slots slot life run within =
+    let happened = happenings slot (events slot) in
+    let parts = ledgers_are_partitions happened life (happenings_lawful slot (events slot)) in
+    record {
+      pieces = parts.pieces;
+      last = parts.last;
+      packets = ap (map sent_of) parts.packets ∙ run_packets made entries events slot life run;
+      records = rw (charged_rows events slots slot within) parts.rows;
+      counters = rw (charged_opens events slots slot within) parts.counters;
+    }
+
+-- what is counted of packets, with their moments or without
+counted_alike : (f : Forwarded → ℕ) (g : Sent → ℕ) → ((p : Forwarded) → f p ≡ g (sent_of p)) → (ps : List Forwarded) → sum_by f ps ≡ sum_by g (map sent_of ps)
+counted_alike f g same [] = refl
+counted_alike f g same (p ∷ ps) =
+    omega (arith, sum_by-cons f p ps, sum_by-cons g (sent_of p) (map sent_of ps), same p, counted_alike f g same ps)
+
+octets_alike : (up : Bool) (ps : List Forwarded) → octets_in up ps ≡ octets_sent up (map sent_of ps)
+octets_alike true ps = counted_alike (λ p. if p.up then p.octets else 0) (λ p. if p.up then p.octets else 0) (λ p. refl) ps
+octets_alike false ps = counted_alike (λ p. if p.up then 0 else p.octets) (λ p. if p.up then 0 else p.octets) (λ p. refl) ps
+
+packets_alike : (up : Bool) (ps : List Forwarded) → packets_in up ps ≡ packets_sent up (map sent_of ps)
+packets_alike true ps = counted_alike (λ p. cond p.up 1 0) (λ p. cond p.up 1 0) (λ p. refl) ps
+packets_alike false ps = counted_alike (λ p. cond (not p.up) 1 0) (λ p. cond (not p.up) 1 0) (λ p. refl) ps
 
 pub each_octet_charged : EachOctetCharged
 each_octet_charged made entries events slots slot life up run within =
     let happened = happenings slot (events slot) in
-    let split = sum_by-append (octets_charged slot up life) (records events slots) (open_counters events slots) in
-    let in_records = one_counts slot (octets_charged slot up life) (λ s. records_of s (events s))
-    (λ s other. other_records slot s life up other (rows_of (happenings s (events s)))) slots within in
-    let in_counters = one_counts slot (octets_charged slot up life) (λ s. open_counters_of s (events s))
-    (λ s other. other_counters slot s life up other (opens_of (happenings s (events s)))) slots within in
-    omega (
-      arith,
-      split,
-      in_records,
-      in_counters,
-      own_records slot life up (rows_of happened),
-      own_counters slot life up (opens_of happened),
-      each_octet_once happened up life (happenings_lawful slot (events slot)),
-      verdict_octets slot life up [] (events slot),
-      ap (sum_by (forwarded_by up life)) (run.histories slot).verdicts,
-      told_octets slot life up entries,
-    )
+    rw (charged_rows events slots slot within, charged_opens events slots slot within)
+    (each_octet_once happened up life (happenings_lawful slot (events slot))
+    ∙ octets_alike up (packets_of life happened) ∙ ap (octets_sent up) (run_packets made entries events slot life run))
+
+pub each_packet_charged : EachPacketCharged
+each_packet_charged made entries events slots slot life up run within =
+    let happened = happenings slot (events slot) in
+    rw (charged_rows events slots slot within, charged_opens events slots slot within)
+    (each_packet_once happened up life (happenings_lawful slot (events slot))
+    ∙ packets_alike up (packets_of life happened) ∙ ap (packets_sent up) (run_packets made entries events slot life run))

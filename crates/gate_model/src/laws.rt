@@ -5,7 +5,7 @@ ghost use Rattle.gate_model.specs.Decision.{Decision, events_at};
 ghost use Rattle.gate_model.specs.Entered.{entries_after};
 ghost use Rattle.gate_model.specs.Entry.{Entry, text_of};
 ghost use Rattle.gate_model.specs.EntryRanges.{IsEntry};
-ghost use Rattle.gate_model.specs.Ledger.{EachOctetCharged};
+ghost use Rattle.gate_model.specs.Ledger.{ReportsArePartitions, EachOctetCharged, EachPacketCharged};
 ghost use Rattle.gate_model.specs.Run.{IsRun};
 ghost use Rattle.gate_model.specs.declared.gateway.Event.{Event};
 
@@ -30,8 +30,11 @@ pub fn texts_tell_entries()
     ensures { (a b : Entry) → IsEntry a → IsEntry b → text_of a ≡ text_of b → a ≡ b }
 {}
 
-/// Billing is exact: in a lawful run the charging records and open counters of each bearer's life have, each way,
-/// just the octets of its forwarded packets.
-pub fn each_octet_is_charged()
-    ensures { EachOctetCharged }
+/// Billing is exact: in a lawful run the pieces that the charging records and the open counter of a bearer's life
+/// tell, one behind another, are just its forwarded packets, in their order. So they have its octets and its packets,
+/// each way.
+pub fn each_packet_is_charged()
+    ensures pieces { ReportsArePartitions }
+    ensures octets { EachOctetCharged }
+    ensures packets { EachPacketCharged }
 {}

@@ -16,5 +16,7 @@ mod tests;
 
 pub use command::{Command, Outcome, Reply};
 pub use gateway::{Event, Gateway, Happened};
-pub use laws::{each_octet_is_charged, every_trace_has_a_run, texts_tell_entries};
+pub use laws::{
+    each_packet_is_charged, every_trace_has_a_run, one_lawful_run, texts_tell_entries,
+};
 pub use session::{Bearer, Bearers, Session, step};

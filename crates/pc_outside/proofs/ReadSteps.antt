@@ -1,7 +1,7 @@
 -- The steps of `read_line` make its answer.
 use Rattle.std.proofs.Common.{◌≡◌, ℕ, ◌≤◌, false, List, [], ◌∷◌, ◌++◌, length, take, Option, None, Some, sym, ◌∙◌, ap, refl, subst, append_assoc, arith}
 use Rattle.std.specs.Io.KnownBytes.{Consumes, prepend_known}
-use Rattle.pc_outside.specs.declared.line_buffer.TheConstants.{LINE_MAX, NEWLINE}
+use Rattle.pc_outside.specs.Limits.{newline, line_max}
 use Rattle.pc_outside.specs.declared.reading.LineRead.{LineRead}
 use Rattle.pc_outside.specs.declared.reading.LineRead.TheVariants.{Line, End, ReadFault, LineLong, TooLong}
 use Rattle.pc_outside.specs.Line.{NoNewline, HoldsLine}
@@ -19,7 +19,7 @@ pub record IsReading (start now : Held) (left left_now : Option (List ℕ)) (see
   pub line : now.line ≡ []
   pub not_last : now.last ≡ false
   pub held : seen ≤ length now.front
-  pub short : seen ≤ LINE_MAX
+  pub short : seen ≤ line_max
   pub no_newline : NoNewline (take seen now.front)
 
 -- an answer about the octets held, whatever is left behind them, is one about all that was left
@@ -52,7 +52,7 @@ settles-behind Line now new behind line not_last gives =
       no_newline = gives.no_newline;
       short = gives.short;
       form = record {
-        parts = ap (λ xs. xs ++ behind) gives.whole.parts ∙ append_assoc new.line (NEWLINE ∷ new.front) behind;
+        parts = ap (λ xs. xs ++ behind) gives.whole.parts ∙ append_assoc new.line (newline ∷ new.front) behind;
         given = gives.whole.given;
       };
     })

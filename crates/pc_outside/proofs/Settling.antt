@@ -1,26 +1,26 @@
--- What the search for a newline tells of the octets held.
+-- What the search for a ends tells of the octets held.
 use Rattle.std.proofs.Common.{◌≡◌, ℕ, ◌+◌, ◌-◌, ◌<◌, ◌≤◌, Bool, List, [], ◌∷◌, ◌++◌, length, take, drop, slice_range, sym, ◌∙◌, ap, subst, refl, arith, length-take}
 use Rattle.std.proofs.lemmas.List.{take-append-drop, take_all, append-nil}
 use Rattle.std.proofs.lemmas.List.Edits.{length-between}
-use Rattle.pc_outside.specs.declared.line_buffer.TheConstants.{LINE_MAX, INPUT_MAX, NEWLINE}
+use Rattle.pc_outside.specs.Limits.{newline, line_max, input_max}
 use Rattle.pc_outside.specs.Line.{NoNewline, BeginsLong, FillsRoom}
 use Rattle.pc_outside.specs.Held.{Held, IsUnfinished}
 use Rattle.pc_outside.specs.Steps.{GivesWhole}
 use Rattle.pc_outside.proofs.Parts.{part-front, part-behind}
 
 -- a newline was found within a line's length
-pub found_whole : (octets line : List ℕ) (from to len taken : ℕ) (last : Bool) → from ≤ to → to ≤ length octets → taken ≤ INPUT_MAX
-    → len < to - from → len ≤ LINE_MAX → NoNewline (take len (slice_range octets from to))
-    → drop len (slice_range octets from to) ≡ NEWLINE ∷ drop (len + 1) (slice_range octets from to)
+pub found_whole : (octets line : List ℕ) (from to len taken : ℕ) (last : Bool) → from ≤ to → to ≤ length octets → taken ≤ input_max
+    → len < to - from → len ≤ line_max → NoNewline (take len (slice_range octets from to))
+    → drop len (slice_range octets from to) ≡ newline ∷ drop (len + 1) (slice_range octets from to)
     → GivesWhole
-    (record { line = line; last = last; front = slice_range octets from to; room = INPUT_MAX + (to - from) - taken })
+    (record { line = line; last = last; front = slice_range octets from to; room = input_max + (to - from) - taken })
     (record {
       line = slice_range octets from (from + len);
       last = last;
       front = slice_range octets (from + len + 1) to;
-      room = INPUT_MAX + (to - (from + len + 1)) - taken;
+      room = input_max + (to - (from + len + 1)) - taken;
     })
-found_whole octets line from to len taken last ordered within bounded inside short no_newline newline =
+found_whole octets line from to len taken last ordered within bounded inside short no_newline ends =
     let front = slice_range octets from to in
     let given = slice_range octets from (from + len) in
     let is_front : given ≡ take len front = part-front octets from to len (omega arith) in
@@ -31,46 +31,46 @@ found_whole octets line from to len taken last ordered within bounded inside sho
       short = omega arith;
       whole = record {
         parts = sym (take-append-drop len front) ∙ ap (λ xs. xs ++ drop len front) (sym is_front)
-            ∙ ap (λ xs. given ++ xs) (newline ∙ ap (λ xs. NEWLINE ∷ xs) (part-behind octets from to (len + 1)
+            ∙ ap (λ xs. given ++ xs) (ends ∙ ap (λ xs. newline ∷ xs) (part-behind octets from to (len + 1)
             ∙ ap (λ place. slice_range octets place to) next));
         given = omega arith;
       };
       last = refl;
     }
 
--- no newline within a line's length, and more octets than that
-pub found_long : (front : List ℕ) (room : ℕ) → length front ≤ room → LINE_MAX < length front
-    → NoNewline (take (LINE_MAX + 1) front) → BeginsLong room front
+-- no ends within a line's length, and more octets than that
+pub found_long : (front : List ℕ) (room : ℕ) → length front ≤ room → line_max < length front
+    → NoNewline (take (line_max + 1) front) → BeginsLong room front
 found_long front room held long no_newline =
-    let size : length (take (LINE_MAX + 1) front) ≡ LINE_MAX + 1 = length-take (LINE_MAX + 1) front ∙ omega arith in
+    let size : length (take (line_max + 1) front) ≡ line_max + 1 = length-take (line_max + 1) front ∙ omega arith in
     record {
-      front = take (LINE_MAX + 1) front;
-      rest = drop (LINE_MAX + 1) front;
-      parts = sym (take-append-drop (LINE_MAX + 1) front);
+      front = take (line_max + 1) front;
+      rest = drop (line_max + 1) front;
+      parts = sym (take-append-drop (line_max + 1) front);
       no_newline = no_newline;
       long = omega arith;
       within = omega arith;
     }
 
 -- no more may be taken
-pub found_full : (front : List ℕ) (room : ℕ) → length front ≡ room → length front ≤ LINE_MAX
-    → NoNewline (take (LINE_MAX + 1) front) → FillsRoom room front
+pub found_full : (front : List ℕ) (room : ℕ) → length front ≡ room → length front ≤ line_max
+    → NoNewline (take (line_max + 1) front) → FillsRoom room front
 found_full front room full short no_newline =
     record {
       front = front;
       rest = [];
       parts = sym (append-nil front);
-      no_newline = subst (λ xs. NoNewline xs) (take_all (LINE_MAX + 1) front (omega arith)) no_newline;
+      no_newline = subst (λ xs. NoNewline xs) (take_all (line_max + 1) front (omega arith)) no_newline;
       short = short;
       full = full;
     }
 
 -- more may come
-pub found_unfinished : (held : Held) → length held.front < held.room → length held.front ≤ LINE_MAX
-    → NoNewline (take (LINE_MAX + 1) held.front) → IsUnfinished held
+pub found_unfinished : (held : Held) → length held.front < held.room → length held.front ≤ line_max
+    → NoNewline (take (line_max + 1) held.front) → IsUnfinished held
 found_unfinished held more short no_newline =
     record {
-      no_newline = subst (λ xs. NoNewline xs) (take_all (LINE_MAX + 1) held.front (omega arith)) no_newline;
+      no_newline = subst (λ xs. NoNewline xs) (take_all (line_max + 1) held.front (omega arith)) no_newline;
       short = short;
       more = more;
     }

@@ -1,7 +1,8 @@
 -- What is always true of a line buffer's fields.
 use Rattle.std.specs.Prelude.{◌≡◌, ◌-◌, ◌≤◌, vec_len}
 use Rattle.pc_outside.specs.declared.line_buffer.LineBuf.TheInside.{Inside}
-use Rattle.pc_outside.specs.declared.line_buffer.TheConstants.{BUFFER_LEN, INPUT_MAX}
+use Rattle.pc_outside.specs.declared.line_buffer.TheConstants.{BUFFER_LEN}
+use Rattle.pc_outside.specs.Limits.{input_max}
 
 -- both parts lie in the buffer, and what is held was taken
 pub record IsSound (buf : Inside) : Type 0 where
@@ -11,4 +12,4 @@ pub record IsSound (buf : Inside) : Type 0 where
   pub line : buf.line_from ≤ buf.line_to
   pub line_end : buf.line_to ≤ BUFFER_LEN
   pub held : buf.to - buf.from ≤ buf.taken
-  pub taken : buf.taken ≤ INPUT_MAX
+  pub taken : buf.taken ≤ input_max

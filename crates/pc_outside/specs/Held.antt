@@ -1,7 +1,7 @@
 -- What a line buffer holds.
 use Rattle.std.specs.Prelude.{ℕ, ◌<◌, ◌≤◌, Bool, List, length}
 use Rattle.pc_outside.specs.Line.{NoNewline, BeginsLong, FillsRoom}
-use Rattle.pc_outside.specs.declared.line_buffer.TheConstants.{LINE_MAX}
+use Rattle.pc_outside.specs.Limits.{line_max}
 use Rattle.pc_outside.specs.declared.reading.LineRead.{LineRead}
 use Rattle.pc_outside.specs.declared.reading.LineRead.TheVariants.{Line, End, ReadFault, LineLong, TooLong}
 
@@ -16,7 +16,7 @@ pub record Held : Type 0 where
 -- an unfinished line waits for more octets, and there is room for them
 pub record IsUnfinished (held : Held) : Type 0 where
   pub no_newline : NoNewline held.front
-  pub short : length held.front ≤ LINE_MAX
+  pub short : length held.front ≤ line_max
   pub more : length held.front < held.room
 
 -- whatever the source gives, this is the answer from here on

@@ -1,4 +1,5 @@
 pub mod Faults
+pub mod Limits
 pub mod Line
 pub mod LineReads
 pub mod Steps

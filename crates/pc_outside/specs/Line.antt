@@ -1,14 +1,14 @@
 -- A line at the front of octets, by the octets alone. A room is how many octets may still be given.
 use Rattle.std.specs.Prelude.{◌≡◌, ◌≢◌, ℕ, ◌+◌, ◌<◌, ◌≤◌, Bool, true, false, List, [], ◌∷◌, ◌++◌, length, All}
-use Rattle.pc_outside.specs.declared.line_buffer.TheConstants.{LINE_MAX, NEWLINE}
+use Rattle.pc_outside.specs.Limits.{newline, line_max}
 
 -- none of the octets ends a line
 abbrev pub NoNewline : List ℕ → Type 0
-NoNewline octets = All (λ octet. octet ≢ NEWLINE) octets
+NoNewline octets = All (λ octet. octet ≢ newline) octets
 
 -- the octets are the line with its newline, and then the rest
 pub record IsWholeLine (room after : ℕ) (octets rest line : List ℕ) : Type 0 where
-  pub parts : octets ≡ line ++ NEWLINE ∷ rest
+  pub parts : octets ≡ line ++ newline ∷ rest
   pub given : room ≡ length line + 1 + after
 
 -- the octets are a last line without newline, which isn't empty, and more could have come
@@ -27,7 +27,7 @@ EndsLine true room after octets rest line = IsLastLine room after octets rest li
 -- with this room the octets begin with the line, and then come the rest and its room
 pub record HoldsLine (room after : ℕ) (octets rest line : List ℕ) (last : Bool) : Type 0 where
   pub no_newline : NoNewline line
-  pub short : length line ≤ LINE_MAX
+  pub short : length line ≤ line_max
   pub form : EndsLine last room after octets rest line
 
 -- within the room the octets begin with more than a line may have
@@ -36,7 +36,7 @@ pub record BeginsLong (room : ℕ) (octets : List ℕ) : Type 0 where
   pub rest : List ℕ
   pub parts : octets ≡ front ++ rest
   pub no_newline : NoNewline front
-  pub long : LINE_MAX < length front
+  pub long : line_max < length front
   pub within : length front ≤ room
 
 -- the octets fill the room with an unfinished line that isn't too long
@@ -45,5 +45,5 @@ pub record FillsRoom (room : ℕ) (octets : List ℕ) : Type 0 where
   pub rest : List ℕ
   pub parts : octets ≡ front ++ rest
   pub no_newline : NoNewline front
-  pub short : length front ≤ LINE_MAX
+  pub short : length front ≤ line_max
   pub full : length front ≡ room

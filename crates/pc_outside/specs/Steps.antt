@@ -3,14 +3,14 @@ use Rattle.std.specs.Prelude.{◌≡◌, ℕ, ◌<◌, ◌≤◌, true, List, []
 use Rattle.std.specs.Io.KnownBytes.{Consumes}
 use Rattle.pc_outside.specs.Line.{NoNewline, IsWholeLine, IsLastLine, BeginsLong, FillsRoom}
 use Rattle.pc_outside.specs.Held.{Held}
-use Rattle.pc_outside.specs.declared.line_buffer.TheConstants.{LINE_MAX}
+use Rattle.pc_outside.specs.Limits.{line_max}
 use Rattle.pc_outside.specs.declared.reading.LineRead.{LineRead}
 use Rattle.pc_outside.specs.declared.reading.LineRead.TheVariants.{Line, End, ReadFault, LineLong, TooLong}
 
 -- a whole line at the front of what was held is the line now
 pub record GivesWhole (old new : Held) : Type 0 where
   pub no_newline : NoNewline new.line
-  pub short : length new.line ≤ LINE_MAX
+  pub short : length new.line ≤ line_max
   pub whole : IsWholeLine old.room new.room old.front new.front new.line
   pub last : new.last ≡ old.last
 
@@ -35,7 +35,7 @@ pub record Gains (old new : Held) (left left_now : Option (List ℕ)) (count : �
 -- an unfinished line is the last one
 pub record GivesLast (old new : Held) : Type 0 where
   pub no_newline : NoNewline new.line
-  pub short : length new.line ≤ LINE_MAX
+  pub short : length new.line ≤ line_max
   pub form : IsLastLine old.room new.room old.front new.front new.line
   pub last : new.last ≡ true
 

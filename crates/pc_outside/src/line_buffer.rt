@@ -2,6 +2,7 @@
 ghost use Rattle.std.specs.Prelude.{◌≡◌, ◌+◌, ◌-◌, ◌<◌, ◌≤◌, ◌++◌, ◌∷◌, [], length, take, drop, slice_range, vec_len, IfOk, IfSome, IfNone, OnErr};
 ghost use Rattle.std.specs.Io.KnownBytes.{Consumes, IsAtEnd, Keeps};
 ghost use Rattle.pc_outside.specs.Faults.{Rises};
+ghost use Rattle.pc_outside.specs.Limits.{newline, line_max};
 ghost use Rattle.pc_outside.specs.Line.{NoNewline};
 
 use super::NoMemory;
@@ -43,7 +44,8 @@ pub struct LineBuf {
 
 impl Model for LineBuf {
     ghost use Rattle.std.specs.Prelude.{◌≡◌, ◌+◌, ◌-◌, ◌≤◌, vec_len, slice_range};
-    ghost use Rattle.pc_outside.specs.declared.line_buffer.TheConstants.{BUFFER_LEN, INPUT_MAX};
+    ghost use Rattle.pc_outside.specs.declared.line_buffer.TheConstants.{BUFFER_LEN};
+    ghost use Rattle.pc_outside.specs.Limits.{input_max};
     ghost use Rattle.pc_outside.specs.Held.{Held};
 
     ghost Value = { Held };
@@ -52,7 +54,7 @@ impl Model for LineBuf {
       line = slice_range buf.octets.items buf.line_from buf.line_to;
       last = buf.last;
       front = slice_range buf.octets.items buf.from buf.to;
-      room = INPUT_MAX + (buf.to - buf.from) - buf.taken;
+      room = input_max + (buf.to - buf.from) - buf.taken;
     } };
 
     ghost use Rattle.pc_outside.specs.Buffer.{IsSound};
@@ -64,13 +66,14 @@ impl LineBuf {
     ghost use Rattle.std.specs.Prelude.{◌≡◌, ◌+◌, ◌≤◌, [], false, length, take, IfOk, IfSome, IfNone, OnErr};
     ghost use Rattle.std.specs.Io.KnownBytes.{IsAtEnd, Keeps};
     ghost use Rattle.pc_outside.specs.Faults.{Rises};
+    ghost use Rattle.pc_outside.specs.Limits.{line_max, input_max};
     ghost use Rattle.pc_outside.specs.Line.{NoNewline};
     ghost use Rattle.pc_outside.specs.Held.{IsUnfinished};
     ghost use Rattle.pc_outside.specs.Steps.{Settles, Gains, Finishes};
 
     /// A buffer that nothing was read into. All its memory is taken here.
     pub fn new(alloc: Global) -> Result<LineBuf, NoMemory>
-        ensures { IfOk result (λ buf. buf ≡ record { line = []; last = false; front = []; room = INPUT_MAX }) }
+        ensures { IfOk result (λ buf. buf ≡ record { line = []; last = false; front = []; room = input_max }) }
     {
         let octets = vec![in alloc; 0u8; BUFFER_LEN]?;
         Ok(LineBuf {
@@ -101,7 +104,7 @@ impl LineBuf {
 
     /// How many octets were read so far.
     pub fn taken(&self) -> u64
-        ensures { result + self.now.room ≡ INPUT_MAX + length self.now.front }
+        ensures { result + self.now.room ≡ input_max + length self.now.front }
     {
         self.taken
     }
@@ -124,7 +127,7 @@ impl LineBuf {
     // are known to end no line. `None`: more are needed.
     pub(super) fn settle(&mut self, seen: usize) -> Option<LineRead>
         requires seen_held { seen ≤ length self.old.front }
-        requires seen_short { seen ≤ LINE_MAX }
+        requires seen_short { seen ≤ line_max }
         requires seen_none { NoNewline (take seen self.old.front) }
 
         ensures settled { IfSome result (λ read. Settles read self.old self.new) }
@@ -189,14 +192,14 @@ impl LineBuf {
 // Where the first newline stands, if within a line's length. The first `seen` octets are none.
 fn line_len(front: &[u8], seen: usize) -> Option<usize>
     requires seen_held { seen ≤ length front.now }
-    requires seen_short { seen ≤ LINE_MAX }
+    requires seen_short { seen ≤ line_max }
     requires seen_none { NoNewline (take seen front.now) }
 
     ensures within { IfSome result (λ len. len < length front.now) }
-    ensures short { IfSome result (λ len. len ≤ LINE_MAX) }
+    ensures short { IfSome result (λ len. len ≤ line_max) }
     ensures line { IfSome result (λ len. NoNewline (take len front.now)) }
-    ensures newline { IfSome result (λ len. drop len front.now ≡ NEWLINE ∷ drop (len + 1) front.now) }
-    ensures none { IfNone result (NoNewline (take (LINE_MAX + 1) front.now)) }
+    ensures newline { IfSome result (λ len. drop len front.now ≡ newline ∷ drop (len + 1) front.now) }
+    ensures none { IfNone result (NoNewline (take (line_max + 1) front.now)) }
 {
     let end = (LINE_MAX + 1).min(front.len());
     match memchr(NEWLINE, &front[seen..end]) {

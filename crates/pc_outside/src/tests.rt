@@ -1,5 +1,7 @@
 use super::*;
 use std::alloc::{AllocError, Global};
+use std::io;
+use std::io::{Read, Write};
 use std::test::Fail;
 
 // The answers until the end or a stop, as text: a line and `|`, or `$` where it is the last one, `!` a
@@ -74,27 +76,83 @@ fn longest_line(rt: HostRuntime) -> Result<(), Fail> {
 
 #[test]
 fn writes_in_pieces(rt: HostRuntime) -> Result<(), Fail> {
-    for (room, fail_at, want, ok) in [
-        (9, 9, b"abcdefgh".as_slice(), true),
-        (9, 2, b"abcdef".as_slice(), false),
-        (4, 9, b"abcd".as_slice(), false),
+    for (octets, room, fail_at, want, ok) in [
+        (b"abcdefgh".as_slice(), 9, 9, b"abcdefgh".as_slice(), true),
+        (b"abcdefgh".as_slice(), 9, 2, b"abcdef".as_slice(), false),
+        (b"abcdefgh".as_slice(), 4, 9, b"abcd".as_slice(), false),
+        // The last octet goes out, also alone in its piece.
+        (b"abcdefg".as_slice(), 9, 9, b"abcdefg".as_slice(), true),
+        (b"a".as_slice(), 9, 9, b"a".as_slice(), true),
+        // Where nothing is given nothing is written, and no call can fail.
+        (b"".as_slice(), 9, 0, b"".as_slice(), true),
     ] {
         let fail_at = Vec::from_slice(rt.alloc(), &[fail_at])?;
         let mut sink = MemSink::new(rt.alloc(), room, 3, fail_at)?;
-        let got = write_whole(&mut sink, b"abcdefgh");
+        let got = write_whole(&mut sink, octets);
         assert_eq!(rt; got.is_ok(), ok);
         assert_eq!(rt; sink.written(), want);
     }
     Ok(())
 }
 
+// A stream of the system of which each call fails.
+#[derive(Drop)]
+struct Broken;
+
+impl Read for Broken {
+    fn read(&mut self, _into: &mut [u8]) -> io::Result<usize> {
+        Err(io::Error::from(io::ErrorKind::TimedOut))
+    }
+}
+
+impl Write for Broken {
+    fn write(&mut self, _from: &[u8]) -> io::Result<usize> {
+        Err(io::Error::from(io::ErrorKind::TimedOut))
+    }
+
+    fn flush(&mut self) -> io::Result<()> {
+        Ok(())
+    }
+}
+
 #[test]
-fn streams_of_the_system(rt: HostRuntime) -> Result<(), Fail> {
+fn stream_that_ends(rt: HostRuntime) -> Result<(), Fail> {
     let mut source = StdSource::new(b"a\nb".as_slice());
     let mut buf = LineBuf::new(rt.alloc())?;
-    let mut sink = StdSink::new(Vec::new(rt.alloc()));
     assert_eq!(rt; read_line(&mut source, &mut buf), LineRead::Line);
     assert_eq!(rt; buf.line(), b"a".as_slice());
-    assert!(rt; write_whole(&mut sink, buf.line()).is_ok());
+    assert_eq!(rt; read_line(&mut source, &mut buf), LineRead::Line);
+    assert_eq!(rt; buf.line(), b"b".as_slice());
+    assert!(rt; buf.is_last());
+    // The end is no fault, however often it is asked for.
+    assert_eq!(rt; read_line(&mut source, &mut buf), LineRead::End);
+    assert_eq!(rt; read_line(&mut source, &mut buf), LineRead::End);
+    Ok(())
+}
+
+#[test]
+fn stream_that_is_written(rt: HostRuntime) -> Result<(), Fail> {
+    let mut written = Vec::new(rt.alloc());
+    let mut sink = StdSink::new(&mut written);
+    assert!(rt; write_whole(&mut sink, b"ab").is_ok());
+    assert!(rt; write_whole(&mut sink, b"").is_ok());
+    assert_eq!(rt; sink.write(b""), Ok(0));
+    assert!(rt; write_whole(&mut sink, b"c").is_ok());
+    assert_eq!(rt; written.as_slice(), b"abc".as_slice());
+    Ok(())
+}
+
+#[test]
+fn streams_that_fail(rt: HostRuntime) -> Result<(), Fail> {
+    let mut source = StdSource::new(Broken);
+    let mut buf = LineBuf::new(rt.alloc())?;
+    assert_eq!(rt; read_line(&mut source, &mut buf), LineRead::ReadFault);
+    let mut sink = StdSink::new(Broken);
+    assert_eq!(rt; write_whole(&mut sink, b"a"), Err(WriteFault));
+    assert_eq!(rt; write_whole(&mut sink, b""), Ok(()));
+    // A writer that is full takes no octet, which is a fault too.
+    let mut room = [0; 2];
+    let mut full = StdSink::new(room.as_mut_slice());
+    assert_eq!(rt; write_whole(&mut full, b"abc"), Err(WriteFault));
     Ok(())
 }

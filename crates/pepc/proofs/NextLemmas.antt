@@ -31,6 +31,7 @@ says_line : (number least room after : ℕ) (octets rest text : List ℕ) (line 
 says_line number least room after octets rest text line holds means = record {
   text = text;
   parts = holds.form.parts;
+  given = holds.form.given;
   says = λ behind. says_whole number least room after octets rest text holds behind
       ∙ ap (λ m. line_then number m (λ l. input_within after (number + 1) l.moment behind)) means;
 }

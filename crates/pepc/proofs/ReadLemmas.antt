@@ -1,5 +1,5 @@
 -- What octets say, behind those of the lines that were read.
-use Rattle.std.proofs.Common.{◌≡◌, ℕ, ◌+◌, List, [], ◌∷◌, ◌++◌, Option, None, Some, inr, refl, sym, ap, ◌∙◌, arith, append_assoc, append-nil}
+use Rattle.std.proofs.Common.{◌≡◌, ℕ, ◌+◌, List, [], ◌∷◌, ◌++◌, Option, None, Some, inr, refl, sym, ap, ◌∙◌, arith, append_assoc, append-nil, length-append}
 use Rattle.std.specs.Io.KnownBytes.{prepend_known}
 use Rattle.pc_outside.specs.Held.{Held, IsUnfinished}
 use Rattle.trace_lines.specs.Input.{Input, Stop, ended, newline, stopped, after_lines, input_within, input_of}
@@ -27,6 +27,13 @@ read_more number least room after done line octets ahead rest read line_said = r
   gone = read.gone ++ line_said.text ++ newline ∷ [];
   parts = read.parts ∙ ap (λ t. read.gone ++ t) line_said.parts ∙ sym (regrouped read.gone line_said.text rest);
   lines = inr (read.gone ++ line_said.text, refl);
+  taken = omega (
+    arith,
+    read.taken,
+    line_said.given,
+    length-append (read.gone ++ line_said.text) (newline ∷ []),
+    length-append read.gone line_said.text,
+  );
   says = λ behind. ap input_of (regrouped read.gone line_said.text behind)
       ∙ read.says (line_said.text ++ newline ∷ behind)
       ∙ ap (after_lines done) (line_said.says behind)
@@ -83,6 +90,8 @@ fails_so number least room done now octets ahead rest unfinished read stays same
     parts = read.parts ∙ ap (λ t. read.gone ++ t) (sym stays) ∙ sym (append_assoc read.gone now.front rest);
     lines = read.lines;
     no_newline = unfinished.no_newline;
+    short = unfinished.short;
+    within = omega (arith, read.taken, unfinished.more, same);
   };
   stops = ap input_of (sym (append-nil read.gone)) ∙ read.says []
       ∙ ap (after_lines done) (at_end room number least (omega (arith, unfinished.more, same)))

@@ -5,7 +5,7 @@ use Rattle.std.specs.Result.{is_err}
 use Rattle.std.proofs.KnownBytes.{Appends-trans, Appends-nil}
 use Rattle.std.proofs.lemmas.Grind.{flat_map-append}
 use Rattle.pc_outside.specs.Fronts.{AppendsFront}
-use Rattle.trace_lines.specs.Input.{Input, Stop, bad, long, big, ended, after_lines, input_of}
+use Rattle.trace_lines.specs.Input.{Input, Stop, bad, long, big, ended, stopped, input_of}
 use Rattle.trace_lines.specs.Line.{Line}
 use Rattle.gate_model.specs.Decision.{decisions, events_at}
 use Rattle.gate_model.specs.Entry.{text_of, texts}
@@ -17,8 +17,8 @@ use Rattle.pepc.specs.declared.run.Unwritten.{Unwritten}
 use Rattle.pepc.specs.declared.run.Unwritten.TheVariants as unwritten
 use Rattle.pepc.specs.declared.status.Status.TheVariants as status
 use Rattle.pepc.specs.declared.solo.Solo.{Solo}
-use Rattle.pepc.specs.Progress.{Begins, Stops, Reached, stop_of, Ends, Cuts, status_at, status_without}
-use Rattle.pepc.specs.Report.{stop_entry, IsReport, IsInputReport, IsFrontReport, IsCutReport, IsBad, IsLong, Reports, Runs}
+use Rattle.pepc.specs.Progress.{TellsFirst, Begins, Stops, Fails, Reached, stop_of, Ends, Cuts, status_at, status_without}
+use Rattle.pepc.specs.Report.{stop_entry, IsReport, IsInputReport, IsFaultReport, IsLinesReport, IsCutReport, IsBad, IsLong, Reports, Runs}
 use Rattle.pepc.specs.Standing.{StandsFor, charges_of}
 use Rattle.pepc.specs.Told.{WhereTold}
 use Rattle.pepc.proofs.ToldLemmas.{told_map}
@@ -49,13 +49,30 @@ report_of done stop text said = record {
   written = said;
 }
 
-front_of : (input : Input) (done : List Line) (behind : Input) (text : List ℕ) → input ≡ after_lines done behind
-    → text ≡ said_of done ended → IsFrontReport input text
-front_of input done behind text is said = record {
+-- the entries of lines that octets begin with
+lines_of : (octets : List ℕ) (done : List Line) (text : List ℕ) → Begins octets done → text ≡ texts (entries_after [] (decisions done))
+    → IsLinesReport (input_of octets) text
+lines_of octets done text begins said = record {
   front = done;
-  back = behind.lines;
-  parts = ap (λ (i : Input). i.lines) is;
-  report = report_of done ended text said;
+  back = begins.0.lines;
+  parts = ap (λ (i : Input). i.lines) begins.1;
+  entries = entries_after [] (decisions done);
+  events = λ slot. events_at slot (decisions done);
+  run = entered_is_run (decisions done);
+  written = said;
+}
+
+-- and of some first ones of them
+first_of : (octets : List ℕ) (done : List Line) (text : List ℕ) → Begins octets done → TellsFirst text done → IsLinesReport (input_of octets) text
+first_of octets done text begins first = record {
+  front = first.front;
+  back = first.back ++ begins.0.lines;
+  parts = ap (λ (i : Input). i.lines) begins.1
+      ∙ ap (λ lines. lines ++ begins.0.lines) first.parts ∙ append_assoc first.front first.back begins.0.lines;
+  entries = entries_after [] (decisions first.front);
+  events = λ slot. events_at slot (decisions first.front);
+  run = entered_is_run (decisions first.front);
+  written = first.said;
 }
 
 -- the whole report, where the octets say these lines and stop so
@@ -66,20 +83,39 @@ whole_of octets done stop text stops said = subst (λ (i : Input). IsReport i.li
 stop_is : (octets : List ℕ) (done : List Line) (stop : Stop) → Stops octets done stop → (input_of octets).stop ≡ stop
 stop_is octets done stop stops = ap (λ (i : Input). i.stop) stops
 
-reports_ending : (ending : Ending) (octets left text : List ℕ) (done : List Line) → Reached ending octets left done
-    → text ≡ said_of done (stop_of ending (length done + 1)) → Reports (status_at ending) octets left text
-reports_ending Ended octets left text done reached said =
-    (stop_is octets done ended reached.0, reached.1, whole_of octets done ended text reached.0 said)
-reports_ending ReadFault octets left text done reached said = record {
+fault_of : (octets left text : List ℕ) (done : List Line) → Fails octets left done → text ≡ said_of done ended → IsFaultReport octets left text
+fault_of octets left text done reached said = record {
   taken = reached.taken;
   stop = stop_is reached.taken.whole done ended reached.stops;
   report = whole_of reached.taken.whole done ended text reached.stops said;
 }
-reports_ending (BadLine why) octets left text done reached said =
-    (subst IsBad (sym (stop_is octets done (bad (length done + 1) why) reached)) tt, whole_of octets done (bad (length done + 1) why) text reached said)
-reports_ending LineLong octets left text done reached said =
-    (subst IsLong (sym (stop_is octets done (long (length done + 1)) reached)) tt, whole_of octets done (long (length done + 1)) text reached said)
-reports_ending TooLong octets left text done reached said = (stop_is octets done big reached, whole_of octets done big text reached said)
+
+begins_stop : (octets : List ℕ) (done : List Line) (stop : Stop) → Stops octets done stop → Begins octets done
+begins_stop octets done stop stops = (stopped stop, stops ∙ ap (λ lines. record { lines = lines; stop = stop }) (sym (append-nil done)))
+
+reports_ending : (ending : Ending) (source_failed : Type 0) (octets left text : List ℕ) (done : List Line) → Reached ending octets left done
+    → text ≡ said_of done (stop_of ending (length done + 1)) → Reports (status_at ending) source_failed octets left text
+reports_ending Ended source_failed octets left text done reached said =
+    (stop_is octets done ended reached.0, reached.1, whole_of octets done ended text reached.0 said)
+reports_ending ReadFault source_failed octets left text done reached said = fault_of octets left text done reached said
+reports_ending (BadLine why) source_failed octets left text done reached said = (
+  subst IsBad (sym (stop_is octets done (bad (length done + 1) why) reached)) tt,
+  whole_of octets done (bad (length done + 1) why) text reached said,
+)
+reports_ending LineLong source_failed octets left text done reached said = (
+  subst IsLong (sym (stop_is octets done (long (length done + 1)) reached)) tt,
+  whole_of octets done (long (length done + 1)) text reached said,
+)
+reports_ending TooLong source_failed octets left text done reached said =
+    (stop_is octets done big reached, whole_of octets done big text reached said)
+
+-- octets that stop behind lines begin with them
+begins_of : (ending : Ending) (octets left : List ℕ) (done : List Line) → Reached ending octets left done → Begins octets done
+begins_of Ended octets left done reached = begins_stop octets done ended reached.0
+begins_of ReadFault octets left done reached = reached.begins
+begins_of (BadLine why) octets left done reached = begins_stop octets done (bad (length done + 1) why) reached
+begins_of LineLong octets left done reached = begins_stop octets done (long (length done + 1)) reached
+begins_of TooLong octets left done reached = begins_stop octets done big reached
 
 -- what holds where a call was well
 pub of_ok : {T E P : Type 0} (r : Result T E) → is_err r ≡ false → OnOk r P → P
@@ -87,77 +123,83 @@ of_ok (Ok x) well holds = holds
 of_ok (Err e) well holds = cc
 
 -- the last block is written
-pub ends_whole : (ending : Ending) (start left old mid new : Option (List ℕ)) (waiting report : List ℕ) (gateway : Solo)
+pub ends_whole : (ending : Ending) (source_failed : Type 0) (start left old mid new : Option (List ℕ)) (waiting report : List ℕ) (gateway : Solo)
     → Ends ending start left old mid waiting gateway → ((done : List Line) → StandsFor gateway done → report ≡ waiting ++ texts (charges_of done))
-    → Appends mid new report → Runs (status_at ending) start left old new
-ends_whole ending start left old mid new waiting report gateway ends charged written = record {
+    → Appends mid new report → Runs (status_at ending) source_failed start left old new
+ends_whole ending source_failed start left old mid new waiting report gateway ends charged written = record {
   text = ends.sent ++ report;
   written = Appends-trans old mid new ends.sent report ends.written written;
-  report = told_map start left (λ octets rest. Reached ending octets rest ends.done) (λ octets rest. Reports (status_at ending) octets rest (ends.sent ++ report))
-      (λ octets rest reached. reports_ending ending octets rest (ends.sent ++ report) ends.done reached
+  report = told_map start left (λ octets rest. Reached ending octets rest ends.done)
+      (λ octets rest. Reports (status_at ending) source_failed octets rest (ends.sent ++ report))
+      (λ octets rest reached. reports_ending ending source_failed octets rest (ends.sent ++ report) ends.done reached
       (said_in_all ending start left old mid waiting report gateway ends (charged ends.done ends.stands))) ends.reached;
 }
 
-cut_whole : (octets : List ℕ) (done : List Line) (stop : Stop) (text more : List ℕ) → Stops octets done stop → text ++ more ≡ said_of done stop
-    → IsCutReport (input_of octets) text
-cut_whole octets done stop text more stops said = record { more = more; whole = inr (whole_of octets done stop (text ++ more) stops said) }
-
-cut_front : (octets : List ℕ) (done : List Line) (text more : List ℕ) → Begins octets done → text ++ more ≡ said_of done ended → IsCutReport (input_of octets) text
-cut_front octets done text more begins said = record { more = more; whole = inl (front_of (input_of octets) done begins.0 (text ++ more) begins.1 said) }
-
-cut_ending : (ending : Ending) (octets left text more : List ℕ) (done : List Line) → Reached ending octets left done
-    → text ++ more ≡ said_of done (stop_of ending (length done + 1)) → IsCutReport (input_of octets) text
-cut_ending Ended octets left text more done reached said = cut_whole octets done ended text more reached.0 said
-cut_ending ReadFault octets left text more done reached said = cut_front octets done text more reached.begins said
-cut_ending (BadLine why) octets left text more done reached said = cut_whole octets done (bad (length done + 1) why) text more reached said
-cut_ending LineLong octets left text more done reached said = cut_whole octets done (long (length done + 1)) text more reached said
-cut_ending TooLong octets left text more done reached said = cut_whole octets done big text more reached said
-
--- either fault leaves a front
-runs_cut : (why : Unwritten) (start left old new : Option (List ℕ)) (text : List ℕ) → Appends old new text
-    → WhereTold start left (λ octets rest. IsCutReport (input_of octets) text) → Runs (status_without why) start left old new
-runs_cut unwritten.WriteFault start left old new text written report = record { text = text; written = written; report = report }
-runs_cut unwritten.NoMemory start left old new text written report = record { text = text; written = written; report = report }
-
-ends_front : (why : Unwritten) (ending : Ending) (start left old mid new : Option (List ℕ)) (waiting report text more : List ℕ) (gateway : Solo)
-    (ends : Ends ending start left old mid waiting gateway) → report ≡ waiting ++ texts (charges_of ends.done)
-    → text ++ more ≡ ends.sent ++ report → Appends old new text → Runs (status_without why) start left old new
-ends_front why ending start left old mid new waiting report text more gateway ends charged parts written =
-    runs_cut why start left old new text written
-    (told_map start left (λ octets rest. Reached ending octets rest ends.done) (λ octets rest. IsCutReport (input_of octets) text)
-    (λ octets rest reached. cut_ending ending octets rest text more ends.done reached
-    (parts ∙ said_in_all ending start left old mid waiting report gateway ends charged)) ends.reached)
+-- a front of the report of this ending
+cut_ending : (ending : Ending) (source_failed : Type 0) (octets left text more : List ℕ) (done : List Line) → (ending ≡ ReadFault → source_failed)
+    → Reached ending octets left done → text ++ more ≡ said_of done (stop_of ending (length done + 1)) → IsCutReport source_failed octets left text
+cut_ending Ended source_failed octets left text more done failed reached said =
+    record { more = more; whole = inl (whole_of octets done ended (text ++ more) reached.0 said) }
+cut_ending ReadFault source_failed octets left text more done failed reached said =
+    record { more = more; whole = inr (inl (failed refl, fault_of octets left (text ++ more) done reached said)) }
+cut_ending (BadLine why) source_failed octets left text more done failed reached said =
+    record { more = more; whole = inl (whole_of octets done (bad (length done + 1) why) (text ++ more) reached said) }
+cut_ending LineLong source_failed octets left text more done failed reached said =
+    record { more = more; whole = inl (whole_of octets done (long (length done + 1)) (text ++ more) reached said) }
+cut_ending TooLong source_failed octets left text more done failed reached said =
+    record { more = more; whole = inl (whole_of octets done big (text ++ more) reached said) }
 
 -- the sink failed within the last block
-pub ends_cut : (why : Unwritten) (ending : Ending) (start left old mid new : Option (List ℕ)) (waiting report : List ℕ) (gateway : Solo)
-    → Ends ending start left old mid waiting gateway → ((done : List Line) → StandsFor gateway done → report ≡ waiting ++ texts (charges_of done))
-    → AppendsFront mid new report → Runs (status_without why) start left old new
-ends_cut why ending start left old mid new waiting report gateway ends charged cut =
-    ends_front why ending start left old mid new waiting report (ends.sent ++ cut.front) cut.rest gateway ends (charged ends.done ends.stands)
-    (append_assoc ends.sent cut.front cut.rest ∙ ap (λ w. ends.sent ++ w) (sym cut.parts))
-    (Appends-trans old mid new ends.sent cut.front ends.written cut.appended)
+pub ends_cut : (ending : Ending) (source_failed : Type 0) (start left old mid new : Option (List ℕ)) (waiting report : List ℕ) (gateway : Solo)
+    → (ending ≡ ReadFault → source_failed) → Ends ending start left old mid waiting gateway
+    → ((done : List Line) → StandsFor gateway done → report ≡ waiting ++ texts (charges_of done))
+    → AppendsFront mid new report → Runs status.WriteFault source_failed start left old new
+ends_cut ending source_failed start left old mid new waiting report gateway failed ends charged cut =
+    let parts : (ends.sent ++ cut.front) ++ cut.rest ≡ ends.sent ++ report =
+    append_assoc ends.sent cut.front cut.rest ∙ ap (λ w. ends.sent ++ w) (sym cut.parts) in
+    record {
+      text = ends.sent ++ cut.front;
+      written = Appends-trans old mid new ends.sent cut.front ends.written cut.appended;
+      report = told_map start left (λ octets rest. Reached ending octets rest ends.done)
+          (λ octets rest. IsCutReport source_failed octets rest (ends.sent ++ cut.front))
+          (λ octets rest reached. cut_ending ending source_failed octets rest (ends.sent ++ cut.front) cut.rest ends.done failed reached
+          (parts ∙ said_in_all ending start left old mid waiting report gateway ends (charged ends.done ends.stands))) ends.reached;
+    }
 
 -- no memory is left for what is charged
-pub ends_uncharged : (ending : Ending) (start left old new : Option (List ℕ)) (waiting : List ℕ) (gateway : Solo)
-    → Ends ending start left old new waiting gateway → Runs status.NoMemory start left old new
-ends_uncharged ending start left old new waiting gateway ends =
-    let report = waiting ++ texts (charges_of ends.done) in
-    ends_front unwritten.NoMemory ending start left old new new waiting report ends.sent report gateway ends refl refl ends.written
+pub ends_uncharged : (ending : Ending) (source_failed : Type 0) (start left old new : Option (List ℕ)) (waiting : List ℕ) (gateway : Solo)
+    → Ends ending start left old new waiting gateway → Runs status.NoMemory source_failed start left old new
+ends_uncharged ending source_failed start left old new waiting gateway ends = record {
+  text = ends.sent;
+  written = ends.written;
+  report = told_map start left (λ octets rest. Reached ending octets rest ends.done) (λ octets rest. IsLinesReport (input_of octets) ends.sent)
+      (λ octets rest reached. first_of octets ends.done ends.sent (begins_of ending octets rest ends.done reached) ends.first) ends.reached;
+}
 
 -- it was cut before
-pub cuts_run : (why : Unwritten) (start left old new : Option (List ℕ)) → Cuts start left old new → Runs (status_without why) start left old new
-cuts_run why start left old new cuts =
-    let more = cuts.more ++ texts (charges_of cuts.done) in
-    runs_cut why start left old new cuts.sent cuts.written
-    (told_map start left (λ octets rest. Begins octets cuts.done) (λ octets rest. IsCutReport (input_of octets) cuts.sent)
-    (λ octets rest begins. cut_front octets cuts.done cuts.sent more begins
-    (sym (append_assoc cuts.sent cuts.more (texts (charges_of cuts.done)))
-    ∙ charged_behind cuts.done ended (cuts.sent ++ cuts.more) (cuts.said ∙ ap texts (sym (append-nil (entries_after [] (decisions cuts.done))))))) cuts.reached)
+pub cuts_run : (why : Unwritten) (source_failed : Type 0) (start left old new : Option (List ℕ)) → Cuts why start left old new
+    → Runs (status_without why) source_failed start left old new
+cuts_run unwritten.WriteFault source_failed start left old new cuts = record {
+  text = cuts.sent;
+  written = cuts.written;
+  report = told_map start left (λ octets rest. Begins octets cuts.done) (λ octets rest. IsCutReport source_failed octets rest cuts.sent)
+      (λ octets rest begins. record {
+        more = cuts.more;
+        whole = inr (inr (lines_of octets cuts.done (cuts.sent ++ cuts.more) begins cuts.said));
+      }) cuts.reached;
+}
+cuts_run unwritten.NoMemory source_failed start left old new cuts = record {
+  text = cuts.sent;
+  written = cuts.written;
+  report = told_map start left (λ octets rest. Begins octets cuts.done) (λ octets rest. IsLinesReport (input_of octets) cuts.sent)
+      (λ octets rest begins. lines_of octets cuts.done cuts.sent begins
+      (sym (append-nil cuts.sent) ∙ ap (λ t. cuts.sent ++ t) (sym (cuts.all refl)) ∙ cuts.said)) cuts.reached;
+}
 
 -- nothing was read and nothing written
-pub nothing_runs : (start old : Option (List ℕ)) → Runs status.NoMemory start start old old
-nothing_runs start old = record { text = []; written = Appends-nil old; report = by_start start }
+pub nothing_runs : (source_failed : Type 0) (start old : Option (List ℕ)) → Runs status.NoMemory source_failed start start old old
+nothing_runs source_failed start old = record { text = []; written = Appends-nil old; report = by_start start }
   where
-    by_start : (begin : Option (List ℕ)) → WhereTold begin begin (λ octets rest. IsCutReport (input_of octets) [])
+    by_start : (begin : Option (List ℕ)) → WhereTold begin begin (λ octets rest. IsLinesReport (input_of octets) [])
     by_start None = tt
-    by_start (Some octets) = cut_front octets [] [] [] (input_of octets, refl) refl
+    by_start (Some octets) = lines_of octets [] [] (input_of octets, refl) refl

@@ -1,11 +1,11 @@
 -- How a run goes on, ends and is cut.
-use Rattle.std.proofs.Common.{◌≡◌, ℕ, ◌+◌, ◌<◌, ◌^◌, List, [], ◌∷◌, ◌++◌, Option, None, Some, Result, Ok, Err, OnErr, inl, refl, sym, ap, subst, ◌∙◌, arith, append_assoc, append-nil, length-append}
+use Rattle.std.proofs.Common.{◌≡◌, ℕ, ◌+◌, ◌<◌, ◌^◌, List, [], ◌∷◌, ◌++◌, Option, None, Some, Result, Ok, Err, IfErr, IsErrAnd, ◌⊎◌, inl, inr, refl, sym, ap, subst, ◌∙◌, arith, append_assoc, append-nil, length-append}
 use Rattle.std.specs.Io.KnownBytes.{prepend_known}
 use Rattle.std.proofs.KnownBytes.{Appends-trans, Appends-nil}
 use Rattle.std.proofs.lemmas.Grind.{flat_map-append}
 use Rattle.pc_outside.specs.Fronts.{AppendsFront}
 use Rattle.pc_outside.specs.Held.{Held, IsUnfinished}
-use Rattle.trace_lines.specs.Input.{bad, long, big, ended, stopped, input_within}
+use Rattle.trace_lines.specs.Input.{bad, long, big, ended, stopped, after_lines, input_within}
 use Rattle.trace_lines.specs.Line.{Line}
 use Rattle.trace_lines.specs.declared.bad.LineBad.{LineBad}
 use Rattle.gate_model.specs.Decision.{decisions}
@@ -20,7 +20,7 @@ use Rattle.pepc.specs.declared.run.Unwritten.{Unwritten}
 use Rattle.pepc.specs.declared.run.Unwritten.TheVariants as unwritten
 use Rattle.pepc.specs.declared.solo.Solo.{Solo}
 use Rattle.pepc.specs.Next.{Tells}
-use Rattle.pepc.specs.Progress.{Moves, HasRead, Progress, Begins, Stops, Fails, Reached, Ends, Cuts}
+use Rattle.pepc.specs.Progress.{Moves, HasRead, TellsFirst, Progress, Begins, Stops, Fails, Reached, Ends, Cuts}
 use Rattle.pepc.specs.Report.{stop_entry}
 use Rattle.pepc.specs.Standing.{StandsFor, entry_at}
 use Rattle.pepc.specs.Told.{WhereTold}
@@ -45,6 +45,28 @@ said_more sent waiting front rest done line said parts =
     ∙ sym (texts-push (entries_after [] (decisions done)) (entry_at done line))
     ∙ ap texts (sym (entries-push done line))
 
+-- some first lines of these are some of these and one more
+first_more : (sent : List ℕ) (done : List Line) (line : Line) → TellsFirst sent done → TellsFirst sent (done ++ line ∷ [])
+first_more sent done line first = record {
+  front = first.front;
+  back = first.back ++ line ∷ [];
+  parts = ap (λ lines. lines ++ line ∷ []) first.parts ∙ append_assoc first.front first.back (line ∷ []);
+  said = first.said;
+}
+
+-- all that is told is of all lines
+first_all : (told : List ℕ) (done : List Line) → told ≡ texts (entries_after [] (decisions done)) → TellsFirst told done
+first_all told done said = record { front = done; back = []; parts = sym (append-nil done); said = said }
+
+-- what was written behind a line tells just some first lines
+first_moved : (sent more left : List ℕ) (done : List Line) (line : Line) → TellsFirst sent done
+    → (sent ++ more) ++ left ≡ texts (entries_after [] (decisions (done ++ line ∷ []))) → (more ≡ []) ⊎ (left ≡ [])
+    → TellsFirst (sent ++ more) (done ++ line ∷ [])
+first_moved sent more left done line first said (inl none) =
+    rw (none, append-nil sent) (first_more sent done line first)
+first_moved sent more left done line first said (inr all) =
+    first_all (sent ++ more) (done ++ line ∷ []) (sym (append-nil (sent ++ more)) ∙ ap (λ t. (sent ++ more) ++ t) (sym all) ∙ said)
+
 -- a line was read and answered
 pub goes_on : (start a b old mid new : Option (List ℕ)) (gateway after_it : Solo) (number least room after at : ℕ) (waiting left : List ℕ) (done : List Line) (line : Line)
     → Progress start a old mid gateway number least room waiting done
@@ -60,6 +82,8 @@ goes_on start a b old mid new gateway after_it number least room after at waitin
   sent = so_far.sent ++ moves.sent;
   written = Appends-trans old mid new so_far.sent moves.sent so_far.written moves.written;
   said = said_more so_far.sent waiting moves.sent left done line so_far.said moves.parts;
+  first = first_moved so_far.sent moves.sent left done line so_far.first
+      (said_more so_far.sent waiting moves.sent left done line so_far.said moves.parts) moves.whole;
 }
 
 -- what waits has no entry of the stop
@@ -77,6 +101,7 @@ ends_ended start a left old new gateway number least room after held waiting don
   sent = so_far.sent;
   written = so_far.written;
   said = unsaid (so_far.sent ++ waiting) (entries_after [] (decisions done)) so_far.said;
+  first = so_far.first;
 }
 
 -- the last line was read and answered
@@ -97,6 +122,8 @@ ends_last start a left old mid new gateway after_it number least room after held
   written = Appends-trans old mid new so_far.sent moves.sent so_far.written moves.written;
   said = unsaid ((so_far.sent ++ moves.sent) ++ later) (entries_after [] (decisions (done ++ line ∷ [])))
       (said_more so_far.sent waiting moves.sent later done line so_far.said moves.parts);
+  first = first_moved so_far.sent moves.sent later done line so_far.first
+      (said_more so_far.sent waiting moves.sent later done line so_far.said moves.parts) moves.whole;
 }
 
 pub ends_long : (start a left old new : Option (List ℕ)) (gateway : Solo) (number least room after : ℕ) (held waiting : List ℕ) (done : List Line)
@@ -111,6 +138,7 @@ ends_long start a left old new gateway number least room after held waiting done
   sent = so_far.sent;
   written = so_far.written;
   said = unsaid (so_far.sent ++ waiting) (entries_after [] (decisions done)) so_far.said;
+  first = so_far.first;
 }
 
 pub ends_big : (start a left old new : Option (List ℕ)) (gateway : Solo) (number least room after : ℕ) (held waiting : List ℕ) (done : List Line)
@@ -124,6 +152,7 @@ ends_big start a left old new gateway number least room after held waiting done 
   sent = so_far.sent;
   written = so_far.written;
   said = unsaid (so_far.sent ++ waiting) (entries_after [] (decisions done)) so_far.said;
+  first = so_far.first;
 }
 
 pub ends_fault : (start a left old new : Option (List ℕ)) (gateway : Solo) (number least room : ℕ) (now : Held) (waiting : List ℕ) (done : List Line)
@@ -137,6 +166,7 @@ ends_fault start a left old new gateway number least room now waiting done so_fa
   sent = so_far.sent;
   written = so_far.written;
   said = unsaid (so_far.sent ++ waiting) (entries_after [] (decisions done)) so_far.said;
+  first = so_far.first;
 }
 
 -- a bad line has its entry
@@ -157,27 +187,39 @@ ends_bad start a left old new gateway number least room after held waiting more 
       ∙ ap (λ w. w ++ texts (stop_entry (bad number why))) so_far.said
       ∙ sym (flat_map-append text_of (entries_after [] (decisions done)) (stop_entry (bad number why)))
       ∙ ap (λ n. texts (entries_after [] (decisions done) ++ stop_entry (bad n why))) so_far.counted;
+  first = so_far.first;
 }
 
+-- some first lines of those that octets begin with
+begins_front : (octets : List ℕ) (done : List Line) (sent : List ℕ) (first : TellsFirst sent done) → Begins octets done → Begins octets first.front
+begins_front octets done sent first begins = (
+  after_lines first.back begins.0,
+  begins.1
+      ∙ ap (λ lines. after_lines lines begins.0) first.parts
+      ∙ ap (λ lines. record { lines = lines; stop = begins.0.stop }) (append_assoc first.front first.back begins.0.lines),
+)
+
 -- no more is written than was, whatever is next
-pub cut_here : (start a left old new : Option (List ℕ)) (gateway : Solo) (number least room after : ℕ) (held waiting : List ℕ) (done : List Line) (one : Next)
+pub cut_here : (why : Unwritten) (start a left old new : Option (List ℕ)) (gateway : Solo) (number least room after : ℕ) (held waiting : List ℕ) (done : List Line) (one : Next)
     → Progress start a old new gateway number least room waiting done → Tells one number least room after a (prepend_known held left)
-    → Cuts start left old new
-cut_here start a left old new gateway number least room after held waiting done one so_far tells = record {
-  done = done;
-  reached = told_next start a left held number least room after done one (λ octets rest. Begins octets done)
-      (λ octets ahead rest read says. (input_within room number least ahead, begins_so number least room done octets ahead read)) so_far.read tells;
+    → Cuts why start left old new
+cut_here why start a left old new gateway number least room after held waiting done one so_far tells = record {
+  done = so_far.first.front;
+  reached = told_next start a left held number least room after done one (λ octets rest. Begins octets so_far.first.front)
+      (λ octets ahead rest read says. begins_front octets done so_far.sent so_far.first
+      (input_within room number least ahead, begins_so number least room done octets ahead read)) so_far.read tells;
   sent = so_far.sent;
-  more = waiting;
+  more = [];
   written = so_far.written;
-  said = so_far.said;
+  said = append-nil so_far.sent ∙ so_far.first.said;
+  all = λ is. refl;
 }
 
 -- the sink failed within the block behind a line
 cut_behind : (start a left old mid new : Option (List ℕ)) (gateway : Solo) (number least room after : ℕ) (held waiting : List ℕ) (done : List Line) (one : Next) (line : Line)
     → GivesLine one line number least room after
     → Progress start a old mid gateway number least room waiting done → Tells one number least room after a (prepend_known held left)
-    → AppendsFront mid new (waiting ++ text_of (entry_at done line)) → Cuts start left old new
+    → AppendsFront mid new (waiting ++ text_of (entry_at done line)) → Cuts unwritten.WriteFault start left old new
 cut_behind start a left old mid new gateway number least room after held waiting done one line gives so_far tells cut = record {
   done = done ++ line ∷ [];
   reached = told_next start a left held number least room after done one (λ octets rest. Begins octets (done ++ line ∷ []))
@@ -188,6 +230,7 @@ cut_behind start a left old mid new gateway number least room after held waiting
   more = cut.rest;
   written = Appends-trans old mid new so_far.sent cut.front so_far.written cut.appended;
   said = said_more so_far.sent waiting cut.front cut.rest done line so_far.said cut.parts;
+  all = λ is. cc;
 }
 
 -- an error of answering a line cuts the report
@@ -195,15 +238,16 @@ pub cut_by : (start a left old mid new : Option (List ℕ)) (gateway : Solo) (nu
     (why : Unwritten) (answer : Result (Unit {0}) Unwritten) → answer ≡ Err why → GivesLine one line number least room after
     → Progress start a old mid gateway number least room waiting done → Tells one number least room after a (prepend_known held left)
     → (answer ≡ Err unwritten.WriteFault → AppendsFront mid new (waiting ++ text_of (entry_at done line)))
-    → (answer ≡ Err unwritten.NoMemory → new ≡ mid) → Cuts start left old new
+    → (answer ≡ Err unwritten.NoMemory → new ≡ mid) → Cuts why start left old new
 cut_by start a left old mid new gateway number least room after held waiting done one line unwritten.WriteFault answer is gives so_far tells cut kept =
     cut_behind start a left old mid new gateway number least room after held waiting done one line gives so_far tells (cut is)
 cut_by start a left old mid new gateway number least room after held waiting done one line unwritten.NoMemory answer is gives so_far tells cut kept =
-    rw (kept is) (cut_here start a left old mid gateway number least room after held waiting done one so_far tells)
+    rw (kept is) (cut_here unwritten.NoMemory start a left old mid gateway number least room after held waiting done one so_far tells)
 
-pub on_err : {T E : Type 0} {P : Type 0} (r : Result T E) → P → OnErr r P
-on_err (Ok x) p = tt
-on_err (Err e) p = p
+-- what follows from what is known of an error
+pub if_err : {T E : Type 0} (P Q : E → Type 0) (r : Result T E) → ((e : E) → P e → Q e) → IsErrAnd r P → IfErr r Q
+if_err P Q (Ok x) follows is = tt
+if_err P Q (Err e) follows is = follows e is
 
 -- nothing was read yet
 pub begins : (start : Option (List ℕ)) (old : Option (List ℕ)) (gateway : Solo) (ahead : Option (List ℕ)) (room : ℕ) (waiting : List ℕ) → StandsFor gateway [] → ahead ≡ start → room ≡ 2 ^ 40 → waiting ≡ []
@@ -217,8 +261,9 @@ begins start old gateway ahead room waiting stands same full none = record {
   sent = [];
   written = Appends-nil old;
   said = none;
+  first = first_all [] [] refl;
 }
   where
     first : (start : Option (List ℕ)) → WhereTold start start (λ octets rest. HasRead octets rest 1 0 (2 ^ 40) [])
     first None = tt
-    first (Some octets) = record { gone = []; parts = refl; lines = inl refl; says = λ behind. refl }
+    first (Some octets) = record { gone = []; parts = refl; lines = inl refl; taken = refl; says = λ behind. refl }

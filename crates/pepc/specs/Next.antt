@@ -1,5 +1,5 @@
 -- What is next in an input, by what the octets say from a line on.
-use Rattle.std.specs.Prelude.{◌≡◌, ℕ, ◌+◌, ◌<◌, List, [], ◌∷◌, ◌++◌, Option}
+use Rattle.std.specs.Prelude.{◌≡◌, ℕ, ◌+◌, ◌<◌, List, [], ◌∷◌, ◌++◌, length, Option}
 use Rattle.trace_lines.specs.Input.{bad, long, big, ended, newline, stopped, after_lines, input_within}
 use Rattle.trace_lines.specs.Line.{Line}
 use Rattle.trace_lines.specs.declared.bad.LineBad.{LineBad}
@@ -12,6 +12,7 @@ use Rattle.pepc.specs.declared.reading.Next.TheVariants as next
 pub record SaysLine (line : Line) (number least room after : ℕ) (octets rest : List ℕ) : Type 0 where
   pub text : List ℕ
   pub parts : octets ≡ text ++ newline ∷ rest
+  pub given : room ≡ length text + 1 + after
   pub says : (behind : List ℕ) → input_within room number least (text ++ newline ∷ behind)
       ≡ after_lines (line ∷ []) (input_within after (number + 1) line.moment behind)
 

@@ -1,5 +1,5 @@
 -- How far a run has come.
-use Rattle.std.specs.Prelude.{◌≡◌, ℕ, ◌+◌, ◌≤◌, ◌^◌, List, [], ◌++◌, length, Option}
+use Rattle.std.specs.Prelude.{◌≡◌, ℕ, ◌+◌, ◌≤◌, ◌^◌, ◌⊎◌, List, [], ◌++◌, length, Option}
 use Rattle.std.specs.Io.KnownBytes.{Appends}
 use Rattle.trace_lines.specs.Input.{Input, Stop, bad, long, big, ended, after_lines, input_within, input_of}
 use Rattle.trace_lines.specs.Line.{Line}
@@ -17,18 +17,27 @@ use Rattle.pepc.specs.Report.{stop_entry, IsWholeLines, Taken}
 use Rattle.pepc.specs.Standing.{StandsFor}
 use Rattle.pepc.specs.Told.{WhereTold}
 
--- a front of what waits is written, and the rest waits
+-- all of what waits is written and nothing waits then, or none of it is and all waits
 pub record Moves (old new : Option (List ℕ)) (before after : List ℕ) : Type 0 where
   pub sent : List ℕ
   pub written : Appends old new sent
   pub parts : before ≡ sent ++ after
+  pub whole : (sent ≡ []) ⊎ (after ≡ [])
 
 -- whole lines were read before the octets ahead: they say these lines, and then what stands behind them says the rest
 pub record HasRead (octets ahead : List ℕ) (number least room : ℕ) (done : List Line) : Type 0 where
   pub gone : List ℕ
   pub parts : octets ≡ gone ++ ahead
   pub lines : IsWholeLines gone
+  pub taken : length gone + room ≡ 2 ^ 40
   pub says : (behind : List ℕ) → input_of (gone ++ behind) ≡ after_lines done (input_within room number least behind)
+
+-- the text is that of the entries of some first ones of these lines
+pub record TellsFirst (text : List ℕ) (done : List Line) : Type 0 where
+  pub front : List Line
+  pub back : List Line
+  pub parts : done ≡ front ++ back
+  pub said : text ≡ texts (entries_after [] (decisions front))
 
 -- these lines are done: the gateway stands for them, and what was written and what waits are their entries' texts
 pub record Progress (start ahead old new : Option (List ℕ)) (gateway : Solo) (number least room : ℕ) (waiting : List ℕ) (done : List Line) : Type 0 where
@@ -39,6 +48,7 @@ pub record Progress (start ahead old new : Option (List ℕ)) (gateway : Solo) (
   pub sent : List ℕ
   pub written : Appends old new sent
   pub said : sent ++ waiting ≡ texts (entries_after [] (decisions done))
+  pub first : TellsFirst sent done
 
 -- why the lines stop at an ending, the next line having this number
 abbrev pub stop_of : Ending → ℕ → Stop
@@ -78,15 +88,17 @@ pub record Ends (ending : Ending) (start left old new : Option (List ℕ)) (wait
   pub sent : List ℕ
   pub written : Appends old new sent
   pub said : sent ++ waiting ≡ texts (entries_after [] (decisions done) ++ stop_entry (stop_of ending (length done + 1)))
+  pub first : TellsFirst sent done
 
--- the report was cut: what was written is a front of the texts of some first lines
-pub record Cuts (start left old new : Option (List ℕ)) : Type 0 where
+-- the report was cut: what was written is a front of the entries of some first lines, and all of it where memory ran out
+pub record Cuts (why : Unwritten) (start left old new : Option (List ℕ)) : Type 0 where
   pub done : List Line
   pub reached : WhereTold start left (λ octets rest. Begins octets done)
   pub sent : List ℕ
   pub more : List ℕ
   pub written : Appends old new sent
   pub said : sent ++ more ≡ texts (entries_after [] (decisions done))
+  pub all : why ≡ unwritten.NoMemory → more ≡ []
 
 -- the status of an ending, and of a report that is cut
 abbrev pub status_at : Ending → Status

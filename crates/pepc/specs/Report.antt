@@ -1,8 +1,8 @@
 -- The report of a trace, and what a status says of it.
-use Rattle.std.specs.Prelude.{◌≡◌, ℕ, ◌⊎◌, List, [], ◌∷◌, ◌++◌, length, Option, codes}
+use Rattle.std.specs.Prelude.{◌≡◌, ℕ, ◌+◌, ◌^◌, ◌<◌, ◌≤◌, ◌⊎◌, List, [], ◌∷◌, ◌++◌, length, Option, codes}
 use Rattle.std.specs.Io.KnownBytes.{Appends}
 use Rattle.pc_outside.specs.Line.{NoNewline}
-use Rattle.trace_lines.specs.Input.{Input, Stop, bad, long, big, ended, newline, input_of}
+use Rattle.trace_lines.specs.Input.{Input, Stop, bad, long, big, ended, newline, line_max, input_of}
 use Rattle.trace_lines.specs.Line.{Line}
 use Rattle.trace_lines.specs.Word.{word_of}
 use Rattle.gate_model.specs.Book.{book_of}
@@ -37,13 +37,16 @@ IsInputReport input text = IsReport input.lines input.stop text
 abbrev pub IsWholeLines : List ℕ → Type 0
 IsWholeLines octets = (octets ≡ []) ⊎ ((front : List ℕ) × (octets ≡ front ++ newline ∷ []))
 
--- what was taken of the octets is whole lines and an unfinished one, and these are left
+-- What was taken of the octets is whole lines and an unfinished one, and these are left. The unfinished one isn't too
+-- long, and not all octets were taken that are looked at.
 pub record Taken (octets left : List ℕ) : Type 0 where
   pub whole : List ℕ
   pub unfinished : List ℕ
   pub parts : octets ≡ whole ++ unfinished ++ left
   pub lines : IsWholeLines whole
   pub no_newline : NoNewline unfinished
+  pub short : length unfinished ≤ line_max
+  pub within : length whole + length unfinished < 2 ^ 40
 
 -- the report of the whole lines that were taken, none of which is bad or long
 pub record IsFaultReport (octets left text : List ℕ) : Type 0 where
@@ -51,17 +54,22 @@ pub record IsFaultReport (octets left text : List ℕ) : Type 0 where
   pub stop : (input_of taken.whole).stop ≡ ended
   pub report : IsInputReport (input_of taken.whole) text
 
--- the report of some first lines
-pub record IsFrontReport (input : Input) (text : List ℕ) : Type 0 where
+-- the entries of some first lines, and no charges
+pub record IsLinesReport (input : Input) (text : List ℕ) : Type 0 where
   pub front : List Line
   pub back : List Line
   pub parts : input.lines ≡ front ++ back
-  pub report : IsReport front ended text
+  pub entries : List Entry
+  pub events : ℕ → List Event
+  pub run : IsRun (decisions front) entries events
+  pub written : text ≡ texts entries
 
--- a front of the report of some first lines, or of the whole one
-pub record IsCutReport (input : Input) (text : List ℕ) : Type 0 where
+-- a front of what another status would have left: of the whole report, or of that of the lines taken where the source
+-- failed; or a front of the entries of some first lines, without charges
+pub record IsCutReport (source_failed : Type 0) (octets left text : List ℕ) : Type 0 where
   pub more : List ℕ
-  pub whole : IsFrontReport input (text ++ more) ⊎ IsInputReport input (text ++ more)
+  pub whole : IsInputReport (input_of octets) (text ++ more)
+      ⊎ ((source_failed × IsFaultReport octets left (text ++ more)) ⊎ IsLinesReport (input_of octets) (text ++ more))
 
 -- the input stops at a bad line, or at a long one
 abbrev pub IsBad : Stop → Type 0
@@ -77,18 +85,19 @@ IsLong big = ⊥
 IsLong ended = ⊥
 
 -- what a run with this status wrote, where the source had these octets and has those left
-abbrev pub Reports : Status → List ℕ → List ℕ → List ℕ → Type 0
-Reports status.Ok octets left text = ((input_of octets).stop ≡ ended) × (left ≡ []) × IsInputReport (input_of octets) text
-Reports status.Usage octets left text = text ≡ []
-Reports status.ReadFault octets left text = IsFaultReport octets left text
-Reports status.WriteFault octets left text = IsCutReport (input_of octets) text
-Reports status.NoMemory octets left text = IsCutReport (input_of octets) text
-Reports status.BadLine octets left text = IsBad (input_of octets).stop × IsInputReport (input_of octets) text
-Reports status.LineLong octets left text = IsLong (input_of octets).stop × IsInputReport (input_of octets) text
-Reports status.TooLong octets left text = ((input_of octets).stop ≡ big) × IsInputReport (input_of octets) text
+abbrev pub Reports : Status → Type 0 → List ℕ → List ℕ → List ℕ → Type 0
+Reports status.Ok source_failed octets left text =
+    ((input_of octets).stop ≡ ended) × (left ≡ []) × IsInputReport (input_of octets) text
+Reports status.Usage source_failed octets left text = text ≡ []
+Reports status.ReadFault source_failed octets left text = IsFaultReport octets left text
+Reports status.WriteFault source_failed octets left text = IsCutReport source_failed octets left text
+Reports status.NoMemory source_failed octets left text = IsLinesReport (input_of octets) text
+Reports status.BadLine source_failed octets left text = IsBad (input_of octets).stop × IsInputReport (input_of octets) text
+Reports status.LineLong source_failed octets left text = IsLong (input_of octets).stop × IsInputReport (input_of octets) text
+Reports status.TooLong source_failed octets left text = ((input_of octets).stop ≡ big) × IsInputReport (input_of octets) text
 
 -- octets were appended to what a sink tells, and they are the report of what a source told
-pub record Runs (ending : Status) (start left old new : Option (List ℕ)) : Type 0 where
+pub record Runs (ending : Status) (source_failed : Type 0) (start left old new : Option (List ℕ)) : Type 0 where
   pub text : List ℕ
   pub written : Appends old new text
-  pub report : WhereTold start left (λ octets rest. Reports ending octets rest text)
+  pub report : WhereTold start left (λ octets rest. Reports ending source_failed octets rest text)

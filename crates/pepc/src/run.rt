@@ -1,5 +1,5 @@
 //! A run of `solo`: line after line is read and answered, and the report written in blocks.
-ghost use Rattle.std.specs.Prelude.{◌≡◌, ◌+◌, ◌<◌, ◌≤◌, ◌^◌, ◌∷◌, ◌++◌, ◌↔◌, [], false, ℕ, List, Option, length, codes, map, Ok, Err, OnOk, OnErr, IfOk};
+ghost use Rattle.std.specs.Prelude.{◌≡◌, ◌+◌, ◌<◌, ◌≤◌, ◌^◌, ◌∷◌, ◌++◌, ◌↔◌, [], false, ℕ, List, Option, length, codes, map, Ok, Err, OnOk, OnErr, IfOk, IfErr};
 ghost use Rattle.std.specs.Io.KnownBytes.{Appends, Keeps};
 ghost use Rattle.std.specs.String.{string_bytes};
 ghost use Rattle.pc_outside.specs.Faults.{Rises};
@@ -140,7 +140,7 @@ fn run_lines<S: Source, K: Sink>(
     requires empty { report.old.items ≡ [] }
 
     ensures ended { IfOk result (λ ending. Ends ending (S.left source.old) (S.left source.new) (K.written sink.old) (K.written sink.new) report.new.items gateway.new) }
-    ensures cut { OnErr result (Cuts (S.left source.old) (S.left source.new) (K.written sink.old) (K.written sink.new)) }
+    ensures cut { IfErr result (λ why. Cuts why (S.left source.old) (S.left source.new) (K.written sink.old) (K.written sink.new)) }
 
     ensures source_later { S.faults source.old ≤ S.faults source.new }
     ensures sink_later { K.faults sink.old ≤ K.faults sink.new }
@@ -197,8 +197,9 @@ fn status_without(why: Unwritten) -> Status
 // Appends what is charged, and writes the last block.
 fn end_run<K: Sink>(ending: Ending, gateway: &Solo, sink: &mut K, report: &mut Vec<u8>) -> Status
     requires { (done : List Line) × StandsFor gateway.now done }
-    ensures whole { (start left old : Option (List ℕ)) → Ends ending start left old (K.written sink.old) report.old.items gateway.now
-        → Runs result start left old (K.written sink.new) }
+    ensures whole { (before now : ℕ) (start left old : Option (List ℕ)) → (ending ≡ Ending.ReadFault → Rises before now)
+        → Ends ending start left old (K.written sink.old) report.old.items gateway.now
+        → Runs result (Rises before now) start left old (K.written sink.new) }
     ensures read_fault { result ≡ Status.ReadFault → ending ≡ Ending.ReadFault }
     ensures no_usage { result ≡ Status.Usage → ⊥ }
 
@@ -216,7 +217,8 @@ fn end_run<K: Sink>(ending: Ending, gateway: &Solo, sink: &mut K, report: &mut V
 
 // Does the command `solo`.
 fn solo<S: Source, K: Sink>(alloc: Global, source: &mut S, sink: &mut K) -> Status
-    ensures runs { Runs result (S.left source.old) (S.left source.new) (K.written sink.old) (K.written sink.new) }
+    ensures runs { Runs result (Rises (S.faults source.old) (S.faults source.new)) (S.left source.old) (S.left source.new)
+        (K.written sink.old) (K.written sink.new) }
     ensures no_usage { result ≡ Status.Usage → ⊥ }
 
     ensures source_later { S.faults source.old ≤ S.faults source.new }
@@ -246,9 +248,13 @@ pub fn run_plain<S: Source, K: Sink>(
     // The words decide whether anything is done.
     ensures usage { (result ≡ Status.Usage) ↔ ¬ IsSolo (map string_bytes words.now) }
 
+    // Other words touch nothing.
+    ensures untouched { result ≡ Status.Usage → (source.new ≡ source.old) × (sink.new ≡ sink.old) }
+
     // What is written is that of the status, where source and sink tell their octets.
     ensures report { (text : List ℕ) × Appends (K.written sink.old) (K.written sink.new) text
-        × WhereTold (S.left source.old) (S.left source.new) (λ octets left. Reports result octets left text) }
+        × WhereTold (S.left source.old) (S.left source.new)
+        (λ octets left. Reports result (Rises (S.faults source.old) (S.faults source.new)) octets left text) }
 
     // Faults are those of the source and the sink.
     ensures source_later { S.faults source.old ≤ S.faults source.new }

@@ -1,11 +1,12 @@
-use Rattle.std.proofs.Common.{[], ◌∷◌, ◌++◌, refl, ap, ◌∙◌, arith}
+use Rattle.std.proofs.Common.{[], ◌∷◌, ◌++◌, Err, refl, ap, sym, ◌∙◌, arith}
 use Rattle.std.specs.Io.KnownBytes.{prepend_known}
 use Rattle.std.proofs.KnownBytes.{prepend_known-nil}
 use Rattle.pc_outside.specs.Held.{Held}
 use Rattle.trace_lines.specs.Line.{Line}
 use Rattle.pepc.specs.declared.reading.Next.TheVariants as next
+use Rattle.pepc.specs.declared.run.Unwritten.TheVariants.{NoMemory}
 use Rattle.pepc.proofs.ReadLemmas.{gives_line, gives_last}
-use Rattle.pepc.proofs.RunLemmas.{begins, goes_on, ends_last, ends_fault, cut_by, on_err}
+use Rattle.pepc.proofs.RunLemmas.{begins, goes_on, ends_last, ends_fault, cut_here, cut_by, if_err}
 use Rattle.pepc.proofs.run.run_lines.Goals as goal
 
 pub loop-line-init : goal.loop-line-init
@@ -23,14 +24,13 @@ loop-line-init g c = record {
 
 pub returns-in_err-take_line-in-Line-clause-cut : goal.returns-in_err-take_line-in-Line-clause-cut
 returns-in_err-take_line-in-Line-clause-cut g c =
-    on_err c.from_residual.result
-    (cut_by (g.S.Source.left c.args.source.now) _ (g.S.Source.left c.next_line.new.source) (g.K.Sink.written c.args.sink.now) (g.K.Sink.written c.loop-line.sink) (g.K.Sink.written c.take_line.new.sink)
+    if_err _ _ c.from_residual.result (λ why is. cut_by (g.S.Source.left c.args.source.now) _ (g.S.Source.left c.next_line.new.source) (g.K.Sink.written c.args.sink.now) (g.K.Sink.written c.loop-line.sink) (g.K.Sink.written c.take_line.new.sink)
     c.loop-line.gateway c.loop-line.number c.loop-line.least c.loop-line.buf.room c.next_line.new.buf.room c.next_line.new.buf.front c.loop-line.report.items
-    c.loop-line.invariant.progress.0 (next.Line c.in-Line.line) c.in-Line.line _ c.take_line.result c.in_err-take_line-in-Line.was
+    c.loop-line.invariant.progress.0 (next.Line c.in-Line.line) c.in-Line.line why c.take_line.result (c.in_err-take_line-in-Line.was ∙ ap Err (sym is))
     (gives_line c.in-Line.line c.loop-line.number c.loop-line.least c.loop-line.buf.room c.next_line.new.buf.room)
     c.loop-line.invariant.progress.1 c.in-Line.ensures.tells
     (c.take_line.ensures.cut c.loop-line.invariant.progress.0 c.loop-line.invariant.progress.1.stands)
-    (λ is. ap g.K.Sink.written (c.take_line.ensures.kept is)))
+    (λ is. ap g.K.Sink.written (c.take_line.ensures.kept is))) c.from_residual.ensures.1
 
 pub loop-line-preserved-in_ok-take_line-in-Line : goal.loop-line-preserved-in_ok-take_line-in-Line
 loop-line-preserved-in_ok-take_line-in-Line g c = record {
@@ -64,14 +64,13 @@ loop-line-preserved g c = record {
 
 pub returns-in_err-take_line-in-Last-clause-cut : goal.returns-in_err-take_line-in-Last-clause-cut
 returns-in_err-take_line-in-Last-clause-cut g c =
-    on_err c.from_residual-in_err-take_line-in-Last.result
-    (cut_by (g.S.Source.left c.args.source.now) _ (g.S.Source.left c.next_line.new.source) (g.K.Sink.written c.args.sink.now) (g.K.Sink.written c.loop-line.sink) (g.K.Sink.written c.take_line-in-Last.new.sink)
+    if_err _ _ c.from_residual-in_err-take_line-in-Last.result (λ why is. cut_by (g.S.Source.left c.args.source.now) _ (g.S.Source.left c.next_line.new.source) (g.K.Sink.written c.args.sink.now) (g.K.Sink.written c.loop-line.sink) (g.K.Sink.written c.take_line-in-Last.new.sink)
     c.loop-line.gateway c.loop-line.number c.loop-line.least c.loop-line.buf.room c.next_line.new.buf.room c.next_line.new.buf.front c.loop-line.report.items
-    c.loop-line.invariant.progress.0 (next.Last c.in-Last.line) c.in-Last.line _ c.take_line-in-Last.result c.in_err-take_line-in-Last.was
+    c.loop-line.invariant.progress.0 (next.Last c.in-Last.line) c.in-Last.line why c.take_line-in-Last.result (c.in_err-take_line-in-Last.was ∙ ap Err (sym is))
     (gives_last c.in-Last.line c.loop-line.number c.loop-line.least c.loop-line.buf.room c.next_line.new.buf.room)
     c.loop-line.invariant.progress.1 c.in-Last.ensures.tells
     (c.take_line-in-Last.ensures.cut c.loop-line.invariant.progress.0 c.loop-line.invariant.progress.1.stands)
-    (λ is. ap g.K.Sink.written (c.take_line-in-Last.ensures.kept is)))
+    (λ is. ap g.K.Sink.written (c.take_line-in-Last.ensures.kept is))) c.from_residual-in_err-take_line-in-Last.ensures.1
 
 pub returns-in-Last-clause-ended : goal.returns-in-Last-clause-ended
 returns-in-Last-clause-ended g c =
@@ -87,3 +86,16 @@ returns-in-ReadFault-clause-ended g c =
     ends_fault (g.S.Source.left c.args.source.now) _ (g.S.Source.left c.next_line.new.source) (g.K.Sink.written c.args.sink.now) (g.K.Sink.written c.loop-line.sink)
     c.loop-line.gateway c.loop-line.number c.loop-line.least c.loop-line.buf.room c.next_line.new.buf c.loop-line.report.items
     c.loop-line.invariant.progress.0 c.loop-line.invariant.progress.1 c.in-ReadFault.ensures.tells (c.in-ReadFault.ensures.unfinished refl)
+
+pub returns-in_err-push_note-in-Bad-clause-cut : goal.returns-in_err-push_note-in-Bad-clause-cut
+returns-in_err-push_note-in-Bad-clause-cut g c =
+    if_err _ _ c.from_residual-in_err-push_note-in-Bad.result (λ why is. cut_here why (g.S.Source.left c.args.source.now) _ (g.S.Source.left c.next_line.new.source) (g.K.Sink.written c.args.sink.now) (g.K.Sink.written c.loop-line.sink)
+    c.loop-line.gateway c.loop-line.number c.loop-line.least c.loop-line.buf.room c.next_line.new.buf.room c.next_line.new.buf.front c.loop-line.report.items
+    c.loop-line.invariant.progress.0 (next.Bad c.in-Bad.why)
+    c.loop-line.invariant.progress.1 c.in-Bad.ensures.tells) c.from_residual-in_err-push_note-in-Bad.ensures.1
+
+pub returns-in-NoMemory-clause-cut : goal.returns-in-NoMemory-clause-cut
+returns-in-NoMemory-clause-cut g c =
+    cut_here NoMemory (g.S.Source.left c.args.source.now) _ (g.S.Source.left c.next_line.new.source) (g.K.Sink.written c.args.sink.now) (g.K.Sink.written c.loop-line.sink)
+    c.loop-line.gateway c.loop-line.number c.loop-line.least c.loop-line.buf.room c.next_line.new.buf.room c.next_line.new.buf.front c.loop-line.report.items
+    c.loop-line.invariant.progress.0 next.NoMemory c.loop-line.invariant.progress.1 c.in-NoMemory.ensures.tells

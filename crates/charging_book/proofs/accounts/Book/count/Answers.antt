@@ -1,7 +1,7 @@
 use Rattle.std.proofs.Common.{◌+◌, [], ◌∷◌, ◌++◌, set, nat_le, ap, sym, ◌∙◌}
 use Rattle.std.proofs.lemmas.Slice.{pushed}
-use Rattle.charging_book.specs.declared.records.TheConstants.{VOLUME_OCTETS}
 use Rattle.charging_book.specs.declared.records.Why.TheVariants.{Volume}
+use Rattle.charging_book.specs.Pieces.{volume}
 use Rattle.charging_book.specs.Counters.{with_packet, next_piece, row_from}
 use Rattle.charging_book.proofs.Standing.{is-at, stands-counted, stands-filled}
 use Rattle.charging_book.proofs.accounts.Book.count.Goals as goal
@@ -19,7 +19,7 @@ returns-in_ok-push-clause-stands c = λ happened taken stands.
     c.index.ensures c.index-2.ensures in
     stands-filled old _ happened taken c.args.life place (record { up = c.args.up; octets = c.args.octets; at = c.args.at })
     counters moments stands at c.requires.is_open
-    (ap (λ counted. nat_le VOLUME_OCTETS (counted.up_octets + counted.down_octets)) (sym c.with-counted.ensures) ∙ sym c.is_full.ensures ∙ c.if-is_full.true)
+    (ap (λ counted. nat_le volume (counted.up_octets + counted.down_octets)) (sym c.with-counted.ensures) ∙ sym c.is_full.ensures ∙ c.if-is_full.true)
     (ap (λ xs. set xs place c.next.result) opens ∙ ap (set old.opens place) (c.next.ensures ∙ ap next_piece c.with-counted.ensures))
     (ap (λ xs. set xs place c.new-then-is_full.result) spans ∙ ap (set old.moments place) c.new-then-is_full.ensures)
     (pushed (c.new.result ∷ []) (ap (λ book. book.rows) c.self.view_is) c.in_ok-push.was c.push.ensures.items
@@ -39,7 +39,7 @@ returns-else-is_full-clause-stands c = λ happened taken stands.
     c.index.ensures c.index-2.ensures in
     stands-counted old _ happened taken c.args.life place (record { up = c.args.up; octets = c.args.octets; at = c.args.at })
     counters moments stands at c.requires.is_open
-    (ap (λ counted. nat_le VOLUME_OCTETS (counted.up_octets + counted.down_octets)) (sym c.with-counted.ensures) ∙ sym c.is_full.ensures ∙ c.if-is_full.false)
+    (ap (λ counted. nat_le volume (counted.up_octets + counted.down_octets)) (sym c.with-counted.ensures) ∙ sym c.is_full.ensures ∙ c.if-is_full.false)
     (ap (λ xs. set xs place c.with-counted.result) opens ∙ ap (set old.opens place) c.with-counted.ensures)
     (ap (λ xs. set xs place c.with-span.result) spans ∙ ap (set old.moments place) c.with-span.ensures)
     (ap (λ book. book.rows) c.self.view_is)
