@@ -33,7 +33,7 @@ impl Model for Bucket {
 
 impl Bucket {
     ghost use Rattle.rate_policer.specs.declared.cost.Cost.{Cost};
-    ghost use Rattle.rate_policer.specs.Conforming.{cost_of, Conforms};
+    ghost use Rattle.rate_policer.specs.Conforming.{cost_of, Conforms, conforms};
     ghost use Rattle.rate_policer.specs.Buckets.{StandsFor, level_at, rate_of, last_of};
 
     /// The bucket of a rate that nothing passed yet, full at moment 0.
@@ -56,6 +56,8 @@ impl Bucket {
 
         ensures conforms { (passed : List Cost) → StandsFor self.old passed
             → (IsTrue result ↔ Conforms (rate_of self.old) passed (cost_of octets at)) }
+        ensures tested { (passed : List Cost) → StandsFor self.old passed
+            → result ≡ conforms (rate_of self.old) passed (cost_of octets at) }
 
         // What passes is charged, and a refusal costs nothing.
         ensures charged { (passed : List Cost) → StandsFor self.old passed
