@@ -4,3 +4,4 @@ pub mod Standing
 pub mod LedgerSums
 pub mod LedgerSteps
 pub mod Bounds
+pub mod PostingLemmas
