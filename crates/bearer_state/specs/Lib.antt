@@ -1,0 +1,5 @@
+pub mod Qos
+pub mod Bearer
+pub mod Ask
+pub mod Session
+pub mod Version
