@@ -1,7 +1,6 @@
 -- The bearers of a session, a list in rising order of index, and the ranges that it keeps.
 use Rattle.std.specs.Prelude.{◌≡◌, ◌≢◌, ℕ, ◌<◌, ◌≤◌, ◌^◌, Bool, false, ◌==◌, List, [], ◌∷◌}
 use Rattle.std.specs.List.{AllByRecursion}
-use Rattle.pc_base.specs.declared.TheConstants.{LAST_BEARER}
 use Rattle.bearer_state.specs.declared.bearer.Phase.{Phase}
 use Rattle.bearer_state.specs.declared.bearer.Phase.TheVariants.{Asked, Active}
 use Rattle.bearer_state.specs.declared.bearer.Bearer.{Bearer}
@@ -40,7 +39,7 @@ is_asked seq bearer = is_asked_as seq bearer.phase
 
 -- the ranges of one bearer
 pub record IsBearer (bearer : Bearer) : Type 0 where
-  pub index : index_of bearer ≤ LAST_BEARER
+  pub index : index_of bearer ≤ 10
   pub phase : IsPhase bearer.phase
   pub qos : IsQos bearer.qos
 

@@ -2,7 +2,6 @@
 use Rattle.std.specs.Prelude.{◌≡◌, ◌≢◌, ℕ, ◌<◌, ◌≤◌, ◌^◌, Bool, false, ◌==◌, List, [], ◌∷◌, map, Option, Some, None, length}
 use Rattle.std.specs.List.{AllByRecursion, filter_map, find}
 use Rattle.pc_base.specs.declared.packet.Peer.{Peer}
-use Rattle.pc_base.specs.declared.TheConstants.{LAST_BEARER}
 use Rattle.tft_codec.specs.declared.tft.BearerFilters.{BearerFilters}
 use Rattle.bearer_state.specs.declared.bearer.Phase.{Phase}
 use Rattle.bearer_state.specs.declared.bearer.Phase.TheVariants.{Asked, Active}
@@ -63,7 +62,7 @@ bearer_at bearers index = find (λ (bearer : ActiveBearer). bearer.index == inde
 
 -- the ranges of one active bearer
 pub record IsActiveBearer (bearer : ActiveBearer) : Type 0 where
-  pub index : bearer.index ≤ LAST_BEARER
+  pub index : bearer.index ≤ 10
   pub life : bearer.life < 2 ^ 61
   pub ebi : IsEbi bearer.ebi
   pub qos : IsQos bearer.qos
