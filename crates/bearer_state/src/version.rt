@@ -126,15 +126,9 @@ fn actives_of(alloc: Global, bearers: &[Bearer]) -> Result<Vec<ActiveBearer>, No
 {
     let mut list = Vec::with_capacity(alloc, bearers.len())?;
     for bearer in bearers {
-        match bearer.phase {
-            Phase::Asked(_) => {}
-            Phase::Active(ebi) => list.push(ActiveBearer {
-                index: bearer.choice.index,
-                life: bearer.life,
-                ebi,
-                qos: bearer.qos,
-                enb: bearer.enb,
-            })?,
+        match bearer.active() {
+            Some(active) => list.push(active)?,
+            None => {}
         }
     }
     Ok(list)
