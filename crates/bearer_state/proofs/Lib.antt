@@ -1,0 +1,4 @@
+pub mod ListLemmas
+pub mod VersionLemmas
+pub mod FirstLemmas
+pub mod BearerLemmas
