@@ -14,7 +14,7 @@ use Rattle.bearer_state.specs.Lookup.{has_index, has_active, is_dedicated}
 use Rattle.bearer_state.specs.Changes.{with_first, without_first, placed, unbound, rebound_bearer, filtered, granted_bearer}
 
 -- what holds of each holds of each that is left
-each_if : {X : Type 0} (P : X → Type 0) (passes : Bool) (xs ys : List X) → AllByRecursion P xs → AllByRecursion P ys → AllByRecursion P (if passes then xs else ys)
+pub each_if : {X : Type 0} (P : X → Type 0) (passes : Bool) (xs ys : List X) → AllByRecursion P xs → AllByRecursion P ys → AllByRecursion P (if passes then xs else ys)
 each_if P true xs ys each other = each
 each_if P false xs ys each other = other
 
@@ -44,7 +44,7 @@ each_with P test f kept [] each = tt
 each_with P test f kept (x ∷ xs) each =
     each_if P (test x) (f x ∷ xs) (x ∷ with_first test f xs) (kept x each.0, each.1) (each.0, each_with P test f kept xs each.1)
 
-each_implied : {X : Type 0} (P Q : X → Type 0) → ((x : X) → P x → Q x) → (xs : List X) → AllByRecursion P xs → AllByRecursion Q xs
+pub each_implied : {X : Type 0} (P Q : X → Type 0) → ((x : X) → P x → Q x) → (xs : List X) → AllByRecursion P xs → AllByRecursion Q xs
 each_implied P Q implied [] each = tt
 each_implied P Q implied (x ∷ xs) each = (implied x each.0, each_implied P Q implied xs each.1)
 
@@ -64,7 +64,7 @@ pairs_with {X} R Q test f first second (x ∷ xs) known each =
     (each_with (R x) test f (λ z behind. second x z known.0 behind) xs each.0, pairs_with R Q test f first second xs known.1 each.1)
 
 -- likewise where all are changed
-each_mapped : {X : Type 0} (P : X → Type 0) (f : X → X) → ((x : X) → P x → P (f x)) → (xs : List X) → AllByRecursion P xs → AllByRecursion P (map f xs)
+pub each_mapped : {X : Type 0} (P : X → Type 0) (f : X → X) → ((x : X) → P x → P (f x)) → (xs : List X) → AllByRecursion P xs → AllByRecursion P (map f xs)
 each_mapped P f kept [] each = tt
 each_mapped P f kept (x ∷ xs) each = (kept x each.0, each_mapped P f kept xs each.1)
 

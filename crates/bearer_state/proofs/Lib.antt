@@ -2,3 +2,4 @@ pub mod ListLemmas
 pub mod VersionLemmas
 pub mod FirstLemmas
 pub mod BearerLemmas
+pub mod SessionLemmas

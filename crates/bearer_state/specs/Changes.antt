@@ -116,3 +116,10 @@ refiltered session ebi filters = record session { bearers = with_first (is_activ
 -- an active bearer goes that isn't the default one (5.4.4)
 abbrev pub dropped : SessionState → ℕ → SessionState
 dropped session ebi = record session { bearers = without_first (is_dedicated ebi) session.bearers }
+
+-- another MME; another answer that is kept
+abbrev pub with_mme : SessionState → Peer → SessionState
+with_mme session mme = record session { mme = Some mme }
+
+abbrev pub keeping : SessionState → Kept → SessionState
+keeping session kept = record session { last = Some kept }

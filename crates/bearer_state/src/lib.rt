@@ -6,6 +6,7 @@
 mod ask;
 mod bearer;
 mod bearers;
+mod changes;
 mod kept;
 mod qos;
 mod session;
