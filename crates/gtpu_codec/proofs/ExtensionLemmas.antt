@@ -48,7 +48,8 @@ pub chain_is_found : (type : ℕ) (octets body : List ℕ) → IsChain type octe
     → body_behind 0 (type ∷ octets) ≡ Some body
 chain_is_found _ _ _ (ends body) = refl
 chain_is_found _ _ _ (header zero units next content rest body more some whole chain) = absurd (more refl)
-chain_is_found _ _ _ (header (suc type) zero next content rest body more some whole chain) = absurd (omega (arith, some))
+chain_is_found _ _ _ (header (suc type) zero next content rest body more some whole chain) =
+    absurd (omega (arith, some))
 chain_is_found _ _ _ (header (suc type) (suc units) next content rest body more some whole chain) =
     let inner : 4 * units + 2 ≡ length content = omega (arith, whole) in
     ap (λ n. body_behind n (content ++ next ∷ rest)) inner ∙ behind_content content (next ∷ rest)
@@ -63,11 +64,19 @@ record IsBehind (before : ℕ) (octets body : List ℕ) : Type 0 where
   pub count : length content ≡ before
   pub chain : IsChain type rest body
 
-found_is_behind : (before : ℕ) (octets body : List ℕ) → body_behind before octets ≡ Some body → IsBehind before octets body
+found_is_behind : (before : ℕ) (octets body : List ℕ) → body_behind before octets ≡ Some body
+    → IsBehind before octets body
 found_is_behind zero [] body found = absurd (cc)
 found_is_behind zero (zero ∷ rest) body found =
     let same : rest ≡ body = cc in
-    record { content = []; type = 0; rest = rest; split = refl; count = refl; chain = subst (λ b. IsChain 0 rest b) same (ends rest) }
+    record {
+      content = [];
+      type = 0;
+      rest = rest;
+      split = refl;
+      count = refl;
+      chain = subst (λ b. IsChain 0 rest b) same (ends rest);
+    }
 found_is_behind zero (suc type ∷ []) body found = absurd (cc)
 found_is_behind zero (suc type ∷ zero ∷ rest) body found = absurd (cc)
 found_is_behind zero (suc type ∷ suc units ∷ rest) body found =
@@ -97,7 +106,8 @@ found_is_behind (suc before) (octet ∷ rest) body found =
       chain = inner.chain;
     }
 
-at_the_front : (type : ℕ) (octets body content : List ℕ) (found : ℕ) (rest : List ℕ) → type ∷ octets ≡ content ++ found ∷ rest
+at_the_front : (type : ℕ) (octets body content : List ℕ) (found : ℕ) (rest : List ℕ)
+    → type ∷ octets ≡ content ++ found ∷ rest
     → length content ≡ 0 → IsChain found rest body → IsChain type octets body
 at_the_front type octets body [] found rest split none chain =
     let same_type : found ≡ type = cc in
@@ -106,7 +116,8 @@ at_the_front type octets body [] found rest split none chain =
 at_the_front type octets body (octet ∷ content) found rest split none chain = absurd (omega (arith, none))
 
 -- what is found is a chain
-pub found_is_chain : (type : ℕ) (octets body : List ℕ) → body_behind 0 (type ∷ octets) ≡ Some body → IsChain type octets body
+pub found_is_chain : (type : ℕ) (octets body : List ℕ) → body_behind 0 (type ∷ octets) ≡ Some body
+    → IsChain type octets body
 found_is_chain type octets body found =
     let behind : IsBehind 0 (type ∷ octets) body = found_is_behind 0 (type ∷ octets) body found in
     at_the_front type octets body behind.content behind.type behind.rest behind.split behind.count behind.chain
@@ -117,8 +128,11 @@ pub chain_answers : {X : Type 0} (now : X → List ℕ) (found : Option X) (type
     → IfSome found (λ x. IsChain type octets (now x))
     × ((body : List ℕ) → IsChain type octets body → IsSomeAnd found (λ x. now x ≡ body))
     × (is_none found ≡ is_none (body_behind 0 (type ∷ octets)))
-chain_answers now None type octets test =
-    (tt, (λ body chain. let some : None ≡ Some body = test ∙ chain_is_found type octets body chain in absurd (cc)), ap is_none test)
+chain_answers now None type octets test = (
+  tt,
+  (λ body chain. let some : None ≡ Some body = test ∙ chain_is_found type octets body chain in absurd (cc)),
+  ap is_none test,
+)
 chain_answers now (Some x) type octets test = (
   found_is_chain type octets (now x) (sym test),
   (λ body chain. let some : Some (now x) ≡ Some body = test ∙ chain_is_found type octets body chain in cc),

@@ -1,2 +1,5 @@
 pub mod ExtensionLemmas
+pub mod MessageLemmas
 pub mod SpellingLemmas
+mod StandardFacts
+pub mod TextLemmas

@@ -1,6 +1,7 @@
 pub mod Extension
 pub mod Head
 pub mod Kind
+pub mod Message
 pub mod Refusal
 pub mod Spelling
 pub mod Text

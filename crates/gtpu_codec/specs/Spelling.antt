@@ -1,7 +1,8 @@
 -- What octets spell a message (TS 29.281, section 5.1).
-use Rattle.std.specs.Prelude.{◌≡◌, ℕ, ◌+◌, ◌*◌, ◌≤◌, Bool, true, false, List, ◌∷◌, length, take, IsTrue, Option, Some, None, if◌then◌else◌}
+use Rattle.std.specs.Prelude.{◌≡◌, ℕ, ◌≤◌, Bool, true, false, List, length, slice_index, drop, IsTrue, Option, Some, None, if◌then◌else◌}
+use Rattle.wire_octets.specs.Numbers.{be16_at}
 use Rattle.gtpu_codec.specs.declared.head.GtpUHead.{GtpUHead}
-use Rattle.gtpu_codec.specs.Head.{has_version, is_gtp, has_extensions, has_seq, has_options}
+use Rattle.gtpu_codec.specs.Head.{flags_in, type_in, length_in, teid_in, counted_in, has_version, is_gtp, has_extensions, has_seq, has_options}
 use Rattle.gtpu_codec.specs.Extension.{IsChain}
 use Rattle.gtpu_codec.specs.Kind.{type_octet}
 
@@ -10,21 +11,23 @@ abbrev pub SpellsBody : Bool → ℕ → List ℕ → List ℕ → Type 0
 SpellsBody true next octets body = IsChain next octets body
 SpellsBody false next octets body = body ≡ octets
 
--- The octets that the length counts, by octet 1 and by whether E, S or PN is set there.
--- With a flag   1-2: sequence number   3: N-PDU number   4: next type; each counts with its own flag alone.
+-- the sequence number, where flag S is set
+abbrev pub seq_in : ℕ → List ℕ → Option ℕ
+seq_in flags counted = if has_seq flags then Some (be16_at counted 0) else None
+
+-- The octets that the length counts, by the flags and by whether E, S or PN is set there.
+-- With a flag   0-1: sequence number   2: N-PDU number   3: next type; each counts with its own flag alone.
 abbrev pub SpellsCounted : ℕ → Bool → List ℕ → Option ℕ → List ℕ → Type 0
 SpellsCounted flags false counted seq body = (seq ≡ None) × (body ≡ counted)
-SpellsCounted flags true (seq_high ∷ seq_low ∷ n_pdu ∷ next ∷ octets) seq body =
-    (seq ≡ (if has_seq flags then Some (0x100 * seq_high + seq_low) else None))
-    × SpellsBody (has_extensions flags) next octets body
-SpellsCounted flags true counted seq body = ⊥
+SpellsCounted flags true counted seq body =
+    (4 ≤ length counted) × (seq ≡ seq_in flags counted)
+    × SpellsBody (has_extensions flags) (slice_index counted 3) (drop 4 counted) body
 
--- 1: flags   2: type   3-4: length of what follows octet 8   5-8: TEID
+-- The octets begin with this head, and the message carries this body. What follows its length is no part
+-- of it.
 abbrev pub Spells : List ℕ → GtpUHead → List ℕ → Type 0
-Spells (flags ∷ type ∷ length_high ∷ length_low ∷ teid_1 ∷ teid_2 ∷ teid_3 ∷ teid_4 ∷ rest) head body =
-    let counted = 0x100 * length_high + length_low in
-    IsTrue (has_version flags) × IsTrue (is_gtp flags)
-    × (type ≡ type_octet head.kind)
-    × (head.teid ≡ 0x100_0000 * teid_1 + 0x1_0000 * teid_2 + 0x100 * teid_3 + teid_4)
-    × (counted ≤ length rest) × SpellsCounted flags (has_options flags) (take counted rest) head.seq body
-Spells _ head body = ⊥
+Spells octets head body =
+    (8 ≤ length octets) × IsTrue (has_version (flags_in octets)) × IsTrue (is_gtp (flags_in octets))
+    × (type_in octets ≡ type_octet head.kind) × (head.teid ≡ teid_in octets)
+    × (length_in octets ≤ length (drop 8 octets))
+    × SpellsCounted (flags_in octets) (has_options (flags_in octets)) (counted_in octets) head.seq body

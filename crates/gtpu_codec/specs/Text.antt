@@ -1,32 +1,26 @@
 -- The one text of each message that is written (TS 29.281, sections 5.1, 7 and 8).
-use Rattle.std.specs.Prelude.{ℕ, ◌+◌, ◌/◌, ◌%◌, ◌<◌, ◌^◌, List, [], ◌∷◌, ◌++◌, length, Option, Some, None}
+use Rattle.std.specs.Prelude.{ℕ, ◌+◌, ◌<◌, ◌^◌, List, [], ◌∷◌, ◌++◌, length, Option, Some, None}
+use Rattle.wire_octets.specs.Numbers.{be16_octets, be32_octets}
 use Rattle.gtpu_codec.specs.declared.head.GtpUHead.{GtpUHead}
 use Rattle.gtpu_codec.specs.declared.kind.GtpUKind.{GtpUKind}
 use Rattle.gtpu_codec.specs.declared.kind.GtpUKind.TheVariants as kind
 use Rattle.gtpu_codec.specs.declared.message.GtpU.{GtpU}
 use Rattle.gtpu_codec.specs.declared.message.GtpU.TheVariants.{EchoRequest, EchoResponse, ErrorIndication, EndMarker, Gpdu}
-use Rattle.gtpu_codec.specs.declared.TheConstants.{OPTIONS_LEN}
 use Rattle.gtpu_codec.specs.Kind.{type_octet}
-
--- a number as two octets, and as four
-abbrev pub be16 : ℕ → List ℕ
-be16 n = n / 0x100 ∷ n % 0x100 ∷ []
-
-abbrev pub be32 : ℕ → List ℕ
-be32 n = n / 0x100_0000 ∷ n / 0x1_0000 % 0x100 ∷ n / 0x100 % 0x100 ∷ n % 0x100 ∷ []
 
 -- A message with this head and body: octet 1 says version 1 and GTP, and S where there is a sequence
 -- number; the N-PDU number and the next type are 0 then.
 abbrev pub text : GtpUKind → ℕ → Option ℕ → List ℕ → List ℕ
-text kind teid None body = 0x30 ∷ type_octet kind ∷ be16 (length body) ++ be32 teid ++ body
-text kind teid (Some seq) body = 0x32 ∷ type_octet kind ∷ be16 (length body + OPTIONS_LEN) ++ be32 teid ++ be16 seq ++ 0 ∷ 0 ∷ body
+text kind teid None body = 0x30 ∷ type_octet kind ∷ be16_octets (length body) ++ be32_octets teid ++ body
+text kind teid (Some seq) body =
+    0x32 ∷ type_octet kind ∷ be16_octets (length body + 4) ++ be32_octets teid ++ be16_octets seq ++ 0 ∷ 0 ∷ body
 
 -- what stands behind the head: the Recovery of an answer (8.2), the TEID Data I and the GTP-U Peer
 -- Address of an error (8.3 and 8.4), the payload of a G-PDU
 abbrev pub body_of : GtpU → List ℕ
 body_of (EchoRequest seq) = []
 body_of (EchoResponse seq) = 0x0e ∷ 0 ∷ []
-body_of (ErrorIndication seq teid peer) = 0x10 ∷ be32 teid ++ 0x85 ∷ 0 ∷ 4 ∷ be32 peer
+body_of (ErrorIndication seq teid peer) = 0x10 ∷ be32_octets teid ++ 0x85 ∷ 0 ∷ 4 ∷ be32_octets peer
 body_of (EndMarker teid) = []
 body_of (Gpdu teid payload) = payload
 
@@ -59,4 +53,4 @@ IsMessage (Gpdu teid payload) = (teid < 2 ^ 32) × (length payload < 2 ^ 16)
 -- how many octets the length counts
 abbrev pub counted_len : Option ℕ → List ℕ → ℕ
 counted_len None body = length body
-counted_len (Some seq) body = length body + OPTIONS_LEN
+counted_len (Some seq) body = length body + 4

@@ -3,11 +3,11 @@ ghost use Rattle.std.specs.Prelude.{◌≡◌, ℕ, ◌≤◌, ◌↔◌, Option
 ghost use Rattle.gtpu_codec.specs.Head.{has_version, is_gtp, has_extensions, has_seq, has_options};
 ghost use Rattle.gtpu_codec.specs.Refusal.{breaks_chain};
 ghost use Rattle.gtpu_codec.specs.Spelling.{SpellsCounted};
-ghost use Rattle.gtpu_codec.specs.declared.TheConstants.{OPTIONS_LEN};
 
 use crate::extension::skip_headers;
-use crate::{GtpUKind, VERSION};
+use crate::{GtpUKind, OPTIONS_LEN, VERSION};
 use pc_base::Teid;
+use wire_octets::be16_at;
 
 /// What the octets before the body say.
 #[derive(Clone, Copy, Debug, PartialEq, Eq)]
@@ -56,7 +56,7 @@ pub fn has_options(flags: u8) -> bool
 /// The sequence number and the body among the octets that the length counts; None where the chain of
 /// extension headers breaks.
 pub fn read_counted(flags: u8, counted: &[u8]) -> Option<(Option<u16>, &[u8])>
-    requires { IsTrue (has_options flags) → OPTIONS_LEN ≤ length counted.now }
+    requires { IsTrue (has_options flags) → 4 ≤ length counted.now }
     ensures found { IfSome result (λ r. SpellsCounted flags (has_options flags) counted.now r.0 r.1.now) }
     ensures only { (seq : Option ℕ) (body : List ℕ) → SpellsCounted flags (has_options flags) counted.now seq body
         → IsSomeAnd result (λ r. (r.0 ≡ seq) × (r.1.now ≡ body)) }
@@ -65,18 +65,16 @@ pub fn read_counted(flags: u8, counted: &[u8]) -> Option<(Option<u16>, &[u8])>
     if !has_options(flags) {
         return Some((None, counted));
     }
-    let [seq_high, seq_low, _, next_type, rest @ ..] = counted else {
-        unreachable!()
-    };
     let seq = if has_seq(flags) {
-        Some(0x100 * u16::from(*seq_high) + u16::from(*seq_low))
+        Some(be16_at(counted, 0))
     } else {
         None
     };
+    let (options, rest) = counted.split_at(OPTIONS_LEN);
     if !has_extensions(flags) {
         return Some((seq, rest));
     }
-    match skip_headers(*next_type, rest) {
+    match skip_headers(options[OPTIONS_LEN - 1], rest) {
         Some(body) => Some((seq, body)),
         None => None,
     }

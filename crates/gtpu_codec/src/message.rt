@@ -1,9 +1,10 @@
 //! The messages that are written.
-use crate::GtpUKind;
-use pc_base::{Addr4, Octets, Teid};
+ghost use Rattle.std.specs.Prelude.{◌≡◌, IfOk};
+
+use pc_base::{Addr4, NoMemory, Octets, Teid};
 
 /// A message of GTP-U (TS 29.281, section 7).
-#[derive(Debug, Drop)]
+#[derive(Clone, Debug, Drop, PartialEq, Eq)]
 pub enum GtpU {
     /// Asks whether the peer is alive (section 7.2.1).
     EchoRequest { seq: u16 },
@@ -15,4 +16,13 @@ pub enum GtpU {
     EndMarker { teid: Teid },
     /// A packet of a user, in the tunnel of this TEID.
     Gpdu { teid: Teid, payload: Octets },
+}
+
+impl GtpU {
+    /// A copy of the message.
+    pub fn try_clone(&self) -> Result<GtpU, NoMemory>
+        ensures { IfOk result (λ copy. copy ≡ self.now) }
+    {
+        self.clone()
+    }
 }

@@ -1,12 +1,14 @@
 //! Reading a message where it lies.
-ghost use Rattle.std.specs.Prelude.{◌≡◌, ℕ, List, IfOk, IfErr, IfSome, IsOkAnd};
+ghost use Rattle.std.specs.Prelude.{◌≡◌, ℕ, List, IfOk, IfErr, IfSome, IsOkAnd, MatchResult};
 ghost use Rattle.gtpu_codec.specs.declared.head.GtpUHead.{GtpUHead};
+ghost use Rattle.gtpu_codec.specs.Message.{message_of};
 ghost use Rattle.gtpu_codec.specs.Spelling.{Spells};
 ghost use Rattle.gtpu_codec.specs.Refusal.{first_fault};
 
 use crate::head::{has_options, has_version, is_gtp, read_counted};
-use crate::{GtpUHead, GtpUKind, OPTIONS_LEN, UBad};
+use crate::{GtpUHead, GtpUKind, MANDATORY_LEN, OPTIONS_LEN, UBad};
 use pc_base::Teid;
+use wire_octets::{be16_at, be32_at};
 
 /// The head of the message at the front, and the octets behind its extension headers. Octets past its
 /// length don't count.
@@ -19,6 +21,11 @@ pub fn read(bytes: &[u8]) -> Result<(GtpUHead, &[u8]), UBad>
     // A refusal is the first fault, and each fault is refused.
     ensures refused { IfErr result (λ bad. first_fault bytes.now ≡ Some bad) }
     ensures fault { IfSome (first_fault bytes.now) (λ bad. result ≡ Err bad) }
+
+    // It is the message that the octets are, and where they have a fault there is none.
+    ensures message { MatchResult result
+        (λ r. message_of bytes.now ≡ Some (r.0, r.1.now))
+        (λ _. message_of bytes.now ≡ None) }
 {
     parse(bytes)
 }
@@ -27,36 +34,27 @@ fn parse(bytes: &[u8]) -> Result<(GtpUHead, &[u8]), UBad>
     ensures found { IfOk result (λ r. Spells bytes.now r.0 r.1.now) }
     ensures refused { IfErr result (λ bad. first_fault bytes.now ≡ Some bad) }
 {
-    let [
-        flags,
-        type_octet,
-        length_high,
-        length_low,
-        teid_1,
-        teid_2,
-        teid_3,
-        teid_4,
-        rest @ ..,
-    ] = bytes
-    else {
+    if bytes.len() < MANDATORY_LEN {
         return Err(UBad::Short);
-    };
-    if !has_version(*flags) {
+    }
+    let flags = bytes[0];
+    if !has_version(flags) {
         return Err(UBad::Version);
     }
-    if !is_gtp(*flags) {
+    if !is_gtp(flags) {
         return Err(UBad::NotGtp);
     }
-    let length = 0x100 * usize::from(*length_high) + usize::from(*length_low);
-    if length > rest.len() || (has_options(*flags) && length < OPTIONS_LEN) {
+    let length = usize::from(be16_at(bytes, 2));
+    let (_, rest) = bytes.split_at(MANDATORY_LEN);
+    if length > rest.len() || (has_options(flags) && length < OPTIONS_LEN) {
         return Err(UBad::Length);
     }
-    let Some((seq, body)) = read_counted(*flags, &rest[..length]) else {
+    let Some((seq, body)) = read_counted(flags, &rest[..length]) else {
         return Err(UBad::Extension);
     };
-    let Some(kind) = GtpUKind::from_octet(*type_octet) else {
+    let Some(kind) = GtpUKind::from_octet(bytes[1]) else {
         return Err(UBad::Kind);
     };
-    let teid = Teid(u32::from_be_bytes([*teid_1, *teid_2, *teid_3, *teid_4]));
+    let teid = Teid(be32_at(bytes, 4));
     Ok((GtpUHead { kind, teid, seq }, body))
 }

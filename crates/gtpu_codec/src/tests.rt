@@ -174,5 +174,25 @@ fn messages_are_written_and_read(rt: HostRuntime) -> Result<(), Fail> {
         },
     )?;
     assert_eq!(rt; gpdu.as_slice(), GPDU.as_slice());
+    assert_eq!(rt; indication.try_clone()?, indication);
+    Ok(())
+}
+
+#[test]
+fn a_fault_prints_as_a_sentence(rt: HostRuntime) -> Result<(), Fail> {
+    let text = format!(in rt.alloc(); "{}", UBad::NotGtp)?;
+    assert_eq!(rt; text.as_str(), "GTP' in the place of GTP");
+    Ok(())
+}
+
+/// The example at the head of the crate.
+#[test]
+fn head_example(rt: HostRuntime) -> Result<(), Fail> {
+    let gpdu = [0x30, 0xff, 0, 2, 0, 0, 0, 0x11, 0x45, 0];
+    let Ok((head, payload)) = read(&gpdu) else {
+        return Err("a message".into());
+    };
+    assert_eq!(rt; (head.kind, head.teid), (GtpUKind::Gpdu, Teid(0x11)));
+    assert_eq!(rt; payload, [0x45, 0].as_slice());
     Ok(())
 }

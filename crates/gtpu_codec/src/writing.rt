@@ -1,12 +1,11 @@
 //! Writing a message.
-ghost use Rattle.std.specs.Prelude.{◌≡◌, ◌^◌, ◌+◌, ◌<◌, ℕ, List, ◌++◌, length, IfOk, Some, None};
-ghost use Rattle.gtpu_codec.specs.declared.message.GtpU.{GtpU};
-ghost use Rattle.gtpu_codec.specs.Spelling.{Spells};
-ghost use Rattle.gtpu_codec.specs.Text.{IsMessage, be16, be32, body_of, counted_len, head_of, payload_len, spelling, text};
+ghost use Rattle.std.specs.Prelude.{◌≡◌, ◌^◌, ◌<◌, IfOk, Some, None};
+ghost use Rattle.gtpu_codec.specs.Text.{counted_len, payload_len, spelling, text};
 
 use crate::{GtpU, GtpUHead, GtpUKind, OPTIONS_LEN};
-use pc_base::{Octets, Teid};
-use std::alloc::{AllocError as NoMemory, Global};
+use pc_base::{NoMemory, Octets, Teid};
+use std::alloc::Global;
+use wire_octets::{be16_octets, be32_octets};
 
 /// Octet 1 with version 1, GTP and no flag, and with flag S (TS 29.281, section 5.1).
 const PLAIN: u8 = 0x30;
@@ -59,12 +58,6 @@ pub fn write(alloc: Global, message: &GtpU) -> Result<Octets, NoMemory>
         ),
     }
 }
-
-/// What is written is read again, whatever octets follow.
-pub fn reads_back()
-    ensures { (message : GtpU) (more : List ℕ) → IsMessage message
-        → Spells (spelling message ++ more) (head_of message) (body_of message) }
-{}
 
 fn plain(kind: GtpUKind, teid: Teid) -> GtpUHead
     ensures { result ≡ record { kind = kind; teid = teid; seq = None } }
@@ -128,21 +121,4 @@ fn spell(alloc: Global, head: GtpUHead, body: &[u8]) -> Result<Octets, NoMemory>
     }
     bytes.extend_from_slice(body)?;
     Ok(Octets::of(bytes))
-}
-
-fn be16_octets(number: u16) -> [u8; 2]
-    ensures { result ≡ be16 number }
-{
-    [(number / 0x100) as u8, (number % 0x100) as u8]
-}
-
-fn be32_octets(number: u32) -> [u8; 4]
-    ensures { result ≡ be32 number }
-{
-    [
-        (number / 0x100_0000) as u8,
-        (number / 0x1_0000 % 0x100) as u8,
-        (number / 0x100 % 0x100) as u8,
-        (number % 0x100) as u8,
-    ]
 }

@@ -9,7 +9,8 @@ use Rattle.ipv4_packet.specs.Payload.{ports_of, spi_of}
 -- five words, by version and IHL, total length, flags and fragment offset, protocol; then what follows
 abbrev datagram : ℕ → ℕ → ℕ → ℕ → ℕ → ℕ → List ℕ → List ℕ
 datagram first high low flags offset protocol following =
-    first ∷ 0 ∷ high ∷ low ∷ 0 ∷ 111 ∷ flags ∷ offset ∷ 123 ∷ protocol ∷ 0 ∷ 0 ∷ 10 ∷ 45 ∷ 0 ∷ 2 ∷ 203 ∷ 0 ∷ 113 ∷ 9 ∷ following
+    first ∷ 0 ∷ high ∷ low ∷ 0 ∷ 111 ∷ flags ∷ offset ∷ 123 ∷ protocol ∷ 0 ∷ 0 ∷ 10 ∷ 45 ∷ 0 ∷ 2 ∷ 203 ∷ 0 ∷ 113 ∷ 9
+    ∷ following
 
 -- example 1: one octet of data, of protocol 1
 abbrev minimal : List ℕ
@@ -105,3 +106,19 @@ ah-index = refl
 
 cut_ah-index : spi_of (datagram 69 0 27 0 0 51 (17 ∷ 4 ∷ 0 ∷ 0 ∷ 0 ∷ 0 ∷ 1 ∷ [])) ≡ None
 cut_ah-index = refl
+
+-- the ports of UDP and SCTP, and of no other protocol
+udp-ports : ports_of (datagram 69 0 24 0 0 17 (19 ∷ 196 ∷ 39 ∷ 16 ∷ [])) ≡ Some (5060, 10000)
+udp-ports = refl
+
+sctp-ports : ports_of (datagram 69 0 24 0 0 132 (11 ∷ 89 ∷ 11 ∷ 90 ∷ [])) ≡ Some (2905, 2906)
+sctp-ports = refl
+
+icmp-ports : ports_of (datagram 69 0 24 0 0 1 (19 ∷ 196 ∷ 39 ∷ 16 ∷ [])) ≡ None
+icmp-ports = refl
+
+cut_udp-ports : ports_of (datagram 69 0 23 0 0 17 (19 ∷ 196 ∷ 39 ∷ [])) ≡ None
+cut_udp-ports = refl
+
+tcp-index : spi_of (datagram 69 0 24 0 0 6 (0 ∷ 0 ∷ 1 ∷ 0 ∷ [])) ≡ None
+tcp-index = refl

@@ -1,5 +1,8 @@
 //! An IPv4 packet where it lies.
-ghost use Rattle.std.specs.Prelude.{◌≡◌, ℕ, List, OnOk, IfOk, IfErr, IfSome, IsOkAnd};
+ghost use Rattle.std.specs.Prelude.{◌≡◌, ℕ, List, OnOk, IfOk, IfErr, IfSome, IsOkAnd, nat_eq};
+ghost use Rattle.std.specs.Cmp.Rules.{comparing};
+ghost use Rattle.std.specs.Cmp.Lexicographic.{pointwise};
+ghost use Rattle.std.proofs.Common.{rules};
 ghost use Rattle.ipv4_packet.specs.Fields.{tos_of, fragment_offset_of, protocol_of, source_of, destination_of};
 ghost use Rattle.ipv4_packet.specs.Packet.{IsPacket, Spells, packet_of};
 ghost use Rattle.ipv4_packet.specs.Refusal.{first_fault};
@@ -7,11 +10,13 @@ ghost use Rattle.ipv4_packet.specs.Payload.{payload_of, begins, ports_of, spi_of
 
 use crate::fault::IpBad;
 use crate::header::{MINIMUM_LEN, MINIMUM_WORDS, VERSION};
-use crate::numbers::{number16, number32};
 use crate::protocol::{AH, ESP, SCTP, TCP, UDP};
+use std::fmt;
 use std::marker::Model;
+use wire_octets::{be16_at, be32_at};
 
-/// One IPv4 packet, of just its total length. Contracts see it as its octets.
+/// One IPv4 packet, of just its total length. Contracts see it as its octets, and it prints as their
+/// hexadecimal digits.
 ///
 /// The octets (RFC 791, 3.1):
 /// 0: version (4) IHL (4)   1: type of service   2-3: total length
@@ -61,7 +66,7 @@ impl<'a> Ip4<'a> {
         if words < MINIMUM_WORDS || bytes.len() < header {
             return Err(IpBad::Header);
         }
-        let total = number16(bytes, 2) as usize;
+        let total = be16_at(bytes, 2) as usize;
         if total < header || bytes.len() < total {
             return Err(IpBad::Total);
         }
@@ -71,11 +76,20 @@ impl<'a> Ip4<'a> {
     }
 
     /// All octets of the packet, header and payload.
-    pub fn octets(&self) -> &[u8]
+    pub fn octets(&self) -> &'a [u8]
         ensures octets { result.now ≡ self.now }
         ensures whole { IsPacket result.now }
     {
         self.octets
+    }
+
+    /// The same packet once more, where it lies.
+    pub fn copied(&self) -> Ip4<'a>
+        ensures { result ≡ self.now }
+    {
+        Ip4 {
+            octets: self.octets,
+        }
     }
 
     /// The type of service.
@@ -89,7 +103,7 @@ impl<'a> Ip4<'a> {
     pub fn fragment_offset(&self) -> u16
         ensures { result ≡ fragment_offset_of self.now }
     {
-        number16(self.octets, 6) % 0x2000
+        be16_at(self.octets, 6) % 0x2000
     }
 
     /// The number of the protocol that the payload is of.
@@ -103,14 +117,14 @@ impl<'a> Ip4<'a> {
     pub fn source(&self) -> u32
         ensures { result ≡ source_of self.now }
     {
-        number32(self.octets, 12)
+        be32_at(self.octets, 12)
     }
 
     /// The destination address.
     pub fn destination(&self) -> u32
         ensures { result ≡ destination_of self.now }
     {
-        number32(self.octets, 16)
+        be32_at(self.octets, 16)
     }
 
     /// The source and the destination port of TCP, UDP or SCTP. None where the packet is of another
@@ -120,7 +134,7 @@ impl<'a> Ip4<'a> {
     {
         if self.begins(TCP, 4) || self.begins(UDP, 4) || self.begins(SCTP, 4) {
             let payload = self.payload();
-            Some((number16(payload, 0), number16(payload, 2)))
+            Some((be16_at(payload, 0), be16_at(payload, 2)))
         } else {
             None
         }
@@ -132,9 +146,9 @@ impl<'a> Ip4<'a> {
         ensures { result ≡ spi_of self.now }
     {
         if self.begins(ESP, 4) {
-            Some(number32(self.payload(), 0))
+            Some(be32_at(self.payload(), 0))
         } else if self.begins(AH, 8) {
-            Some(number32(self.payload(), 4))
+            Some(be32_at(self.payload(), 4))
         } else {
             None
         }
@@ -151,5 +165,28 @@ impl<'a> Ip4<'a> {
         ensures { result.now ≡ payload_of self.now }
     {
         &self.octets[4 * (self.octets[0] % 16) as usize..]
+    }
+}
+
+impl PartialEq for Ip4<'_> {
+    ghost eq = { pointwise nat_eq };
+
+    ghost laws = { Prim.search (comparing, rules) };
+
+    fn eq(&self, other: &Self) -> bool {
+        self.octets == other.octets
+    }
+}
+
+impl Eq for Ip4<'_> {
+    ghost laws = { Prim.search (comparing, rules) };
+}
+
+impl fmt::Debug for Ip4<'_> {
+    fn fmt<W: fmt::Write>(&self, f: &mut fmt::Formatter<W>) -> fmt::Result {
+        for octet in self.octets {
+            write!(f, "{octet:02x}")?;
+        }
+        Ok(())
     }
 }

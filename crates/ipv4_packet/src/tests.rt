@@ -102,3 +102,30 @@ fn octets_behind_the_packet_are_left(rt: HostRuntime) -> Result<(), Fail> {
 fn refusal(octets: &[u8]) -> Option<IpBad> {
     Ip4::read(octets).err()
 }
+
+#[test]
+fn packets_and_faults_print(rt: HostRuntime) -> Result<(), Fail> {
+    let packet = Ip4::read(&HEADER)?;
+    let text = format!(in rt.alloc(); "{packet:?}")?;
+    assert_eq!(rt; text.as_str(), "450000140000000040fd00000a2d0002cb007109");
+    assert!(rt; packet.copied() == packet);
+    let fault = format!(in rt.alloc(); "{}", IpBad::Version)?;
+    assert_eq!(rt;
+        fault.as_str(),
+        "a version of the Internet Protocol other than 4"
+    );
+    Ok(())
+}
+
+/// The example at the head of the crate.
+#[test]
+fn head_example(rt: HostRuntime) -> Result<(), Fail> {
+    let octets = DATAGRAM;
+    let packet = Ip4::read(&octets)?;
+    assert_eq!(rt;
+        (packet.source(), packet.destination()),
+        (0xcb00_7109, 0x0a2d_0002)
+    );
+    assert_eq!(rt; packet.ports(), Some((5060, 10000)));
+    Ok(())
+}

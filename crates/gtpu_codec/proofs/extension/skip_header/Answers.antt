@@ -13,7 +13,8 @@ returns-then-len-eq0 c = λ kind more.
 
 -- a slice from a place on is all that stands there
 take-drop : (len : ℕ) (octets : List ℕ) → take (length octets - len) (drop len octets) ≡ drop len octets
-take-drop len octets = ap (λ count. take count (drop len octets)) (sym (length-drop len octets)) ∙ take-length (drop len octets)
+take-drop len octets =
+    ap (λ count. take count (drop len octets)) (sym (length-drop len octets)) ∙ take-length (drop len octets)
 
 pub returns : goal.returns
 returns c =
