@@ -34,13 +34,14 @@ impl Model for Bucket {
 impl Bucket {
     ghost use Rattle.rate_policer.specs.declared.cost.Cost.{Cost};
     ghost use Rattle.rate_policer.specs.Conforming.{cost_of, Conforms, conforms};
-    ghost use Rattle.rate_policer.specs.Buckets.{StandsFor, level_at, rate_of, last_of};
+    ghost use Rattle.rate_policer.specs.Buckets.{StandsFor, full_bucket, level_at, rate_of, last_of};
 
     /// The bucket of a rate that nothing passed yet, full at moment 0.
     pub fn new(rate: Kbps) -> Bucket
         ensures empty { StandsFor result [] }
         ensures rate { rate_of result ≡ rate }
         ensures start { last_of result ≡ 0 }
+        ensures full { result ≡ full_bucket rate }
     {
         Bucket {
             rate,
