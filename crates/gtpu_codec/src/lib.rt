@@ -29,7 +29,7 @@ pub use kind::GtpUKind;
 pub use laws::{faults_or_spells, message_is_spelled, reads_back};
 pub use message::GtpU;
 pub use reading::read;
-pub use writing::write;
+pub use writing::{write, write_gpdu};
 
 /// The octets of every message: flags, type, length and TEID (TS 29.281, section 5.1).
 pub const MANDATORY_LEN: usize = 8;

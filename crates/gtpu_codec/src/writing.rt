@@ -1,5 +1,6 @@
 //! Writing a message.
-ghost use Rattle.std.specs.Prelude.{◌≡◌, ◌^◌, ◌<◌, IfOk, Some, None};
+ghost use Rattle.std.specs.Prelude.{◌≡◌, ◌^◌, ◌<◌, length, IfOk, Some, None};
+ghost use Rattle.gtpu_codec.specs.declared.message.GtpU.TheVariants.{Gpdu};
 ghost use Rattle.gtpu_codec.specs.Text.{counted_len, payload_len, spelling, text};
 
 use crate::{GtpU, GtpUHead, GtpUKind, OPTIONS_LEN};
@@ -57,6 +58,14 @@ pub fn write(alloc: Global, message: &GtpU) -> Result<Octets, NoMemory>
             payload.as_slice(),
         ),
     }
+}
+
+/// The text of a G-PDU, of a packet that isn't owned: one allocation, and none where it fails.
+pub fn write_gpdu(alloc: Global, teid: Teid, payload: &[u8]) -> Result<Octets, NoMemory>
+    requires { length payload.now < 2 ^ 16 }
+    ensures { IfOk result (λ octets. octets ≡ spelling (Gpdu teid payload.now)) }
+{
+    spell(alloc, plain(GtpUKind::Gpdu, teid), payload)
 }
 
 fn plain(kind: GtpUKind, teid: Teid) -> GtpUHead

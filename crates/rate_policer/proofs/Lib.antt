@@ -4,3 +4,4 @@ pub mod Levels
 pub mod Standing
 pub mod Windows
 pub mod Looking
+pub mod Testing

@@ -16,6 +16,10 @@ rate_of bucket = bucket.rate
 abbrev pub last_of : BucketState → ℕ
 last_of bucket = bucket.last
 
+-- the bucket of a rate that nothing passed yet: full at moment 0
+abbrev pub full_bucket : ℕ → BucketState
+full_bucket rate = record { rate = rate; level = burst rate; last = 0 }
+
 -- the level at a moment: what the rate has brought since the last ask is added, up to the burst
 abbrev pub level_at : BucketState → ℕ → ℕ
 level_at bucket at = min (burst bucket.rate) (bucket.level + bucket.rate * (at - bucket.last))

@@ -1,5 +1,5 @@
 -- What a rate lets through, by the list of the costs that passed before.
-use Rattle.std.specs.Prelude.{◌≡◌, ℕ, ◌+◌, ◌-◌, ◌*◌, ◌≤◌, ◌==◌, max, List, [], ◌∷◌, ◌++◌, sum_by, All, if◌then◌else◌}
+use Rattle.std.specs.Prelude.{◌≡◌, ℕ, ◌+◌, ◌-◌, ◌*◌, ◌≤◌, ◌==◌, ◌&&◌, ◌↔◌, nat_le, max, Bool, true, List, [], ◌∷◌, ◌++◌, sum_by, All, IsTrue, if◌then◌else◌}
 use Rattle.rate_policer.specs.declared.cost.Cost.{Cost}
 
 -- what an ask for these octets at this moment costs
@@ -21,6 +21,20 @@ pub record Conforms (rate : ℕ) (passed : List Cost) (cost : Cost) : Type 0 whe
   pub alone : cost.millibits ≤ burst rate
   pub since : (before after : List Cost) (earlier : Cost) → passed ≡ before ++ earlier ∷ after
       → cost.millibits + volume (earlier ∷ after) ≤ burst rate + rate * (cost.at - earlier.at)
+
+-- the same as a test: what passed from each earlier cost on fits with the cost
+abbrev pub fits_each : ℕ → List Cost → Cost → Bool
+fits_each rate [] cost = true
+fits_each rate (earlier ∷ after) cost =
+    nat_le (cost.millibits + volume (earlier ∷ after)) (burst rate + rate * (cost.at - earlier.at)) && fits_each rate after cost
+
+-- whether a cost conforms
+unfoldable pub conforms : ℕ → List Cost → Cost → Bool
+conforms rate passed cost = nat_le cost.millibits (burst rate) && fits_each rate passed cost
+
+-- the test answers what conforming is
+abbrev pub ConformingIsTested : Type 0
+ConformingIsTested = (rate : ℕ) (passed : List Cost) (cost : Cost) → IsTrue (conforms rate passed cost) ↔ Conforms rate passed cost
 
 -- each cost conformed to those that passed before it
 abbrev pub ArePoliced : ℕ → List Cost → Type 0

@@ -33,14 +33,15 @@ impl Model for Bucket {
 
 impl Bucket {
     ghost use Rattle.rate_policer.specs.declared.cost.Cost.{Cost};
-    ghost use Rattle.rate_policer.specs.Conforming.{cost_of, Conforms};
-    ghost use Rattle.rate_policer.specs.Buckets.{StandsFor, level_at, rate_of, last_of};
+    ghost use Rattle.rate_policer.specs.Conforming.{cost_of, Conforms, conforms};
+    ghost use Rattle.rate_policer.specs.Buckets.{StandsFor, full_bucket, level_at, rate_of, last_of};
 
     /// The bucket of a rate that nothing passed yet, full at moment 0.
     pub fn new(rate: Kbps) -> Bucket
         ensures empty { StandsFor result [] }
         ensures rate { rate_of result ≡ rate }
         ensures start { last_of result ≡ 0 }
+        ensures full { result ≡ full_bucket rate }
     {
         Bucket {
             rate,
@@ -56,6 +57,8 @@ impl Bucket {
 
         ensures conforms { (passed : List Cost) → StandsFor self.old passed
             → (IsTrue result ↔ Conforms (rate_of self.old) passed (cost_of octets at)) }
+        ensures tested { (passed : List Cost) → StandsFor self.old passed
+            → result ≡ conforms (rate_of self.old) passed (cost_of octets at) }
 
         // What passes is charged, and a refusal costs nothing.
         ensures charged { (passed : List Cost) → StandsFor self.old passed

@@ -1,6 +1,6 @@
 //! What conforms to a rate, by the whole list of what passed.
 ghost use Rattle.std.specs.Prelude.{◌≡◌, ℕ, ◌+◌, ◌-◌, ◌*◌, ◌^◌, ◌≤◌, ◌↔◌, [], length, IsTrue};
-ghost use Rattle.rate_policer.specs.Conforming.{burst, volume, Conforms, ArePoliced, PolicedListsGrow, NoWindowPassesMore, NoTimePassesMore};
+ghost use Rattle.rate_policer.specs.Conforming.{burst, volume, Conforms, conforms, ConformingIsTested, ArePoliced, PolicedListsGrow, NoWindowPassesMore, NoTimePassesMore};
 
 use crate::Cost;
 use crate::rate::{brought, burst};
@@ -10,7 +10,8 @@ use pc_base::Kbps;
 /// together with all that passed since any earlier cost it is within the burst and what the rate has
 /// brought since that cost. It looks at each earlier cost, and sums anew what passed since.
 pub fn conforms(rate: Kbps, passed: &[Cost], cost: Cost) -> bool
-    ensures { IsTrue result ↔ Conforms rate passed.now cost }
+    ensures conforms { IsTrue result ↔ Conforms rate passed.now cost }
+    ensures tested { result ≡ conforms rate passed.now cost }
 {
     if cost.millibits > burst(rate) {
         return false;
@@ -22,6 +23,11 @@ pub fn conforms(rate: Kbps, passed: &[Cost], cost: Cost) -> bool
     }
     true
 }
+
+/// The test of the definitions, by which the layers above decide, answers what conforming is.
+pub fn conforming_is_tested()
+    ensures { ConformingIsTested }
+{}
 
 /// Where each cost conformed when it passed, no more passed in any window than the burst and what
 /// the rate brought in it: from any cost to any later one, and from any moment to any later one.

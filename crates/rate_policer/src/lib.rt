@@ -11,5 +11,5 @@ mod rate;
 mod tests;
 
 pub use bucket::Bucket;
-pub use conforming::{conforms, no_window_passes_more, policed_lists_grow};
+pub use conforming::{conforming_is_tested, conforms, no_window_passes_more, policed_lists_grow};
 pub use cost::Cost;

@@ -1,5 +1,7 @@
 //! Answers worked out by hand, and the bucket beside the definition's own program.
-use crate::{Bucket, Cost, conforms, no_window_passes_more, policed_lists_grow};
+use crate::{
+    Bucket, Cost, conforming_is_tested, conforms, no_window_passes_more, policed_lists_grow,
+};
 use pc_base::{Kbps, Moment};
 use std::alloc::Global;
 use std::process::Abort;
@@ -211,4 +213,5 @@ fn bucket_tells_its_rate_and_last_ask(rt: HostRuntime) {
     }
     no_window_passes_more();
     policed_lists_grow();
+    conforming_is_tested();
 }

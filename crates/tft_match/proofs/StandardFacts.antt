@@ -1,5 +1,5 @@
 -- The definitions at a packet of the wire, at filters of TS 24.008 and at ranks.
-use Rattle.std.proofs.Common.{ℕ, List, [], ◌∷◌, Some, None, inl, inr, refl, arith}
+use Rattle.std.proofs.Common.{◌≡◌, ℕ, List, [], ◌∷◌, Some, None, inl, inr, refl, arith}
 use Rattle.std.proofs.lemmas.List.Elements.{All-nil, All-cons, All-head}
 use Rattle.tft_codec.specs.declared.component.Component.TheVariants.{RemoteAddr, LocalAddr, Protocol, LocalPort, LocalRange, RemotePort, RemoteRange, Spi, Tos}
 use Rattle.tft_codec.specs.declared.filter.Filter.{Filter}
@@ -7,6 +7,7 @@ use Rattle.tft_codec.specs.declared.tft.BearerFilters.{BearerFilters}
 use Rattle.tft_match.specs.declared.direction.Direction.TheVariants.{Up, Down}
 use Rattle.tft_match.specs.Fit.{CountsIn, Holds, Fits}
 use Rattle.tft_match.specs.Choice.{IsBefore, Takes, by_default}
+use Rattle.tft_match.specs.Chosen.{chosen}
 use Rattle.tft_match.specs.Walk.{IsFirstRank}
 use Rattle.tft_match.proofs.WalkLemmas.{with_filters, no_ranks, row_begins, row_unfit, row_leads}
 use Rattle.tft_match.proofs.ChoiceLemmas.{takes_first, no_candidate}
@@ -53,7 +54,7 @@ remote_address-up : Holds Up udp (RemoteAddr 0x0a2d0002 0xffffffff)
 remote_address-up = refl
 
 remote_address-other : ¬ Holds Down udp (RemoteAddr 0xcb007209 0xffffff00)
-remote_address-other = λ same. absurd (omega (arith, same))
+remote_address-other = λ held. cc
 
 local_address-down : Holds Down udp (LocalAddr 0x0a2dffff 0xffff0000)
 local_address-down = refl
@@ -78,23 +79,23 @@ local_port-up = refl
 
 -- both ends of a range are in it, and the ports beside it aren't
 local_range-low : Holds Down udp (LocalRange 10000 20000)
-local_range-low = (omega arith, omega arith)
+local_range-low = refl
 
 local_range-high : Holds Down udp (LocalRange 9000 10000)
-local_range-high = (omega arith, omega arith)
+local_range-high = refl
 
 remote_range-above : ¬ Holds Down udp (RemoteRange 5000 5059)
-remote_range-above = λ within. omega (arith, within.1)
+remote_range-above = λ held. cc
 
 remote_range-below : ¬ Holds Down udp (RemoteRange 5061 6000)
-remote_range-below = λ within. omega (arith, within.0)
+remote_range-below = λ held. cc
 
 -- a packet without ports, or without an index, meets no component that asks for one
 remote_port-icmp : ¬ Holds Down (datagram 0 0 1) (RemotePort 5060)
 remote_port-icmp = λ same. cc
 
 remote_range-icmp : ¬ Holds Down (datagram 0 0 1) (RemoteRange 0 65535)
-remote_range-icmp = λ within. within
+remote_range-icmp = λ held. cc
 
 spi-udp : ¬ Holds Down udp (Spi 0x13c42710)
 spi-udp = λ same. cc
@@ -155,3 +156,27 @@ takes-by_default =
     (row_unfit (default_bearer ∷ []) (datagram 0 1 17) dedicated [] from_port None
     (begun (datagram 0 1 17)) unfit-later_fragment))
     (0, omega arith, refl)
+
+chosen-by_filter : chosen bearers udp ≡ Some 1
+unfolding chosen
+chosen-by_filter = refl
+
+chosen-by_default : chosen bearers (datagram 0 1 17) ≡ Some 0
+unfolding chosen
+chosen-by_default = refl
+
+chosen-none : chosen (dedicated ∷ []) (datagram 0 1 17) ≡ None
+unfolding chosen
+chosen-none = refl
+
+-- two bearers whose filters fit: the lower precedence counts first, and at one precedence the lower index
+abbrev voice : ℕ → ℕ → BearerFilters
+voice index precedence = record { index = index; filters = record { id = 7; direction = 3; precedence = precedence; components = Protocol 17 ∷ [] } ∷ [] }
+
+chosen-by_precedence : chosen (voice 1 10 ∷ voice 2 9 ∷ []) udp ≡ Some 2
+unfolding chosen
+chosen-by_precedence = refl
+
+chosen-by_index : chosen (voice 2 9 ∷ voice 1 9 ∷ []) udp ≡ Some 1
+unfolding chosen
+chosen-by_index = refl

@@ -1,6 +1,6 @@
 -- Which packets fit a filter (TS 24.008, 10.5.6.12). Remote is the far end, local the user's.
-use Rattle.std.specs.Prelude.{◌≡◌, ℕ, ◌≤◌, List, [], ◌∷◌, Option, Some, bit_and, IsTrue, IsSomeAnd}
-use Rattle.std.specs.List.{All}
+use Rattle.std.specs.Prelude.{ℕ, ◌==◌, ◌&&◌, nat_le, List, [], ◌∷◌, Bool, false, Option, Some, None, bit_and, IsTrue}
+use Rattle.std.specs.List.{All, list_all}
 use Rattle.std.specs.Option.{option_map}
 use Rattle.ipv4_packet.specs.Fields.{tos_of, protocol_of, source_of, destination_of}
 use Rattle.ipv4_packet.specs.Payload.{ports_of, spi_of}
@@ -45,26 +45,39 @@ local_port Down packet = destination_port packet
 local_port Up packet = source_port packet
 
 -- two numbers have the same bits where the mask has ones
-abbrev pub AgreeUnder : ℕ → ℕ → ℕ → Type 0
-AgreeUnder mask wanted value = bit_and wanted mask ≡ bit_and value mask
+abbrev pub agree_under : ℕ → ℕ → ℕ → Bool
+agree_under mask wanted value = bit_and wanted mask == bit_and value mask
 
 -- there is a port, from low to high
-abbrev pub IsWithin : ℕ → ℕ → Option ℕ → Type 0
-IsWithin low high port = IsSomeAnd port (λ n. (low ≤ n) × (n ≤ high))
+abbrev pub is_within : ℕ → ℕ → Option ℕ → Bool
+is_within low high None = false
+is_within low high (Some port) = nat_le low port && nat_le port high
+
+-- there is a number, and it is the wanted one
+abbrev pub is_wanted : ℕ → Option ℕ → Bool
+is_wanted wanted None = false
+is_wanted wanted (Some found) = found == wanted
 
 -- the table of components: what each asks of a packet; it doesn't hold where the packet has no such field
+abbrev pub holds : Direction → List ℕ → Component → Bool
+holds direction packet (RemoteAddr address mask) = agree_under mask address (remote_address direction packet)
+holds direction packet (LocalAddr address mask) = agree_under mask address (local_address direction packet)
+holds direction packet (Protocol number) = protocol_of packet == number
+holds direction packet (LocalPort port) = is_wanted port (local_port direction packet)
+holds direction packet (LocalRange low high) = is_within low high (local_port direction packet)
+holds direction packet (RemotePort port) = is_wanted port (remote_port direction packet)
+holds direction packet (RemoteRange low high) = is_within low high (remote_port direction packet)
+holds direction packet (Spi index) = is_wanted index (spi_of packet)
+holds direction packet (Tos value mask) = agree_under mask value (tos_of packet)
+
 abbrev pub Holds : Direction → List ℕ → Component → Type 0
-Holds direction packet (RemoteAddr address mask) = AgreeUnder mask address (remote_address direction packet)
-Holds direction packet (LocalAddr address mask) = AgreeUnder mask address (local_address direction packet)
-Holds direction packet (Protocol number) = protocol_of packet ≡ number
-Holds direction packet (LocalPort port) = local_port direction packet ≡ Some port
-Holds direction packet (LocalRange low high) = IsWithin low high (local_port direction packet)
-Holds direction packet (RemotePort port) = remote_port direction packet ≡ Some port
-Holds direction packet (RemoteRange low high) = IsWithin low high (remote_port direction packet)
-Holds direction packet (Spi index) = spi_of packet ≡ Some index
-Holds direction packet (Tos value mask) = AgreeUnder mask value (tos_of packet)
+Holds direction packet component = IsTrue (holds direction packet component)
 
 -- a packet of that direction fits the filter
 pub record Fits (direction : Direction) (packet : List ℕ) (filter : Filter) : Type 0 where
   pub counts : CountsIn direction filter.direction
   pub each : All (Holds direction packet) filter.components
+
+-- the same as a test
+abbrev pub fits : Direction → List ℕ → Filter → Bool
+fits direction packet filter = has (counted direction) filter.direction && list_all (holds direction packet) filter.components

@@ -2,6 +2,7 @@
 ghost use Rattle.std.specs.Prelude.{◌≡◌, ◌↔◌, IsTrue, ℕ, List, [], ◌∷◌, ◌++◌, Option};
 ghost use Rattle.tft_codec.specs.declared.tft.BearerFilters.{BearerFilters};
 ghost use Rattle.tft_match.specs.Choice.{IsBefore, HasDefault, Takes};
+ghost use Rattle.tft_match.specs.Chosen.{chosen};
 ghost use Rattle.tft_match.specs.Ends.{AreEnds};
 ghost use Rattle.tft_match.specs.Walk.{IsFirstRank, Leads};
 
@@ -19,8 +20,10 @@ type Rank = (u8, u8, u8);
 /// takes the default bearer, of index 0, where that has no filters, and else none.
 pub fn choose(rows: &[BearerFilters], packet: &Ip4<'_>) -> Option<u8>
     // The answer is the bearer that the packet takes, and it takes no other.
-    ensures chosen { Takes rows.now packet.now result }
+    ensures taken { Takes rows.now packet.now result }
     ensures only { (answer : Option ℕ) → Takes rows.now packet.now answer → result ≡ answer }
+
+    ensures chosen { result ≡ chosen rows.now packet.now }
 {
     match first_rank(rows, packet) {
         Some((_, index, _)) => Some(index),

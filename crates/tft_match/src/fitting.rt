@@ -1,7 +1,8 @@
 //! Whether a packet fits a filter.
-ghost use Rattle.std.specs.Prelude.{◌↔◌, IsTrue, All};
+ghost use Rattle.std.specs.Prelude.{◌≡◌, ◌↔◌, IsTrue};
+ghost use Rattle.std.specs.List.{list_all};
 ghost use Rattle.tft_match.specs.Ends.{AreEnds};
-ghost use Rattle.tft_match.specs.Fit.{AgreeUnder, IsWithin, Holds, Fits};
+ghost use Rattle.tft_match.specs.Fit.{agree_under, is_within, is_wanted, holds, Fits, fits};
 
 use crate::direction::{Direction, counts_in};
 use crate::ends::{Ends, ends_of};
@@ -11,7 +12,8 @@ use tft_codec::{Component, Filter};
 /// Whether a packet of this direction fits a filter: the filter counts for the direction, and each
 /// of its components holds. A filter of no components is fitted by every packet.
 pub fn matches(filter: &Filter, packet: &Ip4<'_>, direction: Direction) -> bool
-    ensures { IsTrue result ↔ Fits direction packet.now filter.now }
+    ensures fits { IsTrue result ↔ Fits direction packet.now filter.now }
+    ensures tested { result ≡ fits direction packet.now filter.now }
 {
     fits(filter, packet, &ends_of(packet, direction))
 }
@@ -19,7 +21,7 @@ pub fn matches(filter: &Filter, packet: &Ip4<'_>, direction: Direction) -> bool
 /// The same, where the ends of the packet are found.
 pub(crate) fn fits(filter: &Filter, packet: &Ip4<'_>, ends: &Ends) -> bool
     requires { AreEnds packet.now ends.now }
-    ensures { IsTrue result ↔ Fits ends.now.direction packet.now filter.now }
+    ensures { result ≡ fits ends.now.direction packet.now filter.now }
 {
     counts_in(ends.direction, filter.direction)
         && all_hold(filter.components.as_slice(), packet, ends)
@@ -27,7 +29,7 @@ pub(crate) fn fits(filter: &Filter, packet: &Ip4<'_>, ends: &Ends) -> bool
 
 fn all_hold(components: &[Component], packet: &Ip4<'_>, ends: &Ends) -> bool
     requires { AreEnds packet.now ends.now }
-    ensures { IsTrue result ↔ All (Holds ends.now.direction packet.now) components.now }
+    ensures { result ≡ list_all (holds ends.now.direction packet.now) components.now }
 {
     components
         .iter()
@@ -37,7 +39,7 @@ fn all_hold(components: &[Component], packet: &Ip4<'_>, ends: &Ends) -> bool
 /// Whether a packet meets a component.
 fn holds(component: &Component, packet: &Ip4<'_>, ends: &Ends) -> bool
     requires { AreEnds packet.now ends.now }
-    ensures { IsTrue result ↔ Holds ends.now.direction packet.now component.now }
+    ensures { result ≡ holds ends.now.direction packet.now component.now }
 {
     match component {
         Component::RemoteAddr(address, mask) => agree_under(*mask, *address, ends.remote_address),
@@ -54,14 +56,14 @@ fn holds(component: &Component, packet: &Ip4<'_>, ends: &Ends) -> bool
 
 /// Whether two addresses have the same bits where the mask has ones.
 fn agree_under(mask: u32, wanted: u32, address: u32) -> bool
-    ensures { IsTrue result ↔ AgreeUnder mask wanted address }
+    ensures { result ≡ agree_under mask wanted address }
 {
     wanted & mask == address & mask
 }
 
 /// Whether there is a port, from the lowest to the highest of a range.
 fn is_within(low: u16, high: u16, found: Option<u16>) -> bool
-    ensures { IsTrue result ↔ IsWithin low high found }
+    ensures { result ≡ is_within low high found }
 {
     match found {
         Some(port) => low <= port && port <= high,

@@ -13,7 +13,7 @@ mod laws;
 pub use choice::choose;
 pub use direction::Direction;
 pub use fitting::matches;
-pub use laws::one_filter_decides;
+pub use laws::{chosen_is_taken, one_filter_decides};
 
 #[cfg(test)]
 mod tests;

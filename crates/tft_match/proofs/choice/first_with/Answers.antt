@@ -4,6 +4,7 @@ use Rattle.std.proofs.lemmas.List.{take_more, take_all}
 use Rattle.tft_match.specs.Fit.{Fits}
 use Rattle.tft_match.specs.Walk.{IsFirstRank}
 use Rattle.tft_match.proofs.WalkLemmas.{with_row, row_begins, row_unfit, row_behind, row_leads}
+use Rattle.tft_match.proofs.FitLemmas.{fits_told}
 use Rattle.tft_match.proofs.choice.first_with.Goals as goal
 use Rattle.tft_match.proofs.choice.first_with.Goals.{then-leads+then-fits, else-leads, else-leads-via-then-leads+else-fits, else-leads-via-else-leads}
 
@@ -22,12 +23,13 @@ loop-filter-preserved c =
       | then-leads+then-fits w ↦ rw w.first-is
           (row_leads rows c.args.packet.now c.args.row.now seen filter c.loop-filter.first so_far
           (c.leads.ensures.0 w.if-leads.true)
-          (subst (λ d. Fits d c.args.packet.now filter) c.requires.down (w.fits.ensures.0 w.if-fits.true)))
+          (subst (λ d. Fits d c.args.packet.now filter) c.requires.down
+          ((fits_told _ _ filter _ w.fits.ensures).0 w.if-fits.true)))
       | else-leads w ↦ rw w.first-is (elim w.else-leads.branch [
         | else-leads-via-then-leads+else-fits w' ↦ row_unfit rows c.args.packet.now c.args.row.now seen filter
             c.loop-filter.first so_far
             (λ down. false≢true
-            (sym w'.if-fits.false ∙ w'.fits.ensures.1
+            (sym w'.if-fits.false ∙ (fits_told _ _ filter _ w'.fits.ensures).1
             (subst (λ d. Fits d c.args.packet.now filter) (sym c.requires.down) down)))
         | else-leads-via-else-leads w' ↦ row_behind rows c.args.packet.now c.args.row.now seen filter
             c.loop-filter.first so_far (λ leads. false≢true (sym w'.if-leads.false ∙ c.leads.ensures.1 leads))

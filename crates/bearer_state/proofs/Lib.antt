@@ -1,0 +1,5 @@
+pub mod ListLemmas
+pub mod VersionLemmas
+pub mod FirstLemmas
+pub mod BearerLemmas
+pub mod SessionLemmas

@@ -1,0 +1,43 @@
+//! What a Modify Bearer Request asks for.
+use pc_base::Peer;
+use std::marker::Model;
+
+/// One ask: the active bearer of this EBI, and where its downlink packets go from now on, if that
+/// changes.
+#[derive(Clone, Copy, Debug, PartialEq, Eq)]
+pub struct Ask {
+    /// 5 to 15.
+    pub ebi: u8,
+    pub enb: Option<Peer>,
+}
+
+/// The asks of one request: at most 11, of different EBIs. Seen as their list.
+#[derive(Debug, Drop)]
+pub struct Asks {
+    items: Vec<Ask>,
+}
+
+impl Model for Asks {
+    ghost use Rattle.std.specs.Prelude.{List};
+    ghost use Rattle.bearer_state.specs.declared.ask.Ask.{Ask};
+    ghost use Rattle.bearer_state.specs.Ask.{AreAsks};
+
+    ghost Value = { List Ask };
+
+    ghost view = { λ asks. asks.items.items };
+
+    ghost invariant = { λ asks. AreAsks asks.items.items };
+}
+
+impl Asks {
+    ghost use Rattle.std.specs.Prelude.{◌≡◌};
+    ghost use Rattle.bearer_state.specs.Ask.{AreAsks};
+
+    /// Lends the asks. Takes no memory.
+    pub fn as_slice(&self) -> &[Ask]
+        ensures value { result.now ≡ self.now }
+        ensures valid { AreAsks self.now }
+    {
+        &self.items
+    }
+}

@@ -1,0 +1,18 @@
+//! The quality of service of a bearer.
+use pc_base::Kbps;
+
+/// What a bearer is promised (TS 23.401, 4.7.3), rates in kbps.
+#[derive(Clone, Copy, Debug, PartialEq, Eq)]
+pub struct Qos {
+    /// The allocation and retention priority as its octet (TS 29.274, 8.15): pre-emption capability
+    /// in bit 7, level in bits 6 to 3, vulnerability in bit 1. The spare bits 8 and 2 are 0.
+    pub arp: u8,
+    /// The QoS class identifier (TS 23.203, 6.1.7): 1 to 4 have a guaranteed rate.
+    pub qci: u8,
+    /// The maximum rates.
+    pub mbr_up: Kbps,
+    pub mbr_down: Kbps,
+    /// The guaranteed rates.
+    pub gbr_up: Kbps,
+    pub gbr_down: Kbps,
+}
