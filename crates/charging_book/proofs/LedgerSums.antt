@@ -1,6 +1,5 @@
 -- Whatever is counted of packets, the rows and open counters of a life have it of all its packets.
-use Rattle.std.proofs.Common.{◌≡◌, ℕ, ◌+◌, Bool, true, false, not, List, [], ◌∷◌, ◌++◌, sum_by, sym, ◌∙◌, ap, refl, arith, add-zero, zero-add, if◌then◌else◌}
-use Rattle.std.specs.List.{flat_map}
+use Rattle.std.proofs.Common.{◌≡◌, ℕ, ◌+◌, true, false, not, List, [], ◌∷◌, sum_by, sym, ◌∙◌, ap, refl, arith, add-zero, if◌then◌else◌}
 use Rattle.std.proofs.lemmas.List.Sums.{sum_by-cons, sum_by-append}
 use Rattle.charging_book.specs.Rows.{Counters, Charged}
 use Rattle.charging_book.specs.Pieces.{Forwarded, Finished, open_of, row_of}

@@ -1,6 +1,5 @@
 -- The pieces of a life are its forwarded packets, happening after happening.
-use Rattle.std.proofs.Common.{◌≡◌, ◌≢◌, ℕ, zero, suc, ◌<◌, ◌==◌, List, [], ◌∷◌, ◌++◌, length, get_or, Contains, sym, ◌∙◌, ap, refl, subst, arith, eq-eqb, inl, inr, if◌then◌else◌, cond, Option, Some, None, append_assoc}
-use Rattle.std.specs.List.{filter_map, flat_map}
+use Rattle.std.proofs.Common.{◌≡◌, ◌≢◌, ℕ, zero, suc, ◌<◌, ◌==◌, List, [], ◌∷◌, ◌++◌, length, get_or, Contains, sym, ◌∙◌, ap, refl, subst, arith, eq-eqb, inl, inr, if◌then◌else◌, append_assoc}
 use Rattle.std.proofs.lemmas.Bool.{ne_eqb}
 use Rattle.std.proofs.lemmas.Bool.Decides.{eqb_tells}
 use Rattle.std.proofs.lemmas.Grind.{flat_map-append}
@@ -9,10 +8,10 @@ use Rattle.std.proofs.lemmas.List.Elements.{filter-append, filter_map-append}
 use Rattle.charging_book.specs.declared.records.Why.TheVariants.{Volume, Qos, Gone}
 use Rattle.charging_book.specs.Rows.{Charged}
 use Rattle.charging_book.specs.Pieces.{Forwarded, Item, packet, mark, Finished, finishes, piece_after, finished, last_piece}
-use Rattle.charging_book.specs.Happenings.{Happening, started, forwarded, closed, Story, with_item, story_step, story_of, lives_step, lives_of, rows_by, rows_at, rows_of, MayHappen, AllMay, IsLawful}
-use Rattle.charging_book.specs.Ledger.{packet_by, packets_of, rows_for, TellPieces, IsPartition, LedgersArePartitions}
+use Rattle.charging_book.specs.Happenings.{Happening, started, forwarded, closed, Story, with_item, story_step, story_of, lives_step, lives_of, rows_by, rows_at, rows_of, MayHappen, AllMay}
+use Rattle.charging_book.specs.Ledger.{packet_by, packets_of, rows_for, TellPieces, LedgersArePartitions}
 use Rattle.charging_book.proofs.Places.{IsNone, none_of_all, without, without-other, without-same}
-use Rattle.charging_book.proofs.Steps.{last_piece-push, story-push, lives-push, rows-push, lawful-push, lives-distinct}
+use Rattle.charging_book.proofs.Steps.{last_piece-push, story-push, lives-push, rows-push, lives-distinct}
 use Rattle.charging_book.proofs.Standing.{own-forwarded, other-forwarded, own-closed, other-closed}
 use Rattle.charging_book.proofs.Pieces.{joined, packet_in, item_kept, own_rows, others_rows, rows_tell, tell-append, last_of, opens_tell}
 

@@ -1,11 +1,10 @@
 -- What an item, or a happening, adds to the pieces of a life.
-use Rattle.std.proofs.Common.{◌≡◌, ◌≢◌, ℕ, ◌==◌, Bool, true, false, List, [], ◌∷◌, ◌++◌, map, filter, sym, ◌∙◌, ap, refl, subst, eq-eqb, inl, inr}
+use Rattle.std.proofs.Common.{◌≡◌, ◌≢◌, ℕ, Bool, true, false, List, [], ◌∷◌, ◌++◌, map, ◌∙◌, ap, refl, subst, eq-eqb, inl, inr}
 use Rattle.std.specs.List.{flat_map}
 use Rattle.std.proofs.lemmas.Bool.{ne_eqb}
 use Rattle.std.proofs.lemmas.Bool.Decides.{eqb_tells}
 use Rattle.std.proofs.lemmas.List.{append-nil}
-use Rattle.charging_book.specs.Rows.{Counters, Charged}
-use Rattle.charging_book.specs.declared.records.Why.TheVariants.{Volume}
+use Rattle.charging_book.specs.Rows.{Charged}
 use Rattle.charging_book.specs.Pieces.{Forwarded, Item, packet, mark, Finished, is_full, finishes, piece_after, last_piece, row_of}
 use Rattle.charging_book.specs.Happenings.{Happening, story_of, open_at}
 use Rattle.charging_book.specs.Ledger.{rows_for, opens_for, TellPieces, TellLast}
