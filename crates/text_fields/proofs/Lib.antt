@@ -3,3 +3,5 @@ pub mod DigitLemmas
 pub mod HexadecimalLemmas
 pub mod FieldLemmas
 pub mod AddressLemmas
+pub mod PlainLemmas
+pub mod LowerLemmas

@@ -1,5 +1,5 @@
 -- A line of text as fields with one space between each two.
-use Rattle.std.specs.Prelude.{ℕ, ◌==◌, ◌≢◌, Bool, true, false, List, [], ◌∷◌, Option, All}
+use Rattle.std.specs.Prelude.{ℕ, ◌==◌, ◌≢◌, Bool, true, false, List, [], ◌∷◌, ◌++◌, Option, All}
 use Rattle.std.specs.Borrow.{Bor}
 use Rattle.std.specs.List.{slice_split, list_any, join_with_byte}
 use Rattle.std.specs.Option.{option_map_or}
@@ -18,6 +18,11 @@ fields_of text = pieces space text
 
 abbrev pub joined : List (List ℕ) → List ℕ
 joined fields = join_with_byte space fields
+
+-- fields behind something: a space and a field, for each
+abbrev pub behind : List (List ℕ) → List ℕ
+behind [] = []
+behind (field ∷ fields) = space ∷ field ++ behind fields
 
 -- whether a field has no octet
 abbrev pub is_empty : List ℕ → Bool

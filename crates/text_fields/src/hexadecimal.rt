@@ -1,10 +1,10 @@
 //! Octets in hexadecimal. No loop here branches on a digit: on digits in no order a guessed branch
 //! costs more than all else.
 ghost use Rattle.std.specs.Prelude.{◌≡◌, ◌*◌, ◌%◌, ◌<◌, Some, Ok, true, length, slice_index, IfOk, OnErr};
-ghost use Rattle.std.specs.List.{list_all};
+ghost use Rattle.std.specs.List.{list_all, list_any};
 ghost use Rattle.std.specs.Option.{option_map};
 ghost use Rattle.hex.specs.Hex.{decode_of, encode_lower, lower_digits, hex_digit_value, is_hex_digit};
-ghost use Rattle.text_fields.specs.Hexadecimal.{octets_of};
+ghost use Rattle.text_fields.specs.Hexadecimal.{is_upper, octets_of, lower_octets_of};
 
 use std::alloc::{AllocError, Global};
 
@@ -23,6 +23,28 @@ pub fn read_octets(alloc: Global, text: &[u8]) -> Result<Option<Vec<u8>>, AllocE
     } else {
         Ok(None)
     }
+}
+
+/// The octets that the text is, where its digits are in lower case.
+pub fn read_lower_octets(alloc: Global, text: &[u8]) -> Result<Option<Vec<u8>>, AllocError>
+    ensures value { IfOk result (λ octets. option_map (λ v. v.items) octets ≡ lower_octets_of text.now) }
+{
+    if has_upper(text) {
+        return Ok(None);
+    }
+    read_octets(alloc, text)
+}
+
+fn has_upper(text: &[u8]) -> bool
+    ensures { result ≡ list_any is_upper text.now }
+{
+    text.iter().any(|digit| is_upper(*digit))
+}
+
+fn is_upper(digit: u8) -> bool
+    ensures { result ≡ is_upper digit }
+{
+    b'A' <= digit && digit <= b'F'
 }
 
 /// Each two digits as an octet; whether all of them are digits. Tests and decodes in one pass.

@@ -4,7 +4,7 @@ ghost use Rattle.hex.specs.Hex.{encode_lower};
 ghost use Rattle.text_fields.specs.Fields.{AllLack, space, fields_of, joined};
 ghost use Rattle.text_fields.specs.Number.{number_in};
 ghost use Rattle.text_fields.specs.Address.{dotted, address_of};
-ghost use Rattle.text_fields.specs.Hexadecimal.{in_lower_case, octets_of};
+ghost use Rattle.text_fields.specs.Hexadecimal.{in_lower_case, octets_of, lower_octets_of};
 
 /// A text is a number exactly where it is the number's decimal digits.
 pub fn one_text_of_a_number()
@@ -26,6 +26,14 @@ pub fn one_text_of_octets()
         → in_lower_case text ≡ encode_lower octets → octets_of text ≡ Some octets }
     ensures only { (text octets : List ℕ) → octets_of text ≡ Some octets
         → (in_lower_case text ≡ encode_lower octets) × (0 < length octets) × All (λ octet. octet < 256) octets }
+{}
+
+/// A text in lower case is octets exactly where it is their hexadecimal text.
+pub fn one_lower_text_of_octets()
+    ensures read { (octets : List ℕ) → 0 < length octets → All (λ octet. octet < 256) octets
+        → lower_octets_of (encode_lower octets) ≡ Some octets }
+    ensures only { (text octets : List ℕ) → lower_octets_of text ≡ Some octets
+        → (text ≡ encode_lower octets) × (0 < length octets) × All (λ octet. octet < 256) octets }
 {}
 
 /// Fields without a space are the fields of the text that joins them, and a text joins its fields.

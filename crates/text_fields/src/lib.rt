@@ -12,9 +12,10 @@ mod writing;
 
 pub use address::read_address;
 pub use fields::{cut, has_empty_field, next_piece};
-pub use hexadecimal::{decode, read_octets};
+pub use hexadecimal::{decode, read_lower_octets, read_octets};
 pub use laws::{
-    fields_stand_apart, one_text_of_a_number, one_text_of_an_address, one_text_of_octets,
+    fields_stand_apart, one_lower_text_of_octets, one_text_of_a_number, one_text_of_an_address,
+    one_text_of_octets,
 };
 pub use number::read_number;
 pub use writing::{push_address, push_field, push_number, push_octets};

@@ -21,7 +21,8 @@ use Rattle.trace_lines.specs.Line.{Line, IsLine, IsKind}
 use Rattle.trace_lines.specs.Text.{Means, kind_word, arguments, line_fields, line_text, lowered_fields, lowered}
 use Rattle.trace_lines.specs.Refused.{◌>>=◌}
 use Rattle.trace_lines.specs.Meaning.{number_meaning, kind_meaning, moment_meaning, line_of_fields, line_meaning}
-use Rattle.trace_lines.proofs.FormLemmas.{IsField, kept, field-decimal, field-imsi, field-dotted, field-teid, field-encode_lower}
+use Rattle.text_fields.proofs.PlainLemmas.{IsField, kept, field-decimal, field-dotted, field-encode_lower}
+use Rattle.trace_lines.proofs.FormLemmas.{field-imsi, field-teid}
 use Rattle.trace_lines.proofs.KindLemmas.{Says, taken, bound, some_from_ok, kind_given, kind_taken}
 
 lower_other : (octet : ℕ) → octet ≢ 32 → lower octet ≢ 32
@@ -36,9 +37,9 @@ AreFields [] = Unit {0}
 AreFields (text ∷ texts) = IsField text × AreFields texts
 
 fields_of_kind : (said : LineKind) → IsKind said → AreFields (arguments said)
-fields_of_kind (kind.S11 octets) is = (field-encode_lower octets is, tt)
-fields_of_kind (kind.S1u octets) is = (field-encode_lower octets is, tt)
-fields_of_kind (kind.Sgi octets) is = (field-encode_lower octets is, tt)
+fields_of_kind (kind.S11 octets) is = (field-encode_lower octets is.0 is.1, tt)
+fields_of_kind (kind.S1u octets) is = (field-encode_lower octets is.0 is.1, tt)
+fields_of_kind (kind.Sgi octets) is = (field-encode_lower octets is.0 is.1, tt)
 fields_of_kind (kind.Attach imsi enb up down) is = (
   field-imsi imsi is.0,
   (
@@ -56,14 +57,14 @@ fields_of_kind (kind.Bearer imsi qci mbr_up mbr_down gbr_up gbr_down tft) is = (
         field-decimal mbr_down (omega (arith, is.3)),
         (
           field-decimal gbr_up (omega (arith, is.4)),
-          (field-decimal gbr_down (omega (arith, is.5)), (field-encode_lower tft is.6, tt)),
+          (field-decimal gbr_down (omega (arith, is.5)), (field-encode_lower tft is.6.0 is.6.1, tt)),
         ),
       ),
     ),
   ),
 )
 fields_of_kind (kind.Filters imsi ebi tft) is =
-    (field-imsi imsi is.0, (field-decimal ebi (omega (arith, is.1.1)), (field-encode_lower tft is.2, tt)))
+    (field-imsi imsi is.0, (field-decimal ebi (omega (arith, is.1.1)), (field-encode_lower tft is.2.0 is.2.1, tt)))
 fields_of_kind (kind.Drop imsi ebi) is = (field-imsi imsi is.0, (field-decimal ebi (omega (arith, is.1.1)), tt))
 fields_of_kind (kind.Ambr imsi up down) is =
     (field-imsi imsi is.0, (field-decimal up (omega (arith, is.1)), (field-decimal down (omega (arith, is.2)), tt)))

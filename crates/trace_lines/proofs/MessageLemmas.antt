@@ -13,7 +13,8 @@ use Rattle.trace_lines.specs.declared.bad.LineBad.{LineBad}
 use Rattle.trace_lines.specs.declared.bad.LineBad.TheVariants.{Hex, Field}
 use Rattle.trace_lines.specs.Arguments.{teid_of}
 use Rattle.trace_lines.specs.Meaning.{message_meaning}
-use Rattle.trace_lines.proofs.FormLemmas.{octets_given, field-encode_lower}
+use Rattle.text_fields.proofs.PlainLemmas.{field-encode_lower}
+use Rattle.trace_lines.proofs.FormLemmas.{octets_given}
 
 lacks_before : (text other : List ℕ) → in_lower_case text ≡ other → All (λ octet. octet ≢ 32) other → All (λ octet. octet ≢ 32) text
 lacks_before [] other same lacks = All-nil (λ octet. octet ≢ 32)
@@ -28,7 +29,7 @@ lacks_before (octet ∷ text) (first ∷ other) same lacks =
 octets_lack : (text octets : List ℕ) → octets_of text ≡ Some octets → All (λ octet. octet ≢ 32) text
 octets_lack text octets read =
     let given = octets_given text octets read in
-    let field = field-encode_lower octets given.1 in
+    let field = field-encode_lower octets given.1.0 given.1.1 in
     lacks_before text (encode_lower octets) given.0 (λ k d inside. (field.plain k d inside).0)
 
 some_from_ok : (value : Option (List ℕ)) (octets : List ℕ) → ok_or value Hex ≡ Ok octets → value ≡ Some octets

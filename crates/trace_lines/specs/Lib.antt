@@ -6,6 +6,5 @@ pub mod Refused
 pub mod Meaning
 pub mod Refusal
 pub mod Memory
-pub mod Writing
 pub mod Epochs
 pub mod Input

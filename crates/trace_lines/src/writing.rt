@@ -1,7 +1,7 @@
 //! The text of a line.
 ghost use Rattle.std.specs.Prelude.{◌≡◌, ◌++◌, ◌∷◌, decimal, IfOk, OnOk};
+ghost use Rattle.text_fields.specs.Fields.{behind};
 ghost use Rattle.trace_lines.specs.Text.{arguments, kind_word, line_text};
-ghost use Rattle.trace_lines.specs.Writing.{behind};
 
 use crate::{LineKind, TraceLine};
 use pc_base::{Imsi, Kbps, Octets};
