@@ -1,5 +1,5 @@
 -- A written message reads back.
-use Rattle.std.proofs.Common.{◌≡◌, ℕ, ◌+◌, ◌-◌, ◌/◌, ◌%◌, ◌^◌, ◌<◌, eqb, cond, ◌&&◌, List, [], ◌∷◌, ◌++◌, length, take, drop, map, Option, Some, None, refl, sym, ap, subst, ◌∙◌, append_assoc, arith, length-append, lit<}
+use Rattle.std.proofs.Common.{◌≡◌, ℕ, ◌+◌, ◌-◌, ◌/◌, ◌%◌, ◌^◌, ◌<◌, Bool, true, false, eqb, cond, ◌&&◌, List, [], ◌∷◌, ◌++◌, length, take, drop, map, Option, Some, None, refl, sym, ap, subst, ◌∙◌, append_assoc, arith, length-append, lit<}
 use Rattle.std.specs.Prelude.{IfSome, slice_range}
 use Rattle.std.specs.List.{cons_option, AllByRecursion}
 use Rattle.std.specs.Option.{option_map}
@@ -27,8 +27,11 @@ use Rattle.gtpv2_msg.specs.Message.{Message}
 use Rattle.gtpv2_msg.specs.Header.{number24, octets24, body_of}
 use Rattle.gtpv2_msg.specs.Reading.{IsBody, IsHeader, Spells}
 use Rattle.gtpv2_msg.specs.Spelling.{header_octets, spelling as message_spelling}
-use Rattle.gtpv2_msg.specs.Required.{required, row_fault}
-use Rattle.gtpv2_msg.specs.Validity.{IsMessage, as_read, own_context, own_contexts, HasRequired}
+use Rattle.gtpv2_msg.specs.HasRequired.{first_context, contexts_of, MeetsRow, HasRequired, as_read, context_as_read, contexts_as_read}
+use Rattle.gtpv2_msg.specs.Required.{required}
+use Rattle.gtpv2_msg.specs.RowFault.{row_fault}
+use Rattle.gtpv2_msg.specs.Validity.{IsMessage}
+use Rattle.gtpv2_msg.proofs.MeetsLemmas.{meets_no_fault}
 
 -- ---- elements
 
@@ -101,25 +104,33 @@ value_is front more value kind instance =
     ∙ ap (take (length value)) (drop-append-add front text 4)
     ∙ take-append_seam value more
 
+-- a Context that was written, as the table sees it
+abbrev own_context : Element → Option (Option (List ReadIe))
+own_context ie = option_map context_as_read (first_context ie)
+
+no_context : (test : Bool) → let none : Option Context = None in option_map context_as_read (cond test none none) ≡ None
+no_context true = refl
+no_context false = refl
+
+a_context : (test : Bool) (c : Context) (ies : Option (List ReadIe)) → ies ≡ context_as_read c
+    → cond test (Some ies) None ≡ option_map context_as_read (cond test (Some c) None)
+a_context true c ies is = ap Some is
+a_context false c ies is = refl
+
 own_again : (instance : ℕ) (value : IeValue) (octets : List ℕ) → IsValue value → octets ≡ plain_octets context_octets value
-    → cond (eqb (type_octet (kind_of value)) 93 && eqb instance 0) (Some (elements_of octets)) None ≡ own_context (record { instance = instance; value = value })
-own_again instance (values.Imsi _) octets is octets_are = refl
-own_again instance (values.Cause _) octets is octets_are = refl
-own_again instance (values.Recovery _) octets is octets_are = refl
-own_again instance (values.Apn _) octets is octets_are = refl
-own_again instance (values.Ambr _ _) octets is octets_are = refl
-own_again instance (values.Ebi _) octets is octets_are = refl
-own_again instance (values.Paa _) octets is octets_are = refl
-own_again instance (values.Qos _) octets is octets_are = refl
-own_again instance (values.Rat _) octets is octets_are = refl
-own_again instance (values.Tft _) octets is octets_are = refl
-own_again instance (values.Fteid _) octets is octets_are = refl
-own_again instance (values.Pdn _) octets is octets_are = refl
+    → cond (eqb (type_octet (kind_of value)) 93 && eqb instance 0) (Some (elements_of octets)) None
+    ≡ own_context (record { instance = instance; value = value })
 own_again instance (values.Context c) octets is octets_are =
-    ap (λ (ies : Option (List ReadIe)). cond (eqb instance 0) (Some ies) None) (ap elements_of octets_are ∙ elements_again c is)
+    a_context (eqb instance 0) c (elements_of octets) (ap elements_of octets_are ∙ elements_again c is)
+own_again instance _ octets is octets_are = sym (no_context (eqb instance 0))
+
+own_behind : (first : Option Context) (rest : List Context)
+    → cons_option (option_map context_as_read first) (map context_as_read rest) ≡ map context_as_read (cons_option first rest)
+own_behind None rest = refl
+own_behind (Some c) rest = refl
 
 contexts_behind : (front : List ℕ) (ies : List Element) → AllByRecursion IsElement ies
-    → contexts_in (front ++ spellings ies) (places_by context_octets (length front) ies) ≡ own_contexts ies
+    → contexts_in (front ++ spellings ies) (places_by context_octets (length front) ies) ≡ contexts_as_read ies
 contexts_behind front [] are = refl
 contexts_behind front (ie ∷ ies) are =
     let text : List ℕ = spelling ie in
@@ -127,26 +138,26 @@ contexts_behind front (ie ∷ ies) are =
     let octets_are : (front ++ text) ++ rest ≡ front ++ (text ++ rest) = append_assoc front text rest in
     let behind : length (front ++ text) ≡ end_of context_octets (length front) ie = length-append front text ∙ omega arith in
     let later = contexts_behind (front ++ text) ies are.1 in
-    let moved : contexts_in ((front ++ text) ++ rest) (places_by context_octets (end_of context_octets (length front) ie) ies) ≡ own_contexts ies =
-    subst (λ (k : ℕ). contexts_in ((front ++ text) ++ rest) (places_by context_octets k ies) ≡ own_contexts ies) behind later in
-    let others : contexts_in (front ++ (text ++ rest)) (places_by context_octets (end_of context_octets (length front) ie) ies) ≡ own_contexts ies =
-    subst (λ (octets : List ℕ). contexts_in octets (places_by context_octets (end_of context_octets (length front) ie) ies) ≡ own_contexts ies) octets_are moved in
+    let moved : contexts_in ((front ++ text) ++ rest) (places_by context_octets (end_of context_octets (length front) ie) ies) ≡ contexts_as_read ies =
+    subst (λ (k : ℕ). contexts_in ((front ++ text) ++ rest) (places_by context_octets k ies) ≡ contexts_as_read ies) behind later in
+    let others : contexts_in (front ++ (text ++ rest)) (places_by context_octets (end_of context_octets (length front) ie) ies) ≡ contexts_as_read ies =
+    subst (λ (octets : List ℕ). contexts_in octets (places_by context_octets (end_of context_octets (length front) ie) ies) ≡ contexts_as_read ies) octets_are moved in
     ap (λ (first : Option (Option (List ReadIe))). cons_option first (contexts_in (front ++ (text ++ rest)) (places_by context_octets (end_of context_octets (length front) ie) ies)))
     (own_again ie.instance ie.value _ are.0.value (value_is front rest (plain_octets context_octets ie.value) (type_octet (kind_of ie.value)) ie.instance))
-    ∙ ap (cons_option (own_context ie)) others
+    ∙ ap (cons_option (own_context ie)) others ∙ own_behind (first_context ie) (contexts_of ies)
 
 -- the elements of a message that has what its type asks for read back
-pub body_again : (kind : ℕ) (ies : List Element) → AllByRecursion IsElement ies → row_fault (required kind) (map as_read ies) (own_contexts ies) ≡ None
+pub body_again : (kind : ℕ) (ies : List Element) → AllByRecursion IsElement ies → MeetsRow (required kind) ies
     → IsBody kind (spellings ies) ies
 body_again kind ies are has =
     let back : ReadBack (spellings ies) ies = read_back ies are in
     let seen : read_ies (spellings ies) (places ies) ≡ map as_read ies = seen_as (spellings ies) (places ies) ies back.read in
-    let contexts : contexts_in (spellings ies) (places ies) ≡ own_contexts ies = contexts_behind [] ies are in
+    let contexts : contexts_in (spellings ies) (places ies) ≡ contexts_as_read ies = contexts_behind [] ies are in
     record {
       raws = places ies;
       stand = back.stand;
       required = ap (λ (read : List ReadIe). row_fault (required kind) read (contexts_in (spellings ies) (places ies))) seen
-          ∙ ap (row_fault (required kind) (map as_read ies)) contexts ∙ has;
+          ∙ ap (row_fault (required kind) (map as_read ies)) contexts ∙ meets_no_fault (required kind) ies has;
       known = ap known_of seen ∙ known_again ies;
     }
 

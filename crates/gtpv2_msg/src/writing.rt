@@ -4,9 +4,10 @@ ghost use Rattle.std.specs.Option.{is_some};
 ghost use Rattle.gtpv2_ie.specs.Spelling.{spellings};
 ghost use Rattle.gtpv2_ie.specs.Validity.{IsElement};
 ghost use Rattle.gtpv2_msg.specs.Header.{header_len};
+ghost use Rattle.gtpv2_msg.specs.HasRequired.{HasRequired};
 ghost use Rattle.gtpv2_msg.specs.Reading.{Spells};
 ghost use Rattle.gtpv2_msg.specs.Spelling.{header_octets, spelling};
-ghost use Rattle.gtpv2_msg.specs.Validity.{IsMessage, HasRequired};
+ghost use Rattle.gtpv2_msg.specs.Validity.{IsMessage};
 
 use crate::message::{Ies, Msg};
 use gtpv2_ie::write_ie;
