@@ -1,1 +1,2 @@
+mod StandardFacts
 pub mod PaddingLemmas

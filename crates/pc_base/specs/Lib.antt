@@ -1,5 +1,5 @@
 pub mod Addresses
-pub mod BigEndian
 pub mod Imsi
 pub mod Padding
+pub mod Slots
 pub mod Teids

@@ -1,8 +1,9 @@
 //! The users' addresses: 10.45.0.2 plus the slot, up to 10.45.255.254.
-ghost use Rattle.std.specs.Prelude.{◌≡◌, ℕ, ◌+◌, ◌<◌, ◌≤◌, ◌⊎◌, ◌↔◌, IsNone, IfSome};
-ghost use Rattle.pc_base.specs.Addresses.{addr_of};
+ghost use Rattle.std.specs.Prelude.{◌≡◌, ℕ, ◌↔◌, IsNone, IfSome};
+ghost use Rattle.pc_base.specs.Slots.{IsSlot};
+ghost use Rattle.pc_base.specs.Addresses.{IsUserAddr, addr_of};
 
-use crate::{Addr4, FIRST_ADDR, LAST_ADDR, LAST_SLOT, Slot};
+use crate::{Addr4, FIRST_ADDR, LAST_ADDR, Slot};
 
 /// The address of a slot.
 pub fn addr_of(slot: Slot) -> Addr4
@@ -14,10 +15,10 @@ pub fn addr_of(slot: Slot) -> Addr4
 /// The slot that has an address; None exactly outside 10.45.0.2 to 10.45.255.254.
 pub fn slot_of_addr(addr: Addr4) -> Option<Slot>
     // What is found is the one source of the address, and each source is found.
-    ensures source { IfSome result (λ slot. (slot ≤ LAST_SLOT) × (addr ≡ addr_of slot)) }
-    ensures found { (slot : ℕ) → slot ≤ LAST_SLOT → addr ≡ addr_of slot → result ≡ Some slot }
+    ensures source { IfSome result (λ slot. IsSlot slot × (addr ≡ addr_of slot)) }
+    ensures found { (slot : ℕ) → IsSlot slot → addr ≡ addr_of slot → result ≡ Some slot }
 
-    ensures none { IsNone result ↔ ((addr < FIRST_ADDR) ⊎ (LAST_ADDR < addr)) }
+    ensures none { IsNone result ↔ (¬ IsUserAddr addr) }
 {
     if addr.0 < FIRST_ADDR || addr.0 > LAST_ADDR {
         return None;

@@ -3,10 +3,12 @@ ghost use Rattle.std.specs.Prelude.{◌≡◌, MatchBool};
 ghost use Rattle.std.specs.Option.{SomeIff};
 ghost use Rattle.pc_base.specs.Imsi.{IsImsi};
 
+use std::fmt;
 use std::marker::Model;
 
-/// An IMSI (TS 23.003, section 2.2), 6 to 15 ASCII digits. A contract sees the list of its digits.
-#[derive(Clone, Copy, Debug, PartialEq, Eq, Hash)]
+/// An IMSI (TS 23.003, section 2.2), 6 to 15 ASCII digits. A contract sees the list of its
+/// digits, and it prints as these.
+#[derive(Clone, Copy, PartialEq, Eq, Hash)]
 pub struct Imsi {
     /// The digits, with zero octets behind them.
     digits: [u8; 15],
@@ -55,6 +57,15 @@ impl Imsi {
         ensures valid { IsImsi result.now }
     {
         &self.digits[..self.len as usize]
+    }
+}
+
+impl fmt::Debug for Imsi {
+    fn fmt<W: fmt::Write>(&self, f: &mut fmt::Formatter<W>) -> fmt::Result {
+        for digit in self.digits() {
+            write!(f, "{}", char::from(*digit))?;
+        }
+        Ok(())
     }
 }
 

@@ -1,25 +1,36 @@
 //! The small types that every crate of the gateway shares: numbers that keep their range, the IMSI,
-//! octets, packets and verdicts; and how a slot's TEIDs and its address follow from its number.
-//! TEIDs are those of TS 29.281, the IMSI that of TS 23.003. No call takes memory.
+//! octets, packets, verdicts, replies and effects; and how a slot's TEIDs and its address follow from
+//! its number. TEIDs are those of TS 29.281, the IMSI that of TS 23.003. Only copies take memory.
+//!
+//! ```
+//! let slot = Slot(254);
+//! assert_eq!(addr_of(slot), Addr4(0x0a2d_0100));
+//! let bearer = teid_of(slot, TeidUse::Bearer(0));
+//! assert_eq!(slot_of_teid(bearer), Some((slot, TeidUse::Bearer(0))));
+//! ```
 #![tactic(auto)]
 
 mod addresses;
-mod big_endian;
+mod effect;
 mod imsi;
 mod numbers;
 mod octets;
 mod packet;
+mod reply;
 mod teids;
 #[cfg(test)]
 mod tests;
 
 pub use addresses::{addr_of, addresses_are_distinct, slot_of_addr};
-pub use big_endian::{be16, be32, be40};
+pub use effect::{Effect, Fate};
 pub use imsi::Imsi;
 pub use numbers::{Addr4, Kbps, Moment, SliceNo, Slot, Teid};
 pub use octets::Octets;
 pub use packet::{Packet, Peer, Place, TeidUse, Verdict, Way};
+pub use reply::{Outcome, Reply};
+pub use std::alloc::AllocError as NoMemory;
 pub use teids::{slot_of_teid, teid_of, teids_are_distinct};
+pub use wire_octets::{be16, be32, be40};
 
 /// The last slot: as many users as have an address.
 pub const LAST_SLOT: u32 = 65_532;

@@ -1,6 +1,6 @@
 //! Numbers with a range. A contract sees each as its number; who writes one shows that it is in range.
 ghost use Rattle.std.specs.Prelude.{ℕ, ◌^◌, ◌<◌, ◌≤◌};
-ghost use Rattle.pc_base.specs.declared.TheConstants.{LAST_SLOT};
+ghost use Rattle.pc_base.specs.Slots.{IsSlot};
 
 use std::marker::Model;
 
@@ -13,7 +13,7 @@ impl Model for Slot {
 
     ghost view = { λ slot. slot.0 };
 
-    ghost invariant = { λ slot. slot.0 ≤ LAST_SLOT };
+    ghost invariant = { λ slot. IsSlot slot.0 };
 
     ghost inverse = { λ number. record { 0 = number } };
 }

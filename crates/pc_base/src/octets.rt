@@ -1,13 +1,15 @@
 //! A list of octets of its own memory.
-ghost use Rattle.std.specs.Prelude.{◌≡◌, ℕ, List, nat_eq};
+ghost use Rattle.std.specs.Prelude.{◌≡◌, ℕ, List, nat_eq, IfOk};
 ghost use Rattle.std.specs.Cmp.Rules.{comparing};
 ghost use Rattle.std.specs.Cmp.Lexicographic.{pointwise};
 ghost use Rattle.std.proofs.Common.{rules};
 
+use crate::NoMemory;
+use std::fmt;
 use std::marker::Model;
 
-/// Octets, which a contract sees as their list.
-#[derive(Clone, Debug, Drop)]
+/// Octets, which a contract sees as their list. They print as hexadecimal digits.
+#[derive(Clone, Drop)]
 pub struct Octets {
     bytes: Vec<u8>,
 }
@@ -31,6 +33,22 @@ impl Octets {
         ensures { result.now ≡ self.now }
     {
         self.bytes.as_slice()
+    }
+
+    /// A copy of the octets.
+    pub fn try_clone(&self) -> Result<Octets, NoMemory>
+        ensures { IfOk result (λ copy. copy ≡ self.now) }
+    {
+        self.clone()
+    }
+}
+
+impl fmt::Debug for Octets {
+    fn fmt<W: fmt::Write>(&self, f: &mut fmt::Formatter<W>) -> fmt::Result {
+        for octet in self.as_slice() {
+            write!(f, "{octet:02x}")?;
+        }
+        Ok(())
     }
 }
 

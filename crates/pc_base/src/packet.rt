@@ -1,5 +1,7 @@
 //! What becomes of a packet, and where it comes from and goes.
-use crate::{Addr4, Moment, Octets, SliceNo, Teid};
+ghost use Rattle.std.specs.Prelude.{◌≡◌, IfOk};
+
+use crate::{Addr4, Moment, NoMemory, Octets, SliceNo, Teid};
 
 /// The other end of a GTP-U tunnel: where to send, and under which TEID.
 #[derive(Clone, Copy, Debug, PartialEq, Eq)]
@@ -46,6 +48,15 @@ pub struct Packet {
     pub octets: Octets,
 }
 
+impl Packet {
+    /// A copy of the packet.
+    pub fn try_clone(&self) -> Result<Packet, NoMemory>
+        ensures { IfOk result (λ copy. copy ≡ self.now) }
+    {
+        self.clone()
+    }
+}
+
 /// What became of a packet.
 #[derive(Clone, Debug, Drop, PartialEq, Eq)]
 pub enum Verdict {
@@ -64,12 +75,27 @@ pub enum Verdict {
     NoBearer,
     /// The source isn't the subscriber's own address.
     Spoof,
-    /// The bearer has no eNodeB.
+    /// The bearer has no eNodeB, and the packet isn't kept for it.
     Idle {
         life: u64,
+    },
+    /// Held until its bearer has an eNodeB. The message is the Downlink Data Notification, where one
+    /// is sent (TS 23.401, section 5.3.4.3).
+    Held {
+        life: u64,
+        message: Option<Octets>,
     },
     /// The bearer's rate is used up.
     Policed {
         life: u64,
     },
+}
+
+impl Verdict {
+    /// A copy of the verdict.
+    pub fn try_clone(&self) -> Result<Verdict, NoMemory>
+        ensures { IfOk result (λ copy. copy ≡ self.now) }
+    {
+        self.clone()
+    }
 }

@@ -2,6 +2,7 @@
 //! plus index + 1 for its bearer of this index.
 ghost use Rattle.std.specs.Prelude.{◌≡◌, ℕ, ◌+◌, ◌-◌, ◌*◌, ◌/◌, ◌%◌, ◌<◌, ◌≤◌, ◌⊎◌, ◌↔◌, IsNone, IfSome};
 ghost use Rattle.pc_base.specs.declared.packet.TeidUse.{TeidUse};
+ghost use Rattle.pc_base.specs.Slots.{IsSlot};
 ghost use Rattle.pc_base.specs.Teids.{teid_of, IsTeidUse};
 
 use crate::{LAST_BEARER, LAST_SLOT, Slot, Teid, TeidUse};
@@ -20,12 +21,13 @@ pub fn teid_of(slot: Slot, usage: TeidUse) -> Teid
 /// The slot and the use that a TEID was given out for; None where it was given out for none.
 pub fn slot_of_teid(teid: Teid) -> Option<(Slot, TeidUse)>
     // What is found is the one source of the TEID, and each source is found.
-    ensures source { IfSome result (λ found. (found.0 ≤ LAST_SLOT) × IsTeidUse found.1 × (teid ≡ teid_of found.0 found.1)) }
-    ensures found { (slot : ℕ) (usage : TeidUse) → slot ≤ LAST_SLOT → IsTeidUse usage → teid ≡ teid_of slot usage
+    ensures source { IfSome result (λ found. IsSlot found.0 × IsTeidUse found.1
+        × (teid ≡ teid_of found.0 found.1)) }
+    ensures found { (slot : ℕ) (usage : TeidUse) → IsSlot slot → IsTeidUse usage → teid ≡ teid_of slot usage
         → result ≡ Some (slot, usage) }
 
     // The control TEID of the last slot is the last multiple of 16.
-    ensures none { IsNone result ↔ ((teid < 16) ⊎ (LAST_BEARER + 1 < teid % 16) ⊎ (LAST_SLOT < teid / 16 - 1)) }
+    ensures none { IsNone result ↔ ((teid < 16) ⊎ (11 < teid % 16) ⊎ (65532 < teid / 16 - 1)) }
 {
     let block = teid.0 / 16;
     let place = teid.0 % 16;

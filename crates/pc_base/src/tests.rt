@@ -1,6 +1,6 @@
 use crate::{
-    Addr4, Imsi, Kbps, Octets, Slot, Teid, TeidUse, addr_of, be16, be32, be40, slot_of_addr,
-    slot_of_teid, teid_of,
+    Addr4, Effect, Fate, Imsi, Moment, Octets, Outcome, Packet, Reply, Slot, Teid, TeidUse,
+    Verdict, Way, addr_of, slot_of_addr, slot_of_teid, teid_of,
 };
 use std::test::Fail;
 
@@ -53,19 +53,53 @@ fn addresses_come_from_slots(rt: HostRuntime) {
 }
 
 #[test]
-fn numbers_are_big_endian(rt: HostRuntime) -> Result<(), Fail> {
-    let octets = Octets::of([0x45, 0x00, 0x01, 0x02, 0xfe, 0xff].to_vec(rt.alloc())?);
-    let bytes = octets.as_slice();
-    assert_eq!(rt; be16(bytes, 4), Some(0xfeff));
-    assert_eq!(rt; be32(bytes, 2), Some(0x0102_feff));
-    assert_eq!(rt; be40(bytes, 1), Some(0x0001_02fe_ff));
-    assert_eq!(rt;
-        (be16(bytes, 5), be32(bytes, 3), be40(bytes, 2)),
-        (None, None, None)
-    );
-    assert_eq!(rt;
-        (be16(bytes, usize::MAX), be32(b"", 0), be40(b"", 1)),
-        (None, None, None)
-    );
+fn octets_and_digits_print_as_such(rt: HostRuntime) -> Result<(), Fail> {
+    let octets = Octets::of([0x45, 0x00, 0xfe].to_vec(rt.alloc())?);
+    assert_eq!(rt; format!(in rt.alloc(); "{octets:?}")?.as_str(), "4500fe");
+    let imsi = Imsi::of(b"001010").ok_or("six digits")?;
+    assert_eq!(rt; format!(in rt.alloc(); "{imsi:?}")?.as_str(), "001010");
     Ok(())
+}
+
+#[test]
+fn copies_equal(rt: HostRuntime) -> Result<(), Fail> {
+    let octets = Octets::of([0x45, 0x00].to_vec(rt.alloc())?);
+    let packet = Packet {
+        number: 1,
+        moment: Moment(2),
+        way: Way::Up(0),
+        octets: octets.try_clone()?,
+    };
+    assert_eq!(rt; packet.try_clone()?, packet);
+    let verdict = Verdict::Held {
+        life: 3,
+        message: Some(octets.try_clone()?),
+    };
+    assert_eq!(rt; verdict.try_clone()?, verdict);
+    let reply = Reply {
+        outcome: Outcome::Again,
+        message: Some(octets.try_clone()?),
+    };
+    assert_eq!(rt; reply.try_clone()?, reply);
+    let fate = Fate::Down {
+        life: 3,
+        peer: Addr4(4),
+        octets,
+    };
+    let effect = Effect::Fate {
+        packet: 1,
+        fate: fate.try_clone()?,
+    };
+    assert_eq!(rt; effect.try_clone()?, effect);
+    assert!(rt; fate != Fate::Gone { life: 3 });
+    Ok(())
+}
+
+/// The example at the head of the crate.
+#[test]
+fn head_example(rt: HostRuntime) {
+    let slot = Slot(254);
+    assert_eq!(rt; addr_of(slot), Addr4(0x0a2d_0100));
+    let bearer = teid_of(slot, TeidUse::Bearer(0));
+    assert_eq!(rt; slot_of_teid(bearer), Some((slot, TeidUse::Bearer(0))));
 }

@@ -1,0 +1,20 @@
+//! Big-endian numbers of two to five octets (network byte order, RFC 791, appendix B): read at any
+//! place of a slice, and written. No call takes memory. `specs/Memory.antt` has the one word for an
+//! answer or want of memory that the crates above cite.
+//!
+//! ```
+//! let octets = be24_octets(0x0102_03);
+//! assert_eq!(be24(&octets, 0), Some(0x0102_03));
+//! assert_eq!(be24(&octets, 1), None);
+//! ```
+#![tactic(auto)]
+
+mod laws;
+mod reading;
+#[cfg(test)]
+mod tests;
+mod writing;
+
+pub use laws::{reads_back, stays_below, writes_back};
+pub use reading::{be16, be16_at, be24, be24_at, be32, be32_at, be40, be40_at};
+pub use writing::{be16_octets, be24_octets, be32_octets, be40_octets};
