@@ -8,7 +8,7 @@ use Rattle.std.specs.Global.{Vec}
 use Rattle.gtpv2_ie.specs.declared.raw.RawIe.{RawIe}
 use Rattle.gtpv2_ie.specs.declared.fault.IeBad.{IeBad}
 use Rattle.gtpv2_ie.specs.declared.fault.IeBad.TheVariants.{Short, Length, NoMemory}
-use Rattle.gtpv2_ie.specs.Numbers.{number16}
+use Rattle.wire_octets.specs.Numbers.{be16_at}
 use Rattle.gtpv2_ie.specs.Stand.{value_len, raw_at, StandsAt, StandBetween, Stand, EndsShort, PassesEnd, IsInside, with_first, ies_from, ies_of, Gives}
 
 -- one element more stands behind those before it
@@ -100,7 +100,7 @@ behind_front : (octets rest : List ℕ) (at k : ℕ) → drop at octets ≡ rest
 behind_front octets rest at k is = ap (λ n. drop n octets) (omega arith) ∙ sym (drop-drop k at octets) ∙ ap (drop k) is
 
 header_stands : (octets : List ℕ) (at kind high low last : ℕ) (rest : List ℕ) → drop at octets ≡ kind ∷ high ∷ low ∷ last ∷ rest
-    → let len : ℕ = number16 (high ∷ low ∷ []) 0 in
+    → let len : ℕ = be16_at (high ∷ low ∷ []) 0 in
     raw_at octets at ≡ record { kind = kind; instance = last % 16; from = at + 4; to = at + 4 + len }
 header_stands octets at kind high low last rest is =
     let text : List ℕ = kind ∷ high ∷ low ∷ last ∷ rest in
@@ -114,7 +114,7 @@ header_stands octets at kind high low last rest is =
   where
     made : ℕ → ℕ → ℕ → ℕ → RawIe
     made kind last high low =
-        record { kind = kind; instance = last % 16; from = at + 4; to = at + 4 + number16 (high ∷ low ∷ []) 0 }
+        record { kind = kind; instance = last % 16; from = at + 4; to = at + 4 + be16_at (high ∷ low ∷ []) 0 }
 
 -- elements that are read from a place on, behind the rest of a value
 record StandsFrom (octets : List ℕ) (left at : ℕ) (ies : List RawIe) : Type 0 where
@@ -148,7 +148,7 @@ stand_from octets zero at [] ies is inside read =
       stand = subst (λ xs. StandBetween octets (at + 0) xs (length octets)) none (omega (arith, end));
     }
 stand_from octets zero at (kind ∷ high ∷ low ∷ last ∷ rest) ies is inside read =
-    let len : ℕ = number16 (high ∷ low ∷ []) 0 in
+    let len : ℕ = be16_at (high ∷ low ∷ []) 0 in
     let raw : RawIe = record { kind = kind; instance = last % 16; from = at + 4; to = at + 4 + len } in
     let four : at + 4 ≤ length octets = omega (arith, length-drop at octets, ap length is) in
     first_stands octets at len raw ies (ies_from len (at + 4) rest) (header_stands octets at kind high low last rest is) refl read

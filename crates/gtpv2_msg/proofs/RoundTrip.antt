@@ -1,10 +1,9 @@
 -- A written message reads back.
-use Rattle.std.proofs.Common.{◌≡◌, ℕ, ◌+◌, ◌-◌, ◌/◌, ◌%◌, ◌^◌, ◌<◌, Bool, true, false, eqb, cond, ◌&&◌, List, [], ◌∷◌, ◌++◌, length, take, drop, map, Option, Some, None, refl, sym, ap, subst, ◌∙◌, append_assoc, arith, length-append, lit<}
+use Rattle.std.proofs.Common.{◌≡◌, ℕ, ◌+◌, ◌-◌, ◌<◌, Bool, true, false, eqb, cond, ◌&&◌, List, [], ◌∷◌, ◌++◌, length, take, drop, map, Option, Some, None, refl, sym, ap, subst, ◌∙◌, append_assoc, arith, length-append, lit<}
 use Rattle.std.specs.Prelude.{IfSome, slice_range}
 use Rattle.std.specs.List.{cons_option, AllByRecursion}
 use Rattle.std.specs.Option.{option_map}
 use Rattle.std.proofs.Math.Seq.{take-append_seam, drop-append-add}
-use Rattle.std.proofs.lemmas.Nat.{from_be_bytes-to_be_bytes_4}
 use Rattle.gtpv2_ie.specs.declared.context.Context.{Context}
 use Rattle.gtpv2_ie.specs.declared.fteid.Fteid.{Fteid}
 use Rattle.gtpv2_ie.specs.declared.raw.RawIe.{RawIe}
@@ -12,7 +11,8 @@ use Rattle.gtpv2_ie.specs.declared.value.IeValue.{IeValue}
 use Rattle.gtpv2_ie.specs.declared.value.IeValue.TheVariants as values
 use Rattle.gtpv2_ie.specs.Element.{Element}
 use Rattle.gtpv2_ie.specs.Kind.{type_octet}
-use Rattle.gtpv2_ie.specs.Numbers.{number16, number32, octets16, octets32}
+use Rattle.wire_octets.proofs.NumberLemmas.{be16-again, be24-again, be32-again}
+use Rattle.wire_octets.specs.Numbers.{be16_at, be16_octets}
 use Rattle.gtpv2_ie.specs.ReadBack.{end_of, places_by, places, AreReadAs, ReadBack}
 use Rattle.gtpv2_ie.specs.Spelling.{kind_of, ie_octets, plain_octets, empty_context, if_some, fteid_element, context_elements, context_octets, spelling, spellings}
 use Rattle.gtpv2_ie.specs.Validity.{IsEbi, IsCause, IsFteid, IsQos, IsOctets, IsContext, IsElement, IsValue}
@@ -24,7 +24,7 @@ use Rattle.gtpv2_ie.proofs.ContextReadBack.{read_back}
 use Rattle.gtpv2_msg.specs.declared.element.ReadIe.{ReadIe}
 use Rattle.gtpv2_msg.specs.Elements.{read_ies, elements_in, elements_of, contexts_in, known_of}
 use Rattle.gtpv2_msg.specs.Message.{Message}
-use Rattle.gtpv2_msg.specs.Header.{number24, octets24, body_of}
+use Rattle.gtpv2_msg.specs.Header.{body_of}
 use Rattle.gtpv2_msg.specs.Reading.{IsBody, IsHeader, Spells}
 use Rattle.gtpv2_msg.specs.Spelling.{header_octets, spelling as message_spelling}
 use Rattle.gtpv2_msg.specs.HasRequired.{first_context, contexts_of, MeetsRow, HasRequired, as_read, context_as_read, contexts_as_read}
@@ -163,17 +163,6 @@ body_again kind ies are has =
 
 -- ---- the header
 
-number16_again : (n : ℕ) → n < 2 ^ 16 → number16 (octets16 n) 0 ≡ n
-number16_again n fits = omega arith
-
-number24_again : (n : ℕ) → n < 2 ^ 24 → number24 (octets24 n) 0 ≡ n
-number24_again n fits =
-    let first : n / 256 ^ 3 % 256 ≡ 0 = omega arith in
-    rw first at (from_be_bytes-to_be_bytes_4 n (omega arith))
-
-number32_again : (n : ℕ) → n < 2 ^ 32 → number32 (octets32 n) 0 ≡ n
-number32_again n fits = from_be_bytes-to_be_bytes_4 n fits
-
 -- the elements behind a header, whatever is behind them
 body_behind : (body more : List ℕ) (from end : ℕ) → end ≡ from + length body → take (end - from) (body ++ more) ≡ body
 body_behind body more from end is =
@@ -190,8 +179,8 @@ pub header_again : (kind : ℕ) (teid : Option ℕ) (seq : ℕ) (ies : List Elem
     × (body_of (written kind teid seq (spellings ies) more) ≡ spellings ies)
 header_again kind None seq ies more is =
     let body : List ℕ = spellings ies in
-    let len : number16 (octets16 (4 + length body)) 0 ≡ 4 + length body = number16_again (4 + length body) (omega (arith, is.len)) in
-    let end : 4 + number16 (octets16 (4 + length body)) 0 ≡ 8 + length body = omega (arith, len) in (
+    let len : be16_at (be16_octets (4 + length body)) 0 ≡ 4 + length body = be16-again (4 + length body) [] (omega (arith, is.len)) in
+    let end : 4 + be16_at (be16_octets (4 + length body)) 0 ≡ 8 + length body = omega (arith, len) in (
       record {
         right = record {
           least = omega arith;
@@ -203,14 +192,14 @@ header_again kind None seq ies more is =
         };
         kind = refl;
         teid = refl;
-        seq = number24_again seq is.seq;
+        seq = be24-again seq [] is.seq;
       },
       body_behind body more 8 _ end,
     )
 header_again kind (Some teid) seq ies more is =
     let body : List ℕ = spellings ies in
-    let len : number16 (octets16 (8 + length body)) 0 ≡ 8 + length body = number16_again (8 + length body) (omega (arith, is.len)) in
-    let end : 4 + number16 (octets16 (8 + length body)) 0 ≡ 12 + length body = omega (arith, len) in (
+    let len : be16_at (be16_octets (8 + length body)) 0 ≡ 8 + length body = be16-again (8 + length body) [] (omega (arith, is.len)) in
+    let end : 4 + be16_at (be16_octets (8 + length body)) 0 ≡ 12 + length body = omega (arith, len) in (
       record {
         right = record {
           least = omega arith;
@@ -221,8 +210,8 @@ header_again kind (Some teid) seq ies more is =
           kind = is.kind;
         };
         kind = refl;
-        teid = ap Some (number32_again teid is.teid);
-        seq = number24_again seq is.seq;
+        teid = ap Some (be32-again teid [] is.teid);
+        seq = be24-again seq [] is.seq;
       },
       body_behind body more 12 _ end,
     )
