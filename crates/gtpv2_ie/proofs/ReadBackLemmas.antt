@@ -1,7 +1,6 @@
 -- Elements that are written one behind another stand there, and each reads as it was written.
 use Rattle.std.proofs.Common.{◌≡◌, ℕ, ◌+◌, ◌-◌, ◌*◌, ◌/◌, ◌%◌, ◌^◌, ◌<◌, List, [], ◌∷◌, ◌++◌, length, get_or, take, drop, Option, Some, refl, sym, ap, subst, ◌∙◌, append_assoc, arith, length-append}
 use Rattle.std.specs.Prelude.{slice_range}
-use Rattle.std.specs.Int.{w16, from_be_bytes}
 use Rattle.std.specs.List.{flat_map, filter_map, cons_option, AllByRecursion}
 use Rattle.std.specs.Option.{option_map}
 use Rattle.std.proofs.Math.Nat.{mod-eq_of_lt}

@@ -1,5 +1,6 @@
 -- Elements that stand in octets are those that reading gives.
-use Rattle.std.proofs.Common.{◌≡◌, ℕ, zero, suc, ◌+◌, ◌^◌, ◌%◌, ◌<◌, ◌≤◌, List, [], ◌∷◌, ◌++◌, length, get_or, drop, All, Result, Ok, Err, refl, sym, ap, subst, ◌∙◌, arith, drop-cons, length-drop, get_or-drop}
+use Rattle.wire_octets.specs.Memory.{OrNoMemory}
+use Rattle.std.proofs.Common.{◌≡◌, inl, inr, ℕ, zero, suc, ◌+◌, ◌^◌, ◌%◌, ◌<◌, ◌≤◌, List, [], ◌∷◌, ◌++◌, length, get_or, drop, All, Result, Ok, Err, refl, sym, ap, subst, ◌∙◌, arith, drop-cons, length-drop, get_or-drop}
 use Rattle.std.proofs.Math.Seq.{drop-length}
 use Rattle.std.proofs.lemmas.List.{drop-drop}
 use Rattle.std.proofs.lemmas.List.Elements.{All-nil, All-cons}
@@ -9,13 +10,17 @@ use Rattle.gtpv2_ie.specs.declared.raw.RawIe.{RawIe}
 use Rattle.gtpv2_ie.specs.declared.fault.IeBad.{IeBad}
 use Rattle.gtpv2_ie.specs.declared.fault.IeBad.TheVariants.{Short, Length, NoMemory}
 use Rattle.wire_octets.specs.Numbers.{be16_at}
-use Rattle.gtpv2_ie.specs.Stand.{value_len, raw_at, StandsAt, StandBetween, Stand, EndsShort, PassesEnd, IsInside, with_first, ies_from, ies_of, Gives}
+use Rattle.gtpv2_ie.specs.Stand.{value_len, raw_at, StandsAt, StandBetween, Stand, HasIes, EndsShort, PassesEnd, IsInside, with_first, ies_from, ies_of, items_of}
 
 -- one element more stands behind those before it
 pub StandBetween-push : (octets : List ℕ) (from at : ℕ) (ies : List RawIe) (ie : RawIe) → StandBetween octets from ies at → StandsAt octets at ie
     → StandBetween octets from (ies ++ ie ∷ []) ie.to
 StandBetween-push octets from at [] ie front stands = (subst (λ k. StandsAt octets k ie) (sym front) stands, refl)
 StandBetween-push octets from at (first ∷ ies) ie front stands = (front.0, StandBetween-push octets first.to at ies ie front.1 stands)
+
+-- an element takes octets
+pub StandsAt-long : (octets : List ℕ) (at : ℕ) (ie : RawIe) → StandsAt octets at ie → at + 4 ≤ ie.to
+StandsAt-long octets at ie stands = omega (arith, ap (λ (i : RawIe). i.to) stands.header)
 
 abbrev with_front : List RawIe → Result (List RawIe) IeBad → Result (List RawIe) IeBad
 with_front [] read = read
@@ -192,13 +197,53 @@ ies_of-length octets long =
     ∙ ap (with_first (raw_at octets long.at)) (ies_from-cut (value_len octets long.at) (long.at + 4) (drop (long.at + 4) octets) (omega (arith, long.passes, long.header, length-drop (long.at + 4) octets))))
     ∙ with_front-Err long.before Length
 
+-- reading takes no memory, so it doesn't run out
+with_first-memory : (raw : RawIe) (read : Result (List RawIe) IeBad) → (read ≡ Err NoMemory → ⊥) → with_first raw read ≡ Err NoMemory → ⊥
+with_first-memory raw (Ok ies) other is = cc
+with_first-memory raw (Err bad) other is = other is
+
+ies_from-memory : (left at : ℕ) (octets : List ℕ) → ies_from left at octets ≡ Err NoMemory → ⊥
+unfolding ies_from
+ies_from-memory zero at [] is = cc
+ies_from-memory zero at (kind ∷ high ∷ low ∷ last ∷ rest) is =
+    let len : ℕ = be16_at (high ∷ low ∷ []) 0 in
+    with_first-memory (record { kind = kind; instance = last % 16; from = at + 4; to = at + 4 + len }) (ies_from len (at + 4) rest)
+    (ies_from-memory len (at + 4) rest) is
+ies_from-memory zero at (a ∷ []) is = cc
+ies_from-memory zero at (a ∷ b ∷ []) is = cc
+ies_from-memory zero at (a ∷ b ∷ c ∷ []) is = cc
+ies_from-memory (suc left) at [] is = cc
+ies_from-memory (suc left) at (octet ∷ rest) is = ies_from-memory left (at + 1) rest is
+
+pub ies_of-memory : (octets : List ℕ) → ies_of octets ≡ Err NoMemory → ⊥
+ies_of-memory octets is = ies_from-memory 0 0 octets is
+
 -- a call that says what stands, or why nothing does, gives what reading gives
-pub Gives-exact : (octets : List ℕ) (r : Result (Vec RawIe) IeBad) → IfOk r (λ ies. Stand octets ies.items)
-    → (r ≡ Err Short → EndsShort octets) → (r ≡ Err Length → PassesEnd octets) → Gives r (ies_of octets)
-Gives-exact octets (Ok ies) found short long = ies_of-Stand octets ies.items found
-Gives-exact octets (Err Short) found short long = ies_of-short octets (short refl)
-Gives-exact octets (Err Length) found short long = ies_of-length octets (long refl)
-Gives-exact octets (Err NoMemory) found short long = tt
+pub exact : (octets : List ℕ) (r : Result (Vec RawIe) IeBad) → IfOk r (λ ies. Stand octets ies.items)
+    → (r ≡ Err Short → EndsShort octets) → (r ≡ Err Length → PassesEnd octets) → OrNoMemory (items_of r) (ies_of octets) NoMemory
+exact octets (Ok ies) found short long = inl (sym (ies_of-Stand octets ies.items found))
+exact octets (Err Short) found short long = inl (sym (ies_of-short octets (short refl)))
+exact octets (Err Length) found short long = inl (sym (ies_of-length octets (long refl)))
+exact octets (Err NoMemory) found short long = inr refl
+
+-- where elements stand there is no fault
+pub no_fault : (octets : List ℕ) (count : ℕ) (bad : IeBad) → HasIes octets count → ies_of octets ≡ Err bad → ⊥
+no_fault octets count bad has read = let found : ies_of octets ≡ Ok has.ies = ies_of-Stand octets has.ies has.stand in cc
+
+-- a count of what stands, or why nothing does, says what reading gives
+pub counted : (octets : List ℕ) (r : Result ℕ IeBad) → IfOk r (λ count. HasIes octets count) → (r ≡ Err Short → EndsShort octets)
+    → (r ≡ Err Length → PassesEnd octets) → (r ≡ Err NoMemory → ⊥) → (bad : IeBad) → ies_of octets ≡ Err bad → r ≡ Err bad
+counted octets (Ok count) found short long memory bad read = absurd (no_fault octets count bad found read)
+counted octets (Err Short) found short long memory bad read = let other : ies_of octets ≡ Err Short = ies_of-short octets (short refl) in cc
+counted octets (Err Length) found short long memory bad read = let other : ies_of octets ≡ Err Length = ies_of-length octets (long refl) in cc
+counted octets (Err NoMemory) found short long memory bad read = absurd (memory refl)
+
+-- its error is that of reading
+pub count_fault : (octets : List ℕ) (r : Result ℕ IeBad) (bad : IeBad) → r ≡ Err bad → (r ≡ Err Short → EndsShort octets)
+    → (r ≡ Err Length → PassesEnd octets) → (r ≡ Err NoMemory → ⊥) → ies_of octets ≡ Err bad
+count_fault octets r Short is short long memory = ies_of-short octets (short is)
+count_fault octets r Length is short long memory = ies_of-length octets (long is)
+count_fault octets r NoMemory is short long memory = absurd (memory is)
 
 -- what stands lies inside
 IsInside-at : (octets : List ℕ) (at : ℕ) (ie : RawIe) → ((i : ℕ) → get_or octets i 0 < 256) → StandsAt octets at ie → IsInside octets ie

@@ -1,5 +1,5 @@
 -- The octets of a value read back as this value.
-use Rattle.std.proofs.Common.{◌≡◌, ℕ, suc, ◌+◌, ◌/◌, ◌%◌, ◌^◌, ◌<◌, ◌≤◌, false, ltb, cond, List, [], ◌∷◌, length, Option, Some, None, refl, ap, ◌∙◌, arith, lit<}
+use Rattle.std.proofs.Common.{◌≡◌, ℕ, suc, ◌+◌, ◌%◌, ◌^◌, ◌<◌, ◌≤◌, false, ltb, cond, List, [], ◌∷◌, length, Option, Some, None, refl, ap, ◌∙◌, arith, lit<}
 use Rattle.std.specs.Option.{option_map}
 use Rattle.gtpv2_ie.specs.Imsi.{imsi_octets}
 use Rattle.gtpv2_ie.proofs.ImsiLemmas.{imsi_again, length-imsi_octets}

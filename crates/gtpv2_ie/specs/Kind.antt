@@ -1,5 +1,5 @@
 -- The table of kinds. A further kind is one row here, one definition and one variant.
-use Rattle.std.specs.Prelude.{ℕ, List, [], ◌∷◌, slice_index, Option, Some, None, ◌==◌}
+use Rattle.std.specs.Prelude.{ℕ, Bool, ◌||◌, List, [], ◌∷◌, slice_index, Option, Some, None, ◌==◌}
 use Rattle.std.specs.List.{find}
 use Rattle.std.specs.Option.{option_map}
 use Rattle.gtpv2_ie.specs.declared.context.Context.{Context}
@@ -50,6 +50,11 @@ abbrev pub all_kinds : List IeKind
 all_kinds =
     kinds.Imsi ∷ kinds.Cause ∷ kinds.Recovery ∷ kinds.Apn ∷ kinds.Ambr ∷ kinds.Ebi ∷ kinds.Paa ∷ kinds.Qos
     ∷ kinds.Rat ∷ kinds.Tft ∷ kinds.Fteid ∷ kinds.Context ∷ kinds.Pdn ∷ []
+
+-- a value of this type takes memory: an IMSI, an APN and a TFT are kept as octets, and a Context may
+-- hold such a value
+abbrev pub takes_memory : ℕ → Bool
+takes_memory octet = octet == 1 || octet == 71 || octet == 84 || octet == 93
 
 -- the kind with a type octet
 abbrev pub kind_at : ℕ → Option IeKind

@@ -8,3 +8,4 @@ pub mod Value
 pub mod Spelling
 pub mod Validity
 pub mod ReadBack
+pub mod Same

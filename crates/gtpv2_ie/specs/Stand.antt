@@ -4,7 +4,7 @@ use Rattle.std.specs.Prelude.{◌≡◌, ℕ, zero, suc, ◌+◌, ◌%◌, ◌^�
 use Rattle.std.specs.Global.{Vec}
 use Rattle.gtpv2_ie.specs.declared.raw.RawIe.{RawIe}
 use Rattle.gtpv2_ie.specs.declared.fault.IeBad.{IeBad}
-use Rattle.gtpv2_ie.specs.declared.fault.IeBad.TheVariants.{Short, Length, NoMemory}
+use Rattle.gtpv2_ie.specs.declared.fault.IeBad.TheVariants.{Short, Length}
 use Rattle.wire_octets.specs.Numbers.{be16_at}
 
 -- the length of the value whose header begins at a place
@@ -33,6 +33,12 @@ StandBetween octets at (ie ∷ ies) end = StandsAt octets at ie × StandBetween 
 -- the octets are these elements, one behind another
 abbrev pub Stand : List ℕ → List RawIe → Type 0
 Stand octets ies = StandBetween octets 0 ies (length octets)
+
+-- so many elements
+pub record HasIes (octets : List ℕ) (count : ℕ) : Type 0 where
+  pub ies : List RawIe
+  pub stand : Stand octets ies
+  pub few : count ≤ length octets
 
 -- behind whole elements one to three octets stand in the place of a header
 pub record EndsShort (octets : List ℕ) : Type 0 where
@@ -81,8 +87,7 @@ ies_from (suc left) at (_ ∷ rest) = ies_from left (at + 1) rest
 abbrev pub ies_of : List ℕ → Result (List RawIe) IeBad
 ies_of octets = ies_from 0 0 octets
 
--- what a call returned is this, unless memory ran out
-abbrev pub Gives : Result (Vec RawIe) IeBad → Result (List RawIe) IeBad → Type 0
-Gives (Ok ies) read = read ≡ Ok ies.items
-Gives (Err NoMemory) read = Unit {0}
-Gives (Err bad) read = read ≡ Err bad
+-- the elements that a call returned
+abbrev pub items_of : Result (Vec RawIe) IeBad → Result (List RawIe) IeBad
+items_of (Ok ies) = Ok ies.items
+items_of (Err bad) = Err bad

@@ -21,7 +21,7 @@ use std::alloc::{AllocError as NoMemory, Global};
 
 /// A Bearer Context (TS 29.274, 8.28), whose value is elements again: the first EBI, Cause, TFT and
 /// Bearer QoS that is inside its grammar, and every such F-TEID. A Context stands in no other.
-#[derive(Debug, Drop)]
+#[derive(Clone, Debug, Drop, PartialEq, Eq)]
 pub struct Context {
     /// The EPS bearer identity: 0 or 5 to 15.
     pub ebi: Option<u8>,
@@ -30,6 +30,17 @@ pub struct Context {
     pub tft: Option<IeOctets>,
     pub fteids: Fteids,
     pub qos: Option<QosIe>,
+}
+
+impl Context {
+    ghost use Rattle.std.specs.Prelude.{◌≡◌, IfOk};
+
+    /// A copy of the Context.
+    pub fn try_clone(&self) -> Result<Self, NoMemory>
+        ensures { IfOk result (λ copy. copy ≡ self.now) }
+    {
+        self.clone()
+    }
 }
 
 /// A Context of no elements.

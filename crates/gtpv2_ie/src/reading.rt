@@ -1,6 +1,6 @@
-ghost use Rattle.std.specs.Prelude.{◌≡◌, ◌<◌, ◌≤◌, ◌^◌, length, IfOk, IfSome};
+ghost use Rattle.std.specs.Prelude.{◌≡◌, ◌<◌, ◌≤◌, ◌^◌, length, false, IfOk, IfSome, IsOk};
 ghost use Rattle.gtpv2_ie.specs.Context.{counted_len};
-ghost use Rattle.gtpv2_ie.specs.Kind.{no_context};
+ghost use Rattle.gtpv2_ie.specs.Kind.{no_context, type_octet, takes_memory};
 ghost use Rattle.gtpv2_ie.specs.Value.{kind_value, value_of};
 ghost use Rattle.gtpv2_ie.specs.Validity.{IsValue};
 
@@ -20,6 +20,7 @@ pub fn plain_value(alloc: Global, kind: IeKind, octets: &[u8]) -> Result<Option<
     ensures value { IfOk result (λ found. found ≡ kind_value no_context kind octets.now) }
     ensures valid { IfOk result (λ found. IfSome found IsValue) }
     ensures no_longer { IfOk result (λ found. IfSome found (λ v. counted_len v ≤ length octets.now)) }
+    ensures fixed { takes_memory (type_octet kind) ≡ false → IsOk result }
 {
     if octets.len() < kind.least_len() {
         return Ok(None);
@@ -48,6 +49,9 @@ pub fn read_value(alloc: Global, kind: u8, octets: &[u8]) -> Result<Option<IeVal
 
     // An element can hold what was read from octets that a length field can count.
     ensures valid { length octets.now < 2 ^ 16 → IfOk result (λ found. IfSome found IsValue) }
+
+    // All but an IMSI, an APN, a TFT and a Context are read without memory.
+    ensures fixed { takes_memory kind ≡ false → IsOk result }
 {
     match IeKind::from_octet(kind) {
         None => Ok(None),

@@ -19,7 +19,8 @@ use Rattle.gtpv2_msg.specs.declared.element.ReadIe.{ReadIe}
 use Rattle.gtpv2_msg.specs.declared.fault.CBad.{CBad}
 use Rattle.gtpv2_msg.specs.declared.table.Part.{Part}
 use Rattle.gtpv2_msg.specs.declared.table.Part.TheVariants as parts
-use Rattle.gtpv2_msg.specs.HasRequired.{is_of, Has, first_context, contexts_of, ContextHas, IsAssigned, HasPart, MeetsRow, as_read, context_as_read, contexts_as_read}
+use Rattle.gtpv2_msg.specs.HasRequired.{Has, ContextHas, IsAssigned, HasPart, MeetsRow, as_read, context_as_read, contexts_as_read}
+use Rattle.gtpv2_msg.specs.Lookup.{is_of, first_context, contexts_of}
 use Rattle.gtpv2_msg.specs.Required.{Row}
 use Rattle.gtpv2_msg.specs.RowFault.{is_first, element_fault, kind_fault, kinds_fault, part_fault, parts_fault, inside_fault, contexts_fault, row_fault}
 
@@ -48,7 +49,7 @@ has_here kind false any ie rest behind has = behind has
 pub has_no_fault : (kind : IeKind) (ies : List Element) → Has ies kind → kind_fault (map as_read ies) kind ≡ None
 has_no_fault kind [] has = absurd cc
 has_no_fault kind (ie ∷ ies) has =
-    has_here kind (is_of kind ie) (list_any (is_of kind) ies) ie (find (is_first (type_octet kind)) (map as_read ies))
+    has_here kind (is_of kind 0 ie) (list_any (is_of kind 0) ies) ie (find (is_first (type_octet kind)) (map as_read ies))
     (has_no_fault kind ies) has
 
 here_has : (kind : IeKind) (here any : Bool) (ie : Element) (rest : Option ReadIe)
@@ -60,7 +61,7 @@ here_has kind false any ie rest behind none = behind none
 pub no_fault_has : (kind : IeKind) (ies : List Element) → kind_fault (map as_read ies) kind ≡ None → Has ies kind
 no_fault_has kind [] none = absurd cc
 no_fault_has kind (ie ∷ ies) none =
-    here_has kind (is_of kind ie) (list_any (is_of kind) ies) ie (find (is_first (type_octet kind)) (map as_read ies))
+    here_has kind (is_of kind 0 ie) (list_any (is_of kind 0) ies) ie (find (is_first (type_octet kind)) (map as_read ies))
     (no_fault_has kind ies) none
 
 kinds_no_fault : (ies : List Element) (kinds : List IeKind) → AllByRecursion (Has ies) kinds → kinds_fault (map as_read ies) kinds ≡ None
@@ -116,31 +117,31 @@ no_part true = refl
 no_part false = refl
 
 any_if_some : {X : Type 0} (value : X → IeValue) (kind : IeKind) (own : Bool)
-    → ((x : X) → is_of kind (record { instance = 0; value = value x }) ≡ own) → (o : Option X)
-    → list_any (is_of kind) (if_some value o) ≡ (own && is_some o)
+    → ((x : X) → is_of kind 0 (record { instance = 0; value = value x }) ≡ own) → (o : Option X)
+    → list_any (is_of kind 0) (if_some value o) ≡ (own && is_some o)
 any_if_some value kind own is None = no_part own
-any_if_some value kind own is (Some x) = one_part (is_of kind (record { instance = 0; value = value x })) own (is x)
+any_if_some value kind own is (Some x) = one_part (is_of kind 0 (record { instance = 0; value = value x })) own (is x)
 
 either_own : (own test any : Bool) → ((own && test) || (own && any)) ≡ (own && (test || any))
 either_own true test any = refl
 either_own false test any = refl
 
 any_fteids : (kind : IeKind) (own : Bool)
-    → ((fteid : ℕ × Fteid) → is_of kind (fteid_element fteid) ≡ (own && eqb fteid.0 0)) → (fteids : List (ℕ × Fteid))
-    → list_any (is_of kind) (map fteid_element fteids) ≡ (own && list_any (λ (f : ℕ × Fteid). eqb f.0 0) fteids)
+    → ((fteid : ℕ × Fteid) → is_of kind 0 (fteid_element fteid) ≡ (own && eqb fteid.0 0)) → (fteids : List (ℕ × Fteid))
+    → list_any (is_of kind 0) (map fteid_element fteids) ≡ (own && list_any (λ (f : ℕ × Fteid). eqb f.0 0) fteids)
 any_fteids kind own is [] = no_part own
 any_fteids kind own is (f ∷ fteids) =
     let any : Bool = list_any (λ (g : ℕ × Fteid). eqb g.0 0) fteids in
-    ap (λ (here : Bool). here || list_any (is_of kind) (map fteid_element fteids)) (is f)
+    ap (λ (here : Bool). here || list_any (is_of kind 0) (map fteid_element fteids)) (is f)
     ∙ ap (λ (rest : Bool). (own && eqb f.0 0) || rest) (any_fteids kind own is fteids) ∙ either_own own (eqb f.0 0) any
 
 any_parts : (kind : IeKind) (ebi cause tft fteid qos : Bool)
-    → ((x : ℕ) → is_of kind (record { instance = 0; value = values.Ebi x }) ≡ ebi)
-    → ((x : CauseIe) → is_of kind (record { instance = 0; value = values.Cause x }) ≡ cause)
-    → ((x : List ℕ) → is_of kind (record { instance = 0; value = values.Tft x }) ≡ tft)
-    → ((f : ℕ × Fteid) → is_of kind (fteid_element f) ≡ (fteid && eqb f.0 0))
-    → ((x : QosIe) → is_of kind (record { instance = 0; value = values.Qos x }) ≡ qos) → (c : Context)
-    → list_any (is_of kind) (context_elements c)
+    → ((x : ℕ) → is_of kind 0 (record { instance = 0; value = values.Ebi x }) ≡ ebi)
+    → ((x : CauseIe) → is_of kind 0 (record { instance = 0; value = values.Cause x }) ≡ cause)
+    → ((x : List ℕ) → is_of kind 0 (record { instance = 0; value = values.Tft x }) ≡ tft)
+    → ((f : ℕ × Fteid) → is_of kind 0 (fteid_element f) ≡ (fteid && eqb f.0 0))
+    → ((x : QosIe) → is_of kind 0 (record { instance = 0; value = values.Qos x }) ≡ qos) → (c : Context)
+    → list_any (is_of kind 0) (context_elements c)
     ≡ (((((ebi && is_some c.ebi) || (cause && is_some c.cause)) || (tft && is_some c.tft))
     || (fteid && list_any (λ (f : ℕ × Fteid). eqb f.0 0) c.fteids)) || (qos && is_some c.qos))
 any_parts kind ebi cause tft fteid qos is_ebi is_cause is_tft is_fteid is_qos c =
@@ -157,7 +158,7 @@ or_false true = refl
 or_false false = refl
 
 -- an element of a kind and instance 0 is among those that a Context is written as where it has one
-pub any_is : (kind : IeKind) (c : Context) → list_any (is_of kind) (context_elements c) ≡ holds kind c
+pub any_is : (kind : IeKind) (c : Context) → list_any (is_of kind 0) (context_elements c) ≡ holds kind c
 unfolding holds
 any_is kinds.Ebi c =
     any_parts kinds.Ebi true false false false false (λ _. refl) (λ _. refl) (λ _. refl) (λ _. refl) (λ _. refl) c
@@ -272,7 +273,7 @@ dropped true = refl
 dropped false = refl
 
 pub is_context_here : (instance : ℕ) (value : IeValue)
-    → is_of kinds.Context (record { instance = instance; value = value }) ≡ is_some (first_context (record { instance = instance; value = value }))
+    → is_of kinds.Context 0 (record { instance = instance; value = value }) ≡ is_some (first_context (record { instance = instance; value = value }))
 is_context_here instance (values.Context c) = kept (eqb instance 0) c
 is_context_here instance _ = dropped (eqb instance 0)
 
@@ -282,11 +283,11 @@ any_behind None rest = refl
 any_behind (Some c) rest = refl
 
 -- a Context of instance 0 is there where the list of them isn't empty
-pub any_context : (ies : List Element) → list_any (is_of kinds.Context) ies ≡ is_any (contexts_of ies)
+pub any_context : (ies : List Element) → list_any (is_of kinds.Context 0) ies ≡ is_any (contexts_of ies)
 unfolding is_any
 any_context [] = refl
 any_context (ie ∷ ies) =
-    ap (λ (here : Bool). here || list_any (is_of kinds.Context) ies) (is_context_here ie.instance ie.value)
+    ap (λ (here : Bool). here || list_any (is_of kinds.Context 0) ies) (is_context_here ie.instance ie.value)
     ∙ ap (λ (rest : Bool). is_some (first_context ie) || rest) (any_context ies)
     ∙ sym (any_behind (first_context ie) (contexts_of ies))
 

@@ -27,7 +27,8 @@ use Rattle.gtpv2_msg.specs.Message.{Message}
 use Rattle.gtpv2_msg.specs.Header.{body_of}
 use Rattle.gtpv2_msg.specs.Reading.{IsBody, IsHeader, Spells}
 use Rattle.gtpv2_msg.specs.Spelling.{header_octets, spelling as message_spelling}
-use Rattle.gtpv2_msg.specs.HasRequired.{first_context, contexts_of, MeetsRow, HasRequired, as_read, context_as_read, contexts_as_read}
+use Rattle.gtpv2_msg.specs.HasRequired.{MeetsRow, HasRequired, as_read, context_as_read, contexts_as_read}
+use Rattle.gtpv2_msg.specs.Lookup.{first_context, contexts_of}
 use Rattle.gtpv2_msg.specs.Required.{required}
 use Rattle.gtpv2_msg.specs.RowFault.{row_fault}
 use Rattle.gtpv2_msg.specs.Validity.{IsMessage}

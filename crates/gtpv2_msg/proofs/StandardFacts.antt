@@ -1,9 +1,10 @@
 -- Worked octets, by the definitions alone.
-use Rattle.std.proofs.Common.{◌≡◌, ℕ, List, [], ◌∷◌, Some, None, refl}
+use Rattle.std.proofs.Common.{◌≡◌, ℕ, List, [], ◌∷◌, map, Some, None, refl}
 use Rattle.gtpv2_ie.specs.declared.value.IeValue.TheVariants as values
 use Rattle.gtpv2_ie.specs.Stand.{ies_from}
 use Rattle.gtpv2_msg.specs.declared.fault.CBad.TheVariants.{Missing, Incorrect}
-use Rattle.gtpv2_msg.specs.Kinds.{is_kind, is_request}
+use Rattle.gtpv2_msg.specs.declared.kind.TheConstants.{ECHO_REQUEST, ECHO_RESPONSE, CREATE_SESSION_REQUEST, CREATE_SESSION_RESPONSE, MODIFY_BEARER_REQUEST, MODIFY_BEARER_RESPONSE, DELETE_SESSION_REQUEST, DELETE_SESSION_RESPONSE, CREATE_BEARER_REQUEST, CREATE_BEARER_RESPONSE, UPDATE_BEARER_REQUEST, UPDATE_BEARER_RESPONSE, DELETE_BEARER_REQUEST, DELETE_BEARER_RESPONSE, RELEASE_ACCESS_BEARERS_REQUEST, RELEASE_ACCESS_BEARERS_RESPONSE, DOWNLINK_DATA_NOTIFICATION, DOWNLINK_DATA_NOTIFICATION_ACKNOWLEDGE}
+use Rattle.gtpv2_msg.specs.Kinds.{requests, is_kind, is_request, answer_of}
 use Rattle.gtpv2_msg.specs.Refusal.{first_fault, refusal_of}
 use Rattle.gtpv2_msg.specs.Required.{required}
 use Rattle.gtpv2_msg.specs.Spelling.{spelling}
@@ -57,3 +58,14 @@ empty_update = refl
 echo_response : spelling (record { kind = 2; teid = None; seq = 1; ies = record { instance = 0; value = values.Recovery 0 } ∷ [] })
     ≡ 0x40 ∷ 0x02 ∷ 0x00 ∷ 0x09 ∷ 0x00 ∷ 0x00 ∷ 0x01 ∷ 0x00 ∷ 0x03 ∷ 0x00 ∷ 0x01 ∷ 0x00 ∷ 0x00 ∷ []
 echo_response = refl
+
+-- the message types (TS 29.274, table 6.1-1): requests, and the answers to them
+request_types : requests ≡ ECHO_REQUEST ∷ CREATE_SESSION_REQUEST ∷ MODIFY_BEARER_REQUEST ∷ DELETE_SESSION_REQUEST
+    ∷ CREATE_BEARER_REQUEST ∷ UPDATE_BEARER_REQUEST ∷ DELETE_BEARER_REQUEST ∷ RELEASE_ACCESS_BEARERS_REQUEST
+    ∷ DOWNLINK_DATA_NOTIFICATION ∷ []
+request_types = refl
+
+answer_types : map answer_of requests ≡ ECHO_RESPONSE ∷ CREATE_SESSION_RESPONSE ∷ MODIFY_BEARER_RESPONSE ∷ DELETE_SESSION_RESPONSE
+    ∷ CREATE_BEARER_RESPONSE ∷ UPDATE_BEARER_RESPONSE ∷ DELETE_BEARER_RESPONSE ∷ RELEASE_ACCESS_BEARERS_RESPONSE
+    ∷ DOWNLINK_DATA_NOTIFICATION_ACKNOWLEDGE ∷ []
+answer_types = refl

@@ -26,7 +26,8 @@ use Rattle.gtpv2_msg.specs.declared.fault.CBad.TheVariants.{Incorrect}
 use Rattle.gtpv2_msg.specs.declared.table.Part.{Part}
 use Rattle.gtpv2_msg.specs.declared.table.Part.TheVariants as parts
 use Rattle.gtpv2_msg.specs.Elements.{read_ies, elements_in, elements_of, is_context, contexts_in, known_of}
-use Rattle.gtpv2_msg.specs.HasRequired.{is_of, Has, first_context, contexts_of, IsAssigned, HasPart, MeetsRow, HasRequired}
+use Rattle.gtpv2_msg.specs.HasRequired.{Has, IsAssigned, HasPart, MeetsRow, HasRequired}
+use Rattle.gtpv2_msg.specs.Lookup.{is_of, first_context, contexts_of}
 use Rattle.gtpv2_msg.specs.Header.{body_of}
 use Rattle.gtpv2_msg.specs.Message.{Message}
 use Rattle.gtpv2_msg.specs.Reading.{IsBody, Spells}
@@ -108,7 +109,7 @@ element_is octets raw =
     of_value (Some v) is = record { octet_is = is; instance_is = refl }
 
 is_of-at : (kind : IeKind) (octet instance : ℕ) (ie : Element) → IsAt octet instance ie
-    → is_of kind ie ≡ (eqb octet (type_octet kind) && eqb instance 0)
+    → is_of kind 0 ie ≡ (eqb octet (type_octet kind) && eqb instance 0)
 is_of-at kind octet instance ie at =
     ap (λ (o : ℕ). eqb o (type_octet kind) && eqb ie.instance 0) at.octet_is
     ∙ ap (λ (i : ℕ). eqb octet (type_octet kind) && eqb i 0) at.instance_is
@@ -131,9 +132,9 @@ read_has : (kind : IeKind) (octet instance : ℕ) (element : Option Element) (re
 read_has kind octet instance None rest others at true is behind none = absurd cc
 read_has kind octet instance None rest others at false is behind none = behind none
 read_has kind octet instance (Some ie) rest others at true is behind none =
-    true_or (is_of kind ie) (list_any (is_of kind) others) (is_of-at kind octet instance ie at ∙ is)
+    true_or (is_of kind 0 ie) (list_any (is_of kind 0) others) (is_of-at kind octet instance ie at ∙ is)
 read_has kind octet instance (Some ie) rest others at false is behind none =
-    or_true (is_of kind ie) (list_any (is_of kind) others) (behind none)
+    or_true (is_of kind 0 ie) (list_any (is_of kind 0) others) (behind none)
 
 found_has : (kind : IeKind) (octets : List ℕ) (raws : List RawIe) → kind_fault (read_ies octets raws) kind ≡ None
     → Has (known_of (read_ies octets raws)) kind
@@ -209,25 +210,25 @@ some_here : {X : Type 0} (first rest : Option X) (test any : Bool) → (test ≡
 some_here first rest true any here behind is = first_some first rest (here refl)
 some_here first rest false any here behind is = rest_some first rest (behind is)
 
-some_found : {X : Type 0} (kind : IeKind) (part : Element → Option X) → ((ie : Element) → is_of kind ie ≡ true → is_some (part ie) ≡ true)
+some_found : {X : Type 0} (kind : IeKind) (part : Element → Option X) → ((ie : Element) → is_of kind 0 ie ≡ true → is_some (part ie) ≡ true)
     → (ies : List Element) → Has ies kind → is_some (first_of part ies) ≡ true
 some_found kind part gives [] has = absurd cc
 some_found kind part gives (ie ∷ ies) has =
-    some_here (part ie) (first_of part ies) (is_of kind ie) (list_any (is_of kind) ies) (gives ie) (some_found kind part gives ies) has
+    some_here (part ie) (first_of part ies) (is_of kind 0 ie) (list_any (is_of kind 0) ies) (gives ie) (some_found kind part gives ies) has
 
-gives_ebi : (instance : ℕ) (value : IeValue) → is_of kinds.Ebi (an_element instance value) ≡ true → is_some (ebi_value value) ≡ true
+gives_ebi : (instance : ℕ) (value : IeValue) → is_of kinds.Ebi 0 (an_element instance value) ≡ true → is_some (ebi_value value) ≡ true
 gives_ebi instance (values.Ebi ebi) is = refl
 gives_ebi instance _ is = absurd cc
 
-gives_cause : (instance : ℕ) (value : IeValue) → is_of kinds.Cause (an_element instance value) ≡ true → is_some (cause_value value) ≡ true
+gives_cause : (instance : ℕ) (value : IeValue) → is_of kinds.Cause 0 (an_element instance value) ≡ true → is_some (cause_value value) ≡ true
 gives_cause instance (values.Cause cause) is = refl
 gives_cause instance _ is = absurd cc
 
-gives_tft : (instance : ℕ) (value : IeValue) → is_of kinds.Tft (an_element instance value) ≡ true → is_some (tft_value value) ≡ true
+gives_tft : (instance : ℕ) (value : IeValue) → is_of kinds.Tft 0 (an_element instance value) ≡ true → is_some (tft_value value) ≡ true
 gives_tft instance (values.Tft tft) is = refl
 gives_tft instance _ is = absurd cc
 
-gives_qos : (instance : ℕ) (value : IeValue) → is_of kinds.Qos (an_element instance value) ≡ true → is_some (qos_value value) ≡ true
+gives_qos : (instance : ℕ) (value : IeValue) → is_of kinds.Qos 0 (an_element instance value) ≡ true → is_some (qos_value value) ≡ true
 gives_qos instance (values.Qos qos) is = refl
 gives_qos instance _ is = absurd cc
 
@@ -235,7 +236,7 @@ abbrev any_first : List (ℕ × Fteid) → Bool
 any_first fteids = list_any (λ (f : ℕ × Fteid). eqb f.0 0) fteids
 
 gives_fteid : (instance : ℕ) (value : IeValue) (fteids : List (ℕ × Fteid)) (any : Bool) → (any ≡ true → any_first fteids ≡ true)
-    → (is_of kinds.Fteid (an_element instance value) || any) ≡ true → any_first (cons_option (fteid_value instance value) fteids) ≡ true
+    → (is_of kinds.Fteid 0 (an_element instance value) || any) ≡ true → any_first (cons_option (fteid_value instance value) fteids) ≡ true
 gives_fteid instance (values.Fteid fteid) fteids any behind is = either (eqb instance 0) is
   where
     either : (test : Bool) → (test || any) ≡ true → (test || any_first fteids) ≡ true
@@ -246,7 +247,7 @@ gives_fteid instance _ fteids any behind is = behind is
 fteid_found : (ies : List Element) → Has ies kinds.Fteid → any_first (context_with ies).fteids ≡ true
 fteid_found [] has = absurd cc
 fteid_found (ie ∷ ies) has =
-    gives_fteid ie.instance ie.value (context_with ies).fteids (list_any (is_of kinds.Fteid) ies) (fteid_found ies) has
+    gives_fteid ie.instance ie.value (context_with ies).fteids (list_any (is_of kinds.Fteid 0) ies) (fteid_found ies) has
 
 -- the kinds of element that a Context keeps
 abbrev is_inner : IeKind → Bool

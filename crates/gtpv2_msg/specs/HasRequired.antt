@@ -1,40 +1,24 @@
 -- What a message must have, said of what is there: a message that is written reads back where it has
 -- this, and what is read has it.
-use Rattle.std.specs.Prelude.{◌≡◌, ℕ, ◌<◌, Bool, true, ◌&&◌, List, map, Option, Some, None, IsSome, if◌then◌else◌, ◌==◌}
-use Rattle.std.specs.List.{list_any, filter_map, AllByRecursion}
+use Rattle.std.specs.Prelude.{◌≡◌, ℕ, ◌<◌, true, List, map, Option, Some, None, IsSome, ◌==◌}
+use Rattle.std.specs.List.{list_any, AllByRecursion}
 use Rattle.gtpv2_ie.specs.declared.context.Context.{Context}
 use Rattle.gtpv2_ie.specs.declared.fteid.Fteid.{Fteid}
 use Rattle.gtpv2_ie.specs.declared.kind.IeKind.{IeKind}
 use Rattle.gtpv2_ie.specs.declared.kind.IeKind.TheVariants as kinds
-use Rattle.gtpv2_ie.specs.declared.value.IeValue.{IeValue}
-use Rattle.gtpv2_ie.specs.declared.value.IeValue.TheVariants as values
 use Rattle.gtpv2_ie.specs.Element.{Element}
 use Rattle.gtpv2_ie.specs.Kind.{type_octet}
 use Rattle.gtpv2_ie.specs.Spelling.{kind_of, context_elements}
 use Rattle.gtpv2_msg.specs.declared.element.ReadIe.{ReadIe}
 use Rattle.gtpv2_msg.specs.declared.table.Part.{Part}
 use Rattle.gtpv2_msg.specs.declared.table.Part.TheVariants as parts
+use Rattle.gtpv2_msg.specs.Lookup.{is_of, contexts_of}
 use Rattle.gtpv2_msg.specs.Message.{Message}
 use Rattle.gtpv2_msg.specs.Required.{Row, required}
 
--- an element of a kind and instance 0
-abbrev pub is_of : IeKind → Element → Bool
-is_of kind ie = type_octet (kind_of ie.value) == type_octet kind && ie.instance == 0
-
--- one is there; the elements of a message are inside their grammar
+-- an element of a kind and instance 0 is there; the elements of a message are inside their grammar
 abbrev pub Has : List Element → IeKind → Type 0
-Has ies kind = list_any (is_of kind) ies ≡ true
-
--- the Contexts of instance 0, in their order
-abbrev pub context_value : IeValue → Option Context
-context_value (values.Context context) = Some context
-context_value value = None
-
-abbrev pub first_context : Element → Option Context
-first_context ie = if ie.instance == 0 then context_value ie.value else None
-
-abbrev pub contexts_of : List Element → List Context
-contexts_of ies = filter_map first_context ies
+Has ies kind = list_any (is_of kind 0) ies ≡ true
 
 -- a Context has an element of a kind; of those in it only an F-TEID has an instance
 abbrev pub ContextHas : Context → IeKind → Type 0

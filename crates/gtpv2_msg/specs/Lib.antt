@@ -4,6 +4,7 @@ pub mod Header
 pub mod Required
 pub mod Elements
 pub mod RowFault
+pub mod Lookup
 pub mod HasRequired
 pub mod Refusal
 pub mod Spelling

@@ -1,5 +1,5 @@
 -- Why octets are no message, in the order of looking, and the reply to a refused request.
-use Rattle.std.specs.Prelude.{◌≡◌, ℕ, Bool, not, ◌||◌, List, [], ◌∷◌, length, Option, Some, None, Result, Ok, Err, if◌then◌else◌, ◌==◌, nat_lt}
+use Rattle.std.specs.Prelude.{◌≡◌, ℕ, Bool, not, ◌||◌, ◌⊎◌, List, [], ◌∷◌, length, Option, Some, None, Result, Ok, Err, if◌then◌else◌, ◌==◌, nat_lt}
 use Rattle.std.specs.Option.{option_or, option_map}
 use Rattle.gtpv2_ie.specs.declared.fault.IeBad.{IeBad}
 use Rattle.gtpv2_ie.specs.declared.raw.RawIe.{RawIe}
@@ -45,12 +45,18 @@ first_fault octets = option_or (header_fault octets) (body_fault (kind_of octets
 
 -- a call may refuse so: with this fault, or since memory ran out
 abbrev pub Tells : Option CBad → CBad → Type 0
-Tells fault NoMemory = Unit {0}
-Tells fault bad = fault ≡ Some bad
+Tells fault bad = (fault ≡ Some bad) ⊎ (bad ≡ NoMemory)
 
 -- a call may refuse octets so
 abbrev pub IsRefusal : List ℕ → CBad → Type 0
 IsRefusal octets bad = Tells (first_fault octets) bad
+
+-- a fault of the header, or of the list of elements: any but that of a required element
+abbrev pub IsFraming : CBad → Type 0
+IsFraming (Missing kind instance) = ⊥
+IsFraming (Incorrect kind instance) = ⊥
+IsFraming NoMemory = ⊥
+IsFraming bad = Unit {0}
 
 -- an answer's header TEID is 0; that of an Echo Request (1) has none
 abbrev pub no_teid : ℕ → Option ℕ

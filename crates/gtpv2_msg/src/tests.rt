@@ -1,5 +1,5 @@
 use super::*;
-use gtpv2_ie::IeValue;
+use gtpv2_ie::{IeKind, IeValue};
 use std::alloc::Global;
 use std::test::Fail;
 
@@ -13,6 +13,10 @@ const CREATE_SESSION: [u8; 107] = [
     0x05, 0x50, 0x00, 0x16, 0x00, 0x24, 0x09, 0x00, 0x00, 0x00, 0x00, 0x00, 0x00, 0x00, 0x00, 0x00,
     0x00, 0x00, 0x00, 0x00, 0x00, 0x00, 0x00, 0x00, 0x00, 0x00, 0x00,
 ];
+
+/// A Modify Bearer Request with a Context of EBI 5.
+const MODIFY_FIVE: [u8; 21] =
+    *b"\x48\x22\x00\x11\x00\x00\x00\x10\x00\x00\x02\x00\x5d\x00\x05\x00\x49\x00\x01\x00\x05";
 
 /// Octets that read, and are what their message is written as.
 fn same_again(alloc: Global, octets: &[u8]) -> Result<bool, Fail> {
@@ -473,4 +477,65 @@ fn ebi_of_another_instance_alone_is_missing(rt: HostRuntime) {
             instance: 0
         })
     );
+}
+
+#[test]
+fn example_of_the_head(rt: HostRuntime) -> Result<(), Fail> {
+    let alloc = rt.alloc();
+    let echo = b"\x40\x01\x00\x09\x00\x00\x07\x00\x03\x00\x01\x00\x05";
+    let request = read(alloc, echo)?;
+    assert_eq!(rt; (request.kind, request.seq), (ECHO_REQUEST, 7));
+    assert!(rt; request.first(IeKind::Recovery, 0) == Some(&IeValue::Recovery(5)));
+    let answer = Msg {
+        kind: ECHO_RESPONSE,
+        teid: None,
+        seq: 7,
+        ies: request.ies,
+    };
+    assert_eq!(rt;
+        write(alloc, &answer)?.as_slice(),
+        b"\x40\x02\x00\x09\x00\x00\x07\x00\x03\x00\x01\x00\x05".as_slice()
+    );
+    Ok(())
+}
+
+#[test]
+fn contexts_of_instance_zero_are_walked(rt: HostRuntime) -> Result<(), Fail> {
+    let alloc = rt.alloc();
+    // a Context of instance 1 with EBI 7 between two of instance 0
+    let message = read(
+        alloc,
+        b"\x48\x22\x00\x23\x00\x00\x00\x10\x00\x00\x02\x00\x5d\x00\x05\x00\x49\x00\x01\x00\x05\x5d\x00\x05\x01\x49\x00\x01\x00\x07\x5d\x00\x05\x00\x49\x00\x01\x00\x06",
+    )?;
+    let mut ebis = Vec::new(alloc);
+    for context in message.contexts() {
+        ebis.push(context.ebi)?;
+    }
+    assert_eq!(rt; ebis.as_slice(), [Some(5), Some(6)].as_slice());
+    assert!(rt; message.first(IeKind::Context, 2).is_none());
+    Ok(())
+}
+
+#[test]
+fn copies_are_equal(rt: HostRuntime) -> Result<(), Fail> {
+    let alloc = rt.alloc();
+    let message = read(alloc, &CREATE_SESSION)?;
+    assert!(rt; message.try_clone()? == message);
+    assert!(rt; message.ies.try_clone()? == message.ies);
+    assert!(rt; read(alloc, &MODIFY_FIVE)? != message);
+    Ok(())
+}
+
+#[test]
+fn faults_say_what_is_wrong(rt: HostRuntime) -> Result<(), Fail> {
+    let missing = CBad::Missing {
+        kind: 93,
+        instance: 0,
+    };
+    let text = format!(in rt.alloc(); "{missing}")?;
+    assert_eq!(rt;
+        text.as_str(),
+        "the required element of type 93 and instance 0 is missing"
+    );
+    Ok(())
 }
