@@ -11,17 +11,21 @@ use Rattle.gtpv2_ie.specs.Value.{value_of}
 use Rattle.gtpv2_ie.specs.Spelling.{spelling}
 
 -- IMSI 001010123456789
-imsi_reads : value_of 1 (0x00 ∷ 0x01 ∷ 0x01 ∷ 0x21 ∷ 0x43 ∷ 0x65 ∷ 0x87 ∷ 0xf9 ∷ []) ≡ Some (values.Imsi (48 ∷ 48 ∷ 49 ∷ 48 ∷ 49 ∷ 48 ∷ 49 ∷ 50 ∷ 51 ∷ 52 ∷ 53 ∷ 54 ∷ 55 ∷ 56 ∷ 57 ∷ []))
+imsi_reads : value_of 1 (0x00 ∷ 0x01 ∷ 0x01 ∷ 0x21 ∷ 0x43 ∷ 0x65 ∷ 0x87 ∷ 0xf9 ∷ [])
+    ≡ Some (values.Imsi (48 ∷ 48 ∷ 49 ∷ 48 ∷ 49 ∷ 48 ∷ 49 ∷ 50 ∷ 51 ∷ 52 ∷ 53 ∷ 54 ∷ 55 ∷ 56 ∷ 57 ∷ []))
 unfolding digits_of
 imsi_reads = refl
 
-imsi_is_spelled : imsi_octets (48 ∷ 48 ∷ 49 ∷ 48 ∷ 49 ∷ 48 ∷ 49 ∷ 50 ∷ 51 ∷ 52 ∷ 53 ∷ 54 ∷ 55 ∷ 56 ∷ 57 ∷ []) ≡ 0x00 ∷ 0x01 ∷ 0x01 ∷ 0x21 ∷ 0x43 ∷ 0x65 ∷ 0x87 ∷ 0xf9 ∷ []
+imsi_is_spelled : imsi_octets (48 ∷ 48 ∷ 49 ∷ 48 ∷ 49 ∷ 48 ∷ 49 ∷ 50 ∷ 51 ∷ 52 ∷ 53 ∷ 54 ∷ 55 ∷ 56 ∷ 57 ∷ []) ≡ 0x00
+    ∷ 0x01 ∷ 0x01 ∷ 0x21 ∷ 0x43 ∷ 0x65 ∷ 0x87 ∷ 0xf9 ∷ []
 unfolding imsi_octets
 imsi_is_spelled = refl
 
 -- a Context of EBI 5, Cause 16 and an F-TEID of the S1-U SGW, as a response has it
 abbrev context_octets_of : List ℕ
-context_octets_of = 0x5d ∷ 0x00 ∷ 0x18 ∷ 0x00 ∷ 0x49 ∷ 0x00 ∷ 0x01 ∷ 0x00 ∷ 0x05 ∷ 0x02 ∷ 0x00 ∷ 0x02 ∷ 0x00 ∷ 0x10 ∷ 0x00 ∷ 0x57 ∷ 0x00 ∷ 0x09 ∷ 0x00 ∷ 0x81 ∷ 0x00 ∷ 0x00 ∷ 0x00 ∷ 0x11 ∷ 0xc0 ∷ 0x00 ∷ 0x02 ∷ 0x01 ∷ []
+context_octets_of =
+    0x5d ∷ 0x00 ∷ 0x18 ∷ 0x00 ∷ 0x49 ∷ 0x00 ∷ 0x01 ∷ 0x00 ∷ 0x05 ∷ 0x02 ∷ 0x00 ∷ 0x02 ∷ 0x00 ∷ 0x10 ∷ 0x00 ∷ 0x57
+    ∷ 0x00 ∷ 0x09 ∷ 0x00 ∷ 0x81 ∷ 0x00 ∷ 0x00 ∷ 0x00 ∷ 0x11 ∷ 0xc0 ∷ 0x00 ∷ 0x02 ∷ 0x01 ∷ []
 
 context_is_spelled : spelling (record {
   instance = 0;
@@ -48,7 +52,8 @@ abbrev fteid_of_interface : ℕ → Element
 fteid_of_interface interface =
     record { instance = 0; value = values.Fteid (record { interface = interface; teid = 0x11; addr = 0xc0000201 }) }
 
-interfaces_are_spelled : map (λ interface. spelling (fteid_of_interface interface)) (S1_U_ENODEB ∷ S1_U_SGW ∷ S11_MME ∷ S11_SGW ∷ [])
+interfaces_are_spelled : map (λ interface. spelling (fteid_of_interface interface))
+    (S1_U_ENODEB ∷ S1_U_SGW ∷ S11_MME ∷ S11_SGW ∷ [])
     ≡ (0x57 ∷ 0x00 ∷ 0x09 ∷ 0x00 ∷ 0x80 ∷ 0x00 ∷ 0x00 ∷ 0x00 ∷ 0x11 ∷ 0xc0 ∷ 0x00 ∷ 0x02 ∷ 0x01 ∷ [])
     ∷ (0x57 ∷ 0x00 ∷ 0x09 ∷ 0x00 ∷ 0x81 ∷ 0x00 ∷ 0x00 ∷ 0x00 ∷ 0x11 ∷ 0xc0 ∷ 0x00 ∷ 0x02 ∷ 0x01 ∷ [])
     ∷ (0x57 ∷ 0x00 ∷ 0x09 ∷ 0x00 ∷ 0x8a ∷ 0x00 ∷ 0x00 ∷ 0x00 ∷ 0x11 ∷ 0xc0 ∷ 0x00 ∷ 0x02 ∷ 0x01 ∷ [])
@@ -62,7 +67,8 @@ cause_of_value cause = record { instance = 0; value = values.Cause (record { cau
 abbrev cause_values : List ℕ
 cause_values =
     REQUEST_ACCEPTED ∷ NEW_PDN_TYPE_DUE_TO_NETWORK_PREFERENCE ∷ CONTEXT_NOT_FOUND ∷ MANDATORY_IE_INCORRECT
-    ∷ MANDATORY_IE_MISSING ∷ PREFERRED_PDN_TYPE_NOT_SUPPORTED ∷ ALL_DYNAMIC_ADDRESSES_ARE_OCCUPIED ∷ REQUEST_REJECTED ∷ []
+    ∷ MANDATORY_IE_MISSING ∷ PREFERRED_PDN_TYPE_NOT_SUPPORTED ∷ ALL_DYNAMIC_ADDRESSES_ARE_OCCUPIED ∷ REQUEST_REJECTED
+    ∷ []
 
 causes_are_spelled : map (λ cause. spelling (cause_of_value cause)) cause_values
     ≡ (0x02 ∷ 0x00 ∷ 0x02 ∷ 0x00 ∷ 0x10 ∷ 0x00 ∷ []) ∷ (0x02 ∷ 0x00 ∷ 0x02 ∷ 0x00 ∷ 0x12 ∷ 0x00 ∷ [])

@@ -72,12 +72,15 @@ pub not_shorter : {A : Type 0} (least len : ℕ) (x y : A) → least ≤ len →
 not_shorter least len x y enough = rw (le-ltb len least enough) refl
 
 -- the octets of a value read back, at its type
-pub plain_again : (reads : List ℕ → Option Context) (context : Context → List ℕ) (value : IeValue) → IsPlain value → IsValue value
+pub plain_again : (reads : List ℕ → Option Context) (context : Context → List ℕ) (value : IeValue) → IsPlain value
+    → IsValue value
     → value_at reads (type_octet (kind_of value)) (plain_octets context value) ≡ Some value
 plain_again reads context (values.Imsi digits) plain is =
-    not_shorter 3 (length (imsi_octets digits)) None _ (omega (arith, (length-imsi_octets digits).0, is.least)) ∙ ap (option_map values.Imsi) (imsi_again digits is)
+    not_shorter 3 (length (imsi_octets digits)) None _ (omega (arith, (length-imsi_octets digits).0, is.least))
+    ∙ ap (option_map values.Imsi) (imsi_again digits is)
 plain_again reads context (values.Cause cause) plain is =
-    not_shorter 2 (length (cause_octets cause)) None _ (omega arith) ∙ ap (option_map values.Cause) (cause_again cause is)
+    not_shorter 2 (length (cause_octets cause)) None _ (omega arith)
+    ∙ ap (option_map values.Cause) (cause_again cause is)
 plain_again reads context (values.Recovery counter) plain is = refl
 plain_again reads context (values.Apn octets) plain is =
     not_shorter 1 (length octets) None _ is.some ∙ ap (option_map values.Apn) (octets_again 100 octets is.few)
@@ -100,7 +103,8 @@ cause_len None = lit< tt
 cause_len (Some of) = lit< tt
 
 -- the octets of a value fit the length field
-pub plain_len : (context : Context → List ℕ) (value : IeValue) → IsPlain value → IsValue value → length (plain_octets context value) < 2 ^ 16
+pub plain_len : (context : Context → List ℕ) (value : IeValue) → IsPlain value → IsValue value
+    → length (plain_octets context value) < 2 ^ 16
 plain_len context (values.Imsi digits) plain is = omega (arith, (length-imsi_octets digits).1, is.most)
 plain_len context (values.Cause cause) plain is = cause_len cause.offending
 plain_len context (values.Recovery counter) plain is = lit< tt

@@ -16,4 +16,5 @@ pub same_fteid-is : IsEquivalence same_fteid
 same_fteid-is =
     and_equiv (on_equiv (λ (f : ℕ × Fteid). f.0) nat_eq_equiv)
     (and_equiv (on_equiv (λ (f : ℕ × Fteid). f.1.interface) nat_eq_equiv)
-    (and_equiv (on_equiv (λ (f : ℕ × Fteid). f.1.teid) nat_eq_equiv) (on_equiv (λ (f : ℕ × Fteid). f.1.addr) nat_eq_equiv)))
+    (and_equiv (on_equiv (λ (f : ℕ × Fteid). f.1.teid) nat_eq_equiv)
+    (on_equiv (λ (f : ℕ × Fteid). f.1.addr) nat_eq_equiv)))

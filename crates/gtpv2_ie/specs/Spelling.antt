@@ -51,7 +51,8 @@ fteid_octets fteid = (128 + fteid.interface) ∷ be32_octets fteid.teid ++ be32_
 -- Bearer QoS (8.15)
 abbrev pub qos_octets : QosIe → List ℕ
 qos_octets qos =
-    qos.arp ∷ qos.qci ∷ be40_octets qos.mbr_up ++ be40_octets qos.mbr_down ++ be40_octets qos.gbr_up ++ be40_octets qos.gbr_down
+    qos.arp ∷ qos.qci ∷ be40_octets qos.mbr_up ++ be40_octets qos.mbr_down ++ be40_octets qos.gbr_up
+    ++ be40_octets qos.gbr_down
 
 -- the octets of a value, where `context` gives those of a Context
 abbrev pub plain_octets : (Context → List ℕ) → IeValue → List ℕ

@@ -78,7 +78,8 @@ unfoldable pub ies_from : ℕ → ℕ → List ℕ → Result (List RawIe) IeBad
 ies_from zero at [] = Ok []
 ies_from zero at (kind ∷ high ∷ low ∷ last ∷ rest) =
     let len = be16_at (high ∷ low ∷ []) 0 in
-    with_first (record { kind = kind; instance = last % 16; from = at + 4; to = at + 4 + len }) (ies_from len (at + 4) rest)
+    with_first (record { kind = kind; instance = last % 16; from = at + 4; to = at + 4 + len })
+    (ies_from len (at + 4) rest)
 ies_from zero at (_ ∷ _) = Err Short
 ies_from (suc left) at [] = Err Length
 ies_from (suc left) at (_ ∷ rest) = ies_from left (at + 1) rest

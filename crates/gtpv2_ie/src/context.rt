@@ -86,7 +86,8 @@ fn put(context: &mut Context, instance: u8, value: IeValue) -> Result<(), NoMemo
 fn put_raw(alloc: Global, context: &mut Context, octets: &[u8], ie: &RawIe) -> Result<(), NoMemory>
     requires { IsInside octets.now ie.now }
     ensures put { OnOk result (context.new ≡ put_if context.old (element_at no_context octets.now ie.now)) }
-    ensures counted { OnOk result (IfSome (element_at no_context octets.now ie.now) (IsCounted (ie.now.to - ie.now.from))) }
+    ensures counted { OnOk result
+        (IfSome (element_at no_context octets.now ie.now) (IsCounted (ie.now.to - ie.now.from))) }
 {
     let Some(kind) = IeKind::from_octet(ie.kind) else {
         return Ok(());
@@ -124,7 +125,8 @@ fn push_ebi(out: &mut Vec<u8>, ebi: Option<u8>) -> Result<(), NoMemory>
 }
 
 fn push_first_cause(out: &mut Vec<u8>, cause: &Option<CauseIe>) -> Result<(), NoMemory>
-    ensures { OnOk result (out.new.items ≡ out.old.items ++ inner_spellings (if_some (λ c. IeValue.Cause c) cause.now)) }
+    ensures { OnOk result
+        (out.new.items ≡ out.old.items ++ inner_spellings (if_some (λ c. IeValue.Cause c) cause.now)) }
 {
     match cause {
         Some(cause) => push_cause(out, 0, cause),

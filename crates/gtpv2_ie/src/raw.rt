@@ -24,7 +24,8 @@ fn ie_at(octets: &[u8], at: usize) -> Result<RawIe, IeBad>
     requires { at < length octets.now }
     ensures found { IfOk result (λ ie. StandsAt octets.now at ie) }
     ensures short { result ≡ Err IeBad.Short → length octets.now < at + 4 }
-    ensures passes { result ≡ Err IeBad.Length → (at + 4 ≤ length octets.now) × (length octets.now < at + 4 + value_len octets.now at) }
+    ensures passes { result ≡ Err IeBad.Length
+        → (at + 4 ≤ length octets.now) × (length octets.now < at + 4 + value_len octets.now at) }
     ensures memory { result ≢ Err IeBad.NoMemory }
 {
     if octets.len() - at < 4 {

@@ -41,7 +41,8 @@ pub fn push_ie(out: &mut Vec<u8>, kind: IeKind, instance: u8, value: &[u8]) -> R
 
 /// Appends an AMBR as an element.
 fn push_ambr(out: &mut Vec<u8>, instance: u8, up: u32, down: u32) -> Result<(), NoMemory>
-    ensures { OnOk result (out.new.items ≡ out.old.items ++ ie_octets 72 instance (be32_octets up ++ be32_octets down)) }
+    ensures { OnOk result
+        (out.new.items ≡ out.old.items ++ ie_octets 72 instance (be32_octets up ++ be32_octets down)) }
 {
     push_header(out, IeKind::Ambr, instance, 8)?;
     out.extend_from_slice(&be32_octets(up))?;
@@ -88,7 +89,8 @@ fn push_value(
     value: &IeValue,
 ) -> Result<(), NoMemory>
     requires { IsValue value.now }
-    ensures { OnOk result (out.new.items ≡ out.old.items ++ spelling (record { instance = instance; value = value.now })) }
+    ensures { OnOk result
+        (out.new.items ≡ out.old.items ++ spelling (record { instance = instance; value = value.now })) }
 {
     match value {
         IeValue::Imsi(digits) => push_imsi(alloc, out, instance, digits.as_slice()),

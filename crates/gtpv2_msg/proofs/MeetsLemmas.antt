@@ -49,7 +49,8 @@ has_here kind false any ie rest behind has = behind has
 pub has_no_fault : (kind : IeKind) (ies : List Element) → Has ies kind → kind_fault (map as_read ies) kind ≡ None
 has_no_fault kind [] has = absurd cc
 has_no_fault kind (ie ∷ ies) has =
-    has_here kind (is_of kind 0 ie) (list_any (is_of kind 0) ies) ie (find (is_first (type_octet kind)) (map as_read ies))
+    has_here kind (is_of kind 0 ie) (list_any (is_of kind 0) ies) ie
+    (find (is_first (type_octet kind)) (map as_read ies))
     (has_no_fault kind ies) has
 
 here_has : (kind : IeKind) (here any : Bool) (ie : Element) (rest : Option ReadIe)
@@ -61,16 +62,19 @@ here_has kind false any ie rest behind none = behind none
 pub no_fault_has : (kind : IeKind) (ies : List Element) → kind_fault (map as_read ies) kind ≡ None → Has ies kind
 no_fault_has kind [] none = absurd cc
 no_fault_has kind (ie ∷ ies) none =
-    here_has kind (is_of kind 0 ie) (list_any (is_of kind 0) ies) ie (find (is_first (type_octet kind)) (map as_read ies))
+    here_has kind (is_of kind 0 ie) (list_any (is_of kind 0) ies) ie
+    (find (is_first (type_octet kind)) (map as_read ies))
     (no_fault_has kind ies) none
 
-kinds_no_fault : (ies : List Element) (kinds : List IeKind) → AllByRecursion (Has ies) kinds → kinds_fault (map as_read ies) kinds ≡ None
+kinds_no_fault : (ies : List Element) (kinds : List IeKind) → AllByRecursion (Has ies) kinds
+    → kinds_fault (map as_read ies) kinds ≡ None
 kinds_no_fault ies [] has = refl
 kinds_no_fault ies (kind ∷ kinds) has =
     neither (kind_fault (map as_read ies) kind) (kinds_fault (map as_read ies) kinds) (has_no_fault kind ies has.0)
     (kinds_no_fault ies kinds has.1)
 
-no_fault_kinds : (ies : List Element) (kinds : List IeKind) → kinds_fault (map as_read ies) kinds ≡ None → AllByRecursion (Has ies) kinds
+no_fault_kinds : (ies : List Element) (kinds : List IeKind) → kinds_fault (map as_read ies) kinds ≡ None
+    → AllByRecursion (Has ies) kinds
 no_fault_kinds ies [] none = tt
 no_fault_kinds ies (kind ∷ kinds) none =
     let first : Option CBad = kind_fault (map as_read ies) kind in
@@ -174,14 +178,22 @@ any_is kinds.Fteid c =
     ∙ or_false _
 any_is kinds.Qos c =
     any_parts kinds.Qos false false false false true (λ _. refl) (λ _. refl) (λ _. refl) (λ _. refl) (λ _. refl) c
-any_is kinds.Imsi c = any_parts kinds.Imsi false false false false false (λ _. refl) (λ _. refl) (λ _. refl) (λ _. refl) (λ _. refl) c
-any_is kinds.Recovery c = any_parts kinds.Recovery false false false false false (λ _. refl) (λ _. refl) (λ _. refl) (λ _. refl) (λ _. refl) c
-any_is kinds.Apn c = any_parts kinds.Apn false false false false false (λ _. refl) (λ _. refl) (λ _. refl) (λ _. refl) (λ _. refl) c
-any_is kinds.Ambr c = any_parts kinds.Ambr false false false false false (λ _. refl) (λ _. refl) (λ _. refl) (λ _. refl) (λ _. refl) c
-any_is kinds.Paa c = any_parts kinds.Paa false false false false false (λ _. refl) (λ _. refl) (λ _. refl) (λ _. refl) (λ _. refl) c
-any_is kinds.Rat c = any_parts kinds.Rat false false false false false (λ _. refl) (λ _. refl) (λ _. refl) (λ _. refl) (λ _. refl) c
-any_is kinds.Context c = any_parts kinds.Context false false false false false (λ _. refl) (λ _. refl) (λ _. refl) (λ _. refl) (λ _. refl) c
-any_is kinds.Pdn c = any_parts kinds.Pdn false false false false false (λ _. refl) (λ _. refl) (λ _. refl) (λ _. refl) (λ _. refl) c
+any_is kinds.Imsi c =
+    any_parts kinds.Imsi false false false false false (λ _. refl) (λ _. refl) (λ _. refl) (λ _. refl) (λ _. refl) c
+any_is kinds.Recovery c =
+    any_parts kinds.Recovery false false false false false (λ _. refl) (λ _. refl) (λ _. refl) (λ _. refl) (λ _. refl) c
+any_is kinds.Apn c =
+    any_parts kinds.Apn false false false false false (λ _. refl) (λ _. refl) (λ _. refl) (λ _. refl) (λ _. refl) c
+any_is kinds.Ambr c =
+    any_parts kinds.Ambr false false false false false (λ _. refl) (λ _. refl) (λ _. refl) (λ _. refl) (λ _. refl) c
+any_is kinds.Paa c =
+    any_parts kinds.Paa false false false false false (λ _. refl) (λ _. refl) (λ _. refl) (λ _. refl) (λ _. refl) c
+any_is kinds.Rat c =
+    any_parts kinds.Rat false false false false false (λ _. refl) (λ _. refl) (λ _. refl) (λ _. refl) (λ _. refl) c
+any_is kinds.Context c =
+    any_parts kinds.Context false false false false false (λ _. refl) (λ _. refl) (λ _. refl) (λ _. refl) (λ _. refl) c
+any_is kinds.Pdn c =
+    any_parts kinds.Pdn false false false false false (λ _. refl) (λ _. refl) (λ _. refl) (λ _. refl) (λ _. refl) c
 
 -- ---- the parts of a Context
 
@@ -196,13 +208,17 @@ is_not_zero (suc ebi) bad none = omega arith
 abbrev context : Option ℕ → Option CauseIe → Option (List ℕ) → List (ℕ × Fteid) → Option QosIe → Context
 context ebi cause tft fteids qos = record { ebi = ebi; cause = cause; tft = tft; fteids = fteids; qos = qos }
 
-assigned_no_fault : (ebi : Option ℕ) (cause : Option CauseIe) (tft : Option (List ℕ)) (fteids : List (ℕ × Fteid)) (qos : Option QosIe)
-    → IsAssigned ebi → part_fault (map as_read (context_elements (context ebi cause tft fteids qos))) parts.AssignedEbi ≡ None
+assigned_no_fault : (ebi : Option ℕ) (cause : Option CauseIe) (tft : Option (List ℕ)) (fteids : List (ℕ × Fteid))
+    (qos : Option QosIe)
+    → IsAssigned ebi → part_fault (map as_read
+    (context_elements (context ebi cause tft fteids qos))) parts.AssignedEbi ≡ None
 assigned_no_fault None cause tft fteids qos assigned = absurd assigned
 assigned_no_fault (Some ebi) cause tft fteids qos assigned = not_zero ebi _ assigned
 
-no_fault_assigned : (ebi : Option ℕ) (cause : Option CauseIe) (tft : Option (List ℕ)) (fteids : List (ℕ × Fteid)) (qos : Option QosIe)
-    → part_fault (map as_read (context_elements (context ebi cause tft fteids qos))) parts.AssignedEbi ≡ None → IsAssigned ebi
+no_fault_assigned : (ebi : Option ℕ) (cause : Option CauseIe) (tft : Option (List ℕ)) (fteids : List (ℕ × Fteid))
+    (qos : Option QosIe)
+    → part_fault (map as_read (context_elements (context ebi cause tft fteids qos))) parts.AssignedEbi ≡ None
+    → IsAssigned ebi
 unfolding holds
 no_fault_assigned None cause tft fteids qos none =
     let c : Context = context None cause tft fteids qos in
@@ -215,7 +231,8 @@ part_no_fault (parts.Ie kind) c has = has_no_fault kind (context_elements c) (an
 part_no_fault parts.AssignedEbi c has = assigned_no_fault c.ebi c.cause c.tft c.fteids c.qos has
 
 no_fault_part : (part : Part) (c : Context) → part_fault (map as_read (context_elements c)) part ≡ None → HasPart part c
-no_fault_part (parts.Ie kind) c none = holds_has kind c (sym (any_is kind c) ∙ no_fault_has kind (context_elements c) none)
+no_fault_part (parts.Ie kind) c none =
+    holds_has kind c (sym (any_is kind c) ∙ no_fault_has kind (context_elements c) none)
 no_fault_part parts.AssignedEbi c none = no_fault_assigned c.ebi c.cause c.tft c.fteids c.qos none
 
 parts_no_fault : (parts : List Part) (c : Context) → AllByRecursion (λ part. HasPart part c) parts
@@ -237,7 +254,8 @@ all_first R x xs [] all = tt
 all_first R x xs (y ∷ ys) all = (all.0.0, all_first R x xs ys all.1)
 
 all_others : {X Y : Type 0} (R : X → Y → Type 0) (x : X) (xs : List X) (ys : List Y)
-    → AllByRecursion (λ y. AllByRecursion (λ w. R w y) (x ∷ xs)) ys → AllByRecursion (λ y. AllByRecursion (λ w. R w y) xs) ys
+    → AllByRecursion (λ y. AllByRecursion (λ w. R w y) (x ∷ xs)) ys
+    → AllByRecursion (λ y. AllByRecursion (λ w. R w y) xs) ys
 all_others R x xs [] all = tt
 all_others R x xs (y ∷ ys) all = (all.0.1, all_others R x xs ys all.1)
 
@@ -248,11 +266,14 @@ each_other R [] ys all = tt
 each_other R (x ∷ xs) ys all = (all_first R x xs ys all, each_other R xs ys (all_others R x xs ys all))
 
 inside_no_fault : (parts : List Part) (contexts : List Context)
-    → AllByRecursion (λ c. AllByRecursion (λ part. HasPart part c) parts) contexts → inside_fault parts (map context_as_read contexts) ≡ None
+    → AllByRecursion (λ c. AllByRecursion (λ part. HasPart part c) parts) contexts
+    → inside_fault parts (map context_as_read contexts) ≡ None
 inside_no_fault parts [] has = refl
-inside_no_fault parts (c ∷ contexts) has = neither _ _ (parts_no_fault parts c has.0) (inside_no_fault parts contexts has.1)
+inside_no_fault parts (c ∷ contexts) has =
+    neither _ _ (parts_no_fault parts c has.0) (inside_no_fault parts contexts has.1)
 
-no_fault_inside : (parts : List Part) (contexts : List Context) → inside_fault parts (map context_as_read contexts) ≡ None
+no_fault_inside : (parts : List Part) (contexts : List Context)
+    → inside_fault parts (map context_as_read contexts) ≡ None
     → AllByRecursion (λ c. AllByRecursion (λ part. HasPart part c) parts) contexts
 no_fault_inside parts [] none = tt
 no_fault_inside parts (c ∷ contexts) none =
@@ -273,11 +294,13 @@ dropped true = refl
 dropped false = refl
 
 pub is_context_here : (instance : ℕ) (value : IeValue)
-    → is_of kinds.Context 0 (record { instance = instance; value = value }) ≡ is_some (first_context (record { instance = instance; value = value }))
+    → is_of kinds.Context 0 (record { instance = instance; value = value })
+    ≡ is_some (first_context (record { instance = instance; value = value }))
 is_context_here instance (values.Context c) = kept (eqb instance 0) c
 is_context_here instance _ = dropped (eqb instance 0)
 
-any_behind : (first : Option Context) (rest : List Context) → is_any (cons_option first rest) ≡ (is_some first || is_any rest)
+any_behind : (first : Option Context) (rest : List Context)
+    → is_any (cons_option first rest) ≡ (is_some first || is_any rest)
 unfolding is_any
 any_behind None rest = refl
 any_behind (Some c) rest = refl
@@ -292,7 +315,8 @@ any_context (ie ∷ ies) =
     ∙ sym (any_behind (first_context ie) (contexts_of ies))
 
 contexts_no_fault : (must : Bool) (parts : List Part) (contexts : List Context) → (must ≡ true → is_any contexts ≡ true)
-    → inside_fault parts (map context_as_read contexts) ≡ None → contexts_fault must parts (map context_as_read contexts) ≡ None
+    → inside_fault parts (map context_as_read contexts) ≡ None
+    → contexts_fault must parts (map context_as_read contexts) ≡ None
 unfolding is_any
 contexts_no_fault true parts [] there inside = absurd (let none : false ≡ true = there refl in cc)
 contexts_no_fault true parts (c ∷ contexts) there inside = inside
@@ -307,7 +331,8 @@ no_fault_there true parts (c ∷ contexts) none must = refl
 no_fault_there false parts contexts none must = absurd cc
 
 no_fault_within : (must : Bool) (parts : List Part) (contexts : List Context)
-    → contexts_fault must parts (map context_as_read contexts) ≡ None → inside_fault parts (map context_as_read contexts) ≡ None
+    → contexts_fault must parts (map context_as_read contexts) ≡ None
+    → inside_fault parts (map context_as_read contexts) ≡ None
 no_fault_within true parts [] none = refl
 no_fault_within true parts (c ∷ contexts) none = none
 no_fault_within false parts [] none = none
@@ -315,7 +340,8 @@ no_fault_within false parts (c ∷ contexts) none = none
 
 -- ---- a row
 
-pub meets_no_fault : (row : Row) (ies : List Element) → MeetsRow row ies → row_fault row (map as_read ies) (contexts_as_read ies) ≡ None
+pub meets_no_fault : (row : Row) (ies : List Element) → MeetsRow row ies
+    → row_fault row (map as_read ies) (contexts_as_read ies) ≡ None
 meets_no_fault row ies meets =
     let each = each_other (λ (c : Context) (part : Part). HasPart part c) (contexts_of ies) row.inside meets.inside in
     neither _ _ (kinds_no_fault ies row.before meets.before)
@@ -324,7 +350,8 @@ meets_no_fault row ies meets =
     (inside_no_fault row.inside (contexts_of ies) each))
     (kinds_no_fault ies row.after meets.after))
 
-pub no_fault_meets : (row : Row) (ies : List Element) → row_fault row (map as_read ies) (contexts_as_read ies) ≡ None → MeetsRow row ies
+pub no_fault_meets : (row : Row) (ies : List Element) → row_fault row (map as_read ies) (contexts_as_read ies) ≡ None
+    → MeetsRow row ies
 no_fault_meets row ies none =
     let contexts : Option CBad = contexts_fault row.must row.inside (contexts_as_read ies) in
     let after : Option CBad = kinds_fault (map as_read ies) row.after in
@@ -332,7 +359,8 @@ no_fault_meets row ies none =
     let within = no_fault_within row.must row.inside (contexts_of ies) (none_first contexts after behind) in
     record {
       before = no_fault_kinds ies row.before (none_first _ _ none);
-      context = λ must. any_context ies ∙ no_fault_there row.must row.inside (contexts_of ies) (none_first contexts after behind) must;
+      context = λ must. any_context ies
+          ∙ no_fault_there row.must row.inside (contexts_of ies) (none_first contexts after behind) must;
       inside = each_other HasPart row.inside (contexts_of ies) (no_fault_inside row.inside (contexts_of ies) within);
       after = no_fault_kinds ies row.after (none_second contexts after behind);
     }

@@ -34,16 +34,21 @@ message_in octets = record {
   ies = known_of (read_ies (body_of octets) (raws_in (ies_of (body_of octets))));
 }
 
-body_without_fault : (kind : ℕ) (octets : List ℕ) (ies : List Element) → IsBody kind octets ies → body_fault kind octets ≡ None
-body_without_fault kind octets ies body = ap (elements_fault kind octets) (ies_of-Stand octets body.raws body.stand) ∙ body.required
+body_without_fault : (kind : ℕ) (octets : List ℕ) (ies : List Element) → IsBody kind octets ies
+    → body_fault kind octets ≡ None
+body_without_fault kind octets ies body =
+    ap (elements_fault kind octets) (ies_of-Stand octets body.raws body.stand) ∙ body.required
 
-body_known : (kind : ℕ) (octets : List ℕ) (ies : List Element) → IsBody kind octets ies → known_of (read_ies octets (raws_in (ies_of octets))) ≡ ies
-body_known kind octets ies body = ap (λ read. known_of (read_ies octets (raws_in read))) (ies_of-Stand octets body.raws body.stand) ∙ body.known
+body_known : (kind : ℕ) (octets : List ℕ) (ies : List Element) → IsBody kind octets ies
+    → known_of (read_ies octets (raws_in (ies_of octets))) ≡ ies
+body_known kind octets ies body =
+    ap (λ read. known_of (read_ies octets (raws_in read))) (ies_of-Stand octets body.raws body.stand) ∙ body.known
 
 -- octets that spell a message have no fault
 pub without_fault : (octets : List ℕ) (message : Message) → Spells octets message → first_fault octets ≡ None
 without_fault octets message spells =
-    ap (λ fault. option_or fault (body_fault (kind_of octets) (body_of octets))) (right_without_fault octets spells.header.right)
+    ap (λ fault. option_or fault (body_fault (kind_of octets) (body_of octets)))
+    (right_without_fault octets spells.header.right)
     ∙ ap (λ kind. body_fault kind (body_of octets)) spells.header.kind
     ∙ body_without_fault message.kind (body_of octets) message.ies spells.body
 
@@ -51,15 +56,18 @@ without_fault octets message spells =
 pub the_message : (octets : List ℕ) (message : Message) → Spells octets message → message_in octets ≡ message
 the_message octets message spells =
     let known : List Element = known_of (read_ies (body_of octets) (raws_in (ies_of (body_of octets)))) in
-    let made : ℕ → Option ℕ → ℕ → List Element → Message = λ kind teid seq ies. record { kind = kind; teid = teid; seq = seq; ies = ies } in
+    let made : ℕ → Option ℕ → ℕ → List Element → Message =
+    λ kind teid seq ies. record { kind = kind; teid = teid; seq = seq; ies = ies } in
     ap (λ kind. made kind (teid_of octets) (seq_of octets) known) spells.header.kind
     ∙ ap (λ teid. made message.kind teid (seq_of octets) known) spells.header.teid
     ∙ ap (λ seq. made message.kind message.teid seq known) spells.header.seq
     ∙ ap (made message.kind message.teid message.seq) (body_known message.kind (body_of octets) message.ies spells.body)
 
 -- two messages that octets spell are one
-pub one_message : (octets : List ℕ) (first second : Message) → Spells octets first → Spells octets second → first ≡ second
-one_message octets first second spells_first spells_second = sym (the_message octets first spells_first) ∙ the_message octets second spells_second
+pub one_message : (octets : List ℕ) (first second : Message) → Spells octets first → Spells octets second
+    → first ≡ second
+one_message octets first second spells_first spells_second =
+    sym (the_message octets first spells_first) ∙ the_message octets second spells_second
 
 -- octets without a fault spell a message
 body_of_read : (kind : ℕ) (octets : List ℕ) (read : Result (List RawIe) IeBad) → ies_of octets ≡ read
@@ -83,19 +91,23 @@ message_of octets none =
     )
 
 -- the fault of a row is that of the body
-pub body_told : (kind : ℕ) (octets : List ℕ) (raws : List RawIe) (ies : List ReadIe) (fault : Option CBad) (bad : CBad) → Stand octets raws
+pub body_told : (kind : ℕ) (octets : List ℕ) (raws : List RawIe) (ies : List ReadIe) (fault : Option CBad) (bad : CBad)
+    → Stand octets raws
     → ies ≡ read_ies octets raws → fault ≡ row_fault (required kind) ies (contexts_in octets raws) → fault ≡ Some bad
     → Tells (body_fault kind octets) bad
 body_told kind octets raws ies fault bad stand ies_are is told =
     inl (ap (elements_fault kind octets) (ies_of-Stand octets raws stand)
-    ∙ ap (λ (read : List ReadIe). row_fault (required kind) read (contexts_in octets raws)) (sym ies_are) ∙ sym is ∙ told)
+    ∙ ap (λ (read : List ReadIe). row_fault (required kind) read (contexts_in octets raws)) (sym ies_are) ∙ sym is
+    ∙ told)
 
 -- behind a header without a fault the fault of the body is told
-pub told_behind : (header body : Option CBad) (bad : CBad) → header ≡ None → Tells body bad → Tells (option_or header body) bad
+pub told_behind : (header body : Option CBad) (bad : CBad) → header ≡ None → Tells body bad
+    → Tells (option_or header body) bad
 told_behind header body bad none tells = subst (λ h. Tells (option_or h body) bad) (sym none) tells
 
 -- a call that reads what is spelled, or tells the first fault, reads all that is spelled
-pub all_read : (octets : List ℕ) (result : Result Message CBad) → IfOk result (Spells octets) → IfErr result (IsRefusal octets)
+pub all_read : (octets : List ℕ) (result : Result Message CBad) → IfOk result (Spells octets)
+    → IfErr result (IsRefusal octets)
     → (message : Message) → Spells octets message → OrNoMemory result (Ok message) bads.NoMemory
 all_read octets (Ok other) found refused message spells = inl (ap Ok (one_message octets other message found spells))
 all_read octets (Err bad) found refused message spells =
@@ -103,7 +115,8 @@ all_read octets (Err bad) found refused message spells =
     elim refused [ inl is ↦ absurd cc | inr is ↦ inr (ap Err is) ]
 
 fault_of : (octets : List ℕ) (result : Result Message CBad) (fault : Option CBad) → first_fault octets ≡ fault
-    → IfOk result (Spells octets) → IfErr result (IsRefusal octets) → IfSome fault (λ bad. OrNoMemory result (Err bad) bads.NoMemory)
+    → IfOk result (Spells octets) → IfErr result (IsRefusal octets)
+    → IfSome fault (λ bad. OrNoMemory result (Err bad) bads.NoMemory)
 fault_of octets result None is found refused = tt
 fault_of octets (Ok other) (Some bad) is found refused =
     let none : first_fault octets ≡ None = without_fault octets other found in absurd cc
@@ -114,6 +127,7 @@ fault_of octets (Err told) (Some bad) is found refused =
     ]
 
 -- and tells each fault
-pub all_told : (octets : List ℕ) (result : Result Message CBad) → IfOk result (Spells octets) → IfErr result (IsRefusal octets)
+pub all_told : (octets : List ℕ) (result : Result Message CBad) → IfOk result (Spells octets)
+    → IfErr result (IsRefusal octets)
     → IfSome (first_fault octets) (λ bad. OrNoMemory result (Err bad) bads.NoMemory)
 all_told octets result found refused = fault_of octets result (first_fault octets) refl found refused

@@ -43,7 +43,8 @@ OfFirst (bads.Missing kind instance) = instance ≡ 0
 OfFirst (bads.Incorrect kind instance) = instance ≡ 0
 OfFirst bad = Unit {0}
 
-one_test : (P : CBad → Type 0) (test : Bool) (bad : CBad) (rest : Option CBad) → P bad → IfSome rest P → IfSome (cond test (Some bad) rest) P
+one_test : (P : CBad → Type 0) (test : Bool) (bad : CBad) (rest : Option CBad) → P bad → IfSome rest P
+    → IfSome (cond test (Some bad) rest) P
 one_test P true bad rest first others = first
 one_test P false bad rest first others = others
 
@@ -51,7 +52,8 @@ no_test : (P : CBad → Type 0) (test : Bool) (bad : CBad) → P bad → IfSome 
 no_test P true bad is = tt
 no_test P false bad is = is
 
-either : (P : CBad → Type 0) (first second : Option CBad) → IfSome first P → IfSome second P → IfSome (option_or first second) P
+either : (P : CBad → Type 0) (first second : Option CBad) → IfSome first P → IfSome second P
+    → IfSome (option_or first second) P
 either P None second is_first is_second = is_second
 either P (Some bad) second is_first is_second = is_first
 
@@ -73,7 +75,8 @@ of_kind ies kind = of_element kind (find (is_first (type_octet kind)) ies)
 
 of_kinds : (ies : List ReadIe) (kinds : List IeKind) → IfSome (kinds_fault ies kinds) OfElement
 of_kinds ies [] = tt
-of_kinds ies (kind ∷ kinds) = either OfElement (kind_fault ies kind) (kinds_fault ies kinds) (of_kind ies kind) (of_kinds ies kinds)
+of_kinds ies (kind ∷ kinds) =
+    either OfElement (kind_fault ies kind) (kinds_fault ies kinds) (of_kind ies kind) (of_kinds ies kinds)
 
 of_part : (ies : List ReadIe) (part : Part) → IfSome (part_fault ies part) OfElement
 of_part ies (parts.Ie kind) = of_kind ies kind
@@ -83,27 +86,34 @@ of_part ies parts.AssignedEbi =
 
 of_parts : (ies : List ReadIe) (parts : List Part) → IfSome (parts_fault ies parts) OfElement
 of_parts ies [] = tt
-of_parts ies (part ∷ parts) = either OfElement (part_fault ies part) (parts_fault ies parts) (of_part ies part) (of_parts ies parts)
+of_parts ies (part ∷ parts) =
+    either OfElement (part_fault ies part) (parts_fault ies parts) (of_part ies part) (of_parts ies parts)
 
 of_context : (inside : List Part) (ies : Option (List ReadIe)) → IfSome (context_fault inside ies) OfElement
 of_context inside None = refl
 of_context inside (Some ies) = of_parts ies inside
 
-of_inside : (inside : List Part) (contexts : List (Option (List ReadIe))) → IfSome (inside_fault inside contexts) OfElement
+of_inside : (inside : List Part) (contexts : List (Option (List ReadIe)))
+    → IfSome (inside_fault inside contexts) OfElement
 of_inside inside [] = tt
 of_inside inside (context ∷ contexts) =
-    either OfElement (context_fault inside context) (inside_fault inside contexts) (of_context inside context) (of_inside inside contexts)
+    either OfElement (context_fault inside context) (inside_fault inside contexts) (of_context inside context)
+    (of_inside inside contexts)
 
-of_contexts : (must : Bool) (inside : List Part) (contexts : List (Option (List ReadIe))) → IfSome (contexts_fault must inside contexts) OfElement
+of_contexts : (must : Bool) (inside : List Part) (contexts : List (Option (List ReadIe)))
+    → IfSome (contexts_fault must inside contexts) OfElement
 of_contexts true inside [] = refl
 of_contexts true inside (context ∷ contexts) = of_inside inside (context ∷ contexts)
 of_contexts false inside contexts = of_inside inside contexts
 
-of_row : (row : Row) (ies : List ReadIe) (contexts : List (Option (List ReadIe))) → IfSome (row_fault row ies contexts) OfElement
+of_row : (row : Row) (ies : List ReadIe) (contexts : List (Option (List ReadIe)))
+    → IfSome (row_fault row ies contexts) OfElement
 of_row row ies contexts =
     let inside : Option CBad = contexts_fault row.must row.inside contexts in
-    either OfElement (kinds_fault ies row.before) (option_or inside (kinds_fault ies row.after)) (of_kinds ies row.before)
-    (either OfElement inside (kinds_fault ies row.after) (of_contexts row.must row.inside contexts) (of_kinds ies row.after))
+    either OfElement (kinds_fault ies row.before) (option_or inside (kinds_fault ies row.after))
+    (of_kinds ies row.before)
+    (either OfElement inside (kinds_fault ies row.after) (of_contexts row.must row.inside contexts)
+    (of_kinds ies row.after))
 
 first_if : (bad : CBad) → OfElement bad → OfFirst bad
 first_if bads.Short is = tt
@@ -119,7 +129,8 @@ all_first : (fault : Option CBad) → IfSome fault OfElement → IfSome fault Of
 all_first None is = tt
 all_first (Some bad) is = first_if bad is
 
-of_body : (kind : ℕ) (octets : List ℕ) (read : Result (List RawIe) IeBad) → IfSome (elements_fault kind octets read) OfFirst
+of_body : (kind : ℕ) (octets : List ℕ) (read : Result (List RawIe) IeBad)
+    → IfSome (elements_fault kind octets read) OfFirst
 of_body kind octets (Ok raws) = all_first _ (of_row (required kind) (read_ies octets raws) (contexts_in octets raws))
 of_body kind octets (Err bad) = tt
 
@@ -129,7 +140,8 @@ element_not_framing (bads.Missing kind instance) is framing = framing
 element_not_framing (bads.Incorrect kind instance) is framing = framing
 element_not_framing _ is framing = is
 
-pub not_framing : {X : Type 0} (kind : ℕ) (octets : List ℕ) (raws : List RawIe) (result : Result X CBad) → ies_of octets ≡ Ok raws
+pub not_framing : {X : Type 0} (kind : ℕ) (octets : List ℕ) (raws : List RawIe) (result : Result X CBad)
+    → ies_of octets ≡ Ok raws
     → IfSome (body_fault kind octets) (λ bad. IsFraming bad → result ≡ Err bad)
 not_framing kind octets raws result read =
     let fault : body_fault kind octets ≡ row_fault (required kind) (read_ies octets raws) (contexts_in octets raws) =
@@ -143,12 +155,14 @@ not_framing kind octets raws result read =
     each (Some bad) is = λ framing. absurd (element_not_framing bad is framing)
 
 -- nor is there one where memory ran out
-pub memory_not_framing : {X : Type 0} (kind : ℕ) (octets : List ℕ) (result : Result X CBad) (read : Result (Vec RawIe) IeBad)
+pub memory_not_framing : {X : Type 0} (kind : ℕ) (octets : List ℕ) (result : Result X CBad)
+    (read : Result (Vec RawIe) IeBad)
     → read ≡ Err NoMemory → ((bad : IeBad) → ies_of octets ≡ Err bad → read ≡ Err bad)
     → IfSome (body_fault kind octets) (λ bad. IsFraming bad → result ≡ Err bad)
 memory_not_framing kind octets result read is fault = by_reading (ies_of octets) refl
   where
-    by_reading : (found : Result (List RawIe) IeBad) → ies_of octets ≡ found → IfSome (body_fault kind octets) (λ bad. IsFraming bad → result ≡ Err bad)
+    by_reading : (found : Result (List RawIe) IeBad) → ies_of octets ≡ found
+        → IfSome (body_fault kind octets) (λ bad. IsFraming bad → result ≡ Err bad)
     by_reading (Ok raws) found = not_framing kind octets raws result found
     by_reading (Err bad) found =
         let told : read ≡ Err bad = fault bad found in
@@ -157,7 +171,8 @@ memory_not_framing kind octets result read is fault = by_reading (ies_of octets)
 
 of_first : (octets : List ℕ) → IfSome (first_fault octets) OfFirst
 of_first octets =
-    either OfFirst (header_fault octets) (body_fault (kind_of octets) (body_of octets)) (header_faults OfFirst tt tt tt tt tt octets)
+    either OfFirst (header_fault octets) (body_fault (kind_of octets) (body_of octets))
+    (header_faults OfFirst tt tt tt tt tt octets)
     (of_body (kind_of octets) (body_of octets) (ies_of (body_of octets)))
 
 of_some : (P : CBad → Type 0) (fault : Option CBad) (bad : CBad) → IfSome fault P → fault ≡ Some bad → P bad
@@ -169,7 +184,8 @@ first_missing octets kind instance refused = elim refused [
   | inr memory ↦ absurd cc
 ]
 
-pub first_incorrect : (octets : List ℕ) (kind instance : ℕ) → IsRefusal octets (bads.Incorrect kind instance) → instance ≡ 0
+pub first_incorrect : (octets : List ℕ) (kind instance : ℕ) → IsRefusal octets (bads.Incorrect kind instance)
+    → instance ≡ 0
 first_incorrect octets kind instance refused = elim refused [
   | inl is ↦ of_some OfFirst (first_fault octets) (bads.Incorrect kind instance) (of_first octets) is
   | inr memory ↦ absurd cc
@@ -177,11 +193,13 @@ first_incorrect octets kind instance refused = elim refused [
 
 -- ---- a header without a fault is right
 
-behind : (header body : Option CBad) (bad : CBad) → IfSome header OfHeader → option_or header body ≡ Some bad → (OfHeader bad → ⊥) → header ≡ None
+behind : (header body : Option CBad) (bad : CBad) → IfSome header OfHeader → option_or header body ≡ Some bad
+    → (OfHeader bad → ⊥) → header ≡ None
 behind None body bad is told other = refl
 behind (Some first) body bad is told other = absurd (other (of_some OfHeader (Some first) bad is told))
 
-untold : (test : Bool) (bad : CBad) (rest : Option CBad) → cond test (Some bad) rest ≡ None → (test ≡ false) × (rest ≡ None)
+untold : (test : Bool) (bad : CBad) (rest : Option CBad) → cond test (Some bad) rest ≡ None
+    → (test ≡ false) × (rest ≡ None)
 untold true bad rest none = absurd cc
 untold false bad rest none = (refl, none)
 
@@ -200,7 +218,8 @@ right_of octets none =
     let piggyback = untold (has_piggyback octets) bads.Piggyback _ version.1 in
     let len = untold (has_wrong_length octets) bads.Length _ piggyback.1 in
     let kind = untold (not (is_kind (kind_of octets))) bads.Kind None len.1 in
-    let lens = neither (ltb (length octets) (end_of octets)) (ltb (end_of octets) (header_len (has_teid octets))) len.0 in
+    let lens = neither (ltb (length octets) (end_of octets))
+    (ltb (end_of octets) (header_len (has_teid octets))) len.0 in
     record {
       least = ltb-false _ _ short.0;
       version = eqb-true _ _ (not_false _ version.0);
@@ -212,16 +231,19 @@ right_of octets none =
 
 right_before : (octets : List ℕ) (bad : CBad) → (OfHeader bad → ⊥) → first_fault octets ≡ Some bad → IsRight octets
 right_before octets bad other is =
-    right_of octets (behind (header_fault octets) (body_fault (kind_of octets) (body_of octets)) bad (header_faults OfHeader tt tt tt tt tt octets) is other)
+    right_of octets (behind (header_fault octets) (body_fault (kind_of octets) (body_of octets)) bad
+    (header_faults OfHeader tt tt tt tt tt octets) is other)
 
 -- where an element is at fault the header is right
-pub right_missing : (octets : List ℕ) (kind instance : ℕ) → IsRefusal octets (bads.Missing kind instance) → IsRight octets
+pub right_missing : (octets : List ℕ) (kind instance : ℕ) → IsRefusal octets (bads.Missing kind instance)
+    → IsRight octets
 right_missing octets kind instance refused = elim refused [
   | inl is ↦ right_before octets (bads.Missing kind instance) (λ none. none) is
   | inr memory ↦ absurd cc
 ]
 
-pub right_incorrect : (octets : List ℕ) (kind instance : ℕ) → IsRefusal octets (bads.Incorrect kind instance) → IsRight octets
+pub right_incorrect : (octets : List ℕ) (kind instance : ℕ) → IsRefusal octets (bads.Incorrect kind instance)
+    → IsRight octets
 right_incorrect octets kind instance refused = elim refused [
   | inl is ↦ right_before octets (bads.Incorrect kind instance) (λ none. none) is
   | inr memory ↦ absurd cc
@@ -229,17 +251,28 @@ right_incorrect octets kind instance refused = elim refused [
 
 -- ---- the answer to a request is a known type
 
-one_below : (most kind x : ℕ) (is any : Bool) → eqb x kind ≡ is → x ≤ most → (any ≡ true → kind ≤ most) → (is || any) ≡ true → kind ≤ most
-one_below most kind x true any same le others some = let equal : x ≡ kind = eqb-true _ _ same in omega (arith, equal, le)
+one_below : (most kind x : ℕ) (is any : Bool) → eqb x kind ≡ is → x ≤ most → (any ≡ true → kind ≤ most)
+    → (is || any) ≡ true → kind ≤ most
+one_below most kind x true any same le others some =
+    let equal : x ≡ kind = eqb-true _ _ same in omega (arith, equal, le)
 one_below most kind x false any same le others some = others some
 
-below : (most kind : ℕ) (xs : List ℕ) → AllByRecursion (λ x. x ≤ most) xs → list_any (λ x. eqb x kind) xs ≡ true → kind ≤ most
+below : (most kind : ℕ) (xs : List ℕ) → AllByRecursion (λ x. x ≤ most) xs → list_any (λ x. eqb x kind) xs ≡ true
+    → kind ≤ most
 below most kind [] all any = absurd cc
-below most kind (x ∷ xs) all any = one_below most kind x (eqb x kind) (list_any (λ y. eqb y kind) xs) refl all.0 (below most kind xs all.1) any
+below most kind (x ∷ xs) all any =
+    one_below most kind x (eqb x kind) (list_any (λ y. eqb y kind) xs) refl all.0 (below most kind xs all.1) any
 
 pub request_small : (kind : ℕ) → is_request kind ≡ true → kind ≤ 176
 unfolding is_request
-request_small kind is = below 176 kind requests (omega arith, (omega arith, (omega arith, (omega arith, (omega arith, (omega arith, (omega arith, (omega arith, (omega arith, tt))))))))) is
+request_small kind is =
+    below 176 kind requests (
+      omega arith,
+      (
+        omega arith,
+        (omega arith, (omega arith, (omega arith, (omega arith, (omega arith, (omega arith, (omega arith, tt))))))),
+      ),
+    ) is
 
 or_true : (first : Bool) → (first || true) ≡ true
 or_true true = refl
@@ -249,4 +282,5 @@ pub answer_known : (kind : ℕ) → is_request kind ≡ true → is_kind (kind +
 unfolding is_kind
 answer_known kind is =
     let back : kind + 1 - 1 ≡ kind = omega arith in
-    ap (λ k. is_request (kind + 1) || is_request k) back ∙ ap (λ b. is_request (kind + 1) || b) is ∙ or_true (is_request (kind + 1))
+    ap (λ k. is_request (kind + 1) || is_request k) back ∙ ap (λ b. is_request (kind + 1) || b) is
+    ∙ or_true (is_request (kind + 1))

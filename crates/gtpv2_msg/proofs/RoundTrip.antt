@@ -37,18 +37,26 @@ use Rattle.gtpv2_msg.proofs.MeetsLemmas.{meets_no_fault}
 -- ---- elements
 
 -- what reads as elements is seen as they are
-pub seen_as : (octets : List ℕ) (raws : List RawIe) (ies : List Element) → AreReadAs context_of octets raws ies → read_ies octets raws ≡ map as_read ies
+pub seen_as : (octets : List ℕ) (raws : List RawIe) (ies : List Element) → AreReadAs context_of octets raws ies
+    → read_ies octets raws ≡ map as_read ies
 seen_as octets [] [] read = refl
 seen_as octets [] (ie ∷ ies) read = absurd read
 seen_as octets (raw ∷ raws) [] read = absurd read
 seen_as octets (raw ∷ raws) (ie ∷ ies) read =
     ap (λ (value : Option IeValue). seen raw.kind raw.instance value ∷ read_ies octets raws) read.0.value
     ∙ ap (λ (kind : ℕ). seen kind raw.instance (Some ie.value) ∷ read_ies octets raws) read.0.kind
-    ∙ ap (λ (instance : ℕ). seen (type_octet (kind_of ie.value)) instance (Some ie.value) ∷ read_ies octets raws) read.0.instance
+    ∙ ap (λ (instance : ℕ). seen (type_octet (kind_of ie.value)) instance (Some ie.value)
+    ∷ read_ies octets raws) read.0.instance
     ∙ ap (λ (rest : List ReadIe). as_read ie ∷ rest) (seen_as octets raws ies read.1)
   where
     seen : ℕ → ℕ → Option IeValue → ReadIe
-    seen kind instance value = record { kind = kind; instance = instance; element = option_map (λ v. record { instance = instance; value = v }) value }
+    seen kind instance value =
+        record {
+          kind = kind;
+          instance = instance;
+          element =
+              option_map (λ v. record { instance = instance; value = v }) value;
+        }
 
 pub known_again : (ies : List Element) → known_of (map as_read ies) ≡ ies
 known_again [] = refl
@@ -59,11 +67,18 @@ known_again (ie ∷ ies) = ap (λ (rest : List Element). ie ∷ rest) (known_aga
 abbrev IsInner : Element → Type 0
 IsInner ie = IsWritten empty_context context_of ie
 
-plain_written : (instance : ℕ) (value : IeValue) → instance < 16 → IsPlain value → IsValue value → IsInner (record { instance = instance; value = value })
+plain_written : (instance : ℕ) (value : IeValue) → instance < 16 → IsPlain value → IsValue value
+    → IsInner (record { instance = instance; value = value })
 plain_written instance value low plain is =
-    record { instance = low; len = plain_len empty_context value plain is; again = plain_again context_of empty_context value plain is }
+    record {
+      instance =
+          low;
+      len = plain_len empty_context value plain is;
+      again = plain_again context_of empty_context value plain is;
+    }
 
-optional_written : {X : Type 0} (value : X → IeValue) (IsPart : X → Type 0) (o : Option X) → ((x : X) → IsPart x → IsInner (record { instance = 0; value = value x }))
+optional_written : {X : Type 0} (value : X → IeValue) (IsPart : X → Type 0) (o : Option X)
+    → ((x : X) → IsPart x → IsInner (record { instance = 0; value = value x }))
     → IfSome o IsPart → AllByRecursion IsInner (if_some value o)
 optional_written value IsPart None each is = tt
 optional_written value IsPart (Some x) each is = (each x is, tt)
@@ -73,15 +88,18 @@ fteids_written : (fteids : List (ℕ × Fteid)) → AllByRecursion (λ fteid. (f
 fteids_written [] are = tt
 fteids_written (f ∷ fteids) are = (plain_written f.0 (values.Fteid f.1) are.0.0 tt are.0.1, fteids_written fteids are.1)
 
-both : (xs ys : List Element) → AllByRecursion IsInner xs → AllByRecursion IsInner ys → AllByRecursion IsInner (xs ++ ys)
+both : (xs ys : List Element) → AllByRecursion IsInner xs → AllByRecursion IsInner ys
+    → AllByRecursion IsInner (xs ++ ys)
 both [] ys all_xs all_ys = all_ys
 both (x ∷ xs) ys all_xs all_ys = (all_xs.0, both xs ys all_xs.1 all_ys)
 
 inner_written : (c : Context) → IsContext c → AllByRecursion IsInner (context_elements c)
 inner_written c is =
     let ebi = optional_written values.Ebi IsEbi c.ebi (λ x p. plain_written 0 (values.Ebi x) (lit< tt) tt p) is.ebi in
-    let cause = optional_written values.Cause IsCause c.cause (λ x p. plain_written 0 (values.Cause x) (lit< tt) tt p) is.cause in
-    let tft = optional_written values.Tft (IsOctets 1000) c.tft (λ x p. plain_written 0 (values.Tft x) (lit< tt) tt p) is.tft in
+    let cause = optional_written values.Cause IsCause c.cause
+    (λ x p. plain_written 0 (values.Cause x) (lit< tt) tt p) is.cause in
+    let tft = optional_written values.Tft (IsOctets 1000) c.tft
+    (λ x p. plain_written 0 (values.Tft x) (lit< tt) tt p) is.tft in
     let fteids = fteids_written c.fteids is.fteids in
     let qos = optional_written values.Qos IsQos c.qos (λ x p. plain_written 0 (values.Qos x) (lit< tt) tt p) is.qos in
     both _ _ (both _ _ (both _ _ (both _ _ ebi cause) tft) fteids) qos
@@ -91,13 +109,17 @@ elements_again : (c : Context) → IsContext c → elements_of (context_octets c
 elements_again c is =
     let ies : List Element = context_elements c in
     let written = inner_written c is in
-    ap (elements_in (context_octets c)) (ies_of-Stand (context_octets c) (places_by empty_context 0 ies) (written_stand empty_context context_of ies written))
-    ∙ ap Some (seen_as (context_octets c) (places_by empty_context 0 ies) ies (written_read empty_context context_of ies written))
+    ap (elements_in (context_octets c))
+    (ies_of-Stand (context_octets c) (places_by empty_context 0 ies)
+    (written_stand empty_context context_of ies written))
+    ∙ ap Some (seen_as (context_octets c) (places_by empty_context 0 ies) ies
+    (written_read empty_context context_of ies written))
 
 -- ---- the Contexts of a message
 
 value_is : (front more value : List ℕ) (kind instance : ℕ)
-    → slice_range (front ++ (ie_octets kind instance value ++ more)) (length front + 4) (length front + 4 + length value) ≡ value
+    → slice_range (front ++ (ie_octets kind instance value ++ more)) (length front + 4)
+    (length front + 4 + length value) ≡ value
 value_is front more value kind instance =
     let text : List ℕ = ie_octets kind instance value ++ more in
     let len : length front + 4 + length value - (length front + 4) ≡ length value = omega arith in
@@ -118,7 +140,8 @@ a_context : (test : Bool) (c : Context) (ies : Option (List ReadIe)) → ies ≡
 a_context true c ies is = ap Some is
 a_context false c ies is = refl
 
-own_again : (instance : ℕ) (value : IeValue) (octets : List ℕ) → IsValue value → octets ≡ plain_octets context_octets value
+own_again : (instance : ℕ) (value : IeValue) (octets : List ℕ) → IsValue value
+    → octets ≡ plain_octets context_octets value
     → cond (eqb (type_octet (kind_of value)) 93 && eqb instance 0) (Some (elements_of octets)) None
     ≡ own_context (record { instance = instance; value = value })
 own_again instance (values.Context c) octets is octets_are =
@@ -126,7 +149,8 @@ own_again instance (values.Context c) octets is octets_are =
 own_again instance _ octets is octets_are = sym (no_context (eqb instance 0))
 
 own_behind : (first : Option Context) (rest : List Context)
-    → cons_option (option_map context_as_read first) (map context_as_read rest) ≡ map context_as_read (cons_option first rest)
+    → cons_option (option_map context_as_read first) (map context_as_read rest)
+    ≡ map context_as_read (cons_option first rest)
 own_behind None rest = refl
 own_behind (Some c) rest = refl
 
@@ -137,14 +161,21 @@ contexts_behind front (ie ∷ ies) are =
     let text : List ℕ = spelling ie in
     let rest : List ℕ = spellings ies in
     let octets_are : (front ++ text) ++ rest ≡ front ++ (text ++ rest) = append_assoc front text rest in
-    let behind : length (front ++ text) ≡ end_of context_octets (length front) ie = length-append front text ∙ omega arith in
+    let behind : length (front ++ text) ≡ end_of context_octets (length front) ie =
+    length-append front text ∙ omega arith in
     let later = contexts_behind (front ++ text) ies are.1 in
-    let moved : contexts_in ((front ++ text) ++ rest) (places_by context_octets (end_of context_octets (length front) ie) ies) ≡ contexts_as_read ies =
-    subst (λ (k : ℕ). contexts_in ((front ++ text) ++ rest) (places_by context_octets k ies) ≡ contexts_as_read ies) behind later in
-    let others : contexts_in (front ++ (text ++ rest)) (places_by context_octets (end_of context_octets (length front) ie) ies) ≡ contexts_as_read ies =
-    subst (λ (octets : List ℕ). contexts_in octets (places_by context_octets (end_of context_octets (length front) ie) ies) ≡ contexts_as_read ies) octets_are moved in
-    ap (λ (first : Option (Option (List ReadIe))). cons_option first (contexts_in (front ++ (text ++ rest)) (places_by context_octets (end_of context_octets (length front) ie) ies)))
-    (own_again ie.instance ie.value _ are.0.value (value_is front rest (plain_octets context_octets ie.value) (type_octet (kind_of ie.value)) ie.instance))
+    let moved : contexts_in ((front ++ text) ++ rest)
+    (places_by context_octets (end_of context_octets (length front) ie) ies) ≡ contexts_as_read ies =
+    subst (λ (k : ℕ). contexts_in ((front ++ text) ++ rest) (places_by context_octets k ies)
+    ≡ contexts_as_read ies) behind later in
+    let others : contexts_in (front ++ (text ++ rest))
+    (places_by context_octets (end_of context_octets (length front) ie) ies) ≡ contexts_as_read ies =
+    subst (λ (octets : List ℕ). contexts_in octets
+    (places_by context_octets (end_of context_octets (length front) ie) ies) ≡ contexts_as_read ies) octets_are moved in
+    ap (λ (first : Option (Option (List ReadIe))). cons_option first
+    (contexts_in (front ++ (text ++ rest)) (places_by context_octets (end_of context_octets (length front) ie) ies)))
+    (own_again ie.instance ie.value _ are.0.value
+    (value_is front rest (plain_octets context_octets ie.value) (type_octet (kind_of ie.value)) ie.instance))
     ∙ ap (cons_option (own_context ie)) others ∙ own_behind (first_context ie) (contexts_of ies)
 
 -- the elements of a message that has what its type asks for read back
@@ -152,12 +183,14 @@ pub body_again : (kind : ℕ) (ies : List Element) → AllByRecursion IsElement 
     → IsBody kind (spellings ies) ies
 body_again kind ies are has =
     let back : ReadBack (spellings ies) ies = read_back ies are in
-    let seen : read_ies (spellings ies) (places ies) ≡ map as_read ies = seen_as (spellings ies) (places ies) ies back.read in
+    let seen : read_ies (spellings ies) (places ies) ≡ map as_read ies =
+    seen_as (spellings ies) (places ies) ies back.read in
     let contexts : contexts_in (spellings ies) (places ies) ≡ contexts_as_read ies = contexts_behind [] ies are in
     record {
       raws = places ies;
       stand = back.stand;
-      required = ap (λ (read : List ReadIe). row_fault (required kind) read (contexts_in (spellings ies) (places ies))) seen
+      required = ap (λ (read : List ReadIe). row_fault (required kind) read
+          (contexts_in (spellings ies) (places ies))) seen
           ∙ ap (row_fault (required kind) (map as_read ies)) contexts ∙ meets_no_fault (required kind) ies has;
       known = ap known_of seen ∙ known_again ies;
     }
@@ -180,7 +213,8 @@ pub header_again : (kind : ℕ) (teid : Option ℕ) (seq : ℕ) (ies : List Elem
     × (body_of (written kind teid seq (spellings ies) more) ≡ spellings ies)
 header_again kind None seq ies more is =
     let body : List ℕ = spellings ies in
-    let len : be16_at (be16_octets (4 + length body)) 0 ≡ 4 + length body = be16-again (4 + length body) [] (omega (arith, is.len)) in
+    let len : be16_at (be16_octets (4 + length body)) 0 ≡ 4 + length body =
+    be16-again (4 + length body) [] (omega (arith, is.len)) in
     let end : 4 + be16_at (be16_octets (4 + length body)) 0 ≡ 8 + length body = omega (arith, len) in (
       record {
         right = record {
@@ -199,7 +233,8 @@ header_again kind None seq ies more is =
     )
 header_again kind (Some teid) seq ies more is =
     let body : List ℕ = spellings ies in
-    let len : be16_at (be16_octets (8 + length body)) 0 ≡ 8 + length body = be16-again (8 + length body) [] (omega (arith, is.len)) in
+    let len : be16_at (be16_octets (8 + length body)) 0 ≡ 8 + length body =
+    be16-again (8 + length body) [] (omega (arith, is.len)) in
     let end : 4 + be16_at (be16_octets (8 + length body)) 0 ≡ 12 + length body = omega (arith, len) in (
       record {
         right = record {
@@ -218,13 +253,17 @@ header_again kind (Some teid) seq ies more is =
     )
 
 -- a written message and octets behind it spell the message
-pub spells_again : (message : Message) (more : List ℕ) → IsMessage message → AllByRecursion IsElement message.ies → HasRequired message
+pub spells_again : (message : Message) (more : List ℕ) → IsMessage message → AllByRecursion IsElement message.ies
+    → HasRequired message
     → Spells (message_spelling message ++ more) message
 spells_again message more is are has =
     let head = header_again message.kind message.teid message.seq message.ies more is in
     let text : List ℕ = written message.kind message.teid message.seq (spellings message.ies) more in
-    let octets_are : message_spelling message ++ more ≡ text = append_assoc (header_octets message.kind message.teid message.seq (length (spellings message.ies))) (spellings message.ies) more in
+    let octets_are : message_spelling message ++ more ≡ text =
+    append_assoc (header_octets message.kind message.teid message.seq (length (spellings message.ies)))
+    (spellings message.ies) more in
     subst (λ (octets : List ℕ). Spells octets message) (sym octets_are) (record {
       header = head.0;
-      body = subst (λ (body : List ℕ). IsBody message.kind body message.ies) (sym head.1) (body_again message.kind message.ies are has);
+      body = subst (λ (body : List ℕ). IsBody message.kind body message.ies) (sym head.1)
+          (body_again message.kind message.ies are has);
     })

@@ -50,12 +50,14 @@ unfolding is_request
 its_answer = refl
 
 -- an Update Bearer Request without a Context and without an AMBR lacks the Context first
-empty_update : first_fault (0x48 ∷ 0x61 ∷ 0x00 ∷ 0x08 ∷ 0x00 ∷ 0x00 ∷ 0x10 ∷ 0x00 ∷ 0x00 ∷ 0x00 ∷ 0x07 ∷ 0x00 ∷ []) ≡ Some (Missing 93 0)
+empty_update : first_fault (0x48 ∷ 0x61 ∷ 0x00 ∷ 0x08 ∷ 0x00 ∷ 0x00 ∷ 0x10 ∷ 0x00 ∷ 0x00 ∷ 0x00 ∷ 0x07 ∷ 0x00 ∷ [])
+    ≡ Some (Missing 93 0)
 unfolding ies_from required is_kind is_request
 empty_update = refl
 
 -- an Echo Response with Recovery 0
-echo_response : spelling (record { kind = 2; teid = None; seq = 1; ies = record { instance = 0; value = values.Recovery 0 } ∷ [] })
+echo_response : spelling
+    (record { kind = 2; teid = None; seq = 1; ies = record { instance = 0; value = values.Recovery 0 } ∷ [] })
     ≡ 0x40 ∷ 0x02 ∷ 0x00 ∷ 0x09 ∷ 0x00 ∷ 0x00 ∷ 0x01 ∷ 0x00 ∷ 0x03 ∷ 0x00 ∷ 0x01 ∷ 0x00 ∷ 0x00 ∷ []
 echo_response = refl
 
@@ -65,7 +67,8 @@ request_types : requests ≡ ECHO_REQUEST ∷ CREATE_SESSION_REQUEST ∷ MODIFY_
     ∷ DOWNLINK_DATA_NOTIFICATION ∷ []
 request_types = refl
 
-answer_types : map answer_of requests ≡ ECHO_RESPONSE ∷ CREATE_SESSION_RESPONSE ∷ MODIFY_BEARER_RESPONSE ∷ DELETE_SESSION_RESPONSE
+answer_types : map answer_of requests ≡ ECHO_RESPONSE ∷ CREATE_SESSION_RESPONSE ∷ MODIFY_BEARER_RESPONSE
+    ∷ DELETE_SESSION_RESPONSE
     ∷ CREATE_BEARER_RESPONSE ∷ UPDATE_BEARER_RESPONSE ∷ DELETE_BEARER_RESPONSE ∷ RELEASE_ACCESS_BEARERS_RESPONSE
     ∷ DOWNLINK_DATA_NOTIFICATION_ACKNOWLEDGE ∷ []
 answer_types = refl

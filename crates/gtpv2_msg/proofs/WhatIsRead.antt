@@ -44,7 +44,8 @@ any_map : {X Y : Type 0} (f : X → Y) (o : Option X) (P : Y → Type 0) → ((x
 any_map f None P holds = tt
 any_map f (Some x) P holds = holds x
 
-if_map : {X Y : Type 0} (f : X → Y) (o : Option X) (P : Y → Type 0) → IfSome o (λ x. P (f x)) → IfSome (option_map f o) P
+if_map : {X Y : Type 0} (f : X → Y) (o : Option X) (P : Y → Type 0) → IfSome o (λ x. P (f x))
+    → IfSome (option_map f o) P
 if_map f None P holds = tt
 if_map f (Some x) P holds = holds
 
@@ -52,8 +53,10 @@ not_short : {X : Type 0} (short : Bool) (o : Option X) (P : X → Type 0) → If
 not_short true o P holds = tt
 not_short false o P holds = holds
 
-kind_is : (reads : List ℕ → Option Context) (kind : IeKind) (octets : List ℕ) → IfSome (kind_value reads kind octets) (IsKind kind)
-kind_is reads kind octets = not_short (ltb (length octets) (least_len kind)) ((row reads kind).value octets) (IsKind kind) (is kind)
+kind_is : (reads : List ℕ → Option Context) (kind : IeKind) (octets : List ℕ)
+    → IfSome (kind_value reads kind octets) (IsKind kind)
+kind_is reads kind octets =
+    not_short (ltb (length octets) (least_len kind)) ((row reads kind).value octets) (IsKind kind) (is kind)
   where
     is : (kind : IeKind) → IfSome ((row reads kind).value octets) (IsKind kind)
     is kinds.Imsi = any_map values.Imsi (imsi_of octets) (IsKind kinds.Imsi) (λ _. refl)
@@ -70,7 +73,8 @@ kind_is reads kind octets = not_short (ltb (length octets) (least_len kind)) ((r
     is kinds.Context = any_map values.Context (reads octets) (IsKind kinds.Context) (λ _. refl)
     is kinds.Pdn = any_map values.Pdn (pdn_of octets) (IsKind kinds.Pdn) (λ _. refl)
 
-first_passes : {X : Type 0} (p : X → Bool) (x : X) (rest : Option X) (test : Bool) → p x ≡ test → IfSome rest (λ y. p y ≡ true)
+first_passes : {X : Type 0} (p : X → Bool) (x : X) (rest : Option X) (test : Bool) → p x ≡ test
+    → IfSome rest (λ y. p y ≡ true)
     → IfSome (cond test (Some x) rest) (λ y. p y ≡ true)
 first_passes p x rest true is others = is
 first_passes p x rest false is others = others
@@ -91,7 +95,8 @@ octet_is reads octet octets = of_found (kind_at octet) (passes (λ kind. eqb (ty
     of_found : (found : Option IeKind) → IfSome found (λ kind. eqb (type_octet kind) octet ≡ true)
         → IfSome (option_and_then (λ kind. kind_value reads kind octets) found) (λ v. type_octet (kind_of v) ≡ octet)
     of_found None same = tt
-    of_found (Some kind) same = moved kind octet (kind_value reads kind octets) (eqb-true _ _ same) (kind_is reads kind octets)
+    of_found (Some kind) same =
+        moved kind octet (kind_value reads kind octets) (eqb-true _ _ same) (kind_is reads kind octets)
 
 -- an element is of the type and instance that stand before it
 pub record IsAt (octet instance : ℕ) (ie : Element) : Type 0 where
@@ -100,8 +105,10 @@ pub record IsAt (octet instance : ℕ) (ie : Element) : Type 0 where
 
 element_is : (octets : List ℕ) (raw : RawIe) → IfSome (element_at context_of octets raw) (IsAt raw.kind raw.instance)
 element_is octets raw =
-    if_map (λ (value : IeValue). record { instance = raw.instance; value = value }) (value_at context_of raw.kind (value_in octets raw))
-    (IsAt raw.kind raw.instance) (of_value (value_at context_of raw.kind (value_in octets raw)) (octet_is context_of raw.kind (value_in octets raw)))
+    if_map (λ (value : IeValue). record { instance = raw.instance; value = value })
+    (value_at context_of raw.kind (value_in octets raw))
+    (IsAt raw.kind raw.instance)
+    (of_value (value_at context_of raw.kind (value_in octets raw)) (octet_is context_of raw.kind (value_in octets raw)))
   where
     of_value : (o : Option IeValue) → IfSome o (λ v. type_octet (kind_of v) ≡ raw.kind)
         → IfSome o (λ v. IsAt raw.kind raw.instance (record { instance = raw.instance; value = v }))
@@ -124,10 +131,12 @@ true_or : (test any : Bool) → test ≡ true → (test || any) ≡ true
 true_or true any is = refl
 true_or false any is = absurd cc
 
-read_has : (kind : IeKind) (octet instance : ℕ) (element : Option Element) (rest : Option ReadIe) (others : List Element)
+read_has : (kind : IeKind) (octet instance : ℕ) (element : Option Element) (rest : Option ReadIe)
+    (others : List Element)
     → IfSome element (IsAt octet instance) → (here : Bool) → (eqb octet (type_octet kind) && eqb instance 0) ≡ here
     → (element_fault kind rest ≡ None → Has others kind)
-    → element_fault kind (cond here (Some (record { kind = octet; instance = instance; element = element })) rest) ≡ None
+    → element_fault kind (cond here (Some (record { kind = octet; instance = instance; element = element })) rest)
+    ≡ None
     → Has (cons_option element others) kind
 read_has kind octet instance None rest others at true is behind none = absurd cc
 read_has kind octet instance None rest others at false is behind none = behind none
@@ -140,11 +149,14 @@ found_has : (kind : IeKind) (octets : List ℕ) (raws : List RawIe) → kind_fau
     → Has (known_of (read_ies octets raws)) kind
 found_has kind octets [] none = absurd cc
 found_has kind octets (raw ∷ raws) none =
-    read_has kind raw.kind raw.instance (element_at context_of octets raw) (find (is_first (type_octet kind)) (read_ies octets raws))
-    (known_of (read_ies octets raws)) (element_is octets raw) (eqb raw.kind (type_octet kind) && eqb raw.instance 0) refl
+    read_has kind raw.kind raw.instance (element_at context_of octets raw)
+    (find (is_first (type_octet kind)) (read_ies octets raws))
+    (known_of (read_ies octets raws)) (element_is octets raw)
+    (eqb raw.kind (type_octet kind) && eqb raw.instance 0) refl
     (found_has kind octets raws) none
 
-all_found : (kinds : List IeKind) (octets : List ℕ) (raws : List RawIe) → kinds_fault (read_ies octets raws) kinds ≡ None
+all_found : (kinds : List IeKind) (octets : List ℕ) (raws : List RawIe)
+    → kinds_fault (read_ies octets raws) kinds ≡ None
     → AllByRecursion (Has (known_of (read_ies octets raws))) kinds
 all_found [] octets raws none = tt
 all_found (kind ∷ kinds) octets raws none =
@@ -162,7 +174,8 @@ with_first (Some ie) c = record {
   qos = option_or (qos_value ie.value) c.qos;
 }
 
-context_with-cons : (first : Option Element) (ies : List Element) → context_with (cons_option first ies) ≡ with_first first (context_with ies)
+context_with-cons : (first : Option Element) (ies : List Element)
+    → context_with (cons_option first ies) ≡ with_first first (context_with ies)
 context_with-cons None ies = refl
 context_with-cons (Some ie) ies = refl
 
@@ -189,7 +202,8 @@ same_first instance (Some kinds.Context) octets rest =
 same_first instance (Some _) octets rest = refl
 
 -- a Context by its elements, with or without the Contexts in it
-pub same_context : (octets : List ℕ) (raws : List RawIe) → context_with (inner_elements octets raws) ≡ context_with (known_of (read_ies octets raws))
+pub same_context : (octets : List ℕ) (raws : List RawIe)
+    → context_with (inner_elements octets raws) ≡ context_with (known_of (read_ies octets raws))
 same_context octets [] = refl
 same_context octets (raw ∷ raws) =
     context_with-cons (element_at no_context octets raw) (inner_elements octets raws)
@@ -210,33 +224,41 @@ some_here : {X : Type 0} (first rest : Option X) (test any : Bool) → (test ≡
 some_here first rest true any here behind is = first_some first rest (here refl)
 some_here first rest false any here behind is = rest_some first rest (behind is)
 
-some_found : {X : Type 0} (kind : IeKind) (part : Element → Option X) → ((ie : Element) → is_of kind 0 ie ≡ true → is_some (part ie) ≡ true)
+some_found : {X : Type 0} (kind : IeKind) (part : Element → Option X)
+    → ((ie : Element) → is_of kind 0 ie ≡ true → is_some (part ie) ≡ true)
     → (ies : List Element) → Has ies kind → is_some (first_of part ies) ≡ true
 some_found kind part gives [] has = absurd cc
 some_found kind part gives (ie ∷ ies) has =
-    some_here (part ie) (first_of part ies) (is_of kind 0 ie) (list_any (is_of kind 0) ies) (gives ie) (some_found kind part gives ies) has
+    some_here (part ie) (first_of part ies) (is_of kind 0 ie) (list_any (is_of kind 0) ies) (gives ie)
+    (some_found kind part gives ies) has
 
-gives_ebi : (instance : ℕ) (value : IeValue) → is_of kinds.Ebi 0 (an_element instance value) ≡ true → is_some (ebi_value value) ≡ true
+gives_ebi : (instance : ℕ) (value : IeValue) → is_of kinds.Ebi 0 (an_element instance value) ≡ true
+    → is_some (ebi_value value) ≡ true
 gives_ebi instance (values.Ebi ebi) is = refl
 gives_ebi instance _ is = absurd cc
 
-gives_cause : (instance : ℕ) (value : IeValue) → is_of kinds.Cause 0 (an_element instance value) ≡ true → is_some (cause_value value) ≡ true
+gives_cause : (instance : ℕ) (value : IeValue) → is_of kinds.Cause 0 (an_element instance value) ≡ true
+    → is_some (cause_value value) ≡ true
 gives_cause instance (values.Cause cause) is = refl
 gives_cause instance _ is = absurd cc
 
-gives_tft : (instance : ℕ) (value : IeValue) → is_of kinds.Tft 0 (an_element instance value) ≡ true → is_some (tft_value value) ≡ true
+gives_tft : (instance : ℕ) (value : IeValue) → is_of kinds.Tft 0 (an_element instance value) ≡ true
+    → is_some (tft_value value) ≡ true
 gives_tft instance (values.Tft tft) is = refl
 gives_tft instance _ is = absurd cc
 
-gives_qos : (instance : ℕ) (value : IeValue) → is_of kinds.Qos 0 (an_element instance value) ≡ true → is_some (qos_value value) ≡ true
+gives_qos : (instance : ℕ) (value : IeValue) → is_of kinds.Qos 0 (an_element instance value) ≡ true
+    → is_some (qos_value value) ≡ true
 gives_qos instance (values.Qos qos) is = refl
 gives_qos instance _ is = absurd cc
 
 abbrev any_first : List (ℕ × Fteid) → Bool
 any_first fteids = list_any (λ (f : ℕ × Fteid). eqb f.0 0) fteids
 
-gives_fteid : (instance : ℕ) (value : IeValue) (fteids : List (ℕ × Fteid)) (any : Bool) → (any ≡ true → any_first fteids ≡ true)
-    → (is_of kinds.Fteid 0 (an_element instance value) || any) ≡ true → any_first (cons_option (fteid_value instance value) fteids) ≡ true
+gives_fteid : (instance : ℕ) (value : IeValue) (fteids : List (ℕ × Fteid)) (any : Bool)
+    → (any ≡ true → any_first fteids ≡ true)
+    → (is_of kinds.Fteid 0 (an_element instance value) || any) ≡ true
+    → any_first (cons_option (fteid_value instance value) fteids) ≡ true
 gives_fteid instance (values.Fteid fteid) fteids any behind is = either (eqb instance 0) is
   where
     either : (test : Bool) → (test || any) ≡ true → (test || any_first fteids) ≡ true
@@ -247,7 +269,8 @@ gives_fteid instance _ fteids any behind is = behind is
 fteid_found : (ies : List Element) → Has ies kinds.Fteid → any_first (context_with ies).fteids ≡ true
 fteid_found [] has = absurd cc
 fteid_found (ie ∷ ies) has =
-    gives_fteid ie.instance ie.value (context_with ies).fteids (list_any (is_of kinds.Fteid 0) ies) (fteid_found ies) has
+    gives_fteid ie.instance ie.value (context_with ies).fteids (list_any (is_of kinds.Fteid 0) ies)
+    (fteid_found ies) has
 
 -- the kinds of element that a Context keeps
 abbrev is_inner : IeKind → Bool
@@ -258,13 +281,18 @@ is_inner kinds.Fteid = true
 is_inner kinds.Qos = true
 is_inner _ = false
 
-inner_found : (kind : IeKind) (ies : List Element) → is_inner kind ≡ true → Has ies kind → holds kind (context_with ies) ≡ true
+inner_found : (kind : IeKind) (ies : List Element) → is_inner kind ≡ true → Has ies kind
+    → holds kind (context_with ies) ≡ true
 unfolding holds
-inner_found kinds.Ebi ies inner has = some_found kinds.Ebi (λ ie. ebi_value ie.value) (λ ie is. gives_ebi ie.instance ie.value is) ies has
-inner_found kinds.Cause ies inner has = some_found kinds.Cause (λ ie. cause_value ie.value) (λ ie is. gives_cause ie.instance ie.value is) ies has
-inner_found kinds.Tft ies inner has = some_found kinds.Tft (λ ie. tft_value ie.value) (λ ie is. gives_tft ie.instance ie.value is) ies has
+inner_found kinds.Ebi ies inner has =
+    some_found kinds.Ebi (λ ie. ebi_value ie.value) (λ ie is. gives_ebi ie.instance ie.value is) ies has
+inner_found kinds.Cause ies inner has =
+    some_found kinds.Cause (λ ie. cause_value ie.value) (λ ie is. gives_cause ie.instance ie.value is) ies has
+inner_found kinds.Tft ies inner has =
+    some_found kinds.Tft (λ ie. tft_value ie.value) (λ ie is. gives_tft ie.instance ie.value is) ies has
 inner_found kinds.Fteid ies inner has = fteid_found ies has
-inner_found kinds.Qos ies inner has = some_found kinds.Qos (λ ie. qos_value ie.value) (λ ie is. gives_qos ie.instance ie.value is) ies has
+inner_found kinds.Qos ies inner has =
+    some_found kinds.Qos (λ ie. qos_value ie.value) (λ ie is. gives_qos ie.instance ie.value is) ies has
 inner_found _ ies inner has = absurd cc
 
 -- ---- the parts of a Context
@@ -283,7 +311,8 @@ assigned None some other = absurd cc
 assigned (Some zero) some other = absurd cc
 assigned (Some (suc ebi)) some other = omega arith
 
-part_found : (part : Part) (octets : List ℕ) (raws : List RawIe) → IsInner part → part_fault (read_ies octets raws) part ≡ None
+part_found : (part : Part) (octets : List ℕ) (raws : List RawIe) → IsInner part
+    → part_fault (read_ies octets raws) part ≡ None
     → HasPart part (context_with (known_of (read_ies octets raws)))
 unfolding holds
 part_found (parts.Ie kind) octets raws inner none =
@@ -292,15 +321,19 @@ part_found (parts.Ie kind) octets raws inner none =
 part_found parts.AssignedEbi octets raws inner none =
     let ies : List Element = known_of (read_ies octets raws) in
     let read : List ReadIe = read_ies octets raws in
-    assigned (context_with ies).ebi (inner_found kinds.Ebi ies refl (found_has kinds.Ebi octets raws (none_first _ _ none)))
+    assigned (context_with ies).ebi
+    (inner_found kinds.Ebi ies refl (found_has kinds.Ebi octets raws (none_first _ _ none)))
     (second_false (is_zero (first_ebi read)) (is_zero (held_ebi read)) (Incorrect 73 0) (none_second _ _ none))
 
 parts_found : (parts : List Part) (octets : List ℕ) (raws : List RawIe) → AllByRecursion IsInner parts
     → parts_fault (read_ies octets raws) parts ≡ None
     → AllByRecursion (λ part. HasPart part (context_with (known_of (read_ies octets raws)))) parts
 parts_found [] octets raws inner none = tt
-parts_found (part ∷ parts) octets raws inner none =
-    (part_found part octets raws inner.0 (none_first _ _ none), parts_found parts octets raws inner.1 (none_second _ _ none))
+parts_found (part ∷ parts) octets raws inner none = (
+  part_found part octets raws inner.0 (none_first _ _ none),
+  parts_found parts octets raws inner.1
+      (none_second _ _ none),
+)
 
 -- ---- the Contexts
 
@@ -316,8 +349,10 @@ context_is : (octets : List ℕ) (raws : List RawIe) → ies_of octets ≡ Ok ra
 context_is octets raws read =
     let long : ltb (length octets) 0 ≡ false = le-ltb _ _ (omega arith) in rw (long, read) refl
 
-context_element : (octets : List ℕ) (raw : RawIe) (raws : List RawIe) → is_context raw ≡ true → ies_of (value_in octets raw) ≡ Ok raws
-    → element_at context_of octets raw ≡ Some (an_element 0 (values.Context (context_with (known_of (read_ies (value_in octets raw) raws)))))
+context_element : (octets : List ℕ) (raw : RawIe) (raws : List RawIe) → is_context raw ≡ true
+    → ies_of (value_in octets raw) ≡ Ok raws
+    → element_at context_of octets raw
+    ≡ Some (an_element 0 (values.Context (context_with (known_of (read_ies (value_in octets raw) raws)))))
 context_element octets raw raws is read =
     let tests = both_true (eqb raw.kind 93) (eqb raw.instance 0) is in
     let value : List ℕ = value_in octets raw in
@@ -338,7 +373,8 @@ is_none : {X : Type 0} (o : Option X) → is_some o ≡ false → o ≡ None
 is_none None is = refl
 is_none (Some x) is = absurd cc
 
-no_context_here : (element : Option Element) (octet instance : ℕ) (others : List Element) → IfSome element (IsAt octet instance)
+no_context_here : (element : Option Element) (octet instance : ℕ) (others : List Element)
+    → IfSome element (IsAt octet instance)
     → (eqb octet 93 && eqb instance 0) ≡ false → contexts_of (cons_option element others) ≡ contexts_of others
 no_context_here None octet instance others at other = refl
 no_context_here (Some ie) octet instance others at other =
@@ -346,11 +382,13 @@ no_context_here (Some ie) octet instance others at other =
     (sym (is_context_here ie.instance ie.value) ∙ is_of-at kinds.Context octet instance ie at ∙ other) in
     ap (λ (first : Option Context). cons_option first (contexts_of others)) none
 
-one_context : (parts : List Part) (octets : List ℕ) (raw : RawIe) (others : List Element) (rest : List (Option (List ReadIe)))
+one_context : (parts : List Part) (octets : List ℕ) (raw : RawIe) (others : List Element)
+    (rest : List (Option (List ReadIe)))
     → AllByRecursion IsInner parts → is_context raw ≡ true → AllByRecursion (HasParts parts) (contexts_of others)
     → (read : Result (List RawIe) IeBad) → ies_of (value_in octets raw) ≡ read
     → context_fault parts (elements_in (value_in octets raw) read) ≡ None
-    → AreFound parts (elements_of (value_in octets raw) ∷ rest) (contexts_of (cons_option (element_at context_of octets raw) others))
+    → AreFound parts (elements_of (value_in octets raw) ∷ rest)
+    (contexts_of (cons_option (element_at context_of octets raw) others))
 unfolding is_any
 one_context parts octets raw others rest inner is behind (Err bad) read none = absurd cc
 one_context parts octets raw others rest inner is behind (Ok raws) read none =
@@ -360,9 +398,11 @@ one_context parts octets raw others rest inner is behind (Ok raws) read none =
     subst (AreFound parts (elements_of (value_in octets raw) ∷ rest)) (sym found)
     (refl, (parts_found parts (value_in octets raw) raws inner none, behind))
 
-context_here : (parts : List Part) (octets : List ℕ) (raw : RawIe) (others : List Element) (rest : List (Option (List ReadIe)))
+context_here : (parts : List Part) (octets : List ℕ) (raw : RawIe) (others : List Element)
+    (rest : List (Option (List ReadIe)))
     → AllByRecursion IsInner parts → (inside_fault parts rest ≡ None → AreFound parts rest (contexts_of others))
-    → (test : Bool) → is_context raw ≡ test → let read : Option (Option (List ReadIe)) = cond test (Some (elements_of (value_in octets raw))) None in
+    → (test : Bool) → is_context raw ≡ test → let read : Option (Option (List ReadIe)) =
+    cond test (Some (elements_of (value_in octets raw))) None in
     inside_fault parts (cons_option read rest) ≡ None
     → AreFound parts (cons_option read rest) (contexts_of (cons_option (element_at context_of octets raw) others))
 context_here parts octets raw others rest inner behind true is none =
@@ -370,7 +410,8 @@ context_here parts octets raw others rest inner behind true is none =
     (ies_of (value_in octets raw)) refl (none_first _ _ none)
 context_here parts octets raw others rest inner behind false is none =
     subst (AreFound parts rest)
-    (sym (no_context_here (element_at context_of octets raw) raw.kind raw.instance others (element_is octets raw) is)) (behind none)
+    (sym (no_context_here (element_at context_of octets raw) raw.kind raw.instance others (element_is octets raw) is))
+    (behind none)
 
 contexts_found : (parts : List Part) (octets : List ℕ) (raws : List RawIe) → AllByRecursion IsInner parts
     → inside_fault parts (contexts_in octets raws) ≡ None
@@ -388,7 +429,8 @@ inner_entry : (test : Bool) (row rest : Row) → AllByRecursion IsInner row.insi
 inner_entry true row rest is others = is
 inner_entry false row rest is others = others
 
-inner_row : (entries : List (ℕ × Row)) (kind : ℕ) → AllByRecursion (λ (entry : ℕ × Row). AllByRecursion IsInner entry.1.inside) entries
+inner_row : (entries : List (ℕ × Row)) (kind : ℕ)
+    → AllByRecursion (λ (entry : ℕ × Row). AllByRecursion IsInner entry.1.inside) entries
     → AllByRecursion IsInner (row_in entries kind).inside
 inner_row [] kind all = tt
 inner_row (entry ∷ entries) kind all =
@@ -397,32 +439,51 @@ inner_row (entry ∷ entries) kind all =
 inner_required : (kind : ℕ) → AllByRecursion IsInner (required kind).inside
 unfolding required
 inner_required kind =
-    inner_row table kind
-    ((tt, (refl, tt)), (tt, ((tt, tt), (tt, (tt, ((refl, (refl, (refl, tt))), ((refl, (refl, tt)), ((refl, tt), (tt, (tt, (tt, (tt, tt))))))))))))
+    inner_row table kind (
+      (tt, (refl, tt)),
+      (
+        tt,
+        (
+          (tt, tt),
+          (
+            tt,
+            (
+              tt,
+              ((refl, (refl, (refl, tt))), ((refl, (refl, tt)), ((refl, tt), (tt, (tt, (tt, (tt, tt))))))),
+            ),
+          ),
+        ),
+      ),
+    )
 
-must_be_read : (must : Bool) (parts : List Part) (read : List (Option (List ReadIe))) → contexts_fault must parts read ≡ None → must ≡ true → is_read read ≡ true
+must_be_read : (must : Bool) (parts : List Part) (read : List (Option (List ReadIe)))
+    → contexts_fault must parts read ≡ None → must ≡ true → is_read read ≡ true
 must_be_read true parts [] none must = absurd cc
 must_be_read true parts (first ∷ rest) none must = refl
 must_be_read false parts read none must = absurd cc
 
-no_fault_inside : (must : Bool) (parts : List Part) (read : List (Option (List ReadIe))) → contexts_fault must parts read ≡ None → inside_fault parts read ≡ None
+no_fault_inside : (must : Bool) (parts : List Part) (read : List (Option (List ReadIe)))
+    → contexts_fault must parts read ≡ None → inside_fault parts read ≡ None
 no_fault_inside true parts [] none = refl
 no_fault_inside true parts (first ∷ rest) none = none
 no_fault_inside false parts [] none = none
 no_fault_inside false parts (first ∷ rest) none = none
 
 row_found : (row : Row) (octets : List ℕ) (raws : List RawIe) → AllByRecursion IsInner row.inside
-    → row_fault row (read_ies octets raws) (contexts_in octets raws) ≡ None → MeetsRow row (known_of (read_ies octets raws))
+    → row_fault row (read_ies octets raws) (contexts_in octets raws) ≡ None
+    → MeetsRow row (known_of (read_ies octets raws))
 row_found row octets raws inner none =
     let ies : List Element = known_of (read_ies octets raws) in
     let contexts : Option CBad = contexts_fault row.must row.inside (contexts_in octets raws) in
     let after : Option CBad = kinds_fault (read_ies octets raws) row.after in
     let behind : option_or contexts after ≡ None = none_second _ _ none in
     let within : contexts ≡ None = none_first contexts after behind in
-    let found = contexts_found row.inside octets raws inner (no_fault_inside row.must row.inside (contexts_in octets raws) within) in
+    let found = contexts_found row.inside octets raws inner
+    (no_fault_inside row.must row.inside (contexts_in octets raws) within) in
     record {
       before = all_found row.before octets raws (none_first _ _ none);
-      context = λ must. any_context ies ∙ sym found.0 ∙ must_be_read row.must row.inside (contexts_in octets raws) within must;
+      context = λ must. any_context ies ∙ sym found.0
+          ∙ must_be_read row.must row.inside (contexts_in octets raws) within must;
       inside = each_other HasPart row.inside (contexts_of ies) found.1;
       after = all_found row.after octets raws (none_second contexts after behind);
     }
@@ -434,6 +495,7 @@ has_required octets message spells =
     subst (MeetsRow (required message.kind)) body.known
     (row_found (required message.kind) (body_of octets) body.raws (inner_required message.kind) body.required)
 
-pub read_required : (octets : List ℕ) (result : Result Message CBad) → IfOk result (Spells octets) → IfOk result HasRequired
+pub read_required : (octets : List ℕ) (result : Result Message CBad) → IfOk result (Spells octets)
+    → IfOk result HasRequired
 read_required octets (Ok message) found = has_required octets message found
 read_required octets (Err bad) found = tt

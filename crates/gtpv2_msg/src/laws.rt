@@ -23,8 +23,8 @@ pub fn messages_read_back()
 /// any octets behind it.
 pub fn read_messages_read_back()
     ensures required { (octets : List ℕ) (message : Message) → Spells octets message → HasRequired message }
-    ensures again { (octets more : List ℕ) (message : Message) → IsMessage message → AllByRecursion IsElement message.ies
-        → Spells octets message → Spells (spelling message ++ more) message }
+    ensures again { (octets more : List ℕ) (message : Message) → IsMessage message
+        → AllByRecursion IsElement message.ies → Spells octets message → Spells (spelling message ++ more) message }
 {}
 
 /// A message has the elements which its type asks for exactly where the table of faults finds none

@@ -30,7 +30,8 @@ fn row_fault(
     ies: &[ReadIe],
 ) -> Result<Option<CBad>, NoMemory>
     requires { All (IsInside octets.now) raws.now }
-    ensures { IfOk result (λ fault. fault ≡ grammar.row_fault (table.required kind) ies.now (contexts_in octets.now raws.now)) }
+    ensures { IfOk result (λ fault.
+        fault ≡ grammar.row_fault (table.required kind) ies.now (contexts_in octets.now raws.now)) }
 {
     let row = required(kind);
     let before = kinds_fault(ies, row.before);

@@ -74,7 +74,8 @@ fn refuse_request(
 ) -> Result<Option<Vec<u8>>, NoMemory>
     requires right { IsRight bytes.now }
     requires instance { of.1 < 16 }
-    ensures reply { IfOk result (λ reply. option_map (λ v. v.items) reply ≡ option_map spelling (if_request bytes.now cause of)) }
+    ensures reply { IfOk result (λ reply.
+        option_map (λ v. v.items) reply ≡ option_map spelling (if_request bytes.now cause of)) }
     ensures silent { if_request bytes.now cause of ≡ None → result ≡ Ok None }
 {
     if !is_request(bytes[1]) {

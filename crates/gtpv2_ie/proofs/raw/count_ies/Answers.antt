@@ -9,6 +9,14 @@ loop-at-preserved c =
     let ie : RawIe = c.in_ok-at.field-0 in
     record {
       in_octets = c.in_ok-at.ensures.found.inside;
-      few = omega (arith, StandsAt-long c.args.octets.now c.loop-at.at ie c.in_ok-at.ensures.found, c.loop-at.invariant.few);
-      front = (before.0 ++ ie ∷ [], StandBetween-push c.args.octets.now 0 c.loop-at.at before.0 ie before.1 c.in_ok-at.ensures.found);
+      few = omega (
+        arith,
+        StandsAt-long c.args.octets.now c.loop-at.at ie c.in_ok-at.ensures.found,
+        c.loop-at.invariant.few,
+      );
+      front = (
+        before.0 ++ ie
+            ∷ [],
+        StandBetween-push c.args.octets.now 0 c.loop-at.at before.0 ie before.1 c.in_ok-at.ensures.found,
+      );
     }

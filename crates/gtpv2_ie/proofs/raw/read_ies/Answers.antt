@@ -7,7 +7,8 @@ use Rattle.wire_octets.specs.Memory.{OrNoMemory}
 
 pub returns-clause-exact : goal.returns-clause-exact
 returns-clause-exact c =
-    exact c.args.octets.now c.find_ies.result c.find_ies.ensures.found c.find_ies.ensures.short c.find_ies.ensures.length
+    exact c.args.octets.now c.find_ies.result c.find_ies.ensures.found c.find_ies.ensures.short
+    c.find_ies.ensures.length
 
 pub returns-clause-only : goal.returns-clause-only
 returns-clause-only c = λ ies stand.
@@ -21,4 +22,5 @@ pub returns-clause-passes_end : goal.returns-clause-passes_end
 returns-clause-passes_end c = λ long. c.find_ies.ensures.fault Length (ies_of-length c.args.octets.now long)
 
 pub returns-clause-inside : goal.returns-clause-inside
-returns-clause-inside c = found_inside c.args.octets.now c.find_ies.result (λ i. omega (arith, c.type_inv.octets i)) c.find_ies.ensures.found
+returns-clause-inside c =
+    found_inside c.args.octets.now c.find_ies.result (λ i. omega (arith, c.type_inv.octets i)) c.find_ies.ensures.found

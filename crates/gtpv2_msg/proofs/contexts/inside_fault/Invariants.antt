@@ -6,4 +6,5 @@ use Rattle.gtpv2_msg.proofs.contexts.inside_fault.Given as goal
 -- no Context so far has a fault
 abbrev pub invariant-loop-raw : goal.invariant-loop-raw
 invariant-loop-raw l =
-    grammar.inside_fault l.inside (contexts_in l.octets (drop l.raw-index l.raws)) ≡ grammar.inside_fault l.inside (contexts_in l.octets l.raws)
+    grammar.inside_fault l.inside (contexts_in l.octets (drop l.raw-index l.raws))
+    ≡ grammar.inside_fault l.inside (contexts_in l.octets l.raws)

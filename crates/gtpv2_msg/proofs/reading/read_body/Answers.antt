@@ -10,5 +10,6 @@ returns-in-Ok-clause-framing c =
 
 pub returns-in-Err-NoMemory-clause-framing : goal.returns-in-Err-NoMemory-clause-framing
 returns-in-Err-NoMemory-clause-framing c =
-    memory_not_framing c.args.kind c.args.octets.now _ c.read_ies.result (c.in-Err-NoMemory.is ∙ ap Err c.in-Err-NoMemory.field-0-is)
+    memory_not_framing c.args.kind c.args.octets.now _ c.read_ies.result
+    (c.in-Err-NoMemory.is ∙ ap Err c.in-Err-NoMemory.field-0-is)
     c.read_ies.ensures.fault

@@ -12,5 +12,6 @@ returns-in_ok-known_of-in-None-clause-no_longer c =
 
 pub returns-in-Some-clause-refused : goal.returns-in-Some-clause-refused
 returns-in-Some-clause-refused c =
-    body_told c.args.kind c.args.octets.now c.args.raws.now c.deref.result.now c.in_ok-bad.field-0 c.in-Some.bad c.requires.stand
+    body_told c.args.kind c.args.octets.now c.args.raws.now c.deref.result.now c.in_ok-bad.field-0 c.in-Some.bad
+    c.requires.stand
     (c.deref.ensures.value ∙ c.in_ok-ies.ensures) c.in_ok-bad.ensures c.in-Some.is
