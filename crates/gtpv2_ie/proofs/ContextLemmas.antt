@@ -25,7 +25,8 @@ first_of-push part [] ie = option_or-None (part ie)
 first_of-push part (first ∷ ies) ie =
     ap (option_or (part first)) (first_of-push part ies ie) ∙ option_or_assoc (part first) (first_of part ies) (part ie)
 
-pub context_with-push : (ies : List Element) (ie : Element) → context_with (ies ++ ie ∷ []) ≡ put_in (context_with ies) ie
+pub context_with-push : (ies : List Element) (ie : Element)
+    → context_with (ies ++ ie ∷ []) ≡ put_in (context_with ies) ie
 context_with-push ies ie =
     rw (
       first_of-push (λ e. ebi_value e.value) ies ie,
@@ -35,7 +36,8 @@ context_with-push ies ie =
       filter_map-append (λ (e : Element). fteid_value e.instance e.value) ies (ie ∷ []),
     ) refl
 
-put_of_option : (ies : List Element) (ie : Option Element) → context_with (ies ++ cons_option ie []) ≡ put_if (context_with ies) ie
+put_of_option : (ies : List Element) (ie : Option Element)
+    → context_with (ies ++ cons_option ie []) ≡ put_if (context_with ies) ie
 put_of_option ies None = ap context_with (append-nil ies)
 put_of_option ies (Some ie) = context_with-push ies ie
 
@@ -48,7 +50,8 @@ one_more octets raws i none inside =
     ≡ inner_elements octets (take i raws) ++ cons_option (element_at no_context octets (get_or raws i none)) [] =
     ap (inner_elements octets) (take_more raws i none inside)
     ∙ filter_map-append (element_at no_context octets) (take i raws) (get_or raws i none ∷ []) in
-    ap context_with all ∙ put_of_option (inner_elements octets (take i raws)) (element_at no_context octets (get_or raws i none))
+    ap context_with all
+    ∙ put_of_option (inner_elements octets (take i raws)) (element_at no_context octets (get_or raws i none))
 
 -- the same for a Context that holds the elements before
 pub put_one_more : (octets : List ℕ) (raws : List RawIe) (i : ℕ) (none : RawIe) (old new : Context) → i < length raws

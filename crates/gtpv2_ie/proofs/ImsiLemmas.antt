@@ -9,46 +9,58 @@ use Rattle.std.proofs.lemmas.Option.{cond_some}
 use Rattle.gtpv2_ie.specs.Imsi.{octet_of, digit_pair, pair_digits, with_digits, with_pair, digits_of, imsi_octets, imsi_of, IsImsi}
 
 -- an octet is the last exactly where none is behind it
-last_octet : (octets : List ℕ) (i : ℕ) → i < length octets → eqb (length (drop (suc i) octets)) 0 ≡ eqb (i + 1) (length octets)
+last_octet : (octets : List ℕ) (i : ℕ) → i < length octets
+    → eqb (length (drop (suc i) octets)) 0 ≡ eqb (i + 1) (length octets)
 last_octet octets i inside = grind (arith, nat_tests, length-drop)
 
-with_digits-append : (front more : List ℕ) (digits : Option (List ℕ)) → with_digits (front ++ more) digits ≡ with_digits front (with_digits more digits)
+with_digits-append : (front more : List ℕ) (digits : Option (List ℕ))
+    → with_digits (front ++ more) digits ≡ with_digits front (with_digits more digits)
 with_digits-append front more None = refl
 with_digits-append front more (Some digits) = ap Some (append_assoc front more digits)
 
 -- the digits from one octet on
 digits_of-drop : (octets : List ℕ) (i : ℕ) → i < length octets
-    → digits_of (drop i octets) ≡ with_pair (digit_pair (get_or octets i 0) (eqb (i + 1) (length octets))) (digits_of (drop (i + 1) octets))
+    → digits_of (drop i octets)
+    ≡ with_pair (digit_pair (get_or octets i 0) (eqb (i + 1) (length octets))) (digits_of (drop (i + 1) octets))
 unfolding digits_of
 digits_of-drop octets i inside =
     ap digits_of (drop-cons octets i 0 inside)
-    ∙ ap (λ last. with_pair (digit_pair (get_or octets i 0) last) (digits_of (drop (suc i) octets))) (last_octet octets i inside)
-    ∙ ap (λ k. with_pair (digit_pair (get_or octets i 0) (eqb (i + 1) (length octets))) (digits_of (drop k octets))) (sym (add-one i))
+    ∙ ap (λ last. with_pair (digit_pair (get_or octets i 0) last) (digits_of (drop (suc i) octets)))
+    (last_octet octets i inside)
+    ∙ ap (λ k. with_pair (digit_pair (get_or octets i 0) (eqb (i + 1) (length octets))) (digits_of (drop k octets)))
+    (sym (add-one i))
 
 -- one octet's digits are put in front
 pub one_octet : (front octets : List ℕ) (i : ℕ) (pair : ℕ × Option ℕ) → i < length octets
     → digit_pair (get_or octets i 0) (eqb (i + 1) (length octets)) ≡ Some pair
-    → with_digits (front ++ pair_digits pair) (digits_of (drop (i + 1) octets)) ≡ with_digits front (digits_of (drop i octets))
+    → with_digits (front ++ pair_digits pair) (digits_of (drop (i + 1) octets))
+    ≡ with_digits front (digits_of (drop i octets))
 one_octet front octets i pair inside is_pair =
     with_digits-append front (pair_digits pair) (digits_of (drop (i + 1) octets))
-    ∙ ap (with_digits front) (sym (digits_of-drop octets i inside ∙ ap (λ p. with_pair p (digits_of (drop (i + 1) octets))) is_pair))
+    ∙ ap (with_digits front)
+    (sym (digits_of-drop octets i inside ∙ ap (λ p. with_pair p (digits_of (drop (i + 1) octets))) is_pair))
 
 -- one octet that isn't two digits
 pub no_octet : (front octets : List ℕ) (i : ℕ) → i < length octets
-    → digit_pair (get_or octets i 0) (eqb (i + 1) (length octets)) ≡ None → with_digits front (digits_of (drop i octets)) ≡ None
+    → digit_pair (get_or octets i 0) (eqb (i + 1) (length octets)) ≡ None
+    → with_digits front (digits_of (drop i octets)) ≡ None
 no_octet front octets i inside none =
-    ap (with_digits front) (digits_of-drop octets i inside ∙ ap (λ p. with_pair p (digits_of (drop (i + 1) octets))) none)
+    ap (with_digits front)
+    (digits_of-drop octets i inside ∙ ap (λ p. with_pair p (digits_of (drop (i + 1) octets))) none)
 
 -- behind the last octet nothing is left
-pub no_more : (front octets : List ℕ) (i : ℕ) → length octets ≤ i → with_digits front (digits_of (drop i octets)) ≡ Some front
+pub no_more : (front octets : List ℕ) (i : ℕ) → length octets ≤ i
+    → with_digits front (digits_of (drop i octets)) ≡ Some front
 unfolding digits_of
-no_more front octets i past = ap (λ rest. with_digits front (digits_of rest)) (drop_of_length-le octets past) ∙ ap Some (append-nil front)
+no_more front octets i past =
+    ap (λ rest. with_digits front (digits_of rest)) (drop_of_length-le octets past) ∙ ap Some (append-nil front)
 
 abbrev pub IsDigit : ℕ → Type 0
 IsDigit digit = (48 ≤ digit) × (digit ≤ 57)
 
 -- which side a choice took
-chosen : {A : Type 0} (test : Bool) (x y z : A) → cond test x y ≡ z → ((test ≡ true) × (x ≡ z)) ⊎ ((test ≡ false) × (y ≡ z))
+chosen : {A : Type 0} (test : Bool) (x y z : A) → cond test x y ≡ z
+    → ((test ≡ true) × (x ≡ z)) ⊎ ((test ≡ false) × (y ≡ z))
 chosen true x y z is = inl (refl, is)
 chosen false x y z is = inr (refl, is)
 
@@ -59,7 +71,8 @@ some_is : {A : Type 0} (x y : A) → some x ≡ some y → x ≡ y
 some_is x y is = cc
 
 -- what an octet holds are digits
-pair_decimal : (octet : ℕ) (last : Bool) (pair : ℕ × Option ℕ) → digit_pair octet last ≡ Some pair → AllByRecursion IsDigit (pair_digits pair)
+pair_decimal : (octet : ℕ) (last : Bool) (pair : ℕ × Option ℕ) → digit_pair octet last ≡ Some pair
+    → AllByRecursion IsDigit (pair_digits pair)
 pair_decimal octet last pair is_pair =
     let low : ℕ = octet % 16 in
     let high : ℕ = octet / 16 in
@@ -72,13 +85,16 @@ pair_decimal octet last pair is_pair =
           elim (chosen (leb high 9) (Some (48 + low, Some (48 + high))) one (Some pair) pair_is.1) [
             | inl both ↦
                 let high_is : high ≤ 9 = leb-true _ _ both.0 in
-                subst (λ p. AllByRecursion IsDigit (pair_digits p)) (some_is _ _ both.1) ((omega arith, omega arith), ((omega arith, omega arith), tt))
+                subst (λ p. AllByRecursion IsDigit (pair_digits p)) (some_is _ _ both.1)
+                ((omega arith, omega arith), ((omega arith, omega arith), tt))
             | inr alone ↦
-                subst (λ p. AllByRecursion IsDigit (pair_digits p)) (cond_some (eqb high 15 && last) (48 + low, None) pair alone.1).1 ((omega arith, omega arith), tt)
+                subst (λ p. AllByRecursion IsDigit (pair_digits p))
+                (cond_some (eqb high 15 && last) (48 + low, None) pair alone.1).1 ((omega arith, omega arith), tt)
           ]
     ]
 
-pub AllByRecursion-append : {X : Type 0} (P : X → Type 0) (xs ys : List X) → AllByRecursion P xs → AllByRecursion P ys → AllByRecursion P (xs ++ ys)
+pub AllByRecursion-append : {X : Type 0} (P : X → Type 0) (xs ys : List X) → AllByRecursion P xs → AllByRecursion P ys
+    → AllByRecursion P (xs ++ ys)
 AllByRecursion-append P [] ys all_xs all_ys = all_ys
 AllByRecursion-append P (x ∷ xs) ys all_xs all_ys = (all_xs.0, AllByRecursion-append P xs ys all_xs.1 all_ys)
 
@@ -116,7 +132,8 @@ imsi_octets-drop digits at inside =
           first ∙ ap (λ rest. get_or digits at 0 ∷ rest) (drop-cons digits (suc at) 0 more) in
           ap imsi_octets both ∙ rw (next, after, lt-ltb _ _ more) refl
       | inr last ↦
-          let one : drop at digits ≡ get_or digits at 0 ∷ [] = first ∙ ap (λ rest. get_or digits at 0 ∷ rest) (drop_of_length-le digits last) in
+          let one : drop at digits ≡ get_or digits at 0 ∷ [] =
+          first ∙ ap (λ rest. get_or digits at 0 ∷ rest) (drop_of_length-le digits last) in
           let past : length digits ≤ suc (suc at) = omega arith in
           let none_after : drop (suc (suc at)) digits ≡ [] = drop_of_length-le digits past in
           ap imsi_octets one ∙ rw (next, after, le-ltb _ _ last, none_after) refl
@@ -124,14 +141,16 @@ imsi_octets-drop digits at inside =
 
 -- the octet of one pair is put behind the octets before
 pub more_octets : (front digits : List ℕ) (i : ℕ) → 2 * i < length digits
-    → (front ++ octet_of (get_or digits (2 * i) 0 - 48) (cond (ltb (2 * i + 1) (length digits)) (get_or digits (2 * i + 1) 0 - 48) 15) ∷ [])
+    → (front ++ octet_of (get_or digits (2 * i) 0 - 48)
+    (cond (ltb (2 * i + 1) (length digits)) (get_or digits (2 * i + 1) 0 - 48) 15) ∷ [])
     ++ imsi_octets (drop (2 * (i + 1)) digits) ≡ front ++ imsi_octets (drop (2 * i) digits)
 more_octets front digits i inside =
     let next : 2 * (i + 1) ≡ 2 * i + 2 = omega arith in
     append_assoc front _ _ ∙ ap (λ rest. front ++ rest) (rw next (sym (imsi_octets-drop digits (2 * i) inside)))
 
 -- behind the last pair nothing is left
-pub no_more_octets : (front digits : List ℕ) (i : ℕ) → length digits ≤ 2 * i → front ++ imsi_octets (drop (2 * i) digits) ≡ front
+pub no_more_octets : (front digits : List ℕ) (i : ℕ) → length digits ≤ 2 * i
+    → front ++ imsi_octets (drop (2 * i) digits) ≡ front
 unfolding imsi_octets
 no_more_octets front digits i past = rw drop_of_length-le (append-nil front)
 
@@ -156,15 +175,21 @@ last_digit low is_low =
     rw (low_nibble, high_nibble, low_test, low_back) refl
 
 -- the octets of digits hold these digits
-pub digits_of-imsi_octets : (digits : List ℕ) → AllByRecursion IsDigit digits → digits_of (imsi_octets digits) ≡ Some digits
+pub digits_of-imsi_octets : (digits : List ℕ) → AllByRecursion IsDigit digits
+    → digits_of (imsi_octets digits) ≡ Some digits
 unfolding digits_of imsi_octets
 digits_of-imsi_octets [] decimal = refl
 digits_of-imsi_octets (low ∷ []) decimal = rw (last_digit low decimal.0) refl
 digits_of-imsi_octets (low ∷ high ∷ digits) decimal =
-    rw (full_octet low high (eqb (length (imsi_octets digits)) 0) decimal.0 decimal.1.0, digits_of-imsi_octets digits decimal.1.1) refl
+    rw (
+      full_octet low high
+          (eqb (length (imsi_octets digits)) 0) decimal.0 decimal.1.0,
+      digits_of-imsi_octets digits decimal.1.1,
+    ) refl
 
 -- the octets are half as many as the digits, rounded up
-pub length-imsi_octets : (digits : List ℕ) → (length digits ≤ 2 * length (imsi_octets digits)) × (2 * length (imsi_octets digits) ≤ length digits + 1)
+pub length-imsi_octets : (digits : List ℕ)
+    → (length digits ≤ 2 * length (imsi_octets digits)) × (2 * length (imsi_octets digits) ≤ length digits + 1)
 unfolding imsi_octets
 length-imsi_octets [] = (omega arith, omega arith)
 length-imsi_octets (low ∷ []) = (omega arith, omega arith)

@@ -1,7 +1,6 @@
 -- Elements that are written one behind another stand there, and each reads as it was written.
-use Rattle.std.proofs.Common.{◌≡◌, ℕ, ◌+◌, ◌-◌, ◌/◌, ◌%◌, ◌^◌, ◌<◌, List, [], ◌∷◌, ◌++◌, length, get_or, take, drop, Option, Some, refl, sym, ap, subst, ◌∙◌, append_assoc, arith, length-append}
+use Rattle.std.proofs.Common.{◌≡◌, ℕ, ◌+◌, ◌-◌, ◌*◌, ◌/◌, ◌%◌, ◌^◌, ◌<◌, List, [], ◌∷◌, ◌++◌, length, get_or, take, drop, Option, Some, refl, sym, ap, subst, ◌∙◌, append_assoc, arith, length-append}
 use Rattle.std.specs.Prelude.{slice_range}
-use Rattle.std.specs.Int.{w16, from_be_bytes}
 use Rattle.std.specs.List.{flat_map, filter_map, cons_option, AllByRecursion}
 use Rattle.std.specs.Option.{option_map}
 use Rattle.std.proofs.Math.Nat.{mod-eq_of_lt}
@@ -12,7 +11,8 @@ use Rattle.gtpv2_ie.specs.declared.raw.RawIe.{RawIe}
 use Rattle.gtpv2_ie.specs.declared.value.IeValue.{IeValue}
 use Rattle.gtpv2_ie.specs.Element.{Element}
 use Rattle.gtpv2_ie.specs.Kind.{type_octet}
-use Rattle.gtpv2_ie.specs.Numbers.{number16, octets16}
+use Rattle.wire_octets.proofs.NumberLemmas.{be16-again}
+use Rattle.wire_octets.specs.Numbers.{be16_at, be16_octets}
 use Rattle.gtpv2_ie.specs.ReadBack.{end_of, places_by, AreReadAs}
 use Rattle.gtpv2_ie.specs.Spelling.{ie_octets, kind_of, plain_octets, element_octets}
 use Rattle.gtpv2_ie.specs.Stand.{raw_at, value_len, StandsAt, StandBetween, Stand}
@@ -24,12 +24,11 @@ pub record IsWritten (context : Context → List ℕ) (reads : List ℕ → Opti
   pub len : length (plain_octets context ie.value) < 2 ^ 16
   pub again : value_at reads (type_octet (kind_of ie.value)) (plain_octets context ie.value) ≡ Some ie.value
 
-number16_again : (n : ℕ) → n < 2 ^ 16 → number16 (octets16 n) 0 ≡ n
-number16_again n fits = omega arith
-
-raw_at_is : (octets : List ℕ) (at kind instance len : ℕ) → get_or octets at 0 ≡ kind → get_or octets (at + 3) 0 % 16 ≡ instance → value_len octets at ≡ len
+raw_at_is : (octets : List ℕ) (at kind instance len : ℕ) → get_or octets at 0 ≡ kind
+    → get_or octets (at + 3) 0 % 16 ≡ instance → value_len octets at ≡ len
     → raw_at octets at ≡ record { kind = kind; instance = instance; from = at + 4; to = at + 4 + len }
-raw_at_is octets at kind instance len kind_is instance_is len_is = ap (λ (k : ℕ). raw_of k (get_or octets (at + 3) 0 % 16) (value_len octets at)) kind_is
+raw_at_is octets at kind instance len kind_is instance_is len_is =
+    ap (λ (k : ℕ). raw_of k (get_or octets (at + 3) 0 % 16) (value_len octets at)) kind_is
     ∙ ap (λ (i : ℕ). raw_of kind i (value_len octets at)) instance_is
     ∙ ap (raw_of kind instance) len_is
   where
@@ -45,20 +44,22 @@ header_is front more value kind instance low fits =
     let third : length front + 1 + 1 ≡ length front + 2 = omega arith in
     let at_kind : get_or (front ++ text) (length front) 0 ≡ kind =
     ap (λ k. get_or (front ++ text) k 0) (omega arith) ∙ get_or-append-add front text 0 0 in
-    let at_high : get_or (front ++ text) (length front + 1) 0 ≡ length value / 256 % 256 = get_or-append-add front text 1 0 in
+    let at_high : get_or (front ++ text) (length front + 1) 0 ≡ length value / 256 % 256 =
+    get_or-append-add front text 1 0 in
     let at_low : get_or (front ++ text) (length front + 1 + 1) 0 ≡ length value % 256 =
     ap (λ k. get_or (front ++ text) k 0) third ∙ get_or-append-add front text 2 0 in
     let at_instance : get_or (front ++ text) (length front + 3) 0 ≡ instance = get_or-append-add front text 3 0 in
-    let len : number16 (octets16 (length value)) 0 ≡ length value = number16_again (length value) fits in
+    let len : be16_at (be16_octets (length value)) 0 ≡ length value = be16-again (length value) [] fits in
     let len_is : value_len (front ++ text) (length front) ≡ length value =
-    ap (λ (h : ℕ). from_be_bytes w16 (h ∷ get_or (front ++ text) (length front + 1 + 1) 0 ∷ [])) at_high
-    ∙ ap (λ (l : ℕ). from_be_bytes w16 (length value / 256 % 256 ∷ l ∷ [])) at_low ∙ len in
+    ap (λ (h : ℕ). 0x100 * h + get_or (front ++ text) (length front + 1 + 1) 0) at_high
+    ∙ ap (λ (l : ℕ). 0x100 * (length value / 256 % 256) + l) at_low ∙ len in
     raw_at_is (front ++ text) (length front) kind instance (length value) at_kind
     (ap (λ (i : ℕ). i % 16) at_instance ∙ mod-eq_of_lt low) len_is
 
 -- the value of an element that was written
 value_is : (front more value : List ℕ) (kind instance : ℕ)
-    → slice_range (front ++ (ie_octets kind instance value ++ more)) (length front + 4) (length front + 4 + length value) ≡ value
+    → slice_range (front ++ (ie_octets kind instance value ++ more)) (length front + 4)
+    (length front + 4 + length value) ≡ value
 value_is front more value kind instance =
     let text : List ℕ = ie_octets kind instance value ++ more in
     let len : length front + 4 + length value - (length front + 4) ≡ length value = omega arith in
@@ -67,39 +68,56 @@ value_is front more value kind instance =
     ∙ take-append_seam value more
 
 -- one element stands behind what was written before it
-stands_at : (context : Context → List ℕ) (front more : List ℕ) (ie : Element) → ie.instance < 16 → length (plain_octets context ie.value) < 2 ^ 16
+stands_at : (context : Context → List ℕ) (front more : List ℕ) (ie : Element) → ie.instance < 16
+    → length (plain_octets context ie.value) < 2 ^ 16
     → StandsAt (front ++ (element_octets context ie ++ more)) (length front)
-    (record { kind = type_octet (kind_of ie.value); instance = ie.instance; from = length front + 4; to = end_of context (length front) ie })
+    (record {
+      kind =
+          type_octet (kind_of ie.value);
+      instance = ie.instance;
+      from = length front + 4;
+      to =
+          end_of context (length front) ie;
+    })
 stands_at context front more ie low fits = record {
-  header = sym (header_is front more (plain_octets context ie.value) (type_octet (kind_of ie.value)) ie.instance low fits);
+  header = sym (header_is front more (plain_octets context ie.value)
+      (type_octet (kind_of ie.value)) ie.instance low fits);
   inside = simp (length-append) (omega arith);
 }
 
 -- the place behind one element's text
-behind : (context : Context → List ℕ) (front : List ℕ) (ie : Element) → length (front ++ element_octets context ie) ≡ end_of context (length front) ie
+behind : (context : Context → List ℕ) (front : List ℕ) (ie : Element)
+    → length (front ++ element_octets context ie) ≡ end_of context (length front) ie
 behind context front ie = length-append front (element_octets context ie) ∙ omega arith
 
 -- elements stand behind what was written before them
-stand_behind : (context : Context → List ℕ) (reads : List ℕ → Option Context) (front : List ℕ) (ies : List Element) → AllByRecursion (IsWritten context reads) ies
-    → StandBetween (front ++ flat_map (element_octets context) ies) (length front) (places_by context (length front) ies) (length (front ++ flat_map (element_octets context) ies))
+stand_behind : (context : Context → List ℕ) (reads : List ℕ → Option Context) (front : List ℕ) (ies : List Element)
+    → AllByRecursion (IsWritten context reads) ies
+    → StandBetween (front ++ flat_map (element_octets context) ies) (length front)
+    (places_by context (length front) ies) (length (front ++ flat_map (element_octets context) ies))
 stand_behind context reads front [] written = sym (ap length (append-nil front))
 stand_behind context reads front (ie ∷ ies) written =
     let text : List ℕ = element_octets context ie in
     let rest : List ℕ = flat_map (element_octets context) ies in
     let later = stand_behind context reads (front ++ text) ies written.1 in
     let octets_are : (front ++ text) ++ rest ≡ front ++ (text ++ rest) = append_assoc front text rest in
-    let moved : StandBetween ((front ++ text) ++ rest) (end_of context (length front) ie) (places_by context (end_of context (length front) ie) ies) (length ((front ++ text) ++ rest)) =
-    subst (λ (k : ℕ). StandBetween ((front ++ text) ++ rest) k (places_by context k ies) (length ((front ++ text) ++ rest))) (behind context front ie) later in (
+    let moved : StandBetween ((front ++ text) ++ rest) (end_of context (length front) ie)
+    (places_by context (end_of context (length front) ie) ies) (length ((front ++ text) ++ rest)) =
+    subst (λ (k : ℕ). StandBetween ((front ++ text) ++ rest) k (places_by context k ies)
+    (length ((front ++ text) ++ rest))) (behind context front ie) later in (
       stands_at context front rest ie written.0.instance written.0.len,
-      subst (λ (octets : List ℕ). StandBetween octets (end_of context (length front) ie) (places_by context (end_of context (length front) ie) ies) (length octets)) octets_are moved,
+      subst (λ (octets : List ℕ). StandBetween octets (end_of context (length front) ie)
+          (places_by context (end_of context (length front) ie) ies) (length octets)) octets_are moved,
     )
 
-pub written_stand : (context : Context → List ℕ) (reads : List ℕ → Option Context) (ies : List Element) → AllByRecursion (IsWritten context reads) ies
+pub written_stand : (context : Context → List ℕ) (reads : List ℕ → Option Context) (ies : List Element)
+    → AllByRecursion (IsWritten context reads) ies
     → Stand (flat_map (element_octets context) ies) (places_by context 0 ies)
 written_stand context reads ies written = stand_behind context reads [] ies written
 
 -- elements read behind what was written before them
-read_behind : (context : Context → List ℕ) (reads : List ℕ → Option Context) (front : List ℕ) (ies : List Element) → AllByRecursion (IsWritten context reads) ies
+read_behind : (context : Context → List ℕ) (reads : List ℕ → Option Context) (front : List ℕ) (ies : List Element)
+    → AllByRecursion (IsWritten context reads) ies
     → AreReadAs reads (front ++ flat_map (element_octets context) ies) (places_by context (length front) ies) ies
 read_behind context reads front [] written = tt
 read_behind context reads front (ie ∷ ies) written =
@@ -107,29 +125,37 @@ read_behind context reads front (ie ∷ ies) written =
     let rest : List ℕ = flat_map (element_octets context) ies in
     let later = read_behind context reads (front ++ text) ies written.1 in
     let octets_are : (front ++ text) ++ rest ≡ front ++ (text ++ rest) = append_assoc front text rest in
-    let moved : AreReadAs reads ((front ++ text) ++ rest) (places_by context (end_of context (length front) ie) ies) ies =
-    subst (λ (k : ℕ). AreReadAs reads ((front ++ text) ++ rest) (places_by context k ies) ies) (behind context front ie) later in (
+    let moved : AreReadAs reads ((front ++ text) ++ rest)
+    (places_by context (end_of context (length front) ie) ies) ies =
+    subst (λ (k : ℕ). AreReadAs reads ((front ++ text) ++ rest) (places_by context k ies) ies)
+    (behind context front ie) later in (
       record {
         kind = refl;
         instance = refl;
-        value = ap (value_at reads (type_octet (kind_of ie.value))) (value_is front rest (plain_octets context ie.value) (type_octet (kind_of ie.value)) ie.instance) ∙ written.0.again;
+        value = ap (value_at reads (type_octet (kind_of ie.value)))
+            (value_is front rest (plain_octets context ie.value) (type_octet (kind_of ie.value)) ie.instance)
+            ∙ written.0.again;
       },
-      subst (λ (octets : List ℕ). AreReadAs reads octets (places_by context (end_of context (length front) ie) ies) ies) octets_are moved,
+      subst (λ (octets : List ℕ). AreReadAs reads octets
+          (places_by context (end_of context (length front) ie) ies) ies) octets_are moved,
     )
 
-pub written_read : (context : Context → List ℕ) (reads : List ℕ → Option Context) (ies : List Element) → AllByRecursion (IsWritten context reads) ies
+pub written_read : (context : Context → List ℕ) (reads : List ℕ → Option Context) (ies : List Element)
+    → AllByRecursion (IsWritten context reads) ies
     → AreReadAs reads (flat_map (element_octets context) ies) (places_by context 0 ies) ies
 written_read context reads ies written = read_behind context reads [] ies written
 
 -- what stands at places, kept where it is known and inside its grammar, are these elements
-pub read_elements : (reads : List ℕ → Option Context) (octets : List ℕ) (raws : List RawIe) (ies : List Element) → AreReadAs reads octets raws ies
+pub read_elements : (reads : List ℕ → Option Context) (octets : List ℕ) (raws : List RawIe) (ies : List Element)
+    → AreReadAs reads octets raws ies
     → filter_map (element_at reads octets) raws ≡ ies
 read_elements reads octets [] [] read = refl
 read_elements reads octets [] (ie ∷ ies) read = absurd read
 read_elements reads octets (raw ∷ raws) [] read = absurd read
 read_elements reads octets (raw ∷ raws) (ie ∷ ies) read =
     let first : element_at reads octets raw ≡ Some ie =
-    ap (option_map (λ (value : IeValue). element raw.instance value)) read.0.value ∙ ap (λ (i : ℕ). Some (element i ie.value)) read.0.instance in
+    ap (option_map (λ (value : IeValue). element raw.instance value)) read.0.value
+    ∙ ap (λ (i : ℕ). Some (element i ie.value)) read.0.instance in
     ap (λ (o : Option Element). cons_option o (filter_map (element_at reads octets) raws)) first
     ∙ ap (λ (rest : List Element). ie ∷ rest) (read_elements reads octets raws ies read.1)
   where

@@ -1,4 +1,3 @@
-pub mod Numbers
 pub mod Stand
 pub mod Element
 pub mod Fields
@@ -9,3 +8,4 @@ pub mod Value
 pub mod Spelling
 pub mod Validity
 pub mod ReadBack
+pub mod Same

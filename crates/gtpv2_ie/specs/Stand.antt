@@ -4,12 +4,12 @@ use Rattle.std.specs.Prelude.{◌≡◌, ℕ, zero, suc, ◌+◌, ◌%◌, ◌^�
 use Rattle.std.specs.Global.{Vec}
 use Rattle.gtpv2_ie.specs.declared.raw.RawIe.{RawIe}
 use Rattle.gtpv2_ie.specs.declared.fault.IeBad.{IeBad}
-use Rattle.gtpv2_ie.specs.declared.fault.IeBad.TheVariants.{Short, Length, NoMemory}
-use Rattle.gtpv2_ie.specs.Numbers.{number16}
+use Rattle.gtpv2_ie.specs.declared.fault.IeBad.TheVariants.{Short, Length}
+use Rattle.wire_octets.specs.Numbers.{be16_at}
 
 -- the length of the value whose header begins at a place
 abbrev pub value_len : List ℕ → ℕ → ℕ
-value_len octets at = number16 octets (at + 1)
+value_len octets at = be16_at octets (at + 1)
 
 -- what a header that begins at a place says
 abbrev pub raw_at : List ℕ → ℕ → RawIe
@@ -33,6 +33,12 @@ StandBetween octets at (ie ∷ ies) end = StandsAt octets at ie × StandBetween 
 -- the octets are these elements, one behind another
 abbrev pub Stand : List ℕ → List RawIe → Type 0
 Stand octets ies = StandBetween octets 0 ies (length octets)
+
+-- so many elements
+pub record HasIes (octets : List ℕ) (count : ℕ) : Type 0 where
+  pub ies : List RawIe
+  pub stand : Stand octets ies
+  pub few : count ≤ length octets
 
 -- behind whole elements one to three octets stand in the place of a header
 pub record EndsShort (octets : List ℕ) : Type 0 where
@@ -71,8 +77,9 @@ with_first ie (Err bad) = Err bad
 unfoldable pub ies_from : ℕ → ℕ → List ℕ → Result (List RawIe) IeBad
 ies_from zero at [] = Ok []
 ies_from zero at (kind ∷ high ∷ low ∷ last ∷ rest) =
-    let len = number16 (high ∷ low ∷ []) 0 in
-    with_first (record { kind = kind; instance = last % 16; from = at + 4; to = at + 4 + len }) (ies_from len (at + 4) rest)
+    let len = be16_at (high ∷ low ∷ []) 0 in
+    with_first (record { kind = kind; instance = last % 16; from = at + 4; to = at + 4 + len })
+    (ies_from len (at + 4) rest)
 ies_from zero at (_ ∷ _) = Err Short
 ies_from (suc left) at [] = Err Length
 ies_from (suc left) at (_ ∷ rest) = ies_from left (at + 1) rest
@@ -81,8 +88,7 @@ ies_from (suc left) at (_ ∷ rest) = ies_from left (at + 1) rest
 abbrev pub ies_of : List ℕ → Result (List RawIe) IeBad
 ies_of octets = ies_from 0 0 octets
 
--- what a call returned is this, unless memory ran out
-abbrev pub Gives : Result (Vec RawIe) IeBad → Result (List RawIe) IeBad → Type 0
-Gives (Ok ies) read = read ≡ Ok ies.items
-Gives (Err NoMemory) read = Unit {0}
-Gives (Err bad) read = read ≡ Err bad
+-- the elements that a call returned
+abbrev pub items_of : Result (Vec RawIe) IeBad → Result (List RawIe) IeBad
+items_of (Ok ies) = Ok ies.items
+items_of (Err bad) = Err bad

@@ -23,7 +23,8 @@ value_at context octet octets = option_and_then (λ kind. kind_value context kin
 -- the element that stands at a place, where its kind is read and its value is inside its grammar
 abbrev pub element_at : (List ℕ → Option Context) → List ℕ → RawIe → Option Element
 element_at context octets ie =
-    option_map (λ value. record { instance = ie.instance; value = value }) (value_at context ie.kind (value_in octets ie))
+    option_map (λ value. record { instance = ie.instance; value = value })
+    (value_at context ie.kind (value_in octets ie))
 
 -- the elements in a Context that are inside their grammar; a Context isn't one of them
 abbrev pub inner_elements : List ℕ → List RawIe → List Element

@@ -21,7 +21,7 @@ use std::alloc::{AllocError as NoMemory, Global};
 
 /// A Bearer Context (TS 29.274, 8.28), whose value is elements again: the first EBI, Cause, TFT and
 /// Bearer QoS that is inside its grammar, and every such F-TEID. A Context stands in no other.
-#[derive(Debug, Drop)]
+#[derive(Clone, Debug, Drop, PartialEq, Eq)]
 pub struct Context {
     /// The EPS bearer identity: 0 or 5 to 15.
     pub ebi: Option<u8>,
@@ -30,6 +30,17 @@ pub struct Context {
     pub tft: Option<IeOctets>,
     pub fteids: Fteids,
     pub qos: Option<QosIe>,
+}
+
+impl Context {
+    ghost use Rattle.std.specs.Prelude.{◌≡◌, IfOk};
+
+    /// A copy of the Context.
+    pub fn try_clone(&self) -> Result<Self, NoMemory>
+        ensures { IfOk result (λ copy. copy ≡ self.now) }
+    {
+        self.clone()
+    }
 }
 
 /// A Context of no elements.
@@ -75,7 +86,8 @@ fn put(context: &mut Context, instance: u8, value: IeValue) -> Result<(), NoMemo
 fn put_raw(alloc: Global, context: &mut Context, octets: &[u8], ie: &RawIe) -> Result<(), NoMemory>
     requires { IsInside octets.now ie.now }
     ensures put { OnOk result (context.new ≡ put_if context.old (element_at no_context octets.now ie.now)) }
-    ensures counted { OnOk result (IfSome (element_at no_context octets.now ie.now) (IsCounted (ie.now.to - ie.now.from))) }
+    ensures counted { OnOk result
+        (IfSome (element_at no_context octets.now ie.now) (IsCounted (ie.now.to - ie.now.from))) }
 {
     let Some(kind) = IeKind::from_octet(ie.kind) else {
         return Ok(());
@@ -113,7 +125,8 @@ fn push_ebi(out: &mut Vec<u8>, ebi: Option<u8>) -> Result<(), NoMemory>
 }
 
 fn push_first_cause(out: &mut Vec<u8>, cause: &Option<CauseIe>) -> Result<(), NoMemory>
-    ensures { OnOk result (out.new.items ≡ out.old.items ++ inner_spellings (if_some (λ c. IeValue.Cause c) cause.now)) }
+    ensures { OnOk result
+        (out.new.items ≡ out.old.items ++ inner_spellings (if_some (λ c. IeValue.Cause c) cause.now)) }
 {
     match cause {
         Some(cause) => push_cause(out, 0, cause),

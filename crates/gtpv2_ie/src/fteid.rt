@@ -4,11 +4,11 @@ ghost use Rattle.gtpv2_ie.specs.Kind.{least_len};
 ghost use Rattle.gtpv2_ie.specs.Spelling.{ie_octets, fteid_octets};
 ghost use Rattle.gtpv2_ie.specs.Validity.{IsFteid};
 
-use crate::fields::number32;
 use crate::kind::IeKind;
 use crate::writing::push_header;
 use std::alloc::AllocError as NoMemory;
 use std::marker::Model;
+use wire_octets::{be32_at, be32_octets};
 
 /// The highest bit of an F-TEID's first octet: an IPv4 address stands in it.
 const V4: u8 = 128;
@@ -24,7 +24,7 @@ pub struct Fteid {
 }
 
 /// The F-TEIDs of a Bearer Context, each behind its instance. Seen as their list.
-#[derive(Debug, Drop)]
+#[derive(Clone, Debug, Drop)]
 pub struct Fteids {
     entries: Vec<(u8, Fteid)>,
 }
@@ -39,7 +39,7 @@ impl Model for Fteids {
 }
 
 impl Fteids {
-    ghost use Rattle.std.specs.Prelude.{◌≡◌, [], ◌∷◌, ◌++◌, OnOk};
+    ghost use Rattle.std.specs.Prelude.{◌≡◌, [], ◌∷◌, ◌++◌, IfOk, OnOk};
 
     /// These F-TEIDs. Takes no memory.
     pub fn of(entries: Vec<(u8, Fteid)>) -> Fteids
@@ -55,6 +55,13 @@ impl Fteids {
         self.entries.as_slice()
     }
 
+    /// A copy of the list.
+    pub fn try_clone(&self) -> Result<Self, NoMemory>
+        ensures { IfOk result (λ copy. copy ≡ self.now) }
+    {
+        self.clone()
+    }
+
     /// Appends an F-TEID.
     pub(crate) fn push(&mut self, instance: u8, fteid: Fteid) -> Result<(), NoMemory>
         ensures { OnOk result (self.new ≡ self.old ++ (instance, fteid) ∷ []) }
@@ -62,6 +69,28 @@ impl Fteids {
         self.entries.push((instance, fteid))?;
         Ok(())
     }
+}
+
+impl PartialEq for Fteids {
+    ghost use Rattle.std.specs.Cmp.{partial_equiv_from_equiv};
+    ghost use Rattle.std.specs.Cmp.Lexicographic.{pointwise};
+    ghost use Rattle.std.proofs.lemmas.Cmp.{lists_equiv};
+    ghost use Rattle.gtpv2_ie.specs.Same.{same_fteid, same_fteid-is};
+
+    ghost eq = { pointwise same_fteid };
+
+    ghost laws = { partial_equiv_from_equiv (lists_equiv same_fteid-is) };
+
+    fn eq(&self, other: &Fteids) -> bool {
+        self.entries == other.entries
+    }
+}
+
+impl Eq for Fteids {
+    ghost use Rattle.std.proofs.lemmas.Cmp.{lists_equiv};
+    ghost use Rattle.gtpv2_ie.specs.Same.{same_fteid-is};
+
+    ghost laws = { lists_equiv same_fteid-is };
 }
 
 /// The F-TEID that nine octets or more spell: V4 is set.
@@ -76,8 +105,8 @@ pub fn fteid_of(octets: &[u8]) -> Option<Fteid>
     }
     Some(Fteid {
         interface: first & 63,
-        teid: number32(octets, 1),
-        addr: number32(octets, 5),
+        teid: be32_at(octets, 1),
+        addr: be32_at(octets, 5),
     })
 }
 
@@ -88,6 +117,6 @@ pub fn push_fteid(out: &mut Vec<u8>, instance: u8, fteid: &Fteid) -> Result<(), 
 {
     push_header(out, IeKind::Fteid, instance, 9)?;
     out.push(V4 + fteid.interface)?;
-    out.extend_from_slice(&fteid.teid.to_be_bytes())?;
-    out.extend_from_slice(&fteid.addr.to_be_bytes())
+    out.extend_from_slice(&be32_octets(fteid.teid))?;
+    out.extend_from_slice(&be32_octets(fteid.addr))
 }

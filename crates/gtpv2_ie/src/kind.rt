@@ -1,3 +1,5 @@
+use crate::element_type;
+
 /// The kinds of element that are read (TS 29.274, table 8.1-1).
 #[derive(Clone, Copy, Debug, PartialEq, Eq)]
 pub enum IeKind {
@@ -36,19 +38,19 @@ impl IeKind {
         ensures least { result.1 ≡ least_len self }
     {
         match self {
-            IeKind::Imsi => (1, 3),
-            IeKind::Cause => (2, 2),
-            IeKind::Recovery => (3, 1),
-            IeKind::Apn => (71, 1),
-            IeKind::Ambr => (72, 8),
-            IeKind::Ebi => (73, 1),
-            IeKind::Paa => (79, 5),
-            IeKind::Qos => (80, 22),
-            IeKind::Rat => (82, 1),
-            IeKind::Tft => (84, 1),
-            IeKind::Fteid => (87, 9),
-            IeKind::Context => (93, 0),
-            IeKind::Pdn => (99, 1),
+            IeKind::Imsi => (element_type::IMSI, 3),
+            IeKind::Cause => (element_type::CAUSE, 2),
+            IeKind::Recovery => (element_type::RECOVERY, 1),
+            IeKind::Apn => (element_type::APN, 1),
+            IeKind::Ambr => (element_type::AMBR, 8),
+            IeKind::Ebi => (element_type::EBI, 1),
+            IeKind::Paa => (element_type::PAA, 5),
+            IeKind::Qos => (element_type::BEARER_QOS, 22),
+            IeKind::Rat => (element_type::RAT_TYPE, 1),
+            IeKind::Tft => (element_type::BEARER_TFT, 1),
+            IeKind::Fteid => (element_type::F_TEID, 9),
+            IeKind::Context => (element_type::BEARER_CONTEXT, 0),
+            IeKind::Pdn => (element_type::PDN_TYPE, 1),
         }
     }
 
@@ -73,19 +75,19 @@ impl IeKind {
         ensures exact { result ≡ kind_at octet }
     {
         match octet {
-            1 => Some(IeKind::Imsi),
-            2 => Some(IeKind::Cause),
-            3 => Some(IeKind::Recovery),
-            71 => Some(IeKind::Apn),
-            72 => Some(IeKind::Ambr),
-            73 => Some(IeKind::Ebi),
-            79 => Some(IeKind::Paa),
-            80 => Some(IeKind::Qos),
-            82 => Some(IeKind::Rat),
-            84 => Some(IeKind::Tft),
-            87 => Some(IeKind::Fteid),
-            93 => Some(IeKind::Context),
-            99 => Some(IeKind::Pdn),
+            element_type::IMSI => Some(IeKind::Imsi),
+            element_type::CAUSE => Some(IeKind::Cause),
+            element_type::RECOVERY => Some(IeKind::Recovery),
+            element_type::APN => Some(IeKind::Apn),
+            element_type::AMBR => Some(IeKind::Ambr),
+            element_type::EBI => Some(IeKind::Ebi),
+            element_type::PAA => Some(IeKind::Paa),
+            element_type::BEARER_QOS => Some(IeKind::Qos),
+            element_type::RAT_TYPE => Some(IeKind::Rat),
+            element_type::BEARER_TFT => Some(IeKind::Tft),
+            element_type::F_TEID => Some(IeKind::Fteid),
+            element_type::BEARER_CONTEXT => Some(IeKind::Context),
+            element_type::PDN_TYPE => Some(IeKind::Pdn),
             _ => None,
         }
     }

@@ -1,14 +1,27 @@
 //! GTPv2-C information elements, both ways (TS 29.274, section 8), in plain numbers.
 //! Reads the thirteen kinds of a small gateway out of hostile octets, and writes them.
 //! Which elements a message must have, and its own header, are left to the layer above.
+//!
+//! ```
+//! let ebi = b"\x49\x00\x01\x00\x05";
+//! for ie in &read_ies(alloc, ebi)? {
+//!     let value = read_value(alloc, ie.kind, &ebi[ie.from..ie.to])?;
+//!     assert_eq!(value, Some(IeValue::Ebi(5)));
+//! }
+//! let ie = Ie { instance: 0, value: IeValue::Ebi(5) };
+//! assert_eq!(write_ie(alloc, &ie)?.as_slice(), ebi);
+//! ```
 #![tactic(auto)]
 
 mod cause;
+pub mod cause_value;
 mod context;
+pub mod element_type;
 mod fault;
 mod fields;
 mod fteid;
 mod imsi;
+pub mod interface;
 mod kind;
 mod laws;
 mod octets;

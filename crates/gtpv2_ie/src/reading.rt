@@ -1,24 +1,26 @@
-ghost use Rattle.std.specs.Prelude.{◌≡◌, ◌<◌, ◌≤◌, ◌^◌, length, IfOk, IfSome};
+ghost use Rattle.std.specs.Prelude.{◌≡◌, ◌<◌, ◌≤◌, ◌^◌, length, false, IfOk, IfSome, IsOk};
 ghost use Rattle.gtpv2_ie.specs.Context.{counted_len};
-ghost use Rattle.gtpv2_ie.specs.Kind.{no_context};
+ghost use Rattle.gtpv2_ie.specs.Kind.{no_context, type_octet, takes_memory};
 ghost use Rattle.gtpv2_ie.specs.Value.{kind_value, value_of};
 ghost use Rattle.gtpv2_ie.specs.Validity.{IsValue};
 
 use crate::cause::cause_of;
 use crate::context::context_of;
-use crate::fields::{ebi_of, number32, octets_of, paa_of, pdn_of};
+use crate::fields::{ebi_of, octets_of, paa_of, pdn_of};
 use crate::fteid::fteid_of;
 use crate::imsi::imsi_of;
 use crate::kind::IeKind;
 use crate::qos::qos_of;
 use crate::value::IeValue;
 use std::alloc::{AllocError as NoMemory, Global};
+use wire_octets::be32_at;
 
 /// The value of a kind that octets spell; a Context isn't read.
 pub fn plain_value(alloc: Global, kind: IeKind, octets: &[u8]) -> Result<Option<IeValue>, NoMemory>
     ensures value { IfOk result (λ found. found ≡ kind_value no_context kind octets.now) }
     ensures valid { IfOk result (λ found. IfSome found IsValue) }
     ensures no_longer { IfOk result (λ found. IfSome found (λ v. counted_len v ≤ length octets.now)) }
+    ensures fixed { takes_memory (type_octet kind) ≡ false → IsOk result }
 {
     if octets.len() < kind.least_len() {
         return Ok(None);
@@ -28,7 +30,7 @@ pub fn plain_value(alloc: Global, kind: IeKind, octets: &[u8]) -> Result<Option<
         IeKind::Cause => Ok(cause_of(octets).map(IeValue::Cause)),
         IeKind::Recovery => Ok(Some(IeValue::Recovery(octets[0]))),
         IeKind::Apn => Ok(octets_of(alloc, octets, 100)?.map(IeValue::Apn)),
-        IeKind::Ambr => Ok(Some(IeValue::Ambr(number32(octets, 0), number32(octets, 4)))),
+        IeKind::Ambr => Ok(Some(IeValue::Ambr(be32_at(octets, 0), be32_at(octets, 4)))),
         IeKind::Ebi => Ok(ebi_of(octets).map(IeValue::Ebi)),
         IeKind::Paa => Ok(paa_of(octets).map(IeValue::Paa)),
         IeKind::Qos => Ok(Some(IeValue::Qos(qos_of(octets)))),
@@ -47,6 +49,9 @@ pub fn read_value(alloc: Global, kind: u8, octets: &[u8]) -> Result<Option<IeVal
 
     // An element can hold what was read from octets that a length field can count.
     ensures valid { length octets.now < 2 ^ 16 → IfOk result (λ found. IfSome found IsValue) }
+
+    // All but an IMSI, an APN, a TFT and a Context are read without memory.
+    ensures fixed { takes_memory kind ≡ false → IsOk result }
 {
     match IeKind::from_octet(kind) {
         None => Ok(None),

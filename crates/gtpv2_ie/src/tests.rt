@@ -13,13 +13,7 @@ const CREATE_SESSION: [u8; 95] = [
 
 /// Where they stand, and what they are: type, instance, the places of the value, the value.
 const ELEMENTS: [(u8, u8, usize, usize, &str); 7] = [
-    (
-        1,
-        0,
-        4,
-        12,
-        "Imsi(IeOctets { octets: [48, 48, 49, 48, 49, 48, 49, 50, 51, 52, 53, 54, 55, 56, 57] })",
-    ),
+    (1, 0, 4, 12, "Imsi(001010123456789)"),
     (82, 0, 16, 17, "Rat(6)"),
     (
         87,
@@ -28,13 +22,7 @@ const ELEMENTS: [(u8, u8, usize, usize, &str); 7] = [
         30,
         "Fteid(Fteid { interface: 10, teid: 4096, addr: 3325256705 })",
     ),
-    (
-        71,
-        0,
-        34,
-        43,
-        "Apn(IeOctets { octets: [8, 105, 110, 116, 101, 114, 110, 101, 116] })",
-    ),
+    (71, 0, 34, 43, "Apn(08696e7465726e6574)"),
     (99, 0, 47, 48, "Pdn(3)"),
     (72, 0, 52, 60, "Ambr(50000, 100000)"),
     (
@@ -48,11 +36,7 @@ const ELEMENTS: [(u8, u8, usize, usize, &str); 7] = [
 
 /// Octets that spell a value, and the value.
 const INSIDE: [(u8, &[u8], &str); 13] = [
-    (
-        1,
-        &[0x00, 0x11, 0x32],
-        "Imsi(IeOctets { octets: [48, 48, 49, 49, 50, 51] })",
-    ),
+    (1, &[0x00, 0x11, 0x32], "Imsi(001123)"),
     (2, &[70, 1], "Cause(CauseIe { cause: 70, offending: None })"),
     (
         2,
@@ -196,5 +180,44 @@ fn outside_the_grammar(rt: HostRuntime) -> Result<(), Fail> {
     for (kind, octets) in OUTSIDE {
         assert!(rt; read_value(rt.alloc(), kind, octets)?.is_none());
     }
+    Ok(())
+}
+
+#[test]
+fn example_of_the_head(rt: HostRuntime) -> Result<(), Fail> {
+    let alloc = rt.alloc();
+    let ebi = b"\x49\x00\x01\x00\x05";
+    for ie in &read_ies(alloc, ebi)? {
+        assert!(rt; ie.from <= ie.to && ie.to <= ebi.len());
+        let value = read_value(alloc, ie.kind, &ebi[ie.from..ie.to])?;
+        assert_eq!(rt; value, Some(IeValue::Ebi(5)));
+    }
+    let ie = Ie {
+        instance: 0,
+        value: IeValue::Ebi(5),
+    };
+    assert_eq!(rt; write_ie(alloc, &ie)?.as_slice(), ebi.as_slice());
+    Ok(())
+}
+
+#[test]
+fn copies_are_equal_and_of_their_kind(rt: HostRuntime) -> Result<(), Fail> {
+    let alloc = rt.alloc();
+    for (kind, octets, _) in INSIDE {
+        let value = read_value(alloc, kind, octets)?.ok_or("a value")?;
+        assert_eq!(rt; value.kind().octet(), kind);
+        assert_eq!(rt; value.try_clone()?, value);
+        assert_ne!(rt; value, IeValue::Ebi(6));
+    }
+    Ok(())
+}
+
+#[test]
+fn faults_say_what_is_wrong(rt: HostRuntime) -> Result<(), Fail> {
+    let short = format!(in rt.alloc(); "{}", IeBad::Short)?;
+    assert_eq!(rt;
+        short.as_str(),
+        "one to three octets stand in the place of an element's header"
+    );
     Ok(())
 }

@@ -2,6 +2,15 @@
 //! each type must have, in plain numbers.
 //! Refuses hostile octets in a stated order, and writes the reply to a request so refused.
 //! What a message means to a session is left to the layers above.
+//!
+//! ```
+//! let echo = b"\x40\x01\x00\x09\x00\x00\x07\x00\x03\x00\x01\x00\x05";
+//! let request = read(alloc, echo)?;
+//! assert_eq!((request.kind, request.seq), (ECHO_REQUEST, 7));
+//! assert_eq!(request.first(IeKind::Recovery, 0), Some(&IeValue::Recovery(5)));
+//! let answer = Msg { kind: ECHO_RESPONSE, teid: None, seq: request.seq, ies: request.ies };
+//! assert_eq!(write(alloc, &answer)?.as_slice(), b"\x40\x02\x00\x09\x00\x00\x07\x00\x03\x00\x01\x00\x05");
+//! ```
 #![tactic(auto)]
 
 mod contexts;
@@ -16,6 +25,7 @@ mod reading;
 mod refusing;
 mod required;
 mod table;
+mod walk;
 mod writing;
 
 pub use fault::CBad;
@@ -27,11 +37,17 @@ pub use kind::{
     RELEASE_ACCESS_BEARERS_RESPONSE, UPDATE_BEARER_REQUEST, UPDATE_BEARER_RESPONSE, is_kind,
     is_request,
 };
-pub use laws::messages_read_back;
+pub use laws::{
+    faults_or_spells, messages_read_back, read_messages_read_back, required_or_faulty, spells_one,
+};
 pub use message::{Ies, Msg};
 pub use reading::read;
-pub use refusing::{MANDATORY_IE_INCORRECT, MANDATORY_IE_MISSING, refusal};
+pub use refusing::refusal;
+pub use walk::Contexts;
 pub use writing::write;
+
+/// The causes of a refusal.
+pub use gtpv2_ie::cause_value::{MANDATORY_IE_INCORRECT, MANDATORY_IE_MISSING};
 
 /// Memory ran out.
 pub use std::alloc::AllocError as NoMemory;

@@ -1,11 +1,14 @@
 ghost use Rattle.std.specs.Prelude.{◌≡◌, ◌≤◌, List, length, All, IfOk, IfErr, IfSome, Ok, Err, Some};
 ghost use Rattle.gtpv2_ie.specs.Spelling.{spellings};
-ghost use Rattle.gtpv2_ie.specs.Stand.{IsInside};
+ghost use Rattle.gtpv2_ie.specs.Stand.{Stand, IsInside};
 ghost use Rattle.gtpv2_msg.specs.Elements.{contexts_in};
+ghost use Rattle.gtpv2_msg.specs.HasRequired.{HasRequired};
 ghost use Rattle.gtpv2_msg.specs.Message.{Message};
-ghost use Rattle.gtpv2_msg.specs.Reading.{IsBody, Spells, Gives};
-ghost use Rattle.gtpv2_msg.specs.Refusal.{body_fault, first_fault, Tells, IsRefusal};
-ghost use Rattle.gtpv2_msg.specs.Required as grammar;
+ghost use Rattle.gtpv2_msg.specs.Reading.{IsBody, Spells};
+ghost use Rattle.gtpv2_msg.specs.Refusal.{body_fault, first_fault, Tells, IsRefusal, IsFraming};
+ghost use Rattle.gtpv2_msg.specs.Required as table;
+ghost use Rattle.gtpv2_msg.specs.RowFault as grammar;
+ghost use Rattle.wire_octets.specs.Memory.{OrNoMemory};
 
 use crate::contexts::contexts_fault;
 use crate::element::ReadIe;
@@ -13,7 +16,7 @@ use crate::elements::{known_of, read_elements};
 use crate::fault::CBad;
 use crate::header::read_header;
 use crate::message::{Ies, Msg};
-use crate::required::parts_fault;
+use crate::required::kinds_fault;
 use crate::table::required;
 use gtpv2_ie::{Ie, IeBad, RawIe, read_ies};
 use std::alloc::{AllocError as NoMemory, Global};
@@ -27,10 +30,11 @@ fn row_fault(
     ies: &[ReadIe],
 ) -> Result<Option<CBad>, NoMemory>
     requires { All (IsInside octets.now) raws.now }
-    ensures { IfOk result (λ fault. fault ≡ grammar.row_fault (grammar.required kind) ies.now (contexts_in octets.now raws.now)) }
+    ensures { IfOk result (λ fault.
+        fault ≡ grammar.row_fault (table.required kind) ies.now (contexts_in octets.now raws.now)) }
 {
     let row = required(kind);
-    let before = parts_fault(ies, row.before);
+    let before = kinds_fault(ies, row.before);
     if before.is_some() {
         return Ok(before);
     }
@@ -38,26 +42,37 @@ fn row_fault(
     if contexts.is_some() {
         return Ok(contexts);
     }
-    Ok(parts_fault(ies, row.after))
+    Ok(kinds_fault(ies, row.after))
 }
 
-/// The elements behind a header of some type.
-fn read_body(alloc: Global, kind: u8, octets: &[u8]) -> Result<Vec<Ie>, CBad>
+/// The elements that stand at places behind a header of some type.
+fn read_required(alloc: Global, kind: u8, octets: &[u8], raws: &[RawIe]) -> Result<Vec<Ie>, CBad>
+    requires stand { Stand octets.now raws.now }
+    requires inside { All (IsInside octets.now) raws.now }
     ensures found { IfOk result (λ ies. IsBody kind octets.now ies.items) }
     ensures refused { IfErr result (Tells (body_fault kind octets.now)) }
 
     // They are written in no more octets.
     ensures no_longer { IfOk result (λ ies. length (spellings ies.items) ≤ length octets.now) }
 {
-    let raws = match read_ies(alloc, octets) {
-        Ok(raws) => raws,
-        Err(IeBad::NoMemory) => return Err(CBad::NoMemory),
-        Err(_) => return Err(CBad::Length),
-    };
-    let ies = read_elements(alloc, octets, &raws)?;
-    match row_fault(alloc, kind, octets, &raws, &ies)? {
+    let ies = read_elements(alloc, octets, raws)?;
+    match row_fault(alloc, kind, octets, raws, &ies)? {
         Some(bad) => Err(bad),
         None => Ok(known_of(alloc, ies)?),
+    }
+}
+
+/// The elements behind a header of some type.
+fn read_body(alloc: Global, kind: u8, octets: &[u8]) -> Result<Vec<Ie>, CBad>
+    ensures found { IfOk result (λ ies. IsBody kind octets.now ies.items) }
+    ensures refused { IfErr result (Tells (body_fault kind octets.now)) }
+    ensures framing { IfSome (body_fault kind octets.now) (λ bad. IsFraming bad → result ≡ Err bad) }
+    ensures no_longer { IfOk result (λ ies. length (spellings ies.items) ≤ length octets.now) }
+{
+    match read_ies(alloc, octets) {
+        Ok(raws) => read_required(alloc, kind, octets, &raws),
+        Err(IeBad::NoMemory) => Err(CBad::NoMemory),
+        Err(_) => Err(CBad::Length),
     }
 }
 
@@ -65,6 +80,7 @@ fn read_body(alloc: Global, kind: u8, octets: &[u8]) -> Result<Vec<Ie>, CBad>
 fn read_message(alloc: Global, bytes: &[u8]) -> Result<Msg, CBad>
     ensures found { IfOk result (Spells bytes.now) }
     ensures refused { IfErr result (IsRefusal bytes.now) }
+    ensures framing { IfSome (first_fault bytes.now) (λ bad. IsFraming bad → result ≡ Err bad) }
 {
     let header = read_header(bytes)?;
     let ies = read_body(alloc, header.kind, &bytes[header.from..header.to])?;
@@ -80,11 +96,17 @@ fn read_message(alloc: Global, bytes: &[u8]) -> Result<Msg, CBad>
 pub fn read(alloc: Global, bytes: &[u8]) -> Result<Msg, CBad>
     // What is read is spelled so, and what is spelled so is read, unless memory runs out.
     ensures found { IfOk result (Spells bytes.now) }
-    ensures only { (message : Message) → Spells bytes.now message → Gives result (Ok message) }
+    ensures only { (message : Message) → Spells bytes.now message → OrNoMemory result (Ok message) CBad.NoMemory }
+
+    // It has the elements that its type asks for, so what is written of it reads back.
+    ensures required { IfOk result HasRequired }
 
     // A refusal is the first fault, and each fault is refused, unless memory runs out.
     ensures refused { IfErr result (IsRefusal bytes.now) }
-    ensures fault { IfSome (first_fault bytes.now) (λ bad. Gives result (Err bad)) }
+    ensures fault { IfSome (first_fault bytes.now) (λ bad. OrNoMemory result (Err bad) CBad.NoMemory) }
+
+    // A fault of the header or of the list of elements is told without memory.
+    ensures framing { IfSome (first_fault bytes.now) (λ bad. IsFraming bad → result ≡ Err bad) }
 {
     read_message(alloc, bytes)
 }

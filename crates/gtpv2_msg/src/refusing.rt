@@ -1,8 +1,8 @@
-ghost use Rattle.std.specs.Prelude.{◌≡◌, [], ◌∷◌, ◌<◌, ◌^◌, IfOk, IfSome, true};
+ghost use Rattle.std.specs.Prelude.{◌≡◌, [], ◌∷◌, ◌<◌, ◌^◌, None, Ok, IfOk, IfSome, true};
 ghost use Rattle.std.specs.Option.{option_map};
 ghost use Rattle.gtpv2_msg.specs.Header.{IsRight};
 ghost use Rattle.gtpv2_msg.specs.Kinds as kinds;
-ghost use Rattle.gtpv2_msg.specs.Refusal.{IsRefusal, no_teid, cause_element, refusing, if_request, refusal_of};
+ghost use Rattle.gtpv2_msg.specs.Refusal.{IsRefusal, no_teid, cause_element, refusing, if_request, refusal_message, refusal_of};
 ghost use Rattle.gtpv2_msg.specs.Spelling.{spelling};
 
 use crate::fault::CBad;
@@ -10,13 +10,9 @@ use crate::header::seq_of;
 use crate::kind::{ECHO_REQUEST, is_request};
 use crate::message::{Ies, Msg};
 use crate::writing::write;
+use gtpv2_ie::cause_value::{MANDATORY_IE_INCORRECT, MANDATORY_IE_MISSING};
 use gtpv2_ie::{CauseIe, Ie, IeValue};
 use std::alloc::{AllocError as NoMemory, Global};
-
-/// Cause values (TS 29.274, table 8.4-1).
-pub const MANDATORY_IE_INCORRECT: u8 = 69;
-
-pub const MANDATORY_IE_MISSING: u8 = 70;
 
 /// The TEID in the header of the answer to a request.
 fn no_teid(request: u8) -> Option<u32>
@@ -78,7 +74,9 @@ fn refuse_request(
 ) -> Result<Option<Vec<u8>>, NoMemory>
     requires right { IsRight bytes.now }
     requires instance { of.1 < 16 }
-    ensures { IfOk result (λ reply. option_map (λ v. v.items) reply ≡ option_map spelling (if_request bytes.now cause of)) }
+    ensures reply { IfOk result (λ reply.
+        option_map (λ v. v.items) reply ≡ option_map spelling (if_request bytes.now cause of)) }
+    ensures silent { if_request bytes.now cause of ≡ None → result ≡ Ok None }
 {
     if !is_request(bytes[1]) {
         return Ok(None);
@@ -92,7 +90,10 @@ fn refuse_request(
 pub fn refusal(alloc: Global, bytes: &[u8], bad: &CBad) -> Result<Option<Vec<u8>>, NoMemory>
     // It is what `read` answers on these octets.
     requires { IsRefusal bytes.now bad.now }
-    ensures { IfOk result (λ reply. option_map (λ v. v.items) reply ≡ refusal_of bytes.now bad.now) }
+    ensures reply { IfOk result (λ reply. option_map (λ v. v.items) reply ≡ refusal_of bytes.now bad.now) }
+
+    // That there is none, as to a response, is told without memory.
+    ensures silent { refusal_message bytes.now bad.now ≡ None → result ≡ Ok None }
 {
     match *bad {
         CBad::Missing { kind, instance } => {

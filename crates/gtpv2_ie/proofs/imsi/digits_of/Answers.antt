@@ -10,7 +10,8 @@ returns-in_default c =
 pub loop-i-preserved : goal.loop-i-preserved
 loop-i-preserved c =
     rw c.in_ok-push_pair.ensures
-    (one_octet c.loop-i.digits.items c.args.octets.now c.loop-i.i c.in-Some.pair c.loop-i-test.true (sym c.in-Some.ensures)
+    (one_octet c.loop-i.digits.items c.args.octets.now c.loop-i.i c.in-Some.pair c.loop-i-test.true
+    (sym c.in-Some.ensures)
     ∙ c.loop-i.invariant)
 
 pub returns : goal.returns

@@ -5,5 +5,6 @@ pub loop-at-preserved : goal.loop-at-preserved
 loop-at-preserved c = record {
   in_octets = c.in_ok-ie.ensures.found.inside;
   front = rw c.in_ok-push.ensures.items
-      (StandBetween-push c.args.octets.now 0 c.loop-at.at c.loop-at.ies.items c.in_ok-ie.ie c.loop-at.invariant.front c.in_ok-ie.ensures.found);
+      (StandBetween-push c.args.octets.now 0 c.loop-at.at c.loop-at.ies.items c.in_ok-ie.ie c.loop-at.invariant.front
+      c.in_ok-ie.ensures.found);
 }

@@ -7,7 +7,8 @@ use Rattle.gtpv2_msg.specs.Refusal.{cause_element}
 use Rattle.gtpv2_msg.proofs.RequiredLemmas.{request_small, answer_known}
 use Rattle.gtpv2_msg.proofs.refusing.refuse.Goals as goal
 
-answer_len : (teid : Option ℕ) (cause : ℕ) (of : ℕ × ℕ) → header_len (is_some teid) + length (spellings (cause_element cause of ∷ [])) < 4 + 2 ^ 16
+answer_len : (teid : Option ℕ) (cause : ℕ) (of : ℕ × ℕ)
+    → header_len (is_some teid) + length (spellings (cause_element cause of ∷ [])) < 4 + 2 ^ 16
 answer_len None cause of = omega arith
 answer_len (Some teid) cause of = omega arith
 
