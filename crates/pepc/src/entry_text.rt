@@ -34,8 +34,7 @@ fn push_octets(report: &mut Vec<u8>, octets: &[u8]) -> Result<(), AllocError>
 {
     report.push(b' ')?;
     let start = report.len();
-    let digits = octets.len().checked_mul(2).ok_or(AllocError)?;
-    let end = start.checked_add(digits).ok_or(AllocError)?;
+    let end = start.saturating_add(octets.len() * 2);
     report.resize(end, 0)?;
     let _ = hex::encode_to_slice(octets, &mut report.as_mut_slice()[start..]);
     Ok(())

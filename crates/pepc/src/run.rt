@@ -206,8 +206,9 @@ fn end_run<K: Sink>(ending: Ending, gateway: &Solo, sink: &mut K, report: &mut V
     ensures later { K.faults sink.old ≤ K.faults sink.new }
     ensures write_fault { result ≡ Status.WriteFault → Rises (K.faults sink.old) (K.faults sink.new) }
 {
-    if gateway.push_charges(report).is_err() {
-        return Status::NoMemory;
+    match gateway.push_charges(report) {
+        Ok(()) => {}
+        Err(AllocError) => return Status::NoMemory,
     }
     match write_report(sink, report) {
         Ok(()) => status_at(ending),
@@ -226,8 +227,9 @@ fn solo<S: Source, K: Sink>(alloc: Global, source: &mut S, sink: &mut K) -> Stat
     ensures read_fault { result ≡ Status.ReadFault → Rises (S.faults source.old) (S.faults source.new) }
     ensures write_fault { result ≡ Status.WriteFault → Rises (K.faults sink.old) (K.faults sink.new) }
 {
-    let Ok(mut buf) = LineBuf::new(alloc) else {
-        return Status::NoMemory;
+    let mut buf = match LineBuf::new(alloc) {
+        Ok(buf) => buf,
+        Err(AllocError) => return Status::NoMemory,
     };
     let mut gateway = Solo::new(alloc);
     let mut report = Vec::new(alloc);
