@@ -5,3 +5,4 @@ pub mod Pieces
 pub mod Partition
 pub mod LedgerSums
 pub mod Bounds
+pub mod PostingLemmas

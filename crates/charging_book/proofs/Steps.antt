@@ -27,7 +27,7 @@ story-push happened now life = fold-append (story_step life) (record { ebi = 0; 
 pub lives-push : (happened : List Happening) (now : Happening) → lives_of (happened ++ now ∷ []) ≡ lives_step (lives_of happened) now
 lives-push happened now = fold-append lives_step [] happened (now ∷ [])
 
-rows_from-append : (before xs ys : List Happening) → rows_from before (xs ++ ys) ≡ rows_from before xs ++ rows_from (before ++ xs) ys
+pub rows_from-append : (before xs ys : List Happening) → rows_from before (xs ++ ys) ≡ rows_from before xs ++ rows_from (before ++ xs) ys
 rows_from-append before [] ys = ap (λ b. rows_from b ys) (sym (append-nil before))
 rows_from-append before (x ∷ xs) ys =
     ap (λ rest. rows_at before x ++ rest)

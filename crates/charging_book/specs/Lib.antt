@@ -3,4 +3,5 @@ pub mod Pieces
 pub mod Counters
 pub mod Happenings
 pub mod Accounts
+pub mod Postings
 pub mod Ledger

@@ -3,9 +3,12 @@ ghost use Rattle.std.specs.Prelude.{◌≡◌, ◌≢◌, ◌<◌, All, Contains
 ghost use Rattle.charging_book.specs.Ledger.{LedgersArePartitions, EachOctetOnce, EachPacketOnce};
 ghost use Rattle.charging_book.specs.Accounts.{AreBounded};
 
+mod posting;
+
 use super::NoMemory;
 use super::records::{ChargeRow, Open, Span, Why};
 use pc_base::Moment;
+pub use posting::Posting;
 use std::alloc::Global;
 use std::marker::Model;
 

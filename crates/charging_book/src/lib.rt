@@ -6,7 +6,7 @@
 mod accounts;
 mod records;
 
-pub use accounts::{Book, counts_are_bounded, each_packet_once};
+pub use accounts::{Book, Posting, counts_are_bounded, each_packet_once};
 pub use records::{ChargeRow, Open, VOLUME_OCTETS, Why};
 pub use std::alloc::AllocError as NoMemory;
 

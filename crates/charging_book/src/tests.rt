@@ -73,3 +73,66 @@ fn marks_close_pieces(rt: HostRuntime) -> Result<(), Fail> {
     );
     Ok(())
 }
+
+// What a life's open counters show.
+fn opened(book: &Book) -> Option<(u64, u64, u64, u64)> {
+    let counted = book.still_open().first()?;
+    Some((
+        counted.life,
+        counted.seq,
+        counted.up_octets,
+        counted.down_octets,
+    ))
+}
+
+#[test]
+fn postings_go_in_order(rt: HostRuntime) -> Result<(), Fail> {
+    let mut book = Book::new(rt.alloc());
+    let at = Moment(7);
+    book.post(&[
+        Posting::Start {
+            life: 3,
+            ebi: 5,
+            qci: 9,
+        },
+        Posting::Packet {
+            life: 3,
+            up: false,
+            octets: 28,
+            at,
+        },
+        Posting::Close {
+            life: 3,
+            why: Why::Qos,
+        },
+        Posting::Packet {
+            life: 3,
+            up: true,
+            octets: 20,
+            at,
+        },
+    ])?;
+    assert_eq!(rt; opened(&book), Some((3, 1, 20, 0)));
+    assert_eq!(rt; book.closed().len(), 1);
+    // A life that is open doesn't start anew, and one that isn't counts nothing.
+    book.post(&[
+        Posting::Start {
+            life: 3,
+            ebi: 6,
+            qci: 1,
+        },
+        Posting::Packet {
+            life: 4,
+            up: true,
+            octets: 20,
+            at,
+        },
+        Posting::Close {
+            life: 4,
+            why: Why::Gone,
+        },
+    ])?;
+    assert_eq!(rt; opened(&book), Some((3, 1, 20, 0)));
+    assert_eq!(rt; book.closed().len(), 1);
+    Ok(())
+}
