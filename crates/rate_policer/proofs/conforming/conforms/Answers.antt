@@ -18,7 +18,8 @@ loop-place-preserved c = below_more _ _ c.loop-place.invariant
 
 pub returns : goal.returns
 returns c = (
-  λ yes. conforms_from c.args.rate c.args.passed.now c.args.cost (omega (arith, c.burst.ensures.value, c.if-cost-burst.false))
+  λ yes. conforms_from c.args.rate c.args.passed.now c.args.cost
+      (omega (arith, c.burst.ensures.value, c.if-cost-burst.false))
       (λ place inside. c.loop-place.invariant place (omega (arith, inside, c.loop-place-test.false))),
   λ conforms. refl,
 )

@@ -19,10 +19,18 @@ loop-filter-preserved c =
     let so_far = c.loop-filter.invariant rows before in
     rw (take_more items c.loop-filter.filter-index filter c.loop-filter-test.true, ← c.filter-item.is)
     (elim c.if-leads.branch [
-      | then-leads+then-fits w ↦ rw w.first-is (row_leads rows c.args.packet.now c.args.row.now seen filter c.loop-filter.first so_far (c.leads.ensures.0 w.if-leads.true) (subst (λ d. Fits d c.args.packet.now filter) c.requires.down (w.fits.ensures.0 w.if-fits.true)))
+      | then-leads+then-fits w ↦ rw w.first-is
+          (row_leads rows c.args.packet.now c.args.row.now seen filter c.loop-filter.first so_far
+          (c.leads.ensures.0 w.if-leads.true)
+          (subst (λ d. Fits d c.args.packet.now filter) c.requires.down (w.fits.ensures.0 w.if-fits.true)))
       | else-leads w ↦ rw w.first-is (elim w.else-leads.branch [
-        | else-leads-via-then-leads+else-fits w' ↦ row_unfit rows c.args.packet.now c.args.row.now seen filter c.loop-filter.first so_far (λ down. false≢true (sym w'.if-fits.false ∙ w'.fits.ensures.1 (subst (λ d. Fits d c.args.packet.now filter) (sym c.requires.down) down)))
-        | else-leads-via-else-leads w' ↦ row_behind rows c.args.packet.now c.args.row.now seen filter c.loop-filter.first so_far (λ leads. false≢true (sym w'.if-leads.false ∙ c.leads.ensures.1 leads))
+        | else-leads-via-then-leads+else-fits w' ↦ row_unfit rows c.args.packet.now c.args.row.now seen filter
+            c.loop-filter.first so_far
+            (λ down. false≢true
+            (sym w'.if-fits.false ∙ w'.fits.ensures.1
+            (subst (λ d. Fits d c.args.packet.now filter) (sym c.requires.down) down)))
+        | else-leads-via-else-leads w' ↦ row_behind rows c.args.packet.now c.args.row.now seen filter
+            c.loop-filter.first so_far (λ leads. false≢true (sym w'.if-leads.false ∙ c.leads.ensures.1 leads))
       ])
     ])
 
