@@ -45,6 +45,7 @@ verdict_lives packet (verdict.Down life peer octets) lives = refl
 verdict_lives packet verdict.NoBearer lives = refl
 verdict_lives packet verdict.Spoof lives = refl
 verdict_lives packet (verdict.Idle life) lives = refl
+verdict_lives packet (verdict.Held life message) lives = refl
 verdict_lives packet (verdict.Policed life) lives = refl
 
 event_lives : (slot : ℕ) (before : List Event) (now : Event)
@@ -96,6 +97,7 @@ few_happen slot before (event.Packet packet) = by_verdicts (verdict_after slot b
     by_verdicts verdict.NoBearer = omega arith
     by_verdicts verdict.Spoof = omega arith
     by_verdicts (verdict.Idle life) = omega arith
+    by_verdicts (verdict.Held life message) = omega arith
     by_verdicts (verdict.Policed life) = omega arith
 
 few_happen_from : (slot : ℕ) (before later : List Event) → length (happenings_from slot before later) ≤ 2 * length later

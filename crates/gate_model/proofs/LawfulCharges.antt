@@ -92,6 +92,7 @@ IsCounted lives (verdict.Down life peer octets) = ⊥
 IsCounted lives verdict.NoBearer = Unit {0}
 IsCounted lives verdict.Spoof = Unit {0}
 IsCounted lives (verdict.Idle life) = Unit {0}
+IsCounted lives (verdict.Held life message) = Unit {0}
 IsCounted lives (verdict.Policed life) = Unit {0}
 
 counted_up : (session : Session) (index : ℕ) (octets : List ℕ) (v : Verdict) → AreFew session.bearers
@@ -103,6 +104,7 @@ counted_up session index octets (verdict.Down life peer payload) few is =
 counted_up session index octets verdict.NoBearer few is = tt
 counted_up session index octets verdict.Spoof few is = tt
 counted_up session index octets (verdict.Idle life) few is = tt
+counted_up session index octets (verdict.Held life message) few is = tt
 counted_up session index octets (verdict.Policed life) few is = tt
 
 counted : (session : Session) (octets : List ℕ) (way : Way) → AreFew session.bearers → IsCounted (lives_in session.bearers) (judged_by session octets way)
@@ -116,6 +118,7 @@ packet_lawful before packet (verdict.Down life peer octets) is_open lawful = abs
 packet_lawful before packet verdict.NoBearer is_open lawful = rw (append-nil before) lawful
 packet_lawful before packet verdict.Spoof is_open lawful = rw (append-nil before) lawful
 packet_lawful before packet (verdict.Idle life) is_open lawful = rw (append-nil before) lawful
+packet_lawful before packet (verdict.Held life message) is_open lawful = rw (append-nil before) lawful
 packet_lawful before packet (verdict.Policed life) is_open lawful = rw (append-nil before) lawful
 
 event_lawful : (slot : ℕ) (events : List Event) (now : Event) → IsLawful (happenings slot events)

@@ -5,7 +5,7 @@ use Rattle.pc_base.specs.declared.packet.Verdict.{Verdict}
 use Rattle.gate_model.specs.Decision.{Decision, command, packet, note}
 use Rattle.gate_model.specs.Entry.{Entry, noted, replied, judged}
 use Rattle.gate_model.specs.Run.{Answers, AnswersAll, command_number, reply_told, packet_number, commands_told, verdict_told}
-use Rattle.gate_model.specs.declared.command.Reply.{Reply}
+use Rattle.pc_base.specs.declared.reply.Reply.{Reply}
 use Rattle.gate_model.proofs.LineByLine.{eqb_same}
 use Rattle.gate_model.proofs.OneRunForms.{answers_note, answers_command, answers_packet}
 

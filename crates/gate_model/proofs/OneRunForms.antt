@@ -6,7 +6,7 @@ use Rattle.gate_model.specs.Decision.{command, packet, note}
 use Rattle.gate_model.specs.Entry.{Entry, noted, replied, judged, charged, left_open}
 use Rattle.gate_model.specs.Run.{Answers}
 use Rattle.gate_model.specs.declared.command.Command.{Command}
-use Rattle.gate_model.specs.declared.command.Reply.{Reply}
+use Rattle.pc_base.specs.declared.reply.Reply.{Reply}
 
 -- a reply to a command of this slot
 pub record IsReply (n slot : ℕ) (entry : Entry) : Type 0 where

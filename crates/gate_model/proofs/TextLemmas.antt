@@ -10,9 +10,9 @@ use Rattle.charging_book.specs.declared.records.Why.{Why}
 use Rattle.charging_book.specs.declared.records.Why.TheVariants.{Volume, Qos, Gone}
 use Rattle.gate_model.specs.Entry.{Entry, noted, replied, judged, charged, left_open, moment_word, why_word, counters_fields, counters_of, outcome_word, message_word, dotted, verdict_fields, text_of}
 use Rattle.gate_model.specs.EntryRanges.{AreCounters, IsMoment, IsOctets, IsNote, IsVerdict, IsEntry}
-use Rattle.gate_model.specs.declared.command.Outcome.{Outcome}
-use Rattle.gate_model.specs.declared.command.Outcome.TheVariants.{Done, No, Again}
-use Rattle.gate_model.specs.declared.command.Reply.{Reply}
+use Rattle.pc_base.specs.declared.reply.Outcome.{Outcome}
+use Rattle.pc_base.specs.declared.reply.Outcome.TheVariants.{Done, No, Again}
+use Rattle.pc_base.specs.declared.reply.Reply.{Reply}
 use Rattle.gate_model.proofs.FieldLemmas.{Above, Above-decimal, Above-all, ArePlain, plain_word, plain-decimal, plain-encode_lower, plain-dotted, parted, fields_tell, encode_lower_tells, encode_lower-no_dash, dotted_tells}
 
 -- the first octet of the first field
@@ -64,6 +64,12 @@ verdict_tells verdict.NoBearer verdict.NoBearer is_a is_b same = refl
 verdict_tells verdict.Spoof verdict.Spoof is_a is_b same = refl
 verdict_tells (verdict.Idle life) (verdict.Idle other) is_a is_b same =
     let life_word : decimal life ≡ decimal other = cc in ap verdict.Idle (decimal_injective life other is_a is_b life_word)
+verdict_tells (verdict.Held life message) (verdict.Held other another) is_a is_b same =
+    let life_word : decimal life ≡ decimal other = cc in
+    let words : message_word message ≡ message_word another = cc in
+    let life_same = decimal_injective life other is_a.0 is_b.0 life_word in
+    let message_same = message_tells message another is_a.1 is_b.1 words in
+    cc
 verdict_tells (verdict.Policed life) (verdict.Policed other) is_a is_b same =
     let life_word : decimal life ≡ decimal other = cc in ap verdict.Policed (decimal_injective life other is_a is_b life_word)
 verdict_tells a b is_a is_b same = absurd (omega (arith, ap initial same))
@@ -76,6 +82,8 @@ plain-verdict_fields (verdict.Down life peer octets) is =
 plain-verdict_fields verdict.NoBearer is = (plain_word (codes "nobearer") refl, tt)
 plain-verdict_fields verdict.Spoof is = (plain_word (codes "spoof") refl, tt)
 plain-verdict_fields (verdict.Idle life) is = (plain_word (codes "idle") refl, (plain-decimal life is, tt))
+plain-verdict_fields (verdict.Held life message) is =
+    (plain_word (codes "held") refl, (plain-decimal life is.0, (plain-message_word message is.1, tt)))
 plain-verdict_fields (verdict.Policed life) is = (plain_word (codes "policed") refl, (plain-decimal life is, tt))
 
 -- a note may have spaces, but no newline

@@ -1,14 +1,13 @@
 -- The book: which IMSI has which slot, in the order of first admission.
-use Rattle.std.specs.Prelude.{ℕ, ◌+◌, ◌==◌, if◌then◌else◌, List, [], ◌∷◌, length}
+use Rattle.std.specs.Prelude.{ℕ, ◌==◌, if◌then◌else◌, List, [], ◌∷◌, length}
 use Rattle.address_book.specs.Book.{admitted}
-use Rattle.pc_base.specs.declared.TheConstants.{LAST_SLOT}
 use Rattle.trace_lines.specs.declared.line.LineKind.{LineKind}
 use Rattle.trace_lines.specs.declared.line.LineKind.TheVariants.{S1u, Attach}
 use Rattle.trace_lines.specs.declared.line.TraceLine.{TraceLine}
 
--- the book with an IMSI, where a slot is left for it
+-- the book with an IMSI, where one of the 65,533 slots is left for it
 abbrev pub with_imsi : List (List ℕ) → List ℕ → List (List ℕ)
-with_imsi book imsi = if length book == LAST_SLOT + 1 then book else admitted book imsi
+with_imsi book imsi = if length book == 65533 then book else admitted book imsi
 
 -- the book behind a line: an order to attach admits its IMSI
 abbrev pub booked_by : List (List ℕ) → LineKind → List (List ℕ)

@@ -36,6 +36,7 @@ by_verdict packet (verdict.Down life peer octets) = forwarded life (record { up 
 by_verdict packet verdict.NoBearer = []
 by_verdict packet verdict.Spoof = []
 by_verdict packet (verdict.Idle life) = []
+by_verdict packet (verdict.Held life message) = []
 by_verdict packet (verdict.Policed life) = []
 
 -- what an event makes happen behind the events before it

@@ -3,11 +3,10 @@ use Rattle.std.specs.Prelude.{ℕ, ◌+◌, true, false, [], ◌∷◌, Some, No
 use Rattle.pc_base.specs.declared.packet.Peer.{Peer}
 use Rattle.gate_model.specs.declared.command.Command.{Command}
 use Rattle.gate_model.specs.declared.command.Command.TheVariants.{Attach}
-use Rattle.gate_model.specs.declared.command.Outcome.TheVariants.{Done}
-use Rattle.gate_model.specs.declared.command.Reply.{Reply}
+use Rattle.pc_base.specs.declared.reply.Outcome.TheVariants.{Done}
+use Rattle.pc_base.specs.declared.reply.Reply.{Reply}
 use Rattle.gate_model.specs.declared.session.Bearer.{Bearer}
 use Rattle.gate_model.specs.declared.session.Session.{Session}
-use Rattle.gate_model.specs.declared.session.TheConstants.{DEFAULT_EBI, DEFAULT_QCI, DEFAULT_ARP}
 
 -- before its first command a slot isn't live
 abbrev pub new_session : ℕ → Session
@@ -22,9 +21,9 @@ new_session slot = record {
   lives = 0;
 }
 
--- the bearer that an order to attach makes
+-- the bearer that an order to attach makes: EBI 5, QCI 9, and ARP of priority level 9 with both pre-emption bits 0
 abbrev pub default_bearer : ℕ → Peer → Bearer
-default_bearer life enb = record { index = 0; life = life; ebi = DEFAULT_EBI; qci = DEFAULT_QCI; arp = DEFAULT_ARP; enb = Some enb }
+default_bearer life enb = record { index = 0; life = life; ebi = 5; qci = 9; arp = 0x24; enb = Some enb }
 
 -- all bearers go, the MME too; the rates are set, and the default bearer comes with the next life
 abbrev pub attached : Session → Peer → ℕ → ℕ → Session

@@ -2,15 +2,16 @@
 use Rattle.std.specs.Prelude.{ℕ, ◌==◌, nat_lt, if◌then◌else◌, Option, Some, None, unwrap_or, List, [], ◌∷◌, ◌++◌, length, codes}
 use Rattle.std.specs.List.{filter_map}
 use Rattle.address_book.specs.Book.{slot_in}
+use Rattle.gtpu_codec.specs.Message.{message_of}
 use Rattle.gtpu_codec.specs.Refusal.{first_fault as tunnel_fault}
 use Rattle.gtpu_codec.specs.Text.{spelling}
 use Rattle.gtpu_codec.specs.declared.fault.UBad.{UBad}
+use Rattle.gtpu_codec.specs.declared.head.GtpUHead.{GtpUHead}
 use Rattle.gtpu_codec.specs.declared.kind.GtpUKind.{GtpUKind}
 use Rattle.gtpu_codec.specs.declared.kind.GtpUKind.TheVariants as kind
 use Rattle.gtpu_codec.specs.declared.message.GtpU.{GtpU}
 use Rattle.gtpu_codec.specs.declared.message.GtpU.TheVariants.{EchoResponse, ErrorIndication}
 use Rattle.hex.specs.Hex.{encode_lower}
-use Rattle.gate_model.specs.declared.TheConstants.{GATEWAY_ADDR}
 use Rattle.gtpu_codec.specs.declared.fault.UBad.TheVariants as tunnel_bad
 use Rattle.ipv4_packet.specs.Refusal.{first_fault}
 use Rattle.ipv4_packet.specs.Packet.{packet_of}
@@ -22,7 +23,7 @@ use Rattle.trace_lines.specs.declared.line.LineKind.{LineKind}
 use Rattle.trace_lines.specs.declared.line.LineKind.TheVariants.{S1u, Attach}
 use Rattle.trace_lines.specs.declared.line.TraceLine.{TraceLine}
 use Rattle.gate_model.specs.Book.{booked}
-use Rattle.gate_model.specs.Tunnel.{kind_in, teid_in, seq_in, body_in, bearer_of}
+use Rattle.gate_model.specs.Tunnel.{bearer_of}
 use Rattle.gate_model.specs.declared.command.Command.{Command}
 use Rattle.gate_model.specs.declared.command.Command.TheVariants as order
 use Rattle.gate_model.specs.declared.gateway.Event.{Event}
@@ -62,9 +63,13 @@ carried moment slot index payload None = packet slot (record {
 abbrev pub told : List ℕ → GtpU → List ℕ
 told word message = word ++ 32 ∷ encode_lower (spelling message)
 
+-- the gateway's own address, 192.0.2.1
+abbrev pub gateway_addr : ℕ
+gateway_addr = 0xc000_0201
+
 -- a tunnel that isn't there is told to the sender
 abbrev pub unknown : ℕ → Decision
-unknown teid = note (told (codes "s1u unknown") (ErrorIndication 0 teid GATEWAY_ADDR))
+unknown teid = note (told (codes "s1u unknown") (ErrorIndication 0 teid gateway_addr))
 
 -- a tunnel is a bearer's where its TEID is one of a slot in the book
 abbrev pub tunnelled : ℕ → ℕ → ℕ → List ℕ → Option (ℕ × ℕ) → Decision
@@ -73,18 +78,21 @@ tunnelled slots moment teid payload (Some (slot, index)) =
     if nat_lt slot slots then carried moment slot index payload (first_fault payload) else unknown teid
 
 -- an echo is answered, a G-PDU is a packet, and the other kinds are noted
-abbrev pub received_kind : ℕ → ℕ → List ℕ → Option GtpUKind → Decision
-received_kind slots moment octets (Some kind.EchoRequest) = note (told (codes "s1u echo") (EchoResponse (unwrap_or (seq_in octets) 0)))
-received_kind slots moment octets (Some kind.EchoResponse) = note (codes "s1u noted")
-received_kind slots moment octets (Some kind.ErrorIndication) = note (codes "s1u noted")
-received_kind slots moment octets (Some kind.EndMarker) = note (codes "s1u noted")
-received_kind slots moment octets (Some kind.Gpdu) =
-    tunnelled slots moment (teid_in octets) (body_in octets) (bearer_of (teid_in octets))
-received_kind slots moment octets None = note (codes "s1u kind")
+abbrev pub received_kind : ℕ → ℕ → GtpUKind → GtpUHead → List ℕ → Decision
+received_kind slots moment kind.EchoRequest head body = note (told (codes "s1u echo") (EchoResponse (unwrap_or head.seq 0)))
+received_kind slots moment kind.EchoResponse head body = note (codes "s1u noted")
+received_kind slots moment kind.ErrorIndication head body = note (codes "s1u noted")
+received_kind slots moment kind.EndMarker head body = note (codes "s1u noted")
+received_kind slots moment kind.Gpdu head body = tunnelled slots moment head.teid body (bearer_of head.teid)
 
-abbrev pub received : ℕ → ℕ → List ℕ → Option UBad → Decision
-received slots moment octets (Some bad) = note (tunnel_note bad)
-received slots moment octets None = received_kind slots moment octets (kind_in octets)
+-- a message, or the note on the first fault (octets without a fault are a message)
+abbrev pub received_as : ℕ → ℕ → Option UBad → Option (GtpUHead × List ℕ) → Decision
+received_as slots moment fault (Some (head, body)) = received_kind slots moment head.kind head body
+received_as slots moment (Some bad) None = note (tunnel_note bad)
+received_as slots moment None None = note (codes "s1u kind")
+
+abbrev pub received : ℕ → ℕ → List ℕ → Decision
+received slots moment octets = received_as slots moment (tunnel_fault octets) (message_of octets)
 
 -- an order to attach is a command of its IMSI's slot, if a slot was left for it
 abbrev pub attaching : Option ℕ → Command → Decision
@@ -93,7 +101,7 @@ attaching None order = note (codes "pool")
 
 -- what a line means, by the book behind it
 abbrev pub decided_by : List (List ℕ) → ℕ → LineKind → Decision
-decided_by book moment (S1u octets) = received (length book) moment octets (tunnel_fault octets)
+decided_by book moment (S1u octets) = received (length book) moment octets
 decided_by book moment (Attach imsi enb up down) = attaching (slot_in book imsi) (order.Attach enb up down)
 
 abbrev pub decided : List (List ℕ) → TraceLine → Decision

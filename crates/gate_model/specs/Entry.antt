@@ -7,9 +7,9 @@ use Rattle.charging_book.specs.declared.records.Why.TheVariants.{Volume, Qos, Go
 use Rattle.hex.specs.Hex.{encode_lower}
 use Rattle.pc_base.specs.declared.packet.Verdict.{Verdict}
 use Rattle.pc_base.specs.declared.packet.Verdict.TheVariants as verdict
-use Rattle.gate_model.specs.declared.command.Outcome.{Outcome}
-use Rattle.gate_model.specs.declared.command.Outcome.TheVariants.{Done, No, Again}
-use Rattle.gate_model.specs.declared.command.Reply.{Reply}
+use Rattle.pc_base.specs.declared.reply.Outcome.{Outcome}
+use Rattle.pc_base.specs.declared.reply.Outcome.TheVariants.{Done, No, Again}
+use Rattle.pc_base.specs.declared.reply.Reply.{Reply}
 
 -- a note on a line, the reply to a command, the verdict on a packet; commands and packets of a slot are numbered,
 -- and a packet tells how many commands of its slot were done before it · a charging record of a slot, and the open
@@ -50,6 +50,7 @@ verdict_fields (verdict.Down life peer octets) =
 verdict_fields verdict.NoBearer = codes "nobearer" ∷ []
 verdict_fields verdict.Spoof = codes "spoof" ∷ []
 verdict_fields (verdict.Idle life) = codes "idle" ∷ decimal life ∷ []
+verdict_fields (verdict.Held life message) = codes "held" ∷ decimal life ∷ message_word message ∷ []
 verdict_fields (verdict.Policed life) = codes "policed" ∷ decimal life ∷ []
 
 -- a moment, or a dash

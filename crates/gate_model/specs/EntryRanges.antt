@@ -19,6 +19,7 @@ IsVerdict (verdict.Down life peer octets) = (life < 2 ^ 64) × (peer < 2 ^ 32) �
 IsVerdict verdict.NoBearer = Unit {0}
 IsVerdict verdict.Spoof = Unit {0}
 IsVerdict (verdict.Idle life) = life < 2 ^ 64
+IsVerdict (verdict.Held life message) = (life < 2 ^ 64) × IfSome message IsOctets
 IsVerdict (verdict.Policed life) = life < 2 ^ 64
 
 pub record AreCounters (counters : Counters) : Type 0 where

@@ -6,7 +6,7 @@ use Rattle.pc_base.specs.declared.packet.Verdict.{Verdict}
 use Rattle.gate_model.specs.Control.{new_session, controlled}
 use Rattle.gate_model.specs.Packets.{judged}
 use Rattle.gate_model.specs.declared.command.Command.{Command}
-use Rattle.gate_model.specs.declared.command.Reply.{Reply}
+use Rattle.pc_base.specs.declared.reply.Reply.{Reply}
 use Rattle.gate_model.specs.declared.session.Session.{Session}
 use Rattle.gate_model.specs.declared.gateway.Event.{Event}
 use Rattle.gate_model.specs.declared.gateway.Event.TheVariants as event

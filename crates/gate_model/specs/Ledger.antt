@@ -25,6 +25,7 @@ sent_by life (verdict.Down own peer octets) =
 sent_by life verdict.NoBearer = None
 sent_by life verdict.Spoof = None
 sent_by life (verdict.Idle own) = None
+sent_by life (verdict.Held own message) = None
 sent_by life (verdict.Policed own) = None
 
 -- that an entry forwards for a life of a slot

@@ -3,7 +3,7 @@ use Rattle.std.specs.Prelude.{◌≡◌, ℕ, zero, suc, ◌+◌, ◌==◌, if�
 use Rattle.std.specs.List.{filter_map}
 use Rattle.pc_base.specs.declared.packet.Packet.{Packet}
 use Rattle.pc_base.specs.declared.packet.Verdict.{Verdict}
-use Rattle.gate_model.specs.declared.command.Reply.{Reply}
+use Rattle.pc_base.specs.declared.reply.Reply.{Reply}
 use Rattle.gate_model.specs.declared.gateway.Event.{Event}
 use Rattle.gate_model.specs.Decision.{Decision, command, packet, note, events_at}
 use Rattle.gate_model.specs.Entry.{Entry, noted, replied, judged, charged, left_open}

@@ -14,9 +14,10 @@ mod session;
 #[cfg(test)]
 mod tests;
 
-pub use command::{Command, Outcome, Reply};
+pub use command::Command;
 pub use gateway::{Event, Gateway, Happened};
 pub use laws::{
     each_packet_is_charged, every_trace_has_a_run, one_lawful_run, texts_tell_entries,
 };
+pub use pc_base::{Outcome, Reply};
 pub use session::{Bearer, Bearers, Session, step};

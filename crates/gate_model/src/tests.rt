@@ -48,6 +48,7 @@ fn told(happened: &Happened) -> (&'static str, u64) {
             Verdict::NoBearer => ("nobearer", 0),
             Verdict::Spoof => ("spoof", 0),
             Verdict::Idle { life } => ("idle", *life),
+            Verdict::Held { life, .. } => ("held", *life),
             Verdict::Policed { life } => ("policed", *life),
         },
     }

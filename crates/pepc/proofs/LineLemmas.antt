@@ -2,7 +2,6 @@
 use Rattle.std.proofs.Common.{◌≡◌, ℕ, List, [], ◌∷◌, ◌++◌, length, Result, Ok, Err, OnOk, sym, ap, subst, ◌∙◌}
 use Rattle.pc_base.specs.declared.packet.Peer.{Peer}
 use Rattle.address_book.specs.Book.{slot_in}
-use Rattle.gtpu_codec.specs.Refusal.{first_fault as tunnel_fault}
 use Rattle.trace_lines.specs.Line.{Line}
 use Rattle.trace_lines.specs.declared.line.LineKind.TheVariants.{S1u, Attach}
 use Rattle.gate_model.specs.Book.{with_imsi, booked, booked_by, book_of}
@@ -30,7 +29,7 @@ pub booked-s1u : (book : List (List ℕ)) (line : Line) (octets : List ℕ) → 
 booked-s1u book line octets is = ap (booked_by book) is
 
 pub decided-s1u : (book : List (List ℕ)) (line : Line) (octets : List ℕ) → line.kind ≡ S1u octets
-    → decided (booked book line) line ≡ received (length book) line.moment octets (tunnel_fault octets)
+    → decided (booked book line) line ≡ received (length book) line.moment octets
 decided-s1u book line octets is = ap (λ kind. decided_by (booked_by book kind) line.moment kind) is
 
 -- the book and the decision of the line are all that it adds
@@ -44,10 +43,10 @@ stands_for_push solo done line book made same_book same stands =
 
 -- what octets mean where a gateway has so many slots, they mean by the book that it stands for
 pub received_in_book : (solo : Solo) (book : List (List ℕ)) (made : List Decision) (slots moment : ℕ) (octets : List ℕ) (meant : Decision)
-    → slots ≡ length solo.book → Stands solo book made → meant ≡ received slots moment octets (tunnel_fault octets)
-    → meant ≡ received (length book) moment octets (tunnel_fault octets)
+    → slots ≡ length solo.book → Stands solo book made → meant ≡ received slots moment octets
+    → meant ≡ received (length book) moment octets
 received_in_book solo book made slots moment octets meant slots_is stands is =
-    is ∙ ap (λ n. received n moment octets (tunnel_fault octets)) (slots_is ∙ ap length stands.same_book)
+    is ∙ ap (λ n. received n moment octets) (slots_is ∙ ap length stands.same_book)
 
 -- and what is told of a meaning is told of its equal
 pub told_of_equal : {E : Type 0} (result : Result (Unit {0}) E) (old new : List ℕ) (made : List Decision) (one other : Decision) → one ≡ other

@@ -117,11 +117,6 @@ begins_of (BadLine why) octets left done reached = begins_stop octets done (bad 
 begins_of LineLong octets left done reached = begins_stop octets done (long (length done + 1)) reached
 begins_of TooLong octets left done reached = begins_stop octets done big reached
 
--- what holds where a call was well
-pub of_ok : {T E P : Type 0} (r : Result T E) → is_err r ≡ false → OnOk r P → P
-of_ok (Ok x) well holds = holds
-of_ok (Err e) well holds = cc
-
 -- the last block is written
 pub ends_whole : (ending : Ending) (source_failed : Type 0) (start left old mid new : Option (List ℕ)) (waiting report : List ℕ) (gateway : Solo)
     → Ends ending start left old mid waiting gateway → ((done : List Line) → StandsFor gateway done → report ≡ waiting ++ texts (charges_of done))

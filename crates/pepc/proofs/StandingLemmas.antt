@@ -9,7 +9,7 @@ use Rattle.gate_model.specs.declared.command.Command.{Command}
 use Rattle.gate_model.specs.Entry.{replied, judged}
 use Rattle.gate_model.specs.Entered.{entry_after}
 use Rattle.gate_model.specs.Events.{commands_of, packets_of, reply_after, verdict_after}
-use Rattle.gate_model.specs.declared.command.Reply.{Reply}
+use Rattle.pc_base.specs.declared.reply.Reply.{Reply}
 use Rattle.pc_base.specs.declared.packet.Verdict.{Verdict}
 use Rattle.std.specs.List.{filter_map, cons_option}
 use Rattle.gate_model.specs.declared.gateway.Event.{Event}

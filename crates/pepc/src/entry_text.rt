@@ -1,7 +1,8 @@
 //! The texts of entries, appended to a report.
-ghost use Rattle.std.specs.Prelude.{◌≡◌, ◌+◌, ◌*◌, ◌^◌, ◌<◌, ◌++◌, ◌∷◌, [], None, length, decimal, OnOk};
+ghost use Rattle.std.specs.Prelude.{◌≡◌, ◌+◌, ◌*◌, ◌^◌, ◌<◌, ◌++◌, ◌∷◌, [], None, length, codes, decimal, OnOk};
 ghost use Rattle.hex.specs.Hex.{encode_lower};
 ghost use Rattle.pc_base.specs.declared.packet.Verdict.TheVariants.{Up};
+ghost use Rattle.trace_lines.specs.Word.{word_of};
 ghost use Rattle.pepc.specs.Judgement.{verdict_of};
 ghost use Rattle.gate_model.specs.Entry.{fields, text_of, noted, replied, judged, charged, left_open, outcome_word, message_word, moment_word, why_word, verdict_fields};
 
@@ -10,6 +11,7 @@ use charging_book::{ChargeRow, Open, Why};
 use gate_model::{Outcome, Reply};
 use pc_base::{Moment, Slot};
 use std::alloc::AllocError;
+use trace_lines::LineBad;
 
 /// Appends a field: its octets behind a space.
 fn push_field(report: &mut Vec<u8>, field: &[u8]) -> Result<(), AllocError>
@@ -34,8 +36,7 @@ fn push_octets(report: &mut Vec<u8>, octets: &[u8]) -> Result<(), AllocError>
 {
     report.push(b' ')?;
     let start = report.len();
-    let digits = octets.len().checked_mul(2).ok_or(AllocError)?;
-    let end = start.checked_add(digits).ok_or(AllocError)?;
+    let end = start.saturating_add(octets.len() * 2);
     report.resize(end, 0)?;
     let _ = hex::encode_to_slice(octets, &mut report.as_mut_slice()[start..]);
     Ok(())
@@ -50,6 +51,16 @@ pub fn push_note(report: &mut Vec<u8>, line: u64, note: &str) -> Result<(), Allo
     push_field(report, note.as_bytes())?;
     report.push(b'\n')?;
     Ok(())
+}
+
+/// Appends the entry of a bad line.
+pub fn push_refusal(report: &mut Vec<u8>, line: u64, why: LineBad) -> Result<(), AllocError>
+    ensures { OnOk result (report.new.items ≡ report.old.items ++ text_of (noted line (codes "line " ++ word_of why))) }
+{
+    report.push(b'N')?;
+    push_number(report, line)?;
+    push_field(report, b"line")?;
+    push_last(report, why.word().as_bytes())
 }
 
 fn outcome_word(outcome: Outcome) -> &'static str

@@ -1,6 +1,5 @@
 //! What came from an eNodeB: a packet of a bearer, or a note.
 ghost use Rattle.std.specs.Prelude.{◌≡◌, ◌+◌, ℕ, Option, Some};
-ghost use Rattle.gtpu_codec.specs.Refusal.{first_fault as tunnel_fault};
 ghost use Rattle.ipv4_packet.specs.Refusal.{first_fault as ip_fault};
 ghost use Rattle.gate_model.specs.Decision.{tunnel_note, ip_note, carried, tunnelled, received};
 ghost use Rattle.gate_model.specs.Tunnel.{bearer_of};
@@ -27,7 +26,7 @@ pub enum Received<'a> {
 
 /// What a message of an eNodeB comes to, where so many slots are in the book.
 pub fn receive(octets: &[u8], slots: u32) -> Received<'_>
-    ensures decision { (moment : ℕ) → decision_of moment result ≡ received slots moment octets.now (tunnel_fault octets.now) }
+    ensures decision { (moment : ℕ) → decision_of moment result ≡ received slots moment octets.now }
     ensures in_book { IsInBook slots result }
 {
     match gtpu_codec::read(octets) {

@@ -5,7 +5,6 @@ ghost use Rattle.std.specs.String.{string_bytes};
 ghost use Rattle.pc_outside.specs.Faults.{Rises};
 ghost use Rattle.pc_outside.specs.Fronts.{AppendsFront};
 ghost use Rattle.trace_lines.specs.Line.{Line};
-ghost use Rattle.trace_lines.specs.Word.{word_of};
 ghost use Rattle.gate_model.specs.Entry.{text_of};
 ghost use Rattle.pepc.specs.Standing.{StandsFor, entry_at};
 ghost use Rattle.pepc.specs.Progress.{Moves, Ends, Cuts, status_at, status_without};
@@ -14,7 +13,7 @@ ghost use Rattle.pepc.specs.Told.{WhereTold};
 ghost use Rattle.pepc.specs.Words.{IsSolo};
 ghost use Rattle.pepc.specs.declared.solo.Solo.{Solo};
 
-use crate::entry_text::push_note;
+use crate::entry_text::push_refusal;
 use crate::reading::{Next, next_line};
 use crate::solo::Solo;
 use crate::status::Status;
@@ -112,20 +111,6 @@ fn take_line<K: Sink>(
     write_block(sink, report)
 }
 
-// The note on a bad line.
-fn bad_note(why: LineBad) -> &'static str
-    ensures { result.now ≡ codes "line " ++ word_of why }
-{
-    match why {
-        LineBad::Field => "line field",
-        LineBad::Number => "line number",
-        LineBad::Kind => "line kind",
-        LineBad::Hex => "line hex",
-        LineBad::MomentBack => "line moment",
-        LineBad::NoMemory => "line memory",
-    }
-}
-
 // Reads lines and answers them until no more come. What isn't written yet of the report is left in it.
 fn run_lines<S: Source, K: Sink>(
     alloc: Global,
@@ -161,7 +146,7 @@ fn run_lines<S: Source, K: Sink>(
                 return Ok(Ending::Ended);
             }
             Next::Bad(why) => {
-                push_note(report, number, bad_note(why))?;
+                push_refusal(report, number, why)?;
                 return Ok(Ending::BadLine(why));
             }
             Next::End => return Ok(Ending::Ended),
@@ -206,8 +191,9 @@ fn end_run<K: Sink>(ending: Ending, gateway: &Solo, sink: &mut K, report: &mut V
     ensures later { K.faults sink.old ≤ K.faults sink.new }
     ensures write_fault { result ≡ Status.WriteFault → Rises (K.faults sink.old) (K.faults sink.new) }
 {
-    if gateway.push_charges(report).is_err() {
-        return Status::NoMemory;
+    match gateway.push_charges(report) {
+        Ok(()) => {}
+        Err(AllocError) => return Status::NoMemory,
     }
     match write_report(sink, report) {
         Ok(()) => status_at(ending),
@@ -226,8 +212,9 @@ fn solo<S: Source, K: Sink>(alloc: Global, source: &mut S, sink: &mut K) -> Stat
     ensures read_fault { result ≡ Status.ReadFault → Rises (S.faults source.old) (S.faults source.new) }
     ensures write_fault { result ≡ Status.WriteFault → Rises (K.faults sink.old) (K.faults sink.new) }
 {
-    let Ok(mut buf) = LineBuf::new(alloc) else {
-        return Status::NoMemory;
+    let mut buf = match LineBuf::new(alloc) {
+        Ok(buf) => buf,
+        Err(AllocError) => return Status::NoMemory,
     };
     let mut gateway = Solo::new(alloc);
     let mut report = Vec::new(alloc);

@@ -6,7 +6,6 @@ ghost use Rattle.gate_model.specs.Entry.{text_of, texts};
 ghost use Rattle.gate_model.specs.Entered.{entry_after};
 ghost use Rattle.std.specs.String.{string_bytes};
 ghost use Rattle.gtpu_codec.specs.Text.{payload_len};
-ghost use Rattle.gtpu_codec.specs.Refusal.{first_fault as tunnel_fault};
 ghost use Rattle.address_book.specs.Book.{slot_in};
 ghost use Rattle.ipv4_packet.specs.Packet.{IsPacket};
 ghost use Rattle.trace_lines.specs.Line.{Line};
@@ -171,9 +170,9 @@ impl Solo {
         requires { (book : List (List ℕ)) × (made : List Decision) × Stands self.old book made × (length made < 2 ^ 58) }
 
         ensures told { (book : List (List ℕ)) (made : List Decision) → Stands self.old book made
-            → OnOk result (report.new.items ≡ report.old.items ++ text_of (entry_after made (received (length book) moment octets.now (tunnel_fault octets.now)))) }
+            → OnOk result (report.new.items ≡ report.old.items ++ text_of (entry_after made (received (length book) moment octets.now))) }
         ensures stands { (book : List (List ℕ)) (made : List Decision) → Stands self.old book made
-            → OnOk result (Stands self.new book (made ++ received (length book) moment octets.now (tunnel_fault octets.now) ∷ [])) }
+            → OnOk result (Stands self.new book (made ++ received (length book) moment octets.now ∷ [])) }
     {
         match receive(octets, self.book.len()) {
             Received::Note(text) => self.note(text, report),

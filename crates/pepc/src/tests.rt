@@ -6,7 +6,7 @@ use std::alloc::{AllocError, Global};
 use std::test::Fail;
 
 // More than any report here has.
-const ROOM: usize = 1_000;
+const ROOM: usize = 3_000_000;
 
 // The status of a run on these octets, given and taken in pieces, and what it wrote. The calls of these
 // numbers fail.
@@ -217,6 +217,101 @@ fn long_line(rt: HostRuntime) -> Result<(), Fail> {
         assert_eq!(rt; got, status);
         assert_eq!(rt; written.as_slice(), report.as_bytes());
     }
+    Ok(())
+}
+
+// A packet of so many octets, from the first subscriber, in hexadecimal.
+fn packet_of(alloc: Global, octets: u16) -> Result<String, AllocError> {
+    let mut packet = format!(in alloc; "4500{octets:04x}0000000040fd00000a2d0002cb007109")?;
+    for _ in 20..octets {
+        packet.push_str("00")?;
+    }
+    Ok(packet)
+}
+
+// Appends the line on which it comes, and the entry of the packet of this number.
+fn push_uplink(
+    alloc: Global,
+    trace: &mut String,
+    report: &mut String,
+    number: u16,
+    octets: u16,
+) -> Result<(), AllocError> {
+    let packet = packet_of(alloc, octets)?;
+    let moment = u32::from(number) + 1;
+    let line = u32::from(number) + 2;
+    let text = format!(in alloc; "{moment} S1U 30ff{octets:04x}00000011{packet}\n")?;
+    trace.push_str(text.as_str())?;
+    let text = format!(in alloc; "P {line} 0 {number} 1 up 0 {packet}\n")?;
+    report.push_str(text.as_str())
+}
+
+// Packets of one size on the bearer of an order to attach: the trace, and the entries of its lines.
+fn uplink(alloc: Global, packets: u16, octets: u16) -> Result<(String, String), AllocError> {
+    let order = "0 ATTACH 001010000000001 198.51.100.7 00000a01 1000000 1000000\n";
+    let mut trace = String::from_str(alloc, order)?;
+    let mut report = String::from_str(alloc, "C 1 0 0 ok -\n")?;
+    for number in 0..packets {
+        push_uplink(alloc, &mut trace, &mut report, number, octets)?;
+    }
+    Ok((trace, report))
+}
+
+#[test]
+fn large_packets_and_full_pieces(rt: HostRuntime) -> Result<(), Fail> {
+    let alloc = rt.alloc();
+    let rows = [
+        // The largest packet of IPv4.
+        (1, 65_535, "O 0 0 5 9 0 65535 0 1 0\n"),
+        // A piece that is filled by its last packet, and the empty one behind it.
+        (
+            20,
+            50_000,
+            "R 0 0 5 9 0 1000000 0 20 0 1 20 volume\nO 0 0 5 9 1 0 0 0 0\n",
+        ),
+    ];
+    for (packets, octets, charges) in rows {
+        let (trace, mut report) = uplink(alloc, packets, octets)?;
+        report.push_str(charges)?;
+        let given = Vec::from_slice(alloc, trace.as_bytes())?;
+        let (status, written) = run(alloc, given, 100_000, &[], &[])?;
+        assert_eq!(rt; status, Status::Ok);
+        assert!(rt; written.as_slice() == report.as_bytes(), "{octets}");
+    }
+    Ok(())
+}
+
+#[test]
+fn twenty_subscribers(rt: HostRuntime) -> Result<(), Fail> {
+    let alloc = rt.alloc();
+    let mut trace = String::new(alloc);
+    let mut report = String::new(alloc);
+    let mut charges = String::new(alloc);
+    for slot in 0..20_u32 {
+        let imsi = 1_010_000_000_001 + u64::from(slot);
+        let text = format!(in alloc; "0 ATTACH 00{imsi} 198.51.100.7 00000a01 1000 1000\n")?;
+        trace.push_str(text.as_str())?;
+        let line = slot + 1;
+        let text = format!(in alloc; "C {line} {slot} 0 ok -\n")?;
+        report.push_str(text.as_str())?;
+        let text = format!(in alloc; "O {slot} 0 5 9 0 20 0 1 0\n")?;
+        charges.push_str(text.as_str())?;
+    }
+    for slot in 0..20_u32 {
+        let teid = 16 * (slot + 1) + 1;
+        let source = slot + 2;
+        let packet = format!(in alloc; "450000140000000040fd00000a2d00{source:02x}cb007109")?;
+        let text = format!(in alloc; "1 S1U 30ff0014{teid:08x}{packet}\n")?;
+        trace.push_str(text.as_str())?;
+        let line = slot + 21;
+        let text = format!(in alloc; "P {line} {slot} 0 1 up 0 {packet}\n")?;
+        report.push_str(text.as_str())?;
+    }
+    report.push_str(charges.as_str())?;
+    let given = Vec::from_slice(alloc, trace.as_bytes())?;
+    let (status, written) = run(alloc, given, 1_000, &[], &[])?;
+    assert_eq!(rt; status, Status::Ok);
+    assert_eq!(rt; written.as_slice(), report.as_bytes());
     Ok(())
 }
 

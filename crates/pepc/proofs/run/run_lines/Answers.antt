@@ -87,12 +87,12 @@ returns-in-ReadFault-clause-ended g c =
     c.loop-line.gateway c.loop-line.number c.loop-line.least c.loop-line.buf.room c.next_line.new.buf c.loop-line.report.items
     c.loop-line.invariant.progress.0 c.loop-line.invariant.progress.1 c.in-ReadFault.ensures.tells (c.in-ReadFault.ensures.unfinished refl)
 
-pub returns-in_err-push_note-in-Bad-clause-cut : goal.returns-in_err-push_note-in-Bad-clause-cut
-returns-in_err-push_note-in-Bad-clause-cut g c =
-    if_err _ _ c.from_residual-in_err-push_note-in-Bad.result (λ why is. cut_here why (g.S.Source.left c.args.source.now) _ (g.S.Source.left c.next_line.new.source) (g.K.Sink.written c.args.sink.now) (g.K.Sink.written c.loop-line.sink)
+pub returns-in_err-push_refusal-in-Bad-clause-cut : goal.returns-in_err-push_refusal-in-Bad-clause-cut
+returns-in_err-push_refusal-in-Bad-clause-cut g c =
+    if_err _ _ c.from_residual-in_err-push_refusal-in-Bad.result (λ why is. cut_here why (g.S.Source.left c.args.source.now) _ (g.S.Source.left c.next_line.new.source) (g.K.Sink.written c.args.sink.now) (g.K.Sink.written c.loop-line.sink)
     c.loop-line.gateway c.loop-line.number c.loop-line.least c.loop-line.buf.room c.next_line.new.buf.room c.next_line.new.buf.front c.loop-line.report.items
     c.loop-line.invariant.progress.0 (next.Bad c.in-Bad.why)
-    c.loop-line.invariant.progress.1 c.in-Bad.ensures.tells) c.from_residual-in_err-push_note-in-Bad.ensures.1
+    c.loop-line.invariant.progress.1 c.in-Bad.ensures.tells) c.from_residual-in_err-push_refusal-in-Bad.ensures.1
 
 pub returns-in-NoMemory-clause-cut : goal.returns-in-NoMemory-clause-cut
 returns-in-NoMemory-clause-cut g c =

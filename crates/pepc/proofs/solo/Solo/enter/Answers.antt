@@ -1,5 +1,4 @@
 use Rattle.std.proofs.Common.{◌≡◌, ap, sym, ◌∙◌, arith, ◌++◌, List, [], length}
-use Rattle.gtpu_codec.specs.Refusal.{first_fault as tunnel_fault}
 use Rattle.trace_lines.specs.Line.{Line}
 use Rattle.trace_lines.specs.declared.line.LineKind.TheVariants.{S1u, Attach}
 use Rattle.gate_model.specs.Book.{book_of, booked}
@@ -28,12 +27,12 @@ returns-in-Attach-clause-stands c = λ done stands.
 
 received-is : (c : goal.After-receive) (done : List Line)
     → decided (booked (book_of done) c.args.line.now) c.args.line.now
-    ≡ received (length (book_of done)) c.line.inside.moment c.as_slice.result.now (tunnel_fault c.as_slice.result.now)
+    ≡ received (length (book_of done)) c.line.inside.moment c.as_slice.result.now
 received-is c done =
     let is : c.args.line.now.kind ≡ S1u c.as_slice.result.now =
     sym (ap (λ (l : Line). l.kind) c.line.view_is) ∙ c.in-S1u.is ∙ ap S1u (sym c.as_slice.ensures) in
     decided-s1u (book_of done) c.args.line.now c.as_slice.result.now is
-    ∙ ap (λ at. received (length (book_of done)) at c.as_slice.result.now (tunnel_fault c.as_slice.result.now))
+    ∙ ap (λ at. received (length (book_of done)) at c.as_slice.result.now)
     (sym (ap (λ (l : Line). l.moment) c.line.view_is))
 
 pub returns-in-S1u-clause-told : goal.returns-in-S1u-clause-told
