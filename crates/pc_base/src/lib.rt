@@ -6,6 +6,7 @@
 mod addresses;
 mod big_endian;
 mod imsi;
+mod numbered;
 mod numbers;
 mod octets;
 mod packet;
@@ -16,6 +17,7 @@ mod tests;
 pub use addresses::{addr_of, addresses_are_distinct, slot_of_addr};
 pub use big_endian::{be16, be32, be40};
 pub use imsi::Imsi;
+pub use numbered::Numbered;
 pub use numbers::{Addr4, Kbps, Moment, SliceNo, Slot, Teid};
 pub use octets::Octets;
 pub use packet::{Packet, Peer, Place, TeidUse, Verdict, Way};
