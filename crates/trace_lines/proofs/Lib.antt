@@ -1,5 +1,8 @@
-pub mod CutLemmas
-pub mod DigitLemmas
-pub mod ArgumentLemmas
-pub mod HexadecimalLemmas
+pub mod FormLemmas
+pub mod KindLemmas
+pub mod MessageLemmas
+pub mod FaultLemmas
+pub mod MeaningLemmas
+pub mod ReadLemmas
+pub mod EpochLemmas
 pub mod InputLemmas

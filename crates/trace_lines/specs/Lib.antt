@@ -1,9 +1,10 @@
 pub mod Word
-pub mod Refused
-pub mod Fields
-pub mod Number
-pub mod Arguments
 pub mod Line
+pub mod Text
+pub mod Arguments
+pub mod Refused
 pub mod Meaning
+pub mod Refusal
 pub mod Memory
+pub mod Epochs
 pub mod Input

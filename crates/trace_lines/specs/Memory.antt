@@ -1,17 +1,16 @@
 -- Which lines take memory.
-use Rattle.std.specs.Prelude.{Result, Ok, Err}
-use Rattle.trace_lines.specs.declared.bad.LineBad.{LineBad}
-use Rattle.trace_lines.specs.declared.line.LineKind.{LineKind}
-use Rattle.trace_lines.specs.declared.line.LineKind.TheVariants.{S1u, Attach}
-use Rattle.trace_lines.specs.Line.{Line}
+use Rattle.std.specs.Prelude.{ℕ, ◌||◌, Bool, false, List, ◌∷◌, codes}
+use Rattle.std.specs.Str.{bytes_eq}
 
--- the kind has octets
-abbrev pub KeepsOctets : Result LineKind LineBad → Type 0
-KeepsOctets (Ok (S1u octets)) = Unit {0}
-KeepsOctets (Ok (Attach imsi enb up down)) = ⊥
-KeepsOctets (Err why) = ⊥
+-- a kind whose one argument is octets
+abbrev pub is_message : List ℕ → Bool
+is_message word = bytes_eq word (codes "S1U") || bytes_eq word (codes "SGI") || bytes_eq word (codes "S11")
 
--- the line means one with octets
-abbrev pub HoldsOctets : Result Line LineBad → Type 0
-HoldsOctets (Ok line) = KeepsOctets (Ok line.kind)
-HoldsOctets (Err why) = ⊥
+-- a kind whose last argument is octets: a message, or an order with a traffic flow template
+abbrev pub has_octets : List ℕ → Bool
+has_octets word = is_message word || bytes_eq word (codes "BEARER") || bytes_eq word (codes "FILTERS")
+
+-- the text is one of a kind with octets
+abbrev pub wants_octets : List (List ℕ) → Bool
+wants_octets (moment ∷ word ∷ arguments) = has_octets word
+wants_octets _ = false

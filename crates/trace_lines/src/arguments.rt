@@ -1,24 +1,38 @@
-ghost use Rattle.std.specs.Prelude.{◌≡◌, ◌⊎◌, ◌^◌, ◌<◌, Err, IfOk, IfErr, IsOk, length};
-ghost use Rattle.trace_lines.specs.Number.{number_below};
-ghost use Rattle.trace_lines.specs.Arguments.{imsi_meaning, address_meaning, teid_meaning, rate_meaning, octets_meaning};
-ghost use Rattle.trace_lines.specs.declared.bad.LineBad.TheVariants.{NoMemory, Number};
+//! Arguments of a line.
+ghost use Rattle.std.specs.Prelude.{◌≡◌};
+ghost use Rattle.std.specs.Option.{ok_or};
+ghost use Rattle.text_fields.specs.Address.{address_of};
+ghost use Rattle.trace_lines.specs.Arguments.{imsi_of, teid_of};
+ghost use Rattle.trace_lines.specs.Meaning.{number_meaning, session_rate, bearer_rate};
+ghost use Rattle.trace_lines.specs.declared.bad.LineBad.TheVariants.{Number};
 
 use crate::LineBad;
-use crate::fields::{cut, next_piece};
-use crate::hexadecimal::{are_hex_digits, decode};
-use crate::numbers::read_number;
-use pc_base::{Addr4, Imsi, Kbps, Octets, Teid};
-use std::alloc::Global;
+use pc_base::{Addr4, Imsi, Kbps, SliceNo, Teid};
+use text_fields::{decode, read_number};
 
-// Rates of a session end before this one, in kbps.
-const RATE_END: u64 = 1 << 32;
+const FIRST_QCI: u64 = 1;
 
-// Numbers of a dotted address end before this one.
-const PART_END: u64 = 256;
+const LAST_QCI: u64 = 255;
+
+const FIRST_EBI: u64 = 5;
+
+const LAST_EBI: u64 = 15;
+
+const LAST_SLICE: u64 = 63;
+
+// Rates of a session have 32 bits, those of a bearer 40.
+const LAST_SESSION_RATE: u64 = (1 << 32) - 1;
+
+const LAST_BEARER_RATE: u64 = (1 << 40) - 1;
+
+pub(crate) fn read_in(text: &[u8], least: u64, last: u64) -> Result<u64, LineBad>
+    ensures { result ≡ number_meaning least last text.now }
+{
+    read_number(text, least, last).ok_or(LineBad::Number)
+}
 
 pub(crate) fn read_imsi(text: &[u8]) -> Result<Imsi, LineBad>
-    ensures value { result ≡ imsi_meaning text.now }
-    ensures refusal { IfErr result (λ why. why ≡ Number) }
+    ensures { result ≡ ok_or (imsi_of text.now) Number }
 {
     match Imsi::of(text) {
         Some(imsi) => Ok(imsi),
@@ -27,72 +41,59 @@ pub(crate) fn read_imsi(text: &[u8]) -> Result<Imsi, LineBad>
 }
 
 pub(crate) fn read_address(text: &[u8]) -> Result<Addr4, LineBad>
-    ensures value { result ≡ address_meaning text.now }
-    ensures refusal { IfErr result (λ why. why ≡ Number) }
+    ensures { result ≡ ok_or (address_of text.now) Number }
 {
-    let (first, rest) = cut(b'.', text);
-    let Some((second, rest)) = next_piece(b'.', rest) else {
-        return Err(LineBad::Number);
-    };
-    let Some((third, rest)) = next_piece(b'.', rest) else {
-        return Err(LineBad::Number);
-    };
-    let Some((fourth, rest)) = next_piece(b'.', rest) else {
-        return Err(LineBad::Number);
-    };
-    let None = next_piece(b'.', rest) else {
-        return Err(LineBad::Number);
-    };
-    let octets = [
-        read_part(first)?,
-        read_part(second)?,
-        read_part(third)?,
-        read_part(fourth)?,
-    ];
-    Ok(Addr4(u32::from_be_bytes(octets)))
-}
-
-fn read_part(text: &[u8]) -> Result<u8, LineBad>
-    ensures value { result ≡ number_below 256 text.now }
-    ensures refusal { IfErr result (λ why. why ≡ Number) }
-{
-    let part = read_number(text, PART_END)?;
-    Ok(part as u8)
+    match text_fields::read_address(text) {
+        Some(address) => Ok(Addr4(address)),
+        None => Err(LineBad::Number),
+    }
 }
 
 pub(crate) fn read_teid(text: &[u8]) -> Result<Teid, LineBad>
-    ensures value { result ≡ teid_meaning text.now }
-    ensures refusal { IfErr result (λ why. why ≡ Number) }
+    ensures { result ≡ ok_or (teid_of text.now) Number }
 {
+    if text.len() != 8 {
+        return Err(LineBad::Number);
+    }
     let mut octets = [0; 4];
-    match hex::decode_to_slice(text, &mut octets) {
-        Ok(()) => Ok(Teid(u32::from_be_bytes(octets))),
-        Err(_) => Err(LineBad::Number),
+    if decode(text, &mut octets) {
+        Ok(Teid(u32::from_be_bytes(octets)))
+    } else {
+        Err(LineBad::Number)
     }
 }
 
-pub(crate) fn read_rate(text: &[u8]) -> Result<Kbps, LineBad>
-    ensures value { result ≡ rate_meaning text.now }
-    ensures refusal { IfErr result (λ why. why ≡ Number) }
-    ensures range { IfOk result (λ rate. rate < 2 ^ 32) }
+pub(crate) fn read_session_rate(text: &[u8]) -> Result<Kbps, LineBad>
+    ensures { result ≡ session_rate text.now }
 {
-    let rate = read_number(text, RATE_END)?;
+    let rate = read_in(text, 0, LAST_SESSION_RATE)?;
     Ok(Kbps(rate))
 }
 
-pub(crate) fn read_octets(alloc: Global, text: &[u8]) -> Result<Octets, LineBad>
-    ensures value { IfOk result (λ octets. octets_meaning text.now ≡ Ok octets) }
-    ensures refusal { IfErr result (λ why. (why ≡ NoMemory) ⊎ (octets_meaning text.now ≡ Err why)) }
-    ensures some { IfOk result (λ octets. 0 < length octets) }
-    ensures memory { result ≡ Err NoMemory → IsOk (octets_meaning text.now) }
+pub(crate) fn read_bearer_rate(text: &[u8]) -> Result<Kbps, LineBad>
+    ensures { result ≡ bearer_rate text.now }
 {
-    if text.is_empty() || text.len() % 2 == 1 {
-        return Err(LineBad::Hex);
-    }
-    if !are_hex_digits(text) {
-        return Err(LineBad::Hex);
-    }
-    let mut octets = vec![in alloc; 0u8; text.len() / 2]?;
-    decode(text, octets.as_mut_slice());
-    Ok(Octets::of(octets))
+    let rate = read_in(text, 0, LAST_BEARER_RATE)?;
+    Ok(Kbps(rate))
+}
+
+pub(crate) fn read_ebi(text: &[u8]) -> Result<u8, LineBad>
+    ensures { result ≡ number_meaning 5 15 text.now }
+{
+    let ebi = read_in(text, FIRST_EBI, LAST_EBI)?;
+    Ok(ebi as u8)
+}
+
+pub(crate) fn read_qci(text: &[u8]) -> Result<u8, LineBad>
+    ensures { result ≡ number_meaning 1 255 text.now }
+{
+    let qci = read_in(text, FIRST_QCI, LAST_QCI)?;
+    Ok(qci as u8)
+}
+
+pub(crate) fn read_slice(text: &[u8]) -> Result<SliceNo, LineBad>
+    ensures { result ≡ number_meaning 0 63 text.now }
+{
+    let slice = read_in(text, 0, LAST_SLICE)?;
+    Ok(SliceNo(slice as u8))
 }

@@ -1,19 +1,24 @@
-//! The lines of a trace: what a line of text says, and why a text is no line. What the lines and the
-//! stop of a whole trace are stands in `specs/Input`; who reads octets joins to it by `InputLemmas`.
+//! The lines of a trace, both ways: what a line of text says, the one text of a line, and why a text is
+//! no line; and where an epoch of lines ends. What the lines and the stop of a whole trace are stands
+//! in `specs/Input`; who reads octets joins to it by `InputLemmas`.
 #![tactic(auto)]
 
 mod arguments;
 mod bad;
-mod fields;
-mod hexadecimal;
+mod epoch;
+mod kinds;
+mod laws;
 mod line;
-mod numbers;
+mod message;
 mod reading;
+mod writing;
 
 pub use bad::LineBad;
+pub use epoch::ends_epoch;
+pub use laws::{epochs_are_runs, lines_mean_their_texts};
 pub use line::{LineKind, TraceLine};
-pub use numbers::one_text_of_a_number;
 pub use reading::read_line;
+pub use writing::{push_text, text};
 
 #[cfg(test)]
 mod tests;

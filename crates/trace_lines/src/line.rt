@@ -1,21 +1,60 @@
 ghost use Rattle.std.specs.Prelude.{◌≡◌};
 
-use pc_base::{Imsi, Kbps, Moment, Octets, Peer};
+use pc_base::{Imsi, Kbps, Moment, Octets, Peer, SliceNo};
 use std::marker::Model;
 
-/// What a line says, by its kind.
+/// What a line says, by its kind. Octets are at least one, rates of a session (`up`, `down`) below
+/// 2^32 kbps, those of a bearer below 2^40, and EBIs 5 to 15.
 #[derive(Debug, Drop, PartialEq, Eq)]
 pub enum LineKind {
-    /// `S1U`: a GTP-U message of an eNodeB, at least one octet.
+    /// `S11`: a GTPv2-C message of the MME.
+    S11(Octets),
+    /// `S1U`: a GTP-U message of an eNodeB.
     S1u(Octets),
-    /// `ATTACH`: a subscriber's session with its first bearer, towards this eNodeB; the rates of the
-    /// session are below 2^32 kbps.
+    /// `SGI`: an IPv4 packet of the internet.
+    Sgi(Octets),
+    /// `ATTACH`: a subscriber's session with its first bearer, towards this eNodeB.
     Attach {
         imsi: Imsi,
         enb: Peer,
         up: Kbps,
         down: Kbps,
     },
+    /// `BEARER`: one more bearer, of this QCI (1 to 255), with these rates (maximum, guaranteed) and
+    /// this traffic flow template.
+    Bearer {
+        imsi: Imsi,
+        qci: u8,
+        mbr_up: Kbps,
+        mbr_down: Kbps,
+        gbr_up: Kbps,
+        gbr_down: Kbps,
+        tft: Octets,
+    },
+    /// `FILTERS`: a change to the filters of the bearer of this EBI.
+    Filters {
+        imsi: Imsi,
+        ebi: u8,
+        tft: Octets,
+    },
+    /// `DROP`: the bearer of this EBI is given up.
+    Drop {
+        imsi: Imsi,
+        ebi: u8,
+    },
+    /// `AMBR`: other rates of the session.
+    Ambr {
+        imsi: Imsi,
+        up: Kbps,
+        down: Kbps,
+    },
+    /// `MOVE`: the subscriber goes to this slice.
+    Move {
+        imsi: Imsi,
+        slice: SliceNo,
+    },
+    /// `FENCE`: the epoch ends here.
+    Fence,
 }
 
 /// A line of a trace: its number, counted from 1, its moment, and what it says.
@@ -27,13 +66,13 @@ pub struct TraceLine {
 }
 
 impl Model for TraceLine {
-    ghost use Rattle.trace_lines.specs.Line.{Line, KeepsRanges};
+    ghost use Rattle.trace_lines.specs.Line.{Line, IsLine};
 
     ghost Value = { Line };
 
     ghost view = { λ line. record { number = line.number; moment = line.moment; kind = line.kind } };
 
-    ghost invariant = { λ line. KeepsRanges line.kind };
+    ghost invariant = { λ line. IsLine (record { number = line.number; moment = line.moment; kind = line.kind }) };
 
     ghost inverse = { λ value. record { number = value.number; moment = value.moment; kind = value.kind } };
 }

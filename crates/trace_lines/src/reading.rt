@@ -1,19 +1,22 @@
-ghost use Rattle.std.specs.Prelude.{◌≡◌, ◌≢◌, ◌≤◌, ◌⊎◌, Err, IfOk, IfErr};
-ghost use Rattle.trace_lines.specs.Fields.{space, pieces_left};
-ghost use Rattle.trace_lines.specs.Line.{KeepsRanges};
-ghost use Rattle.trace_lines.specs.Memory.{HoldsOctets, KeepsOctets};
-ghost use Rattle.trace_lines.specs.Meaning.{line_meaning, kind_meaning, s1u_meaning, attach_meaning};
-ghost use Rattle.trace_lines.specs.declared.bad.LineBad.TheVariants.{NoMemory};
+ghost use Rattle.std.specs.Prelude.{◌≡◌, ◌≤◌, ◌⊎◌, Some, Err, Ok, IfOk, IfErr, IfSome, true, length, if◌then◌else◌};
+ghost use Rattle.text_fields.specs.Fields.{fields_of, has_empty_field};
+ghost use Rattle.trace_lines.specs.Line.{Line};
+ghost use Rattle.trace_lines.specs.Text.{Means, line_text};
+ghost use Rattle.trace_lines.specs.Refusal.{first_fault};
+ghost use Rattle.wire_octets.specs.Memory.{OrNoMemory};
+ghost use Rattle.trace_lines.specs.Memory.{wants_octets};
+ghost use Rattle.trace_lines.specs.Meaning.{line_meaning, line_of_fields};
+ghost use Rattle.trace_lines.specs.declared.bad.LineBad.TheVariants.{NoMemory, Field};
 
-use crate::arguments::{read_address, read_imsi, read_octets, read_rate, read_teid};
-use crate::fields::{cut, has_empty_field, next_piece};
-use crate::numbers::read_number;
-use crate::{LineBad, LineKind, TraceLine};
-use pc_base::{Moment, Peer};
+use crate::arguments::read_in;
+use crate::kinds::read_kind;
+use crate::{LineBad, TraceLine};
+use pc_base::Moment;
 use std::alloc::Global;
+use text_fields::{cut, has_empty_field};
 
-// Moments end before this one, in microseconds.
-const MOMENT_END: u64 = 1 << 50;
+// The last moment, in microseconds.
+const LAST_MOMENT: u64 = (1 << 50) - 1;
 
 /// What the line of this number says, where no moment below the least one may come: the text is the
 /// line without its newline.
@@ -21,33 +24,74 @@ const MOMENT_END: u64 = 1 << 50;
 /// The refusals come in this order. `Field`: fewer than two fields, or an empty one. `Number`: the
 /// moment is no number below 2^50. `Kind`: an unknown kind. `Field`: a wrong number of fields.
 /// `Number` and `Hex`: the first argument that isn't what it should be. `MomentBack`: the moment is
-/// below the least one. `NoMemory` comes where the octets of a message find no memory.
+/// below the least one. `NoMemory` comes where the octets of a line find no memory.
 pub fn read_line(
     alloc: Global,
     text: &[u8],
     number: u64,
     least: Moment,
 ) -> Result<TraceLine, LineBad>
+    // What is read is what the text means, and a text that means a line is read.
+    ensures means { IfOk result (λ line. Means text.now line) }
+    ensures numbered { IfOk result (λ line. line.number ≡ number) }
+    ensures in_order { IfOk result (λ line. least ≤ line.moment) }
+    ensures as_long { IfOk result (λ line. length (line_text line) ≡ length text.now) }
+    ensures only { (line : Line) → Means text.now line → line.number ≡ number → least ≤ line.moment
+        → OrNoMemory result (Ok line) NoMemory }
+
+    // A refusal is the first fault, and each fault is refused.
+    ensures refused { IfErr result (λ why. (why ≡ NoMemory) ⊎ (first_fault least text.now ≡ Some why)) }
+    ensures fault { IfSome (first_fault least text.now) (λ why. OrNoMemory result (Err why) NoMemory) }
+
+    // Memory is asked for only by a line of a kind with octets.
+    ensures memory { result ≡ Err NoMemory → wants_octets (fields_of text.now) ≡ true }
+
+    // The same in one word, for a reader of many lines.
     ensures line { IfOk result (λ line. line_meaning least number text.now ≡ Ok line) }
     ensures refusal { IfErr result (λ why. (why ≡ NoMemory)
         ⊎ (line_meaning least number text.now ≡ Err why)) }
+{
+    read_whole(alloc, text, number, least)
+}
 
-    // What a reader of many lines goes on with.
-    ensures numbered { IfOk result (λ line. line.number ≡ number) }
-    ensures in_order { IfOk result (λ line. least ≤ line.moment) }
+// In one word.
+fn read_whole(alloc: Global, text: &[u8], number: u64, least: Moment) -> Result<TraceLine, LineBad>
+    ensures line { IfOk result (λ line. line_meaning least number text.now ≡ Ok line) }
+    ensures refusal { IfErr result (λ why. (why ≡ NoMemory)
+        ⊎ (line_meaning least number text.now ≡ Err why)) }
+    ensures memory { result ≡ Err NoMemory → wants_octets (fields_of text.now) ≡ true }
+{
+    match read_fields(alloc, text, number, least) {
+        Ok(line) => Ok(line),
+        Err(why) => Err(refused(text, why)),
+    }
+}
 
-    // Memory is asked for only by a line with octets, and with nothing wrong but maybe its moment.
-    ensures memory { result ≡ Err NoMemory → HoldsOctets (line_meaning 0 number text.now) }
+// Why a line is refused that has no fault but this, or an empty field.
+fn refused(text: &[u8], why: LineBad) -> LineBad
+    ensures { result ≡ (if has_empty_field text.now then Field else why) }
 {
     if has_empty_field(text) {
-        return Err(LineBad::Field);
+        LineBad::Field
+    } else {
+        why
     }
+}
+
+// The same, where no field is empty.
+fn read_fields(alloc: Global, text: &[u8], number: u64, least: Moment) -> Result<TraceLine, LineBad>
+    ensures line { IfOk result (λ line. line_of_fields least number (fields_of text.now) ≡ Ok line) }
+    ensures refusal { IfErr result (λ why. (why ≡ NoMemory)
+        ⊎ (line_of_fields least number (fields_of text.now) ≡ Err why)) }
+    ensures memory { result ≡ Err NoMemory → wants_octets (fields_of text.now) ≡ true }
+{
     let (moment, rest) = cut(b' ', text);
     let Some(rest) = rest else {
         return Err(LineBad::Field);
     };
     let (word, arguments) = cut(b' ', rest);
-    let moment = Moment(read_number(moment, MOMENT_END)?);
+    let moment = read_in(moment, 0, LAST_MOMENT)?;
+    let moment = Moment(moment);
     let kind = read_kind(alloc, word, arguments)?;
     if moment < least {
         return Err(LineBad::MomentBack);
@@ -56,75 +100,5 @@ pub fn read_line(
         number,
         moment,
         kind,
-    })
-}
-
-fn read_kind(alloc: Global, word: &[u8], arguments: Option<&[u8]>) -> Result<LineKind, LineBad>
-    ensures kind { IfOk result (λ kind. kind_meaning word.now (pieces_left space arguments.entry) ≡ Ok kind) }
-    ensures refusal { IfErr result (λ why. (why ≡ NoMemory)
-        ⊎ (kind_meaning word.now (pieces_left space arguments.entry) ≡ Err why)) }
-    ensures ranges { IfOk result KeepsRanges }
-    ensures memory { result ≡ Err NoMemory
-        → KeepsOctets (kind_meaning word.now (pieces_left space arguments.entry)) }
-{
-    if word == b"S1U".as_slice() {
-        read_s1u(alloc, arguments)
-    } else if word == b"ATTACH".as_slice() {
-        read_attach(arguments)
-    } else {
-        Err(LineBad::Kind)
-    }
-}
-
-fn read_s1u(alloc: Global, arguments: Option<&[u8]>) -> Result<LineKind, LineBad>
-    ensures kind { IfOk result (λ kind. s1u_meaning (pieces_left space arguments.entry) ≡ Ok kind) }
-    ensures refusal { IfErr result (λ why. (why ≡ NoMemory)
-        ⊎ (s1u_meaning (pieces_left space arguments.entry) ≡ Err why)) }
-    ensures ranges { IfOk result KeepsRanges }
-    ensures memory { result ≡ Err NoMemory → KeepsOctets (s1u_meaning (pieces_left space arguments.entry)) }
-{
-    let Some((octets, rest)) = next_piece(b' ', arguments) else {
-        return Err(LineBad::Field);
-    };
-    let None = next_piece(b' ', rest) else {
-        return Err(LineBad::Field);
-    };
-    let octets = read_octets(alloc, octets)?;
-    Ok(LineKind::S1u(octets))
-}
-
-fn read_attach(arguments: Option<&[u8]>) -> Result<LineKind, LineBad>
-    ensures kind { result ≡ attach_meaning (pieces_left space arguments.entry) }
-    ensures ranges { IfOk result KeepsRanges }
-    ensures no_memory { IfErr result (λ why. why ≢ NoMemory) }
-{
-    let Some((imsi, rest)) = next_piece(b' ', arguments) else {
-        return Err(LineBad::Field);
-    };
-    let Some((address, rest)) = next_piece(b' ', rest) else {
-        return Err(LineBad::Field);
-    };
-    let Some((teid, rest)) = next_piece(b' ', rest) else {
-        return Err(LineBad::Field);
-    };
-    let Some((up, rest)) = next_piece(b' ', rest) else {
-        return Err(LineBad::Field);
-    };
-    let Some((down, rest)) = next_piece(b' ', rest) else {
-        return Err(LineBad::Field);
-    };
-    let None = next_piece(b' ', rest) else {
-        return Err(LineBad::Field);
-    };
-    let imsi = read_imsi(imsi)?;
-    let addr = read_address(address)?;
-    let teid = read_teid(teid)?;
-    let up = read_rate(up)?;
-    let down = read_rate(down)?;
-    Ok(LineKind::Attach {
-        imsi,
-        enb: Peer { teid, addr },
-        up,
-        down,
     })
 }

@@ -1,0 +1,4 @@
+pub mod Fields
+pub mod Number
+pub mod Address
+pub mod Hexadecimal

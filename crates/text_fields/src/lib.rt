@@ -1,0 +1,24 @@
+//! Lines of text as fields with one space between each two, and the fields that a trace and a report
+//! share, both ways: decimal numbers, IPv4 addresses, octets in hexadecimal. Which fields a line has
+//! is left to the crates above.
+#![tactic(auto)]
+
+mod address;
+mod fields;
+mod hexadecimal;
+mod laws;
+mod number;
+mod writing;
+
+pub use address::read_address;
+pub use fields::{cut, has_empty_field, next_piece};
+pub use hexadecimal::{decode, read_lower_octets, read_octets};
+pub use laws::{
+    fields_stand_apart, one_lower_text_of_octets, one_text_of_a_number, one_text_of_an_address,
+    one_text_of_octets,
+};
+pub use number::read_number;
+pub use writing::{push_address, push_field, push_number, push_octets};
+
+#[cfg(test)]
+mod tests;

@@ -1,0 +1,205 @@
+//! The kinds of line with their arguments.
+ghost use Rattle.std.specs.Prelude.{◌≡◌, ◌≢◌, ◌⊎◌, ◌∷◌, [], Err, IfOk, IfErr, MatchResult, true, false};
+ghost use Rattle.text_fields.specs.Fields.{space, pieces_left};
+ghost use Rattle.trace_lines.specs.Memory.{is_message, has_octets};
+ghost use Rattle.trace_lines.specs.Meaning.{kind_meaning, attach_meaning, bearer_meaning, filters_meaning, drop_meaning, ambr_meaning, move_meaning, fence_meaning};
+ghost use Rattle.trace_lines.specs.declared.bad.LineBad.TheVariants.{NoMemory, Field};
+
+use crate::arguments::{
+    read_address, read_bearer_rate, read_ebi, read_imsi, read_qci, read_session_rate, read_slice,
+    read_teid,
+};
+use crate::message::{read_message, read_octets};
+use crate::{LineBad, LineKind};
+use pc_base::Peer;
+use std::alloc::Global;
+use text_fields::next_piece;
+
+pub(crate) fn read_kind(
+    alloc: Global,
+    word: &[u8],
+    arguments: Option<&[u8]>,
+) -> Result<LineKind, LineBad>
+    ensures kind { IfOk result (λ kind. kind_meaning word.now (pieces_left space arguments.entry) ≡ Ok kind) }
+    ensures refusal { IfErr result (λ why. (why ≡ NoMemory)
+        ⊎ (kind_meaning word.now (pieces_left space arguments.entry) ≡ Err why)) }
+    ensures memory { result ≡ Err NoMemory → has_octets word.now ≡ true }
+{
+    if word == b"S1U".as_slice() {
+        Ok(LineKind::S1u(read_message(alloc, arguments)?))
+    } else if word == b"SGI".as_slice() {
+        Ok(LineKind::Sgi(read_message(alloc, arguments)?))
+    } else if word == b"S11".as_slice() {
+        Ok(LineKind::S11(read_message(alloc, arguments)?))
+    } else {
+        read_order(alloc, word, arguments)
+    }
+}
+
+// The operator's orders.
+fn read_order(alloc: Global, word: &[u8], arguments: Option<&[u8]>) -> Result<LineKind, LineBad>
+    requires { is_message word.now ≡ false }
+    ensures kind { IfOk result (λ kind. kind_meaning word.now (pieces_left space arguments.entry) ≡ Ok kind) }
+    ensures refusal { IfErr result (λ why. (why ≡ NoMemory)
+        ⊎ (kind_meaning word.now (pieces_left space arguments.entry) ≡ Err why)) }
+    ensures memory { result ≡ Err NoMemory → has_octets word.now ≡ true }
+{
+    if word == b"ATTACH".as_slice() {
+        read_attach(arguments)
+    } else if word == b"BEARER".as_slice() {
+        read_bearer(alloc, arguments)
+    } else if word == b"FILTERS".as_slice() {
+        read_filters(alloc, arguments)
+    } else if word == b"DROP".as_slice() {
+        read_drop(arguments)
+    } else if word == b"AMBR".as_slice() {
+        read_ambr(arguments)
+    } else if word == b"MOVE".as_slice() {
+        read_move(arguments)
+    } else if word == b"FENCE".as_slice() {
+        read_fence(arguments)
+    } else {
+        Err(LineBad::Kind)
+    }
+}
+
+// The next argument, and what is left behind it.
+fn field(left: Option<&[u8]>) -> Result<(&[u8], Option<&[u8]>), LineBad>
+    ensures { MatchResult result (λ piece. pieces_left space left.entry ≡ piece.0.now ∷ pieces_left space piece.1)
+        (λ why. (why ≡ Field) × (pieces_left space left.entry ≡ [])) }
+{
+    match next_piece(b' ', left) {
+        Some(piece) => Ok(piece),
+        None => Err(LineBad::Field),
+    }
+}
+
+fn read_attach(arguments: Option<&[u8]>) -> Result<LineKind, LineBad>
+    ensures kind { result ≡ attach_meaning (pieces_left space arguments.entry) }
+    ensures no_memory { IfErr result (λ why. why ≢ NoMemory) }
+{
+    let (imsi, rest) = field(arguments)?;
+    let (address, rest) = field(rest)?;
+    let (teid, rest) = field(rest)?;
+    let (up, rest) = field(rest)?;
+    let (down, rest) = field(rest)?;
+    let None = next_piece(b' ', rest) else {
+        return Err(LineBad::Field);
+    };
+    let imsi = read_imsi(imsi)?;
+    let addr = read_address(address)?;
+    let teid = read_teid(teid)?;
+    let up = read_session_rate(up)?;
+    let down = read_session_rate(down)?;
+    let enb = Peer { teid, addr };
+    Ok(LineKind::Attach {
+        imsi,
+        enb,
+        up,
+        down,
+    })
+}
+
+fn read_bearer(alloc: Global, arguments: Option<&[u8]>) -> Result<LineKind, LineBad>
+    ensures kind { IfOk result (λ kind. bearer_meaning (pieces_left space arguments.entry) ≡ Ok kind) }
+    ensures refusal { IfErr result (λ why. (why ≡ NoMemory)
+        ⊎ (bearer_meaning (pieces_left space arguments.entry) ≡ Err why)) }
+{
+    let (imsi, rest) = field(arguments)?;
+    let (qci, rest) = field(rest)?;
+    let (mbr_up, rest) = field(rest)?;
+    let (mbr_down, rest) = field(rest)?;
+    let (gbr_up, rest) = field(rest)?;
+    let (gbr_down, rest) = field(rest)?;
+    let (tft, rest) = field(rest)?;
+    let None = next_piece(b' ', rest) else {
+        return Err(LineBad::Field);
+    };
+    let imsi = read_imsi(imsi)?;
+    let qci = read_qci(qci)?;
+    let mbr_up = read_bearer_rate(mbr_up)?;
+    let mbr_down = read_bearer_rate(mbr_down)?;
+    let gbr_up = read_bearer_rate(gbr_up)?;
+    let gbr_down = read_bearer_rate(gbr_down)?;
+    let tft = read_octets(alloc, tft)?;
+    Ok(LineKind::Bearer {
+        imsi,
+        qci,
+        mbr_up,
+        mbr_down,
+        gbr_up,
+        gbr_down,
+        tft,
+    })
+}
+
+fn read_filters(alloc: Global, arguments: Option<&[u8]>) -> Result<LineKind, LineBad>
+    ensures kind { IfOk result (λ kind. filters_meaning (pieces_left space arguments.entry) ≡ Ok kind) }
+    ensures refusal { IfErr result (λ why. (why ≡ NoMemory)
+        ⊎ (filters_meaning (pieces_left space arguments.entry) ≡ Err why)) }
+{
+    let (imsi, rest) = field(arguments)?;
+    let (ebi, rest) = field(rest)?;
+    let (tft, rest) = field(rest)?;
+    let None = next_piece(b' ', rest) else {
+        return Err(LineBad::Field);
+    };
+    let imsi = read_imsi(imsi)?;
+    let ebi = read_ebi(ebi)?;
+    let tft = read_octets(alloc, tft)?;
+    Ok(LineKind::Filters { imsi, ebi, tft })
+}
+
+fn read_drop(arguments: Option<&[u8]>) -> Result<LineKind, LineBad>
+    ensures kind { result ≡ drop_meaning (pieces_left space arguments.entry) }
+    ensures no_memory { IfErr result (λ why. why ≢ NoMemory) }
+{
+    let (imsi, rest) = field(arguments)?;
+    let (ebi, rest) = field(rest)?;
+    let None = next_piece(b' ', rest) else {
+        return Err(LineBad::Field);
+    };
+    let imsi = read_imsi(imsi)?;
+    let ebi = read_ebi(ebi)?;
+    Ok(LineKind::Drop { imsi, ebi })
+}
+
+fn read_ambr(arguments: Option<&[u8]>) -> Result<LineKind, LineBad>
+    ensures kind { result ≡ ambr_meaning (pieces_left space arguments.entry) }
+    ensures no_memory { IfErr result (λ why. why ≢ NoMemory) }
+{
+    let (imsi, rest) = field(arguments)?;
+    let (up, rest) = field(rest)?;
+    let (down, rest) = field(rest)?;
+    let None = next_piece(b' ', rest) else {
+        return Err(LineBad::Field);
+    };
+    let imsi = read_imsi(imsi)?;
+    let up = read_session_rate(up)?;
+    let down = read_session_rate(down)?;
+    Ok(LineKind::Ambr { imsi, up, down })
+}
+
+fn read_move(arguments: Option<&[u8]>) -> Result<LineKind, LineBad>
+    ensures kind { result ≡ move_meaning (pieces_left space arguments.entry) }
+    ensures no_memory { IfErr result (λ why. why ≢ NoMemory) }
+{
+    let (imsi, rest) = field(arguments)?;
+    let (slice, rest) = field(rest)?;
+    let None = next_piece(b' ', rest) else {
+        return Err(LineBad::Field);
+    };
+    let imsi = read_imsi(imsi)?;
+    let slice = read_slice(slice)?;
+    Ok(LineKind::Move { imsi, slice })
+}
+
+fn read_fence(arguments: Option<&[u8]>) -> Result<LineKind, LineBad>
+    ensures kind { result ≡ fence_meaning (pieces_left space arguments.entry) }
+    ensures no_memory { IfErr result (λ why. why ≢ NoMemory) }
+{
+    let None = next_piece(b' ', arguments) else {
+        return Err(LineBad::Field);
+    };
+    Ok(LineKind::Fence)
+}
