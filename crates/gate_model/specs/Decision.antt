@@ -99,10 +99,11 @@ abbrev pub attaching : Option ℕ → Command → Decision
 attaching (Some slot) order = command slot order
 attaching None order = note (codes "pool")
 
--- what a line means, by the book behind it
+-- what a line means, by the book behind it; a line that isn't built is refused before it comes here
 abbrev pub decided_by : List (List ℕ) → ℕ → LineKind → Decision
 decided_by book moment (S1u octets) = received (length book) moment octets
 decided_by book moment (Attach imsi enb up down) = attaching (slot_in book imsi) (order.Attach enb up down)
+decided_by book moment _ = note (codes "unbuilt")
 
 abbrev pub decided : List (List ℕ) → TraceLine → Decision
 decided book line = decided_by book line.moment line.kind

@@ -4,6 +4,7 @@ pub mod Packets
 pub mod Events
 pub mod Heard
 pub mod Yardstick
+pub mod Built
 pub mod Book
 pub mod Tunnel
 pub mod Decision

@@ -6,6 +6,7 @@
 /// The gateway's own address, 192.0.2.1.
 pub const GATEWAY_ADDR: u32 = 0xc000_0201;
 
+mod built;
 mod command;
 mod gateway;
 mod judging;
@@ -14,6 +15,7 @@ mod session;
 #[cfg(test)]
 mod tests;
 
+pub use built::is_built;
 pub use command::Command;
 pub use gateway::{Event, Gateway, Happened};
 pub use laws::{

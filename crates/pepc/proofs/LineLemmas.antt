@@ -1,11 +1,13 @@
 -- What a gateway stands for with one line more, by the line's kind.
-use Rattle.std.proofs.Common.{◌≡◌, ℕ, List, [], ◌∷◌, ◌++◌, length, Result, Ok, Err, OnOk, sym, ap, subst, ◌∙◌}
+use Rattle.std.proofs.Common.{◌≡◌, ℕ, List, [], ◌∷◌, ◌++◌, length, codes, false, Result, Ok, Err, OnOk, refl, sym, ap, subst, ◌∙◌}
 use Rattle.pc_base.specs.declared.packet.Peer.{Peer}
 use Rattle.address_book.specs.Book.{slot_in}
 use Rattle.trace_lines.specs.Line.{Line}
+use Rattle.trace_lines.specs.declared.line.LineKind.{LineKind}
 use Rattle.trace_lines.specs.declared.line.LineKind.TheVariants.{S1u, Attach}
+use Rattle.gate_model.specs.Built.{is_built}
 use Rattle.gate_model.specs.Book.{with_imsi, booked, booked_by, book_of}
-use Rattle.gate_model.specs.Decision.{Decision, decided, decided_by, decisions, attaching, received}
+use Rattle.gate_model.specs.Decision.{Decision, decided, decided_by, decisions, attaching, received, note}
 use Rattle.gate_model.specs.Entered.{entry_after}
 use Rattle.gate_model.specs.Entry.{text_of}
 use Rattle.gate_model.specs.declared.command.Command.TheVariants as order
@@ -31,6 +33,28 @@ booked-s1u book line octets is = ap (booked_by book) is
 pub decided-s1u : (book : List (List ℕ)) (line : Line) (octets : List ℕ) → line.kind ≡ S1u octets
     → decided (booked book line) line ≡ received (length book) line.moment octets
 decided-s1u book line octets is = ap (λ kind. decided_by (booked_by book kind) line.moment kind) is
+
+-- a kind that is neither isn't built
+pub not_built : (kind : LineKind) → ((octets : List ℕ) → kind ≡ S1u octets → ⊥)
+    → ((imsi : List ℕ) (enb : Peer) (up down : ℕ) → kind ≡ Attach imsi enb up down → ⊥) → is_built kind ≡ false
+not_built (S1u octets) no_s1u no_attach = absurd (no_s1u octets refl)
+not_built (Attach imsi enb up down) no_s1u no_attach = absurd (no_attach imsi enb up down refl)
+not_built _ no_s1u no_attach = refl
+
+booked_by-other : (book : List (List ℕ)) (kind : LineKind) → is_built kind ≡ false → booked_by book kind ≡ book
+booked_by-other book (Attach imsi enb up down) other = cc
+booked_by-other book _ other = refl
+
+decided_by-other : (book : List (List ℕ)) (moment : ℕ) (kind : LineKind) → is_built kind ≡ false → decided_by book moment kind ≡ note (codes "unbuilt")
+decided_by-other book moment (S1u octets) other = cc
+decided_by-other book moment (Attach imsi enb up down) other = cc
+decided_by-other book moment _ other = refl
+
+pub booked-other : (book : List (List ℕ)) (line : Line) → is_built line.kind ≡ false → booked book line ≡ book
+booked-other book line other = booked_by-other book line.kind other
+
+pub decided-other : (book : List (List ℕ)) (line : Line) → is_built line.kind ≡ false → decided (booked book line) line ≡ note (codes "unbuilt")
+decided-other book line other = decided_by-other (booked book line) line.moment line.kind other
 
 -- the book and the decision of the line are all that it adds
 pub stands_for_push : (solo : Solo) (done : List Line) (line : Line) (book : List (List ℕ)) (made : Decision)

@@ -5,7 +5,8 @@ use Rattle.std.specs.Result.{is_err}
 use Rattle.std.proofs.KnownBytes.{Appends-trans, Appends-nil}
 use Rattle.std.proofs.lemmas.Grind.{flat_map-append}
 use Rattle.pc_outside.specs.Fronts.{AppendsFront}
-use Rattle.trace_lines.specs.Input.{Input, Stop, bad, long, big, ended, stopped, input_of}
+use Rattle.trace_lines.specs.Input.{Input, Stop, bad, long, big, ended, stopped}
+use Rattle.gate_model.specs.Built.{trace_of}
 use Rattle.trace_lines.specs.Line.{Line}
 use Rattle.gate_model.specs.Decision.{decisions, events_at}
 use Rattle.gate_model.specs.Entry.{text_of, texts}
@@ -51,7 +52,7 @@ report_of done stop text said = record {
 
 -- the entries of lines that octets begin with
 lines_of : (octets : List ℕ) (done : List Line) (text : List ℕ) → Begins octets done → text ≡ texts (entries_after [] (decisions done))
-    → IsLinesReport (input_of octets) text
+    → IsLinesReport (trace_of octets) text
 lines_of octets done text begins said = record {
   front = done;
   back = begins.0.lines;
@@ -63,7 +64,7 @@ lines_of octets done text begins said = record {
 }
 
 -- and of some first ones of them
-first_of : (octets : List ℕ) (done : List Line) (text : List ℕ) → Begins octets done → TellsFirst text done → IsLinesReport (input_of octets) text
+first_of : (octets : List ℕ) (done : List Line) (text : List ℕ) → Begins octets done → TellsFirst text done → IsLinesReport (trace_of octets) text
 first_of octets done text begins first = record {
   front = first.front;
   back = first.back ++ begins.0.lines;
@@ -77,10 +78,10 @@ first_of octets done text begins first = record {
 
 -- the whole report, where the octets say these lines and stop so
 whole_of : (octets : List ℕ) (done : List Line) (stop : Stop) (text : List ℕ) → Stops octets done stop → text ≡ said_of done stop
-    → IsInputReport (input_of octets) text
+    → IsInputReport (trace_of octets) text
 whole_of octets done stop text stops said = subst (λ (i : Input). IsReport i.lines i.stop text) (sym stops) (report_of done stop text said)
 
-stop_is : (octets : List ℕ) (done : List Line) (stop : Stop) → Stops octets done stop → (input_of octets).stop ≡ stop
+stop_is : (octets : List ℕ) (done : List Line) (stop : Stop) → Stops octets done stop → (trace_of octets).stop ≡ stop
 stop_is octets done stop stops = ap (λ (i : Input). i.stop) stops
 
 fault_of : (octets left text : List ℕ) (done : List Line) → Fails octets left done → text ≡ said_of done ended → IsFaultReport octets left text
@@ -167,7 +168,7 @@ pub ends_uncharged : (ending : Ending) (source_failed : Type 0) (start left old 
 ends_uncharged ending source_failed start left old new waiting gateway ends = record {
   text = ends.sent;
   written = ends.written;
-  report = told_map start left (λ octets rest. Reached ending octets rest ends.done) (λ octets rest. IsLinesReport (input_of octets) ends.sent)
+  report = told_map start left (λ octets rest. Reached ending octets rest ends.done) (λ octets rest. IsLinesReport (trace_of octets) ends.sent)
       (λ octets rest reached. first_of octets ends.done ends.sent (begins_of ending octets rest ends.done reached) ends.first) ends.reached;
 }
 
@@ -186,7 +187,7 @@ cuts_run unwritten.WriteFault source_failed start left old new cuts = record {
 cuts_run unwritten.NoMemory source_failed start left old new cuts = record {
   text = cuts.sent;
   written = cuts.written;
-  report = told_map start left (λ octets rest. Begins octets cuts.done) (λ octets rest. IsLinesReport (input_of octets) cuts.sent)
+  report = told_map start left (λ octets rest. Begins octets cuts.done) (λ octets rest. IsLinesReport (trace_of octets) cuts.sent)
       (λ octets rest begins. lines_of octets cuts.done cuts.sent begins
       (sym (append-nil cuts.sent) ∙ ap (λ t. cuts.sent ++ t) (sym (cuts.all refl)) ∙ cuts.said)) cuts.reached;
 }
@@ -195,6 +196,6 @@ cuts_run unwritten.NoMemory source_failed start left old new cuts = record {
 pub nothing_runs : (source_failed : Type 0) (start old : Option (List ℕ)) → Runs status.NoMemory source_failed start start old old
 nothing_runs source_failed start old = record { text = []; written = Appends-nil old; report = by_start start }
   where
-    by_start : (begin : Option (List ℕ)) → WhereTold begin begin (λ octets rest. IsLinesReport (input_of octets) [])
+    by_start : (begin : Option (List ℕ)) → WhereTold begin begin (λ octets rest. IsLinesReport (trace_of octets) [])
     by_start None = tt
-    by_start (Some octets) = lines_of octets [] [] (input_of octets, refl) refl
+    by_start (Some octets) = lines_of octets [] [] (trace_of octets, refl) refl

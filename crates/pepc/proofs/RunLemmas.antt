@@ -5,7 +5,8 @@ use Rattle.std.proofs.KnownBytes.{Appends-trans, Appends-nil}
 use Rattle.std.proofs.lemmas.Grind.{flat_map-append}
 use Rattle.pc_outside.specs.Fronts.{AppendsFront}
 use Rattle.pc_outside.specs.Held.{Held, IsUnfinished}
-use Rattle.trace_lines.specs.Input.{bad, long, big, ended, stopped, after_lines, input_within}
+use Rattle.trace_lines.specs.Input.{bad, long, big, ended, stopped, after_lines}
+use Rattle.gate_model.specs.Built.{trace_within}
 use Rattle.trace_lines.specs.Line.{Line}
 use Rattle.trace_lines.specs.declared.bad.LineBad.{LineBad}
 use Rattle.gate_model.specs.Decision.{decisions}
@@ -207,7 +208,7 @@ cut_here why start a left old new gateway number least room after held waiting d
   done = so_far.first.front;
   reached = told_next start a left held number least room after done one (λ octets rest. Begins octets so_far.first.front)
       (λ octets ahead rest read says. begins_front octets done so_far.sent so_far.first
-      (input_within room number least ahead, begins_so number least room done octets ahead read)) so_far.read tells;
+      (trace_within room number least ahead, begins_so number least room done octets ahead read)) so_far.read tells;
   sent = so_far.sent;
   more = [];
   written = so_far.written;
@@ -234,8 +235,8 @@ cut_behind start a left old mid new gateway number least room after held waiting
 }
 
 -- an error of answering a line cuts the report
-pub cut_by : (start a left old mid new : Option (List ℕ)) (gateway : Solo) (number least room after : ℕ) (held waiting : List ℕ) (done : List Line) (one : Next) (line : Line)
-    (why : Unwritten) (answer : Result (Unit {0}) Unwritten) → answer ≡ Err why → GivesLine one line number least room after
+pub cut_by : {T : Type 0} (start a left old mid new : Option (List ℕ)) (gateway : Solo) (number least room after : ℕ) (held waiting : List ℕ) (done : List Line) (one : Next) (line : Line)
+    (why : Unwritten) (answer : Result T Unwritten) → answer ≡ Err why → GivesLine one line number least room after
     → Progress start a old mid gateway number least room waiting done → Tells one number least room after a (prepend_known held left)
     → (answer ≡ Err unwritten.WriteFault → AppendsFront mid new (waiting ++ text_of (entry_at done line)))
     → (answer ≡ Err unwritten.NoMemory → new ≡ mid) → Cuts why start left old new

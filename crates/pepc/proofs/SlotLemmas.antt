@@ -4,7 +4,7 @@ use Rattle.std.proofs.lemmas.Bool.{cases_eq}
 use Rattle.address_book.specs.Book.{slot_in}
 use Rattle.trace_lines.specs.Line.{Line}
 use Rattle.trace_lines.specs.declared.line.LineKind.{LineKind}
-use Rattle.trace_lines.specs.declared.line.LineKind.TheVariants.{S1u, Attach}
+use Rattle.trace_lines.specs.declared.line.LineKind.TheVariants.{Attach}
 use Rattle.gate_model.specs.Book.{with_imsi, booked_by, booked, book_from, book_of}
 use Rattle.gate_model.proofs.DecisionLemmas.{with_imsi-known, with_imsi-new, with_imsi-full}
 
@@ -20,8 +20,8 @@ length-with_imsi-le book imsi short = by_slot (slot_in book imsi) refl
         ]
 
 length-booked_by-le : (book : List (List ℕ)) (kind : LineKind) → length book ≤ 65533 → length (booked_by book kind) ≤ 65533
-length-booked_by-le book (S1u octets) short = short
 length-booked_by-le book (Attach imsi enb up down) short = length-with_imsi-le book imsi short
+length-booked_by-le book _ short = short
 
 length-book_from-le : (book : List (List ℕ)) (lines : List Line) → length book ≤ 65533 → length (book_from book lines) ≤ 65533
 length-book_from-le book [] short = short

@@ -1,6 +1,8 @@
 -- What is next in an input, by what the octets say from a line on.
-use Rattle.std.specs.Prelude.{◌≡◌, ℕ, ◌+◌, ◌<◌, List, [], ◌∷◌, ◌++◌, length, Option}
-use Rattle.trace_lines.specs.Input.{bad, long, big, ended, newline, stopped, after_lines, input_within}
+use Rattle.std.specs.Prelude.{◌≡◌, ℕ, ◌+◌, ◌<◌, List, [], ◌∷◌, ◌++◌, length, Bool, Option, if◌then◌else◌}
+use Rattle.pc_outside.specs.Limits.{newline}
+use Rattle.trace_lines.specs.Input.{bad, long, big, ended, stopped, after_lines}
+use Rattle.gate_model.specs.Built.{is_built, trace_within}
 use Rattle.trace_lines.specs.Line.{Line}
 use Rattle.trace_lines.specs.declared.bad.LineBad.{LineBad}
 use Rattle.trace_lines.specs.declared.bad.LineBad.TheVariants as why
@@ -13,18 +15,18 @@ pub record SaysLine (line : Line) (number least room after : ℕ) (octets rest :
   pub text : List ℕ
   pub parts : octets ≡ text ++ newline ∷ rest
   pub given : room ≡ length text + 1 + after
-  pub says : (behind : List ℕ) → input_within room number least (text ++ newline ∷ behind)
-      ≡ after_lines (line ∷ []) (input_within after (number + 1) line.moment behind)
+  pub says : (behind : List ℕ) → trace_within room number least (text ++ newline ∷ behind)
+      ≡ after_lines (line ∷ []) (trace_within after (number + 1) line.moment behind)
 
 -- what the octets say with this room, and what rest and room they leave
 abbrev pub Says : Next → ℕ → ℕ → ℕ → ℕ → List ℕ → List ℕ → Type 0
 Says (next.Line line) number least room after octets rest = SaysLine line number least room after octets rest
 Says (next.Last line) number least room after octets rest =
-    (input_within room number least octets ≡ after_lines (line ∷ []) (stopped ended)) × (rest ≡ [])
-Says (next.Bad why) number least room after octets rest = input_within room number least octets ≡ stopped (bad number why)
-Says next.End number least room after octets rest = (input_within room number least octets ≡ stopped ended) × (rest ≡ [])
-Says next.LineLong number least room after octets rest = input_within room number least octets ≡ stopped (long number)
-Says next.TooLong number least room after octets rest = input_within room number least octets ≡ stopped big
+    (trace_within room number least octets ≡ after_lines (line ∷ []) (stopped ended)) × (rest ≡ [])
+Says (next.Bad why) number least room after octets rest = trace_within room number least octets ≡ stopped (bad number why)
+Says next.End number least room after octets rest = (trace_within room number least octets ≡ stopped ended) × (rest ≡ [])
+Says next.LineLong number least room after octets rest = trace_within room number least octets ≡ stopped (long number)
+Says next.TooLong number least room after octets rest = trace_within room number least octets ≡ stopped big
 Says next.ReadFault number least room after octets rest = (rest ≡ octets) × (after ≡ room)
 Says next.NoMemory number least room after octets rest = Unit {0}
 
@@ -42,6 +44,10 @@ TakesRoom next.LineLong room after = Unit {0}
 TakesRoom next.TooLong room after = Unit {0}
 TakesRoom next.ReadFault room after = Unit {0}
 TakesRoom next.NoMemory room after = Unit {0}
+
+-- a line that was read, and whether it is the last one
+abbrev pub given_as : Line → Bool → Next
+given_as line last = if is_built line.kind then (if last then next.Last line else next.Line line) else next.Bad why.Kind
 
 -- a line that can't be read
 abbrev pub refused_as : LineBad → Next

@@ -1,7 +1,8 @@
 -- How far a run has come.
 use Rattle.std.specs.Prelude.{◌≡◌, ℕ, ◌+◌, ◌≤◌, ◌^◌, ◌⊎◌, List, [], ◌++◌, length, Option}
 use Rattle.std.specs.Io.KnownBytes.{Appends}
-use Rattle.trace_lines.specs.Input.{Input, Stop, bad, long, big, ended, after_lines, input_within, input_of}
+use Rattle.trace_lines.specs.Input.{Input, Stop, bad, long, big, ended, after_lines}
+use Rattle.gate_model.specs.Built.{trace_within, trace_of}
 use Rattle.trace_lines.specs.Line.{Line}
 use Rattle.gate_model.specs.Decision.{decisions}
 use Rattle.gate_model.specs.Entry.{texts}
@@ -30,7 +31,7 @@ pub record HasRead (octets ahead : List ℕ) (number least room : ℕ) (done : L
   pub parts : octets ≡ gone ++ ahead
   pub lines : IsWholeLines gone
   pub taken : length gone + room ≡ 2 ^ 40
-  pub says : (behind : List ℕ) → input_of (gone ++ behind) ≡ after_lines done (input_within room number least behind)
+  pub says : (behind : List ℕ) → trace_of (gone ++ behind) ≡ after_lines done (trace_within room number least behind)
 
 -- the text is that of the entries of some first ones of these lines
 pub record TellsFirst (text : List ℕ) (done : List Line) : Type 0 where
@@ -60,11 +61,11 @@ stop_of TooLong number = big
 
 -- octets begin with these lines
 abbrev pub Begins : List ℕ → List Line → Type 0
-Begins octets done = (behind : Input) × (input_of octets ≡ after_lines done behind)
+Begins octets done = (behind : Input) × (trace_of octets ≡ after_lines done behind)
 
 -- and stop behind them
 abbrev pub Stops : List ℕ → List Line → Stop → Type 0
-Stops octets done stop = input_of octets ≡ record { lines = done; stop = stop }
+Stops octets done stop = trace_of octets ≡ record { lines = done; stop = stop }
 
 -- the whole lines that were taken are these
 pub record Fails (octets left : List ℕ) (done : List Line) : Type 0 where

@@ -2,7 +2,9 @@
 use Rattle.std.specs.Prelude.{◌≡◌, ℕ, ◌+◌, ◌^◌, ◌<◌, ◌≤◌, ◌⊎◌, List, [], ◌∷◌, ◌++◌, length, Option, codes}
 use Rattle.std.specs.Io.KnownBytes.{Appends}
 use Rattle.pc_outside.specs.Line.{NoNewline}
-use Rattle.trace_lines.specs.Input.{Input, Stop, bad, long, big, ended, newline, line_max, input_of}
+use Rattle.pc_outside.specs.Limits.{newline, line_max}
+use Rattle.trace_lines.specs.Input.{Input, Stop, bad, long, big, ended}
+use Rattle.gate_model.specs.Built.{trace_of}
 use Rattle.trace_lines.specs.Line.{Line}
 use Rattle.trace_lines.specs.Word.{word_of}
 use Rattle.gate_model.specs.Book.{book_of}
@@ -51,8 +53,8 @@ pub record Taken (octets left : List ℕ) : Type 0 where
 -- the report of the whole lines that were taken, none of which is bad or long
 pub record IsFaultReport (octets left text : List ℕ) : Type 0 where
   pub taken : Taken octets left
-  pub stop : (input_of taken.whole).stop ≡ ended
-  pub report : IsInputReport (input_of taken.whole) text
+  pub stop : (trace_of taken.whole).stop ≡ ended
+  pub report : IsInputReport (trace_of taken.whole) text
 
 -- the entries of some first lines, and no charges
 pub record IsLinesReport (input : Input) (text : List ℕ) : Type 0 where
@@ -68,8 +70,8 @@ pub record IsLinesReport (input : Input) (text : List ℕ) : Type 0 where
 -- failed; or a front of the entries of some first lines, without charges
 pub record IsCutReport (source_failed : Type 0) (octets left text : List ℕ) : Type 0 where
   pub more : List ℕ
-  pub whole : IsInputReport (input_of octets) (text ++ more)
-      ⊎ ((source_failed × IsFaultReport octets left (text ++ more)) ⊎ IsLinesReport (input_of octets) (text ++ more))
+  pub whole : IsInputReport (trace_of octets) (text ++ more)
+      ⊎ ((source_failed × IsFaultReport octets left (text ++ more)) ⊎ IsLinesReport (trace_of octets) (text ++ more))
 
 -- the input stops at a bad line, or at a long one
 abbrev pub IsBad : Stop → Type 0
@@ -87,14 +89,14 @@ IsLong ended = ⊥
 -- what a run with this status wrote, where the source had these octets and has those left
 abbrev pub Reports : Status → Type 0 → List ℕ → List ℕ → List ℕ → Type 0
 Reports status.Ok source_failed octets left text =
-    ((input_of octets).stop ≡ ended) × (left ≡ []) × IsInputReport (input_of octets) text
+    ((trace_of octets).stop ≡ ended) × (left ≡ []) × IsInputReport (trace_of octets) text
 Reports status.Usage source_failed octets left text = text ≡ []
 Reports status.ReadFault source_failed octets left text = IsFaultReport octets left text
 Reports status.WriteFault source_failed octets left text = IsCutReport source_failed octets left text
-Reports status.NoMemory source_failed octets left text = IsLinesReport (input_of octets) text
-Reports status.BadLine source_failed octets left text = IsBad (input_of octets).stop × IsInputReport (input_of octets) text
-Reports status.LineLong source_failed octets left text = IsLong (input_of octets).stop × IsInputReport (input_of octets) text
-Reports status.TooLong source_failed octets left text = ((input_of octets).stop ≡ big) × IsInputReport (input_of octets) text
+Reports status.NoMemory source_failed octets left text = IsLinesReport (trace_of octets) text
+Reports status.BadLine source_failed octets left text = IsBad (trace_of octets).stop × IsInputReport (trace_of octets) text
+Reports status.LineLong source_failed octets left text = IsLong (trace_of octets).stop × IsInputReport (trace_of octets) text
+Reports status.TooLong source_failed octets left text = ((trace_of octets).stop ≡ big) × IsInputReport (trace_of octets) text
 
 -- octets were appended to what a sink tells, and they are the report of what a source told
 pub record Runs (ending : Status) (source_failed : Type 0) (start left old new : Option (List ℕ)) : Type 0 where

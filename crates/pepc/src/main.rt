@@ -16,8 +16,9 @@ mod subscriber;
 mod tests;
 mod words;
 
-use crate::run::run_plain;
-use crate::status::{Status, fault_text};
+pub use crate::laws::one_report;
+pub use crate::run::run_plain;
+pub use crate::status::{Status, fault_text};
 use pc_outside::{StdSink, StdSource};
 use std::env::Env;
 use std::process::ExitCode;

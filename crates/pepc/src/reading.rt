@@ -3,8 +3,9 @@ ghost use Rattle.std.specs.Prelude.{◌≡◌, ◌+◌, ◌<◌, ◌≤◌, ◌^
 ghost use Rattle.std.specs.Io.KnownBytes.{prepend_known};
 ghost use Rattle.pc_outside.specs.Faults.{Rises};
 ghost use Rattle.pc_outside.specs.Held.{IsUnfinished};
-ghost use Rattle.pepc.specs.Next.{Tells, TakesRoom, refused_as};
+ghost use Rattle.pepc.specs.Next.{Tells, TakesRoom, given_as, refused_as};
 
+use gate_model::is_built;
 use pc_base::Moment;
 use pc_outside::{LineBuf, LineRead, Source, read_line};
 use std::alloc::Global;
@@ -49,9 +50,21 @@ pub fn next_line<S: Source>(
         LineRead::ReadFault => return Next::ReadFault,
     }
     match trace_lines::read_line(alloc, buf.line(), number, least) {
-        Ok(line) if buf.is_last() => Next::Last(line),
-        Ok(line) => Next::Line(line),
+        Ok(line) => given(line, buf.is_last()),
         Err(why) => refused(why),
+    }
+}
+
+// A line that was read, and whether it is the last one. It is bad where its kind isn't built.
+fn given(line: TraceLine, last: bool) -> Next
+    ensures { result ≡ given_as line last }
+{
+    if !is_built(&line.kind) {
+        Next::Bad(LineBad::Kind)
+    } else if last {
+        Next::Last(line)
+    } else {
+        Next::Line(line)
     }
 }
 

@@ -87,28 +87,30 @@ fn write_block<K: Sink>(sink: &mut K, report: &mut Vec<u8>) -> Result<(), Unwrit
     write_report(sink, report)
 }
 
-// Answers a line.
+// Answers a line, and gives its moment.
 fn take_line<K: Sink>(
     alloc: Global,
     gateway: &mut Solo,
-    line: &TraceLine,
+    line: TraceLine,
     sink: &mut K,
     report: &mut Vec<u8>,
-) -> Result<(), Unwritten>
+) -> Result<Moment, Unwritten>
     requires { (done : List Line) × StandsFor gateway.old done × (length done < 2 ^ 58) }
 
-    ensures stands { (done : List Line) → StandsFor gateway.old done → OnOk result (StandsFor gateway.new (done ++ line.now ∷ [])) }
+    ensures stands { (done : List Line) → StandsFor gateway.old done → OnOk result (StandsFor gateway.new (done ++ line ∷ [])) }
     ensures moved { (done : List Line) → StandsFor gateway.old done
-        → OnOk result (Moves (K.written sink.old) (K.written sink.new) (report.old.items ++ text_of (entry_at done line.now)) report.new.items) }
+        → OnOk result (Moves (K.written sink.old) (K.written sink.new) (report.old.items ++ text_of (entry_at done line)) report.new.items) }
     ensures cut { (done : List Line) → StandsFor gateway.old done → result ≡ Err Unwritten.WriteFault
-        → AppendsFront (K.written sink.old) (K.written sink.new) (report.old.items ++ text_of (entry_at done line.now)) }
+        → AppendsFront (K.written sink.old) (K.written sink.new) (report.old.items ++ text_of (entry_at done line)) }
+    ensures moment { IfOk result (λ at. at ≡ line.moment) }
     ensures kept { result ≡ Err Unwritten.NoMemory → sink.new ≡ sink.old }
 
     ensures later { K.faults sink.old ≤ K.faults sink.new }
     ensures fault { result ≡ Err Unwritten.WriteFault → Rises (K.faults sink.old) (K.faults sink.new) }
 {
-    gateway.enter(alloc, line, report)?;
-    write_block(sink, report)
+    gateway.enter(alloc, &line, report)?;
+    write_block(sink, report)?;
+    Ok(line.moment)
 }
 
 // Reads lines and answers them until no more come. What isn't written yet of the report is left in it.
@@ -137,12 +139,11 @@ fn run_lines<S: Source, K: Sink>(
     loop {
         match next_line(alloc, source, buf, number, least) {
             Next::Line(line) => {
-                take_line(alloc, gateway, &line, sink, report)?;
-                least = line.moment;
+                least = take_line(alloc, gateway, line, sink, report)?;
                 number += 1;
             }
             Next::Last(line) => {
-                take_line(alloc, gateway, &line, sink, report)?;
+                take_line(alloc, gateway, line, sink, report)?;
                 return Ok(Ending::Ended);
             }
             Next::Bad(why) => {

@@ -236,6 +236,8 @@ impl Solo {
                 self.attach(alloc, *imsi, &order, report)
             }
             LineKind::S1u(octets) => self.receive(alloc, line.moment, octets.as_slice(), report),
+            // Refused where lines are read.
+            _ => self.note("unbuilt", report),
         }
     }
 }

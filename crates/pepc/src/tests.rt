@@ -147,6 +147,15 @@ fn reports(rt: HostRuntime) -> Result<(), Fail> {
         ("1\n", "N 1 line field\n", Status::BadLine),
         ("01 S1U 30\n", "N 1 line number\n", Status::BadLine),
         ("1 S1X 30\n", "N 1 line kind\n", Status::BadLine),
+        // Well-formed lines of kinds that aren't built, and one that isn't well formed.
+        ("1 FENCE\n0 S1U 30\n", "N 1 line kind\n", Status::BadLine),
+        (
+            "0 S1U 30\n1 MOVE 001010 1",
+            "N 1 s1u short\nN 2 line kind\n",
+            Status::BadLine,
+        ),
+        ("1 SGI 4500", "N 1 line kind\n", Status::BadLine),
+        ("1 SGI 450", "N 1 line hex\n", Status::BadLine),
         ("1 S1U 3\n", "N 1 line hex\n", Status::BadLine),
     ];
     for (trace, report, status) in rows {

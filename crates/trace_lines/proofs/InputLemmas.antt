@@ -6,13 +6,11 @@ use Rattle.std.proofs.lemmas.List.Elements.{All-head, All-tail}
 use Rattle.std.proofs.lemmas.List.Splits.{slice_split_at, slice_split_none, slice_split-cons_no, length-slice_split}
 use Rattle.std.proofs.Math.Seq.{take-append-add, take-append_seam}
 use Rattle.std.specs.List.{slice_split, onto_first}
+use Rattle.pc_outside.specs.Limits.{newline, line_max}
+use Rattle.pc_outside.specs.Line.{NoNewline}
 use Rattle.trace_lines.specs.Line.{Line}
 use Rattle.trace_lines.specs.Meaning.{line_meaning}
-use Rattle.trace_lines.specs.Input.{Input, Stop, newline, line_max, long, big, ended, stopped, after_lines, line_then, rest_meaning, pieces_meaning, input_within}
-
--- no octet of the text ends a line
-abbrev pub NoNewline : List ℕ → Type 0
-NoNewline octets = All (λ octet. octet ≢ newline) octets
+use Rattle.trace_lines.specs.Input.{Input, Stop, long, big, ended, stopped, after_lines, line_then, rest_meaning, pieces_meaning, input_within}
 
 abbrev ends_line : ℕ → Bool
 ends_line octet = octet == newline

@@ -1,6 +1,7 @@
 -- What a trace says: its lines, and why it stops.
-use Rattle.std.specs.Prelude.{ℕ, ◌+◌, ◌^◌, ◌==◌, Bool, List, [], ◌∷◌, ◌++◌, length, take, nat_lt, nat_le, if◌then◌else◌, Result, Ok, Err}
+use Rattle.std.specs.Prelude.{ℕ, ◌+◌, ◌==◌, Bool, List, [], ◌∷◌, ◌++◌, length, take, nat_lt, nat_le, if◌then◌else◌, Result, Ok, Err}
 use Rattle.std.specs.List.{slice_split}
+use Rattle.pc_outside.specs.Limits.{newline, line_max, input_max}
 use Rattle.trace_lines.specs.declared.bad.LineBad.{LineBad}
 use Rattle.text_fields.specs.Fields.{is_empty}
 use Rattle.trace_lines.specs.Line.{Line}
@@ -31,14 +32,6 @@ abbrev pub line_then : ℕ → Result Line LineBad → (Line → Input) → Inpu
 line_then number (Ok line) behind = after_lines (line ∷ []) (behind line)
 line_then number (Err why) behind = stopped (bad number why)
 
--- what ends a line
-abbrev pub newline : ℕ
-newline = 10
-
--- the most octets of a line, without its newline
-abbrev pub line_max : ℕ
-line_max = 132000
-
 -- the rest behind the last newline: unfinished where the octets that are looked at end with it
 abbrev pub rest_meaning : Bool → ℕ → ℕ → List ℕ → Input
 rest_meaning full number least rest =
@@ -60,6 +53,6 @@ unfoldable pub input_within : ℕ → ℕ → ℕ → List ℕ → Input
 input_within room number least octets =
     pieces_meaning (nat_le room (length octets)) number least (slice_split (λ octet. octet == newline) (take room octets))
 
--- what a trace says: lines count from 1, moments from 0, and 2^40 octets are looked at
+-- what a trace says: lines count from 1, moments from 0, and just so many octets are looked at
 abbrev pub input_of : List ℕ → Input
-input_of octets = input_within (2 ^ 40) 1 0 octets
+input_of octets = input_within input_max 1 0 octets

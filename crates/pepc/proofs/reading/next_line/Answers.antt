@@ -1,5 +1,5 @@
 use Rattle.std.proofs.Common.{sym, ◌∙◌}
-use Rattle.pepc.proofs.NextLemmas.{tells_line, tells_last, tells_refused, tells_end, tells_long, tells_big, tells_fault}
+use Rattle.pepc.proofs.NextLemmas.{tells_given, takes_given, given-no_fault, tells_refused, tells_end, tells_long, tells_big, tells_fault}
 use Rattle.pepc.proofs.reading.next_line.Goals as goal
 
 pub returns-in-End-clause-tells : goal.returns-in-End-clause-tells
@@ -16,13 +16,19 @@ returns-in-ReadFault-clause-tells g c = tells_fault c.args.number c.args.least _
 
 pub returns-in-Ok-clause-tells : goal.returns-in-Ok-clause-tells
 returns-in-Ok-clause-tells g c =
-    tells_last c.args.number c.args.least _ _ _ _ c.line.result.now _ c.in-Ok.line (rw (sym c.line.ensures) at c.in-Line.ensures.octets)
-    (sym c.is_last.ensures ∙ c.if-is_last.true) c.in-Ok.ensures.line
+    rw (c.given.ensures, c.is_last.ensures)
+    (tells_given c.args.number c.args.least _ _ _ _ c.line.result.now _ c.in-Ok.line (rw (sym c.line.ensures) at c.in-Line.ensures.octets)
+    c.in-Ok.ensures.line c.in-Ok.ensures.numbered)
 
-pub returns-in-Ok-2-clause-tells : goal.returns-in-Ok-2-clause-tells
-returns-in-Ok-2-clause-tells g c =
-    tells_line c.args.number c.args.least _ _ _ _ c.line.result.now _ c.in-Ok.line (rw (sym c.line.ensures) at c.in-Line.ensures.octets)
-    (sym c.is_last.ensures ∙ c.if-is_last.false) c.in-Ok.ensures.line
+pub returns-in-Ok-clause-room : goal.returns-in-Ok-clause-room
+returns-in-Ok-clause-room g c =
+    rw (c.given.ensures, c.is_last.ensures) (takes_given _ _ _ _ _ _ c.in-Ok.line c.in-Line.ensures.held.1)
+
+pub returns-in-Ok-clause-fault : goal.returns-in-Ok-clause-fault
+returns-in-Ok-clause-fault g c = λ is. absurd (given-no_fault c.is_last.result c.in-Ok.line (sym c.given.ensures ∙ is))
+
+pub returns-in-Ok-clause-unfinished : goal.returns-in-Ok-clause-unfinished
+returns-in-Ok-clause-unfinished g c = λ is. absurd (given-no_fault c.is_last.result c.in-Ok.line (sym c.given.ensures ∙ is))
 
 pub returns-in-Err-clause-tells : goal.returns-in-Err-clause-tells
 returns-in-Err-clause-tells g c =

@@ -22,41 +22,45 @@ loop-line-init g c = record {
   sink_later = omega arith;
 }
 
-pub returns-in_err-take_line-in-Line-clause-cut : goal.returns-in_err-take_line-in-Line-clause-cut
-returns-in_err-take_line-in-Line-clause-cut g c =
+pub returns-in-ReadFault-clause-ended : goal.returns-in-ReadFault-clause-ended
+returns-in-ReadFault-clause-ended g c =
+    ends_fault (g.S.Source.left c.args.source.now) _ (g.S.Source.left c.next_line.new.source) (g.K.Sink.written c.args.sink.now) (g.K.Sink.written c.loop-line.sink)
+    c.loop-line.gateway c.loop-line.number c.loop-line.least c.loop-line.buf.room c.next_line.new.buf c.loop-line.report.items
+    c.loop-line.invariant.progress.0 c.loop-line.invariant.progress.1 c.in-ReadFault.ensures.tells (c.in-ReadFault.ensures.unfinished refl)
+
+pub returns-in_err-push_refusal-in-Bad-clause-cut : goal.returns-in_err-push_refusal-in-Bad-clause-cut
+returns-in_err-push_refusal-in-Bad-clause-cut g c =
+    if_err _ _ c.from_residual-in_err-push_refusal-in-Bad.result (λ why is. cut_here why (g.S.Source.left c.args.source.now) _ (g.S.Source.left c.next_line.new.source) (g.K.Sink.written c.args.sink.now) (g.K.Sink.written c.loop-line.sink)
+    c.loop-line.gateway c.loop-line.number c.loop-line.least c.loop-line.buf.room c.next_line.new.buf.room c.next_line.new.buf.front c.loop-line.report.items
+    c.loop-line.invariant.progress.0 (next.Bad c.in-Bad.why)
+    c.loop-line.invariant.progress.1 c.in-Bad.ensures.tells) c.from_residual-in_err-push_refusal-in-Bad.ensures.1
+
+pub returns-in-NoMemory-clause-cut : goal.returns-in-NoMemory-clause-cut
+returns-in-NoMemory-clause-cut g c =
+    cut_here NoMemory (g.S.Source.left c.args.source.now) _ (g.S.Source.left c.next_line.new.source) (g.K.Sink.written c.args.sink.now) (g.K.Sink.written c.loop-line.sink)
+    c.loop-line.gateway c.loop-line.number c.loop-line.least c.loop-line.buf.room c.next_line.new.buf.room c.next_line.new.buf.front c.loop-line.report.items
+    c.loop-line.invariant.progress.0 next.NoMemory c.loop-line.invariant.progress.1 c.in-NoMemory.ensures.tells
+
+pub returns-in_err-least-in-Line-clause-cut : goal.returns-in_err-least-in-Line-clause-cut
+returns-in_err-least-in-Line-clause-cut g c =
     if_err _ _ c.from_residual.result (λ why is. cut_by (g.S.Source.left c.args.source.now) _ (g.S.Source.left c.next_line.new.source) (g.K.Sink.written c.args.sink.now) (g.K.Sink.written c.loop-line.sink) (g.K.Sink.written c.take_line.new.sink)
     c.loop-line.gateway c.loop-line.number c.loop-line.least c.loop-line.buf.room c.next_line.new.buf.room c.next_line.new.buf.front c.loop-line.report.items
-    c.loop-line.invariant.progress.0 (next.Line c.in-Line.line) c.in-Line.line why c.take_line.result (c.in_err-take_line-in-Line.was ∙ ap Err (sym is))
+    c.loop-line.invariant.progress.0 (next.Line c.in-Line.line) c.in-Line.line why c.take_line.result (c.in_err-least-in-Line.was ∙ ap Err (sym is))
     (gives_line c.in-Line.line c.loop-line.number c.loop-line.least c.loop-line.buf.room c.next_line.new.buf.room)
     c.loop-line.invariant.progress.1 c.in-Line.ensures.tells
     (c.take_line.ensures.cut c.loop-line.invariant.progress.0 c.loop-line.invariant.progress.1.stands)
     (λ is. ap g.K.Sink.written (c.take_line.ensures.kept is))) c.from_residual.ensures.1
-
-pub loop-line-preserved-in_ok-take_line-in-Line : goal.loop-line-preserved-in_ok-take_line-in-Line
-loop-line-preserved-in_ok-take_line-in-Line g c = record {
-  progress = (
-    c.loop-line.invariant.progress.0 ++ c.in-Line.line ∷ [],
-    goes_on (g.S.Source.left c.args.source.now) _ _ (g.K.Sink.written c.args.sink.now) (g.K.Sink.written c.loop-line.sink) (g.K.Sink.written c.take_line.new.sink)
-        c.loop-line.gateway c.take_line.new.gateway c.loop-line.number c.loop-line.least c.loop-line.buf.room c.next_line.new.buf.room c.line.inside.moment
-        c.loop-line.report.items c.take_line.new.report.items c.loop-line.invariant.progress.0 c.in-Line.line
-        c.loop-line.invariant.progress.1 c.in-Line.ensures.tells c.in-Line.ensures.room (ap (λ (l : Line). l.moment) c.line.view_is)
-        (c.in_ok-take_line-in-Line.ensures.stands c.loop-line.invariant.progress.0 c.loop-line.invariant.progress.1.stands)
-        (c.in_ok-take_line-in-Line.ensures.moved c.loop-line.invariant.progress.0 c.loop-line.invariant.progress.1.stands),
-  );
-  source_later = omega (arith, c.loop-line.invariant.source_later, c.next_line.ensures.later);
-  sink_later = omega (arith, c.loop-line.invariant.sink_later, c.take_line.ensures.later);
-}
 
 pub loop-line-preserved : goal.loop-line-preserved
 loop-line-preserved g c = record {
   progress = (
     c.loop-line.invariant.progress.0 ++ c.in-Line.line ∷ [],
     goes_on (g.S.Source.left c.args.source.now) _ _ (g.K.Sink.written c.args.sink.now) (g.K.Sink.written c.loop-line.sink) (g.K.Sink.written c.take_line.new.sink)
-        c.loop-line.gateway c.take_line.new.gateway c.loop-line.number c.loop-line.least c.loop-line.buf.room c.next_line.new.buf.room c.line.inside.moment
+        c.loop-line.gateway c.take_line.new.gateway c.loop-line.number c.loop-line.least c.loop-line.buf.room c.next_line.new.buf.room c.in_ok-least-in-Line.least
         c.loop-line.report.items c.take_line.new.report.items c.loop-line.invariant.progress.0 c.in-Line.line
-        c.loop-line.invariant.progress.1 c.in-Line.ensures.tells c.in-Line.ensures.room (ap (λ (l : Line). l.moment) c.line.view_is)
-        (c.in_ok-take_line-in-Line.ensures.stands c.loop-line.invariant.progress.0 c.loop-line.invariant.progress.1.stands)
-        (c.in_ok-take_line-in-Line.ensures.moved c.loop-line.invariant.progress.0 c.loop-line.invariant.progress.1.stands),
+        c.loop-line.invariant.progress.1 c.in-Line.ensures.tells c.in-Line.ensures.room c.in_ok-least-in-Line.ensures.moment
+        (c.in_ok-least-in-Line.ensures.stands c.loop-line.invariant.progress.0 c.loop-line.invariant.progress.1.stands)
+        (c.in_ok-least-in-Line.ensures.moved c.loop-line.invariant.progress.0 c.loop-line.invariant.progress.1.stands),
   );
   source_later = omega (arith, c.loop-line.invariant.source_later, c.next_line.ensures.later);
   sink_later = omega (arith, c.loop-line.invariant.sink_later, c.take_line.ensures.later);
@@ -80,22 +84,3 @@ returns-in-Last-clause-ended g c =
     c.loop-line.invariant.progress.1 c.in-Last.ensures.tells
     (c.in_ok-take_line-in-Last.ensures.stands c.loop-line.invariant.progress.0 c.loop-line.invariant.progress.1.stands)
     (c.in_ok-take_line-in-Last.ensures.moved c.loop-line.invariant.progress.0 c.loop-line.invariant.progress.1.stands)
-
-pub returns-in-ReadFault-clause-ended : goal.returns-in-ReadFault-clause-ended
-returns-in-ReadFault-clause-ended g c =
-    ends_fault (g.S.Source.left c.args.source.now) _ (g.S.Source.left c.next_line.new.source) (g.K.Sink.written c.args.sink.now) (g.K.Sink.written c.loop-line.sink)
-    c.loop-line.gateway c.loop-line.number c.loop-line.least c.loop-line.buf.room c.next_line.new.buf c.loop-line.report.items
-    c.loop-line.invariant.progress.0 c.loop-line.invariant.progress.1 c.in-ReadFault.ensures.tells (c.in-ReadFault.ensures.unfinished refl)
-
-pub returns-in_err-push_refusal-in-Bad-clause-cut : goal.returns-in_err-push_refusal-in-Bad-clause-cut
-returns-in_err-push_refusal-in-Bad-clause-cut g c =
-    if_err _ _ c.from_residual-in_err-push_refusal-in-Bad.result (λ why is. cut_here why (g.S.Source.left c.args.source.now) _ (g.S.Source.left c.next_line.new.source) (g.K.Sink.written c.args.sink.now) (g.K.Sink.written c.loop-line.sink)
-    c.loop-line.gateway c.loop-line.number c.loop-line.least c.loop-line.buf.room c.next_line.new.buf.room c.next_line.new.buf.front c.loop-line.report.items
-    c.loop-line.invariant.progress.0 (next.Bad c.in-Bad.why)
-    c.loop-line.invariant.progress.1 c.in-Bad.ensures.tells) c.from_residual-in_err-push_refusal-in-Bad.ensures.1
-
-pub returns-in-NoMemory-clause-cut : goal.returns-in-NoMemory-clause-cut
-returns-in-NoMemory-clause-cut g c =
-    cut_here NoMemory (g.S.Source.left c.args.source.now) _ (g.S.Source.left c.next_line.new.source) (g.K.Sink.written c.args.sink.now) (g.K.Sink.written c.loop-line.sink)
-    c.loop-line.gateway c.loop-line.number c.loop-line.least c.loop-line.buf.room c.next_line.new.buf.room c.next_line.new.buf.front c.loop-line.report.items
-    c.loop-line.invariant.progress.0 next.NoMemory c.loop-line.invariant.progress.1 c.in-NoMemory.ensures.tells

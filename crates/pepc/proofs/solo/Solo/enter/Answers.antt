@@ -1,12 +1,13 @@
-use Rattle.std.proofs.Common.{◌≡◌, ap, sym, ◌∙◌, arith, ◌++◌, List, [], length}
+use Rattle.std.proofs.Common.{◌≡◌, false, ap, subst, sym, ◌∙◌, arith, ◌++◌, List, [], length}
 use Rattle.trace_lines.specs.Line.{Line}
 use Rattle.trace_lines.specs.declared.line.LineKind.TheVariants.{S1u, Attach}
+use Rattle.gate_model.specs.Built.{is_built}
 use Rattle.gate_model.specs.Book.{book_of, booked}
 use Rattle.gate_model.specs.Decision.{decisions, decided, received}
 use Rattle.gate_model.specs.Entry.{text_of}
 use Rattle.gate_model.specs.Entered.{entry_after}
 use Rattle.gate_model.proofs.DecisionLemmas.{length-decisions_from}
-use Rattle.pepc.proofs.LineLemmas.{on_ok_map, booked-attach, decided-attach, booked-s1u, decided-s1u, stands_for_push}
+use Rattle.pepc.proofs.LineLemmas.{on_ok_map, not_built, booked-other, decided-other, booked-attach, decided-attach, booked-s1u, decided-s1u, stands_for_push}
 use Rattle.pepc.proofs.solo.Solo.enter.Goals as goal
 
 pub attach-requires : goal.attach-requires
@@ -50,3 +51,24 @@ returns-in-S1u-clause-stands c = λ done stands.
     (booked-s1u (book_of done) c.args.line.now c.as_slice.result.now is)
     (received-is c done))
     (c.receive.ensures.stands (book_of done) (decisions done) stands)
+
+pub note-requires : goal.note-requires
+note-requires c = (book_of c.requires.0, decisions c.requires.0, c.requires.1, omega (arith, length-decisions_from [] c.requires.0, c.requires.2))
+
+pub returns-in_default : goal.returns-in_default
+returns-in_default c =
+    let kind_is : c.line.inside.kind ≡ c.args.line.now.kind = ap (λ (l : Line). l.kind) c.line.view_is in
+    let other : is_built c.args.line.now.kind ≡ false =
+    subst (λ kind. is_built kind ≡ false) kind_is (not_built c.line.inside.kind c.in_default.not-S1u c.in_default.not-Attach) in
+    record {
+      told = λ done stands.
+          on_ok_map c.note.result
+          (λ told. told ∙ ap (λ made. c.args.report.now.items ++ text_of (entry_after (decisions done) made))
+          (sym (decided-other (book_of done) c.args.line.now other)))
+          (c.note.ensures.told (book_of done) (decisions done) stands);
+      stands = λ done stands.
+          on_ok_map c.note.result
+          (stands_for_push c.note.new.self done c.args.line.now _ _ (booked-other (book_of done) c.args.line.now other)
+          (decided-other (book_of done) c.args.line.now other))
+          (c.note.ensures.stands (book_of done) (decisions done) stands);
+    }
