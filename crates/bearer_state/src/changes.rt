@@ -1,9 +1,9 @@
 //! The changes of a session that commands ask for. Each leaves the session as it was where memory
 //! runs out.
-ghost use Rattle.std.specs.Prelude.{◌≡◌, ◌≤◌, ◌-◌, ◌^◌, false, Some, None, IsTrue, OnOk, OnErr};
+ghost use Rattle.std.specs.Prelude.{◌≡◌, false, Some, None, IsTrue, OnOk, OnErr};
 ghost use Rattle.bearer_state.specs.Bearer.{IsEbi, IsSeq};
 ghost use Rattle.bearer_state.specs.Qos.{IsQos};
-ghost use Rattle.bearer_state.specs.Session.{IsAmbr, IsKept};
+ghost use Rattle.bearer_state.specs.Session.{HasRoom, IsAmbr, IsKept};
 ghost use Rattle.bearer_state.specs.Lookup.{has_active, least_free};
 ghost use Rattle.bearer_state.specs.Changes.{attached, detached, rerated, with_mme, rebound, released, with_asked, granted, denied, refiltered, dropped, keeping};
 
@@ -26,8 +26,7 @@ impl Session {
         requires down { IsAmbr down }
         requires ebi { IsEbi ebi }
         requires qos { IsQos qos }
-        requires rates { self.old.rates ≤ 2 ^ 61 - 20 }
-        requires lives { self.old.lives ≤ 2 ^ 61 - 20 }
+        requires room { HasRoom self.old }
         ensures attached { OnOk result (self.new ≡ attached self.old mme up down ebi qos enb) }
         ensures unchanged { OnErr result (self.new ≡ self.old) }
     {
@@ -66,7 +65,7 @@ impl Session {
     pub fn set_rates(&mut self, up: Kbps, down: Kbps)
         requires up { IsAmbr up }
         requires down { IsAmbr down }
-        requires rates { self.old.rates ≤ 2 ^ 61 - 20 }
+        requires room { HasRoom self.old }
         ensures { self.new ≡ rerated self.old up down }
     {
         self.up = up;
@@ -110,7 +109,7 @@ impl Session {
         requires index { least_free self.old.bearers ≡ Some index }
         requires seq { IsSeq seq }
         requires qos { IsQos qos }
-        requires lives { self.old.lives ≤ 2 ^ 61 - 20 }
+        requires room { HasRoom self.old }
         ensures asked { OnOk result (self.new ≡ with_asked self.old index seq qos filters) }
         ensures unchanged { OnErr result (self.new ≡ self.old) }
     {

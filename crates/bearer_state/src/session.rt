@@ -4,6 +4,9 @@ use pc_base::{Kbps, Peer, Slot};
 use std::alloc::Global;
 use std::marker::Model;
 
+/// A count above this doesn't rise any more, so that none passes 2^61.
+const MOST_COUNT: u64 = 0x2000_0000_0000_0000 - 20;
+
 /// A subscriber's session, with the ranges that `IsSession` names.
 #[derive(Debug, Drop)]
 pub struct Session {
@@ -55,8 +58,8 @@ impl Model for Session {
 }
 
 impl Session {
-    ghost use Rattle.std.specs.Prelude.{◌≡◌, ◌≤◌, ◌^◌, IfOk};
-    ghost use Rattle.bearer_state.specs.Session.{new_session, IsSession};
+    ghost use Rattle.std.specs.Prelude.{◌≡◌, ◌≤◌, ◌^◌, ◌↔◌, IsTrue, IfOk};
+    ghost use Rattle.bearer_state.specs.Session.{new_session, HasRoom, IsSession};
     ghost use Rattle.bearer_state.specs.Bearer.{AreBearers};
     ghost use Rattle.bearer_state.specs.Version.{version_of};
 
@@ -83,6 +86,13 @@ impl Session {
         ensures bearers { AreBearers self.now.bearers }
     {
         let _bearers = self.bearers.as_slice();
+    }
+
+    /// Whether the counts of lives and of rates may rise: each is at most 2^61 − 20.
+    pub fn has_room(&self) -> bool
+        ensures { IsTrue result ↔ HasRoom self.now }
+    {
+        self.rates <= MOST_COUNT && self.lives <= MOST_COUNT
     }
 
     /// The version of the session under a number, at most 2^61: what its packets go by.
