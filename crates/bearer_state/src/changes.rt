@@ -73,11 +73,11 @@ impl Session {
         self.rates += 1;
     }
 
-    /// Another MME.
-    pub fn set_mme(&mut self, mme: Peer)
+    /// Another MME, where one is given.
+    pub fn set_mme(&mut self, mme: Option<Peer>)
         ensures { self.new ≡ with_mme self.old mme }
     {
-        self.mme = Some(mme);
+        self.mme = mme.or(self.mme);
     }
 
     /// An answer is kept for repeats of its request.
