@@ -39,6 +39,7 @@ impl Bearers {
     ghost use Rattle.bearer_state.specs.declared.bearer.Bearer.{Bearer};
     ghost use Rattle.bearer_state.specs.Ask.{AreAsks};
     ghost use Rattle.bearer_state.specs.Bearer.{AreBearers, IsBearer, IsEbi, index_of, is_active, is_asked};
+    ghost use Rattle.bearer_state.specs.Qos.{IsQos};
     ghost use Rattle.bearer_state.specs.Lookup.{at_index, least_free, has_index, has_active, has_dedicated, has_asked, is_dedicated, active_index, default_of};
     ghost use Rattle.bearer_state.specs.Changes.{placed, with_first, without_first, unbound, rebound_bearer, filtered, granted_bearer};
 
@@ -91,7 +92,8 @@ impl Bearers {
 
     /// The bearer of an index.
     pub fn at(&self, index: u8) -> Option<&Bearer>
-        ensures { option_copied result ≡ at_index self.now index }
+        ensures value { option_copied result ≡ at_index self.now index }
+        ensures valid { IfSome result (λ bearer. IsBearer bearer.now) }
     {
         self.items
             .iter()
@@ -100,7 +102,8 @@ impl Bearers {
 
     /// The default bearer, where it is there and active.
     pub fn default_bearer(&self) -> Option<ActiveBearer>
-        ensures { result ≡ default_of self.now }
+        ensures value { result ≡ default_of self.now }
+        ensures valid { IfSome result (λ bearer. IsEbi bearer.ebi × IsQos bearer.qos) }
     {
         match self.at(0) {
             Some(bearer) => bearer.active(),

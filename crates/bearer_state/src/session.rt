@@ -1,5 +1,5 @@
 //! A subscriber's session.
-use crate::{Bearers, Kept, NoMemory, Version};
+use crate::{ActiveBearer, Bearers, Kept, NoMemory, Version};
 use pc_base::{Kbps, Peer, Slot};
 use std::alloc::Global;
 use std::marker::Model;
@@ -58,9 +58,11 @@ impl Model for Session {
 }
 
 impl Session {
-    ghost use Rattle.std.specs.Prelude.{◌≡◌, ◌≤◌, ◌^◌, ◌↔◌, IsTrue, IfOk};
+    ghost use Rattle.std.specs.Prelude.{◌≡◌, ◌≤◌, ◌^◌, ◌↔◌, IsTrue, IsSome, IfOk, IfSome};
     ghost use Rattle.bearer_state.specs.Session.{new_session, HasRoom, IsSession};
-    ghost use Rattle.bearer_state.specs.Bearer.{AreBearers};
+    ghost use Rattle.bearer_state.specs.Bearer.{AreBearers, IsEbi};
+    ghost use Rattle.bearer_state.specs.Lookup.{default_of};
+    ghost use Rattle.bearer_state.specs.Qos.{IsQos};
     ghost use Rattle.bearer_state.specs.Version.{version_of};
 
     /// The session of a slot before its first command.
@@ -86,6 +88,15 @@ impl Session {
         ensures bearers { AreBearers self.now.bearers }
     {
         let _bearers = self.bearers.as_slice();
+    }
+
+    /// The default bearer, which a live session has, and no other.
+    pub fn default_bearer(&self) -> Option<ActiveBearer>
+        ensures value { result ≡ default_of self.now.bearers }
+        ensures live { IsSome result ↔ IsTrue self.now.live }
+        ensures valid { IfSome result (λ bearer. IsEbi bearer.ebi × IsQos bearer.qos) }
+    {
+        self.bearers.default_bearer()
     }
 
     /// Whether the counts of lives and of rates may rise: each is at most 2^61 − 20.
