@@ -1,6 +1,6 @@
 //! The changes of a session that commands ask for. Each leaves the session as it was where memory
 //! runs out.
-ghost use Rattle.std.specs.Prelude.{◌≡◌, false, Some, None, IsTrue, OnOk, OnErr};
+ghost use Rattle.std.specs.Prelude.{◌≡◌, ◌≤◌, ◌-◌, ◌^◌, false, Some, None, IsTrue, OnOk, OnErr};
 ghost use Rattle.bearer_state.specs.Bearer.{IsEbi, IsSeq};
 ghost use Rattle.bearer_state.specs.Qos.{IsQos};
 ghost use Rattle.bearer_state.specs.Session.{HasRoom, IsAmbr, IsKept};
@@ -31,8 +31,9 @@ impl Session {
         ensures unchanged { OnErr result (self.new ≡ self.old) }
     {
         let alloc = self.bearers.allocator();
+        let life = self.lives;
         let bearer = Bearer {
-            life: self.lives,
+            life,
             phase: Phase::Active(ebi),
             qos,
             enb,
@@ -44,11 +45,9 @@ impl Session {
         let bearers = Bearers::only(alloc, bearer)?;
         self.live = true;
         self.mme = mme;
-        self.up = up;
-        self.down = down;
-        self.rates += 1;
         self.bearers = bearers;
-        self.lives += 1;
+        self.lives = life + 1;
+        self.set_rates(up, down);
         Ok(())
     }
 
@@ -65,7 +64,7 @@ impl Session {
     pub fn set_rates(&mut self, up: Kbps, down: Kbps)
         requires up { IsAmbr up }
         requires down { IsAmbr down }
-        requires room { HasRoom self.old }
+        requires room { self.old.rates ≤ 2 ^ 61 - 20 }
         ensures { self.new ≡ rerated self.old up down }
     {
         self.up = up;
