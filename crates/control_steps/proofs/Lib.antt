@@ -1,1 +1,2 @@
 pub mod MessageLemmas
+mod StandardFacts
