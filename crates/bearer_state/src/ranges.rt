@@ -3,9 +3,8 @@ ghost use Rattle.std.specs.Prelude.{◌↔◌, IsTrue};
 ghost use Rattle.std.specs.List.{AllByRecursion};
 ghost use Rattle.bearer_state.specs.Ask.{AreAsks, IsAsk, HaveTwoEbis};
 ghost use Rattle.bearer_state.specs.Bearer.{IsEbi, IsPhase, IsBearer, IsBefore, EbisDiffer, EachPair, AreBearers};
-ghost use Rattle.bearer_state.specs.Qos.{IsQos};
 
-use crate::{Ask, Bearer, Phase, Qos};
+use crate::{Ask, Bearer, Phase};
 use pc_base::LAST_BEARER;
 
 /// As many bearers as indices, and as many asks as EBIs.
@@ -26,19 +25,10 @@ fn is_phase(phase: Phase) -> bool
     }
 }
 
-/// Whether the spare bits of the ARP octet are 0.
-fn is_qos(qos: &Qos) -> bool
-    ensures { IsTrue result ↔ IsQos qos.now }
-{
-    let _rates = (qos.mbr_up.0, qos.mbr_down.0, qos.gbr_up.0, qos.gbr_down.0);
-    let _qci = qos.qci;
-    qos.arp < 128 && qos.arp / 2 % 2 == 0
-}
-
 fn is_bearer(bearer: &Bearer) -> bool
     ensures { IsTrue result ↔ IsBearer bearer.now }
 {
-    bearer.choice.index <= LAST_BEARER && is_phase(bearer.phase) && is_qos(&bearer.qos)
+    bearer.choice.index <= LAST_BEARER && is_phase(bearer.phase) && bearer.qos.is_in_range()
 }
 
 fn ebis_differ(phase: Phase, other: Phase) -> bool

@@ -21,28 +21,28 @@ use Rattle.control_steps.specs.declared.cause.TheConstants.{REQUEST_ACCEPTED}
 use Rattle.control_steps.specs.Command.{request_of}
 
 pub data Row : Type 0 where
-  repeated : Row            -- a request whose answer is kept
-  pdn_refused : Row         -- Create: IPv6 alone
-  class_refused : Row       -- Create: a class with a guaranteed rate
+  repeated : Row  -- a request whose answer is kept
+  pdn_refused : Row  -- Create: IPv6 alone
+  class_refused : Row  -- Create: a class with a guaranteed rate
   created : Row
   attached : Row
-  no_session : Row          -- Modify, Release, Delete: not live
-  no_bearer : Row           -- Modify: some EBI is no active bearer's
+  no_session : Row  -- Modify, Release, Delete: not live
+  no_bearer : Row  -- Modify: some EBI is no active bearer's
   modified : Row
   released : Row
   deleted : Row
-  not_asked : Row           -- AddBearer: not live, no MME, no index is free, or no filters are given
+  not_asked : Row  -- AddBearer: not live, no MME, no index is free, or no filters are given
   asked : Row
-  not_refiltered : Row      -- Filters: not live, no such bearer, or the template doesn't apply
+  not_refiltered : Row  -- Filters: not live, no such bearer, or the template doesn't apply
   refiltered : Row
-  not_dropped : Row         -- Drop: not live, or no such bearer but the default one
+  not_dropped : Row  -- Drop: not live, or no such bearer but the default one
   dropped : Row
-  not_rerated : Row         -- Ambr: not live
+  not_rerated : Row  -- Ambr: not live
   rerated : Row
-  unasked : Row             -- CreateAns: no bearer was asked for so
+  unasked : Row  -- CreateAns: no bearer was asked for so
   granted : Row
   denied : Row
-  noted : Row               -- UpdateAns, DeleteAns
+  noted : Row  -- UpdateAns, DeleteAns
 
 -- a kept answer is that to a request
 abbrev pub answers : Option Kept → Option (ℕ × ℕ) → Bool

@@ -51,10 +51,6 @@ qos_asked bearers qci mbr_up mbr_down gbr_up gbr_down = record {
   gbr_down = gbr_down;
 }
 
-
-
-
-
 -- a bearer comes where there is an index for it, and filters
 abbrev pub with_bearer : SessionState → ℕ → Qos → Option ℕ → Option (List Filter) → SessionState
 with_bearer session seq qos (Some index) (Some filters) = changes.with_asked session index seq qos filters

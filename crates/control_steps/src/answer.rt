@@ -9,8 +9,7 @@ ghost use Rattle.control_steps.specs.Kinds.{IsAnswered};
 ghost use Rattle.control_steps.specs.Messages.{cause_alone};
 ghost use Rattle.control_steps.specs.Table.{teid_of_mme};
 
-use crate::NoMemory;
-use crate::messages;
+use crate::{NoMemory, messages};
 use bearer_state::{Kept, Session};
 use gtpv2_msg::{Msg, write};
 use pc_base::{Octets, Outcome, Peer, Reply};

@@ -32,8 +32,7 @@ pub fn settle(session: &mut Session, said: &Response) -> Reply
                 && said.row_cause == REQUEST_ACCEPTED
                 && said.ebi >= 5
                 && said.ebi <= 15
-                && !session.bearers.has_active(said.ebi) =>
-        {
+                && !session.bearers.has_active(said.ebi) => {
             session.grant(said.seq, said.ebi, enb);
             silent(Outcome::Done)
         }

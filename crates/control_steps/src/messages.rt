@@ -11,7 +11,9 @@ ghost use Rattle.bearer_state.specs.Session.{IsAmbr};
 ghost use Rattle.control_steps.specs.Kinds.{IsAnswered};
 ghost use Rattle.control_steps.specs.Messages.{pdn_cause, cause_element, ask_accepted, cause_alone, create_session_response, modify_bearer_response, create_bearer_request, update_bearer_request, delete_bearer_request};
 
-use crate::contexts::{accepted, cause_element, changed_context, control_end, new_context, user_address};
+use crate::contexts::{
+    accepted, cause_element, changed_context, control_end, new_context, user_address,
+};
 use crate::{NEW_PDN_TYPE, NoMemory, REQUEST_ACCEPTED};
 use bearer_state::{Ask, Bearers, Qos};
 use gtpv2_ie::{Ie, IeOctets, IeValue};
@@ -79,7 +81,10 @@ pub fn create_session_response(
 {
     let ies = vec![in alloc;
         cause_element(pdn_cause(pdn)),
-        Ie { instance: 0, value: IeValue::Fteid(control_end(slot)) },
+        Ie {
+            instance: 0,
+            value: IeValue::Fteid(control_end(slot))
+        },
         user_address(slot),
         accepted(alloc, slot, ebi, 0)?,
     ]?;
@@ -159,7 +164,10 @@ pub fn create_bearer_request(
     ensures { IfOk result (λ message. message ≡ create_bearer_request slot teid seq linked bearer.index bearer.tft bearer.qos) }
 {
     let ies = vec![in alloc;
-        Ie { instance: 0, value: IeValue::Ebi(linked) },
+        Ie {
+            instance: 0,
+            value: IeValue::Ebi(linked)
+        },
         new_context(alloc, slot, bearer.index, bearer.tft, &bearer.qos)?,
     ]?;
     Ok(Msg {
@@ -189,7 +197,10 @@ pub fn update_bearer_request(
 {
     let ies = vec![in alloc;
         changed_context(alloc, ebi, tft),
-        Ie { instance: 0, value: IeValue::Ambr(up.0 as u32, down.0 as u32) },
+        Ie {
+            instance: 0,
+            value: IeValue::Ambr(up.0 as u32, down.0 as u32)
+        },
     ]?;
     Ok(Msg {
         kind: UPDATE_BEARER_REQUEST,
@@ -200,17 +211,17 @@ pub fn update_bearer_request(
 }
 
 /// A Delete Bearer Request: its EBI has instance 1.
-pub fn delete_bearer_request(
-    alloc: Global,
-    teid: u32,
-    seq: u32,
-    ebi: u8,
-) -> Result<Msg, NoMemory>
+pub fn delete_bearer_request(alloc: Global, teid: u32, seq: u32, ebi: u8) -> Result<Msg, NoMemory>
     requires seq { IsSeq seq }
     requires ebi { bearers.IsEbi ebi }
     ensures { IfOk result (λ message. message ≡ delete_bearer_request teid seq ebi) }
 {
-    let ies = vec![in alloc; Ie { instance: 1, value: IeValue::Ebi(ebi) }]?;
+    let ies = vec![in alloc;
+        Ie {
+            instance: 1,
+            value: IeValue::Ebi(ebi)
+        },
+    ]?;
     Ok(Msg {
         kind: DELETE_BEARER_REQUEST,
         teid: Some(teid),

@@ -15,9 +15,8 @@ ghost use Rattle.control_steps.specs.Messages.{update_bearer_request, delete_bea
 ghost use Rattle.control_steps.specs.Row.{first_row, filters_made};
 ghost use Rattle.control_steps.specs.Steps.{Does};
 
-use crate::NoMemory;
 use crate::answer::{octets_of, silent};
-use crate::messages;
+use crate::{NoMemory, messages};
 use bearer_state::{Bearers, Session};
 use gtpv2_ie::IeOctets;
 use pc_base::{Kbps, Octets, Outcome, Peer, Reply};
@@ -70,8 +69,9 @@ fn update_order(
 {
     match mme {
         Some(mme) => {
-            let message =
-                messages::update_bearer_request(alloc, mme.teid.0, seq, ebi, tft, up, down)?;
+            let message = messages::update_bearer_request(
+                alloc, mme.teid.0, seq, ebi, tft, up, down,
+            )?;
             Ok(Some(octets_of(alloc, &message)?))
         }
         None => Ok(None),
