@@ -5,11 +5,10 @@
 //!
 //! ```
 //! let echo = b"\x40\x01\x00\x09\x00\x00\x07\x00\x03\x00\x01\x00\x05";
-//! let request = read(alloc, echo)?;
-//! assert_eq!((request.kind, request.seq), (ECHO_REQUEST, 7));
-//! assert_eq!(request.first(IeKind::Recovery, 0), Some(&IeValue::Recovery(5)));
-//! let answer = Msg { kind: ECHO_RESPONSE, teid: None, seq: request.seq, ies: request.ies };
-//! assert_eq!(write(alloc, &answer)?.as_slice(), b"\x40\x02\x00\x09\x00\x00\x07\x00\x03\x00\x01\x00\x05");
+//! let message = read(alloc, echo)?;
+//! assert_eq!((message.kind, message.seq), (ECHO_REQUEST, 7));
+//! assert_eq!(message.first(IeKind::Recovery, 0), Some(&IeValue::Recovery(5)));
+//! assert_eq!(write(alloc, &message)?.as_slice(), echo);
 //! ```
 #![tactic(auto)]
 

@@ -483,19 +483,10 @@ fn ebi_of_another_instance_alone_is_missing(rt: HostRuntime) {
 fn example_of_the_head(rt: HostRuntime) -> Result<(), Fail> {
     let alloc = rt.alloc();
     let echo = b"\x40\x01\x00\x09\x00\x00\x07\x00\x03\x00\x01\x00\x05";
-    let request = read(alloc, echo)?;
-    assert_eq!(rt; (request.kind, request.seq), (ECHO_REQUEST, 7));
-    assert!(rt; request.first(IeKind::Recovery, 0) == Some(&IeValue::Recovery(5)));
-    let answer = Msg {
-        kind: ECHO_RESPONSE,
-        teid: None,
-        seq: 7,
-        ies: request.ies,
-    };
-    assert_eq!(rt;
-        write(alloc, &answer)?.as_slice(),
-        b"\x40\x02\x00\x09\x00\x00\x07\x00\x03\x00\x01\x00\x05".as_slice()
-    );
+    let message = read(alloc, echo)?;
+    assert_eq!(rt; (message.kind, message.seq), (ECHO_REQUEST, 7));
+    assert!(rt; message.first(IeKind::Recovery, 0) == Some(&IeValue::Recovery(5)));
+    assert_eq!(rt; write(alloc, &message)?.as_slice(), echo.as_slice());
     Ok(())
 }
 
