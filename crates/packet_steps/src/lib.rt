@@ -1,9 +1,0 @@
-//! What becomes of a subscriber's packets by one version of its session: which are forwarded, held or
-//! refused, and what a new version brings (TS 23.401, in this gateway's profile). Running counters
-//! answer as the subscriber's whole past would. How versions come about is left to others.
-#![tactic(auto)]
-
-mod held;
-
-pub use held::HeldPacket;
-pub use std::alloc::AllocError as NoMemory;

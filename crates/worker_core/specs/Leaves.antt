@@ -1,0 +1,27 @@
+-- Orders to leave: which were taken, and when a half is due home.
+use Rattle.std.specs.Prelude.{◌≡◌, ℕ, ◌<◌, ◌≤◌, Bool, true, false, ◌==◌, ◌&&◌, nat_le, List, count_by}
+use Rattle.std.specs.List.{list_any, position}
+use Rattle.worker_core.specs.declared.order.Order.{Order}
+use Rattle.worker_core.specs.declared.order.Order.TheVariants.{Arrive, Leave}
+use Rattle.worker_core.specs.declared.worker.Leaving.{Leaving}
+
+-- whether an order tells the half of this slot to leave at this count
+abbrev pub is_leave : {H : Type 0} → ℕ → ℕ → Order H → Bool
+is_leave slot until (Arrive _) = false
+is_leave slot until (Leave at count) = (at == slot) && (count == until)
+
+-- such an order is among these
+abbrev pub IsOrdered : {H : Type 0} → List (Order H) → ℕ → ℕ → Type 0
+IsOrdered orders slot until = 0 < count_by (is_leave slot until) orders
+
+-- what a worker notes of a half that is to leave stood in an order
+abbrev pub IsTold : {H : Type 0} → List (Order H) → Leaving → Type 0
+IsTold orders leaving = IsOrdered orders leaving.slot leaving.until
+
+-- whether this tells a half of this slot, which has done so much, to leave now
+abbrev pub is_met : ℕ → ℕ → Leaving → Bool
+is_met slot done leaving = (leaving.slot == slot) && nat_le leaving.until done
+
+-- whether a half of this slot, which has done so much, is due home
+abbrev pub is_due : List Leaving → ℕ → ℕ → Bool
+is_due leaving slot done = list_any (is_met slot done) leaving

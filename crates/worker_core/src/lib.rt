@@ -1,0 +1,17 @@
+//! Workers, which hold halves of subscribers that travel between slices and turn them one after
+//! another. A half comes by an order, and goes home when it is told to leave and has done what it is
+//! to do before. What a half does in its turn is left to the half.
+#![tactic(auto)]
+
+mod order;
+mod pairing;
+#[cfg(test)]
+mod tests;
+mod traveller;
+mod turning;
+mod worker;
+
+pub use order::Order;
+pub use pairing::{Desk, pair};
+pub use traveller::Traveller;
+pub use worker::{Worker, WorkerEnd};

@@ -1,0 +1,102 @@
+//! The halves that a worker holds: which are told to leave, which is due, and a turn of each.
+ghost use Rattle.std.specs.Prelude.{◌≡◌, ◌≤◌, ◌<◌, ◌+◌, All, List, length, map, vec_len, vec_capacity, IsNone, IsSome, IfSome, IfOk};
+ghost use Rattle.std.specs.List.{insert, position};
+ghost use Rattle.worker_core.specs.declared.order.Order.{Order};
+ghost use Rattle.worker_core.specs.Leaves.{IsOrdered, IsTold, is_due};
+ghost use Rattle.worker_core.specs.Turns.{AreTurned, AllTurned, OneWorked, OneWorkedAt};
+
+use crate::Traveller;
+use crate::worker::Leaving;
+use lane_core::{Did, NoMemory};
+use pc_base::{SliceNo, Slot};
+use std::sync::Wait;
+
+/// How many items a half handles in a turn, at most.
+const GRAIN: u32 = 8;
+
+// The half of this slot, if it is held, is to leave at this count.
+pub fn mark<H: Traveller>(held: &[H], leaving: &mut Vec<Leaving>, slot: Slot, until: u64)
+    requires { vec_len leaving.old < vec_capacity leaving.old }
+    ensures { (came : List (Order H)) → All (IsTold came) leaving.old.items → IsOrdered came slot until
+        → All (IsTold came) leaving.new.items }
+{
+    if !held.iter().any(|half| half.slot() == slot) {
+        return;
+    }
+    match leaving.iter().position(|leaving| leaving.slot == slot) {
+        Some(k) => leaving[k] = Leaving { slot, until },
+        None => leaving.push_reserved(Leaving { slot, until }),
+    }
+}
+
+// Whether a half of this slot, which has done so much, is due.
+fn is_due_home(leaving: &[Leaving], slot: Slot, done: u64) -> bool
+    ensures { result ≡ is_due leaving.now slot done }
+{
+    leaving
+        .iter()
+        .any(|leaving| leaving.slot == slot && leaving.until <= done)
+}
+
+// The first half that is due home.
+pub fn find_due<H: Traveller>(held: &[H], leaving: &[Leaving]) -> Option<usize>
+    ensures { result ≡ position (λ half. is_due leaving.now (H.slot_of (H.name half)) (H.done_of half)) held.now }
+{
+    held.iter()
+        .position(|half| is_due_home(leaving, half.slot(), half.done()))
+}
+
+// A half that was taken out of the list stands again where it stood.
+pub fn put_back<H: Traveller>(held: &mut Vec<H>, at: usize, half: H)
+    requires at { at ≤ vec_len held.old }
+    requires room { vec_len held.old < vec_capacity held.old }
+    ensures items { held.new.items ≡ insert held.old.items at half }
+    ensures len { vec_len held.new ≡ vec_len held.old + 1 }
+{
+    let Ok(()) = held.insert(at, half) else {
+        unreachable!()
+    };
+}
+
+// Turns the halves from the cursor to the last, and then from the first to the cursor, until one has
+// worked, and tells which.
+pub fn turn_round<H: Traveller, R: Wait>(
+    rt: &R,
+    held: &mut Vec<H>,
+    place: SliceNo,
+    cursor: usize,
+) -> Result<Option<usize>, NoMemory>
+    requires { cursor ≤ vec_len held.old }
+    ensures names { map H.name held.new.items ≡ map H.name held.old.items }
+    ensures len { vec_len held.new ≡ vec_len held.old }
+    ensures idle { IfOk result (λ at. IsNone at → AllTurned H.turns H.works held.old.items held.new.items) }
+    ensures worked { IfOk result (λ at. IfSome at (λ k. OneWorkedAt H.works k held.old.items held.new.items)) }
+{
+    let end = held.len();
+    if let Some(at) = turn_some(rt, held, place, cursor, end)? {
+        return Ok(Some(at));
+    }
+    turn_some(rt, held, place, 0, cursor)
+}
+
+// Turns the halves from one index up to another, until one has worked, and tells which.
+fn turn_some<H: Traveller, R: Wait>(
+    rt: &R,
+    held: &mut Vec<H>,
+    place: SliceNo,
+    from: usize,
+    to: usize,
+) -> Result<Option<usize>, NoMemory>
+    requires { (from ≤ to) × (to ≤ vec_len held.old) }
+    ensures names { map H.name held.new.items ≡ map H.name held.old.items }
+    ensures len { vec_len held.new ≡ vec_len held.old }
+    ensures idle { IfOk result (λ at. IsNone at → AreTurned H.turns H.works from to held.old.items held.new.items) }
+    ensures worked { IfOk result (λ at. IfSome at (λ k. OneWorkedAt H.works k held.old.items held.new.items)) }
+{
+    for i in from..to {
+        if let Did::Worked = held[i].turn(rt, place, GRAIN)? {
+            return Ok(Some(i));
+        }
+    }
+    Ok(None)
+}

@@ -1,0 +1,219 @@
+//! A worker: the halves that it holds, and the ends of its two lanes.
+ghost use Rattle.std.specs.Prelude.{◌≡◌, ◌≤◌, ◌<◌, ◌+◌, ◌⊎◌, [], All, length, map, vec_len, vec_capacity, IsTrue, IsFalse, IsSome, OnErr};
+ghost use Rattle.lane_core.specs.Ends.{sender_lane, receiver_lane, sent, taken, full_answers, empty_answers, raised};
+ghost use Rattle.worker_core.specs.Names.{Kept};
+ghost use Rattle.worker_core.specs.Leaves.{IsTold};
+ghost use Rattle.worker_core.specs.Turns.{AllTurned, OneWorked};
+
+use crate::turning::{find_due, mark, put_back, turn_round};
+use crate::{Order, Traveller};
+use lane_core::{Did, Full, NoMemory, Receiver, Sender};
+use pc_base::{SliceNo, Slot};
+use std::alloc::Global;
+use std::sync::Wait;
+
+/// A half is to leave once it has done so much.
+#[derive(Clone, Copy, Debug, PartialEq, Eq)]
+pub struct Leaving {
+    pub slot: Slot,
+    pub until: u64,
+}
+
+/// A worker of one slice.
+#[derive(Drop)]
+pub struct Worker<H: Traveller> {
+    place: SliceNo,
+    /// Its halves, in the order in which they came.
+    held: Vec<H>,
+    /// Which of them are to leave.
+    leaving: Vec<Leaving>,
+    /// Where the next turn begins.
+    cursor: usize,
+    orders: Receiver<Order<H>>,
+    home: Sender<H>,
+    pub ghost kept: { Kept H.name (taken orders) held.items (sent home) },
+    ghost told: { All (IsTold (taken orders)) leaving.items },
+    ghost within: { cursor ≤ vec_len held },
+}
+
+/// What is left of a worker that stopped: its place, its halves and the ends of its lanes.
+#[derive(Drop)]
+pub struct WorkerEnd<H: Traveller> {
+    pub place: SliceNo,
+    pub held: Vec<H>,
+    pub orders: Receiver<Order<H>>,
+    pub home: Sender<H>,
+    pub ghost kept: { Kept H.name (taken orders) held.items (sent home) },
+}
+
+impl<H: Traveller> Worker<H> {
+    ghost use Rattle.worker_core.specs.Workers.{worker_lanes, orders_of, home_of, held_of, place_of, end_lanes, GoesHome, NoOrder, first_due, SameButHalves};
+
+    pub(crate) fn new(
+        alloc: Global,
+        place: SliceNo,
+        orders: Receiver<Order<H>>,
+        home: Sender<H>,
+    ) -> Worker<H>
+        requires { (taken orders ≡ []) × (sent home ≡ []) }
+        ensures orders { orders_of result ≡ orders }
+        ensures home { home_of result ≡ home }
+        ensures place { place_of result ≡ place }
+        ensures empty { held_of result ≡ [] }
+    {
+        Worker {
+            place,
+            held: Vec::new(alloc),
+            leaving: Vec::new(alloc),
+            cursor: 0,
+            orders,
+            home,
+        }
+    }
+
+    /// Does the first of these that it can: takes an order; sends home the first half that is due;
+    /// turns its halves, from the cursor round, until one has worked. `Held` never comes.
+    pub fn turn<R: Wait>(&mut self, rt: &R) -> Result<Did, NoMemory>
+        ensures lanes { worker_lanes self.new ≡ worker_lanes self.old }
+        ensures place { place_of self.new ≡ place_of self.old }
+
+        // A half goes home only once an order told it to leave, and it has done what that said.
+        ensures home { (sent (home_of self.new) ≡ sent (home_of self.old))
+            ⊎ GoesHome H.name H.slot_of H.done_of (taken (orders_of self.new)) (sent (home_of self.old)) (sent (home_of self.new)) }
+
+        // Worked comes only where an order was taken, a half went home, or a half worked.
+        ensures worked { result ≡ Ok Did.Worked
+            → (length (taken (orders_of self.new)) ≡ length (taken (orders_of self.old)) + 1)
+            ⊎ (length (sent (home_of self.new)) ≡ length (sent (home_of self.old)) + 1)
+            ⊎ OneWorked H.works (held_of self.old) (held_of self.new) }
+
+        // Idle comes only where no order was there, each half was turned and none worked, and, if one
+        // was due home, the lane home was full.
+        ensures idle_orders { result ≡ Ok Did.Idle
+            → empty_answers (orders_of self.new) ≡ raised (empty_answers (orders_of self.old)) }
+        ensures idle_turned { result ≡ Ok Did.Idle → AllTurned H.turns H.works (held_of self.old) (held_of self.new) }
+        ensures idle_home { result ≡ Ok Did.Idle → IsSome (first_due H.name H.slot_of H.done_of self.old)
+            → full_answers (home_of self.new) ≡ raised (full_answers (home_of self.old)) }
+        ensures held_never { result ≡ Ok Did.Held → ⊥ }
+
+        // For want of memory nothing changes but what a half did.
+        ensures err { OnErr result (SameButHalves H.name self.old self.new) }
+    {
+        self.held.reserve(1)?;
+        self.leaving.reserve(1)?;
+        if self.take_order(rt) || self.send_home(rt) {
+            return Ok(Did::Worked);
+        }
+        self.turn_halves(rt)
+    }
+
+    // Whether an order was there, and was taken.
+    fn take_order<R: Wait>(&mut self, rt: &R) -> bool
+        requires held { vec_len self.old.held < vec_capacity self.old.held }
+        requires leaving { vec_len self.old.leaving < vec_capacity self.old.leaving }
+        ensures lanes { worker_lanes self.new ≡ worker_lanes self.old }
+        ensures place { place_of self.new ≡ place_of self.old }
+        ensures home { home_of self.new ≡ home_of self.old }
+        ensures order { IsTrue result → length (taken (orders_of self.new)) ≡ length (taken (orders_of self.old)) + 1 }
+        ensures none { IsFalse result → NoOrder self.old self.new }
+    {
+        let Some(order) = self.orders.take(rt) else {
+            return false;
+        };
+        match order {
+            Order::Arrive(half) => {
+                self.held.push_reserved(half);
+                true
+            }
+            Order::Leave { slot, until } => {
+                mark(&self.held, &mut self.leaving, slot, until);
+                true
+            }
+        }
+    }
+
+    // Whether a half was due home, and went.
+    fn send_home<R: Wait>(&mut self, rt: &R) -> bool
+        ensures lanes { worker_lanes self.new ≡ worker_lanes self.old }
+        ensures place { place_of self.new ≡ place_of self.old }
+        ensures orders { orders_of self.new ≡ orders_of self.old }
+        ensures gone { IsTrue result
+            → GoesHome H.name H.slot_of H.done_of (taken (orders_of self.old)) (sent (home_of self.old)) (sent (home_of self.new)) }
+        ensures none { IsFalse result → (sent (home_of self.new) ≡ sent (home_of self.old)) × (held_of self.new ≡ held_of self.old) }
+        ensures full { IsFalse result → IsSome (first_due H.name H.slot_of H.done_of self.old)
+            → full_answers (home_of self.new) ≡ raised (full_answers (home_of self.old)) }
+    {
+        let Some(at) = find_due(&self.held, &self.leaving) else {
+            return false;
+        };
+        let half = self.held.remove(at);
+        let slot = half.slot();
+        match self.home.offer(rt, half) {
+            Ok(()) => {
+                self.leaving.retain(|leaving| leaving.slot != slot);
+                self.cursor = cursor_without(self.cursor, at, self.held.len());
+                true
+            }
+            Err(Full(half)) => {
+                put_back(&mut self.held, at, half);
+                false
+            }
+        }
+    }
+
+    // Turns the halves from the cursor round, until one has worked.
+    fn turn_halves<R: Wait>(&mut self, rt: &R) -> Result<Did, NoMemory>
+        ensures lanes { worker_lanes self.new ≡ worker_lanes self.old }
+        ensures place { place_of self.new ≡ place_of self.old }
+        ensures orders { orders_of self.new ≡ orders_of self.old }
+        ensures home { home_of self.new ≡ home_of self.old }
+        ensures names { map H.name (held_of self.new) ≡ map H.name (held_of self.old) }
+        ensures worked { result ≡ Ok Did.Worked → OneWorked H.works (held_of self.old) (held_of self.new) }
+        ensures idle { result ≡ Ok Did.Idle → AllTurned H.turns H.works (held_of self.old) (held_of self.new) }
+        ensures held_never { result ≡ Ok Did.Held → ⊥ }
+    {
+        let Some(at) = turn_round(rt, &mut self.held, self.place, self.cursor)? else {
+            return Ok(Did::Idle);
+        };
+        self.cursor = wrapped(at + 1, self.held.len());
+        Ok(Did::Worked)
+    }
+
+    /// Gives what the worker has.
+    pub fn into_end(self) -> WorkerEnd<H>
+        ensures lanes { end_lanes result ≡ worker_lanes self }
+        ensures place { result.place ≡ place_of self }
+        ensures held { result.held.items ≡ held_of self }
+        ensures orders { result.orders ≡ orders_of self }
+        ensures home { result.home ≡ home_of self }
+    {
+        let Worker {
+            place,
+            held,
+            leaving: _,
+            cursor: _,
+            orders,
+            home,
+        } = self;
+        WorkerEnd {
+            place,
+            held,
+            orders,
+            home,
+        }
+    }
+}
+
+// Where the cursor stands once the half at an index left, and so many are held.
+fn cursor_without(cursor: usize, at: usize, held: usize) -> usize
+    ensures { result ≤ held }
+{
+    wrapped(if at < cursor { cursor - 1 } else { cursor }, held)
+}
+
+// The cursor in a list of this length: past its end it is at its front.
+fn wrapped(cursor: usize, held: usize) -> usize
+    ensures { result ≤ held }
+{
+    if cursor < held { cursor } else { 0 }
+}
