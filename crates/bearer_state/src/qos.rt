@@ -25,7 +25,12 @@ impl Qos {
     pub fn is_in_range(&self) -> bool
         ensures { IsTrue result ↔ IsQos self.now }
     {
-        let _rates = (self.mbr_up.0, self.mbr_down.0, self.gbr_up.0, self.gbr_down.0);
+        let _rates = (
+            self.mbr_up.0,
+            self.mbr_down.0,
+            self.gbr_up.0,
+            self.gbr_down.0,
+        );
         let _qci = self.qci;
         self.arp < 128 && self.arp / 2 % 2 == 0
     }
