@@ -8,3 +8,5 @@ pub mod Creation
 pub mod Order
 pub mod Granting
 pub mod Kinds
+pub mod ReadBack
+pub mod Rise

@@ -11,6 +11,7 @@ mod contexts;
 mod creating;
 mod ending;
 mod granting;
+mod laws;
 mod messages;
 mod modifying;
 mod ordering;
@@ -22,6 +23,7 @@ pub use cause::{
     REQUEST_REJECTED,
 };
 pub use command::{Command, CommandKind};
+pub use laws::{counts_rise_by_one, written_messages_read_back};
 pub use pc_base::{Outcome, Reply};
 pub use std::alloc::AllocError as NoMemory;
 pub use steps::step;
