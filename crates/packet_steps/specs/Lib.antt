@@ -4,3 +4,6 @@ pub mod Past
 pub mod Policing
 pub mod Verdicts
 pub mod Change
+pub mod Meters
+pub mod Standing
+pub mod Plans

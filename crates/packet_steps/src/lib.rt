@@ -3,7 +3,20 @@
 //! answer as the subscriber's whole past would. How versions come about is left to others.
 #![tactic(auto)]
 
+mod counters;
+mod effects;
 mod held;
+mod judged;
+mod judging;
+mod messages;
+mod meters;
+mod plan;
+mod handling;
+mod stepping;
 
+pub use counters::Counters;
+pub use effects::Effects;
+pub use handling::{handle, judge};
 pub use held::HeldPacket;
+pub use judged::Judged;
 pub use std::alloc::AllocError as NoMemory;
