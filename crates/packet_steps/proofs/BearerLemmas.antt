@@ -8,6 +8,7 @@ use Rattle.std.proofs.lemmas.List.Elements.{Contains-append_left, Contains-appen
 use Rattle.bearer_state.specs.Bearer.{EachPair, IsEbi}
 use Rattle.bearer_state.specs.declared.version.ActiveBearer.{ActiveBearer}
 use Rattle.bearer_state.specs.Version.{VersionState, IsVersion, IsActiveBearer, IsActiveBefore, bearer_at}
+use Rattle.packet_steps.specs.Change.{bearer_of}
 
 pub none_in_nil : {X : Type 0} (x : X) → ¬ Contains [] x
 none_in_nil x there = omega (arith, there.1)
@@ -90,3 +91,14 @@ pub found_ebi : (version : VersionState) (found : Option (Bor ActiveBearer)) →
     → IfSome found (λ b. IsEbi b.now.ebi)
 found_ebi version None ranges there = tt
 found_ebi version (Some b) ranges there = ebi_in_range version b.now ranges there
+
+-- the bearer of a life
+pub of_life_there : (bearers : List ActiveBearer) (life : ℕ) (found : Option (Bor ActiveBearer)) → option_copied found ≡ bearer_of bearers life
+    → IfSome found (λ b. Contains bearers b.now)
+of_life_there bearers life None is = tt
+of_life_there bearers life (Some b) is = (find_found (λ (x : ActiveBearer). x.life == life) bearers b.now (sym is)).0
+
+pub of_life_same : (bearers : List ActiveBearer) (life : ℕ) (found : Option (Bor ActiveBearer)) → option_copied found ≡ bearer_of bearers life
+    → IfSome found (λ b. b.now.life ≡ life)
+of_life_same bearers life None is = tt
+of_life_same bearers life (Some b) is = eqb-true b.now.life life (find_found (λ (x : ActiveBearer). x.life == life) bearers b.now (sym is)).1

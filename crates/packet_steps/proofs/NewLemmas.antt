@@ -4,8 +4,7 @@ use Rattle.std.proofs.lemmas.List.Elements.{All-nil}
 use Rattle.charging_book.specs.Accounts as book
 use Rattle.rate_policer.proofs.Standing.{stands_full}
 use Rattle.packet_steps.specs.declared.meters.Meter.{Meter}
-use Rattle.packet_steps.specs.declared.held.HeldPacket.{HeldPacket}
-use Rattle.packet_steps.specs.Rows.{ForwardedRow}
+use Rattle.packet_steps.specs.Rows.{ForwardedRow, HeldRow}
 use Rattle.packet_steps.specs.Past.{new_past}
 use Rattle.packet_steps.specs.Policing.{ambr}
 use Rattle.packet_steps.specs.Meters.{bucket_of, new_meter, Polices}
@@ -25,7 +24,7 @@ none_polices : (slot : ℕ) (up : Bool) → Polices (bucket_of up (new_meter 0 0
 none_polices slot true = full_polices 0 0 0 true
 none_polices slot false = full_polices 0 0 0 false
 
-pub new_stands : (none : Meter) (accounts : book.Accounts) (held : List HeldPacket) (slot : ℕ) → none ≡ new_meter 0 0 → book.StandsFor accounts [] 0 → held ≡ []
+pub new_stands : (none : Meter) (accounts : book.Accounts) (held : List HeldRow) (slot : ℕ) → none ≡ new_meter 0 0 → book.StandsFor accounts [] 0 → held ≡ []
     → StandsFor (record {
       meters = record { shared = none; own = none ∷ none ∷ none ∷ none ∷ none ∷ none ∷ none ∷ none ∷ none ∷ none ∷ none ∷ [] };
       book = accounts;

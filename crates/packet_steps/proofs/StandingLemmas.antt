@@ -9,9 +9,8 @@ use Rattle.charging_book.proofs.Steps.{lives-push}
 use Rattle.rate_policer.specs.Buckets.{BucketState}
 use Rattle.bearer_state.specs.declared.version.ActiveBearer.{ActiveBearer}
 use Rattle.bearer_state.specs.Version.{IsVersion}
-use Rattle.packet_steps.specs.declared.held.HeldPacket.{HeldPacket}
 use Rattle.packet_steps.specs.declared.meters.Meters.{Meters}
-use Rattle.packet_steps.specs.Rows.{ForwardedRow}
+use Rattle.packet_steps.specs.Rows.{ForwardedRow, HeldRow}
 use Rattle.packet_steps.specs.Past.{Past, moment_of, row_for, happening_for, with_row, with_held}
 use Rattle.packet_steps.specs.Verdicts.{at_moment}
 use Rattle.packet_steps.specs.Change.{has_life}
@@ -58,7 +57,7 @@ stays_stand counters new past taken at stands late is =
     })
 
 -- one packet more is held
-pub holds_stand : (counters new : CountersState) (past : Past) (taken at : ℕ) (row : HeldPacket) → StandsFor counters past taken → moment_of past ≤ at
+pub holds_stand : (counters new : CountersState) (past : Past) (taken at : ℕ) (row : HeldRow) → StandsFor counters past taken → moment_of past ≤ at
     → new ≡ record counters { held = counters.held ++ row ∷ []; last = Some at } → StandsFor new (with_held (at_moment past at) row) taken
 holds_stand counters new past taken at row stands late is =
     subst (λ (c : CountersState). StandsFor c (with_held (at_moment past at) row) taken) (sym is) (record {

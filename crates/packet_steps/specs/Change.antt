@@ -1,5 +1,5 @@
 -- What a version that follows on another one brings: for the book, for eNodeBs that are left, for held packets.
-use Rattle.std.specs.Prelude.{ℕ, ◌==◌, ◌&&◌, nat_lt, Bool, true, false, not, if◌then◌else◌, List, [], ◌∷◌, ◌++◌, length, map, filter, fold, Option, Some, None}
+use Rattle.std.specs.Prelude.{ℕ, ◌==◌, ◌&&◌, nat_lt, Bool, true, false, not, if◌then◌else◌, List, [], ◌∷◌, ◌++◌, length, map, filter, fold, Option, Some, None, is_some, is_none}
 use Rattle.std.specs.List.{find, flat_map, list_any}
 use Rattle.std.specs.Option.{option_and_then}
 use Rattle.pc_base.specs.declared.packet.Peer.{Peer}
@@ -12,8 +12,8 @@ use Rattle.charging_book.specs.declared.records.Why.TheVariants.{Qos, Gone}
 use Rattle.bearer_state.specs.declared.version.ActiveBearer.{ActiveBearer}
 use Rattle.bearer_state.specs.Qos.{is_guaranteed}
 use Rattle.bearer_state.specs.Version.{VersionState}
-use Rattle.packet_steps.specs.declared.held.HeldPacket.{HeldPacket}
 use Rattle.packet_steps.specs.Messages.{gpdu, end_marker}
+use Rattle.packet_steps.specs.Rows.{HeldRow}
 use Rattle.packet_steps.specs.Past.{Past, row_for, with_row, with_held}
 use Rattle.packet_steps.specs.Policing.{passes}
 
@@ -33,25 +33,25 @@ lacking_in others bearers = filter (λ (bearer : ActiveBearer). not (has_life ot
 
 -- the lives that are over · where the AMBR was set, the pieces of those that go on without a guaranteed rate · the
 -- lives that begin
-abbrev pub ended : VersionState → VersionState → List book.Happening
-ended before after = map (λ (bearer : ActiveBearer). book.closed bearer.life Gone) (lacking_in after.bearers before.bearers)
+abbrev pub ended : List ActiveBearer → List ActiveBearer → List book.Happening
+ended before after = map (λ (bearer : ActiveBearer). book.closed bearer.life Gone) (lacking_in after before)
 
 abbrev pub shares_ambr : ActiveBearer → Bool
 shares_ambr bearer = not (is_guaranteed bearer.qos.qci)
 
-abbrev pub cut : VersionState → VersionState → List book.Happening
-cut before after =
-    if nat_lt before.rates after.rates
-    then map (λ (bearer : ActiveBearer). book.closed bearer.life Qos) (filter shares_ambr (shared_with after.bearers before.bearers))
-    else []
+abbrev pub cut : Bool → List ActiveBearer → List ActiveBearer → List book.Happening
+cut was_set before after =
+    if was_set then map (λ (bearer : ActiveBearer). book.closed bearer.life Qos) (filter shares_ambr (shared_with after before)) else []
 
-abbrev pub begun : VersionState → VersionState → List book.Happening
-begun before after =
-    map (λ (bearer : ActiveBearer). book.started bearer.life bearer.ebi bearer.qos.qci) (lacking_in before.bearers after.bearers)
+abbrev pub begun : List ActiveBearer → List ActiveBearer → List book.Happening
+begun before after = map (λ (bearer : ActiveBearer). book.started bearer.life bearer.ebi bearer.qos.qci) (lacking_in before after)
 
 -- what the book hears of the change
+abbrev pub marks_between : Bool → List ActiveBearer → List ActiveBearer → List book.Happening
+marks_between was_set before after = (ended before after ++ cut was_set before after) ++ begun before after
+
 abbrev pub marks : VersionState → VersionState → List book.Happening
-marks before after = (ended before after ++ cut before after) ++ begun before after
+marks before after = marks_between (nat_lt before.rates after.rates) before.bearers after.bearers
 
 -- an End Marker goes to the eNodeB that a bearer had, where it has another one now (TS 23.401, 5.5.1.1.2)
 abbrev pub same_peer : Peer → Peer → Bool
@@ -73,10 +73,10 @@ markers before after = flat_map (marker_for after) before.bearers
 
 -- A held packet goes to its bearer's eNodeB now, as far as the rate lets it, at the moment of the last packet. Without
 -- its bearer it is gone, and without an eNodeB it waits on.
-abbrev pub fated : Past × List Effect → HeldPacket → Fate → Past × List Effect
+abbrev pub fated : Past × List Effect → HeldRow → Fate → Past × List Effect
 fated so_far row fate_ = (so_far.0, so_far.1 ++ effect.Fate row.packet.number fate_ ∷ [])
 
-abbrev pub released_to : Past × List Effect → HeldPacket → ActiveBearer → Option Peer → Past × List Effect
+abbrev pub released_to : Past × List Effect → HeldRow → ActiveBearer → Option Peer → Past × List Effect
 released_to so_far row bearer None = (with_held so_far.0 row, so_far.1)
 released_to so_far row bearer (Some peer) =
     if passes so_far.0 bearer false (length row.packet.octets)
@@ -84,12 +84,16 @@ released_to so_far row bearer (Some peer) =
         (fate.Down row.life peer.addr (gpdu peer row.packet.octets))
     else fated so_far row (fate.Policed row.life)
 
-abbrev pub released_by : Past × List Effect → HeldPacket → Option ActiveBearer → Past × List Effect
+abbrev pub released_by : Past × List Effect → HeldRow → Option ActiveBearer → Past × List Effect
 released_by so_far row None = fated so_far row (fate.Gone row.life)
 released_by so_far row (Some bearer) = released_to so_far row bearer bearer.enb
 
-abbrev pub released : Past × List Effect → HeldPacket → Past × List Effect
+abbrev pub released : Past × List Effect → HeldRow → Past × List Effect
 released so_far row = released_by so_far row (bearer_of so_far.0.version.bearers row.life)
+
+-- whether a life's held packets wait on
+abbrev pub waits : List ActiveBearer → ℕ → Bool
+waits bearers life = is_some (bearer_of bearers life) && is_none (enb_of bearers life)
 
 -- the past at the new version before held packets are looked at
 abbrev pub marked : Past → VersionState → Past

@@ -7,3 +7,4 @@ pub mod Change
 pub mod Meters
 pub mod Standing
 pub mod Plans
+pub mod Releases

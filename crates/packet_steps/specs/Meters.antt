@@ -1,5 +1,5 @@
 -- The buckets of a subscriber: which bucket polices what, and what it stands for.
-use Rattle.std.specs.Prelude.{◌≡◌, ℕ, ◌≤◌, Bool, true, false, not, ◌&&◌, if◌then◌else◌, List, length, filter, fold, slice_set, IsTrue}
+use Rattle.std.specs.Prelude.{◌≡◌, ℕ, ◌≤◌, nat_lt, Bool, true, false, not, ◌&&◌, if◌then◌else◌, List, length, filter, fold, slice_set, IsTrue}
 use Rattle.std.specs.List.{slice_index_or, Contains}
 use Rattle.rate_policer.specs.Buckets as bucket
 use Rattle.bearer_state.specs.declared.version.ActiveBearer.{ActiveBearer}
@@ -49,6 +49,10 @@ with_begun before meters bearer =
     if begins_guaranteed before bearer
     then record meters { own = slice_set meters.own bearer.index (new_meter bearer.qos.mbr_up bearer.qos.mbr_down) }
     else meters
+
+abbrev pub learnt_meters : VersionState → VersionState → Meters → Meters
+learnt_meters before after meters =
+    fold (with_begun before) (if nat_lt before.rates after.rates then record meters { shared = new_meter after.up after.down } else meters) after.bearers
 
 -- a bucket has this rate and stands for these rows, and was not asked later than at a moment
 pub record Polices (b : bucket.BucketState) (rate : ℕ) (rows : List ForwardedRow) (moment : ℕ) : Type 0 where

@@ -4,15 +4,14 @@ use Rattle.bearer_state.specs.Session.{new_session}
 use Rattle.bearer_state.specs.Version.{VersionState, version_of}
 use Rattle.bearer_state.specs.declared.version.ActiveBearer.{ActiveBearer}
 use Rattle.charging_book.specs.Happenings as book
-use Rattle.packet_steps.specs.declared.held.HeldPacket.{HeldPacket}
-use Rattle.packet_steps.specs.Rows.{ForwardedRow}
+use Rattle.packet_steps.specs.Rows.{ForwardedRow, HeldRow}
 
 -- the version that packets go by now, the packets that were forwarded and those that are held, each in order, the
 -- moment of the last packet that was judged, and what happened to the charging book
 pub record Past : Type 0 where
   pub version : VersionState
   pub forwarded : List ForwardedRow
-  pub held : List HeldPacket
+  pub held : List HeldRow
   pub last : Option ℕ
   pub charged : List book.Happening
 
@@ -44,5 +43,5 @@ abbrev pub with_row : Past → ForwardedRow → Past
 with_row past row = record past { forwarded = past.forwarded ++ row ∷ []; charged = past.charged ++ happening_for row ∷ [] }
 
 -- with one packet more held
-abbrev pub with_held : Past → HeldPacket → Past
+abbrev pub with_held : Past → HeldRow → Past
 with_held past row = record past { held = past.held ++ row ∷ [] }

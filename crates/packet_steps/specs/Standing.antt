@@ -5,9 +5,8 @@ use Rattle.charging_book.specs.Accounts as book
 use Rattle.charging_book.specs.Happenings as happenings
 use Rattle.bearer_state.specs.declared.version.ActiveBearer.{ActiveBearer}
 use Rattle.bearer_state.specs.Version.{VersionState, IsVersion}
-use Rattle.packet_steps.specs.declared.held.HeldPacket.{HeldPacket}
 use Rattle.packet_steps.specs.declared.meters.Meters.{Meters}
-use Rattle.packet_steps.specs.Rows.{ForwardedRow}
+use Rattle.packet_steps.specs.Rows.{ForwardedRow, HeldRow}
 use Rattle.packet_steps.specs.Past.{Past}
 use Rattle.packet_steps.specs.Change.{has_life, learnt}
 use Rattle.packet_steps.specs.Meters.{MetersStand}
@@ -16,7 +15,7 @@ use Rattle.packet_steps.specs.Meters.{MetersStand}
 pub record CountersState : Type 0 where
   pub meters : Meters
   pub book : book.Accounts
-  pub held : List HeldPacket
+  pub held : List HeldRow
   pub last : Option ℕ
 
 abbrev pub last_of : CountersState → Option ℕ

@@ -13,7 +13,6 @@ use Rattle.ipv4_packet.specs.Refusal.{first_fault}
 use Rattle.tft_match.specs.Chosen.{chosen}
 use Rattle.bearer_state.specs.declared.version.ActiveBearer.{ActiveBearer}
 use Rattle.bearer_state.specs.Version.{VersionState, bearer_at}
-use Rattle.packet_steps.specs.declared.held.HeldPacket.{HeldPacket}
 use Rattle.packet_steps.specs.Messages.{gpdu, notification}
 use Rattle.packet_steps.specs.Past.{Past, row_for, with_row, with_held}
 use Rattle.packet_steps.specs.Policing.{passes}

@@ -8,10 +8,12 @@ mod effects;
 mod held;
 mod judged;
 mod judging;
+mod marks;
 mod messages;
 mod meters;
 mod plan;
 mod handling;
+mod releasing;
 mod stepping;
 
 pub use counters::Counters;

@@ -6,7 +6,8 @@ ghost use Rattle.rate_policer.specs.Buckets.{StandsFor, rate_of, last_of};
 ghost use Rattle.bearer_state.specs.Qos.{is_guaranteed};
 ghost use Rattle.packet_steps.specs.Meters.{bucket_of, with_bucket, new_meter, bucket_for, put_bucket};
 
-use bearer_state::ActiveBearer;
+use crate::marks::has_life;
+use bearer_state::{ActiveBearer, Version};
 use pc_base::{Kbps, Moment};
 use rate_policer::Bucket;
 
@@ -78,11 +79,43 @@ impl Meters {
 }
 
 impl Meters {
+    ghost use Rattle.std.specs.Prelude.{if◌then◌else◌};
     ghost use Rattle.std.specs.List.{Contains};
     ghost use Rattle.packet_steps.specs.Past.{Past, moment_of};
     ghost use Rattle.packet_steps.specs.Verdicts.{at_moment};
-    ghost use Rattle.packet_steps.specs.Meters.{MetersStand};
+    ghost use Rattle.packet_steps.specs.Meters.{MetersStand, with_begun, learnt_meters};
     ghost use Rattle.packet_steps.specs.Plans.{Tries};
+
+    /// The meters at a new version.
+    pub(crate) fn learnt(&self, before: &Version, after: &Version) -> Meters
+        ensures { result ≡ learnt_meters before.now after.now self.now }
+    {
+        let mut meters = self.rerated(before.rates < after.rates, after.up, after.down);
+        for bearer in after.bearers() {
+            meters.begin(before, bearer);
+        }
+        meters
+    }
+
+    /// The shared meter is new where the AMBR was set.
+    fn rerated(&self, was_set: bool, up: Kbps, down: Kbps) -> Meters
+        ensures { result ≡ (if was_set then record self.now { shared = new_meter up down } else self.now) }
+    {
+        let mut meters = *self;
+        if was_set {
+            meters.shared = Meter::new(up, down);
+            return meters;
+        }
+        meters
+    }
+
+    fn begin(&mut self, before: &Version, bearer: &ActiveBearer)
+        ensures { self.new ≡ with_begun before.now self.old bearer.now }
+    {
+        if has_guaranteed_rate(bearer) && !has_life(before.bearers(), bearer.life) && bearer.index < 11 {
+            self.own[bearer.index as usize] = Meter::new(bearer.qos.mbr_up, bearer.qos.mbr_down);
+        }
+    }
 
     /// Whether octets of a bearer pass at a moment: the bucket that is left, if so.
     pub(crate) fn tried(

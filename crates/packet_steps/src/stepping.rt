@@ -36,13 +36,10 @@ impl Counters {
             → Does plan.now (at_moment past moment) packet next → OnOk result (StandsFor self.new next taken) }
         ensures unchanged { OnErr result (self.new ≡ self.old) }
     {
+        let len = packet_len(octets);
         match plan {
-            Plan::Up { bearer, bucket } => {
-                self.pass(bearer, true, *bucket, moment, packet_len(octets))
-            }
-            Plan::Down { bearer, bucket, .. } => {
-                self.pass(bearer, false, *bucket, moment, packet_len(octets))
-            }
+            Plan::Up { bearer, bucket } => self.pass(bearer, true, *bucket, moment, len),
+            Plan::Down { bearer, bucket, .. } => self.pass(bearer, false, *bucket, moment, len),
             Plan::Hold { life, .. } => self.hold(*life, number, moment, way, octets),
             Plan::NoBearer | Plan::Spoof | Plan::Idle { .. } | Plan::Policed { .. } => {
                 self.stay(moment);
@@ -67,6 +64,7 @@ impl Counters {
         way: Way,
         octets: &[u8],
     ) -> Result<(), NoMemory>
+        requires { length octets.now < 2 ^ 16 }
         ensures stands { (past : Past) (taken : ℕ) → StandsFor self.old past taken → moment_of past ≤ moment
             → OnOk result (StandsFor self.new (with_held (at_moment past moment)
             (record { packet = record { number = number; moment = moment; way = way; octets = octets.now }; life = life })) taken) }
