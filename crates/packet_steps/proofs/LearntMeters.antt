@@ -89,13 +89,21 @@ all_own before meters (b ∷ bearers) c pairs there within =
     ]
 
 -- a life that is active has a bearer
-pub life_has_bearer : (bearers : List ActiveBearer) (life : ℕ) → has_life bearers life ≡ true → (b : ActiveBearer) × Contains bearers b × (b.life ≡ life)
+pub record HasBearer (bearers : List ActiveBearer) (life : ℕ) : Type 0 where
+  pub bearer : ActiveBearer
+  pub there : Contains bearers bearer
+  pub same : bearer.life ≡ life
+
+one_more : (b : ActiveBearer) (bearers : List ActiveBearer) (life : ℕ) (t : Bool) → (b.life == life) ≡ t → (t || has_life bearers life) ≡ true
+    → (has_life bearers life ≡ true → HasBearer bearers life) → HasBearer (b ∷ bearers) life
+one_more b bearers life true is either rest = record { bearer = b; there = first_in b bearers; same = eqb-true b.life life is }
+one_more b bearers life false is either rest =
+    let found = rest either in
+    record { bearer = found.bearer; there = later_in b bearers found.bearer found.there; same = found.same }
+
+pub life_has_bearer : (bearers : List ActiveBearer) (life : ℕ) → has_life bearers life ≡ true → HasBearer bearers life
 life_has_bearer [] life has = absurd (cc)
-life_has_bearer (b ∷ bearers) life has = by (b.life == life) refl has
-  where
-    by : (t : Bool) → (b.life == life) ≡ t → (t || has_life bearers life) ≡ true → (c : ActiveBearer) × Contains (b ∷ bearers) c × (c.life ≡ life)
-    by true is either = (b, first_in b bearers, eqb-true b.life life is)
-    by false is either = let found = life_has_bearer bearers life either in (found.0, later_in b bearers found.0 found.1, found.2)
+life_has_bearer (b ∷ bearers) life has = one_more b bearers life (b.life == life) refl has (life_has_bearer bearers life)
 
 -- no rows are of a life that is new, nor of rates that are new
 none_of_life : (life : ℕ) (up : Bool) (rows : List ForwardedRow) → All (λ (row : ForwardedRow). row.life ≢ life) rows → filter (is_of_life life up) rows ≡ []
@@ -171,13 +179,13 @@ own_by meters past after c up true stands follows there guaranteed is =
 own_by meters past after c up false stands follows there guaranteed is =
     let has : has_life past.version.bearers c.life ≡ true = not_true (has_life past.version.bearers c.life) (ap (λ g. g && not (has_life past.version.bearers c.life)) (sym guaranteed) ∙ is) in
     let found = life_has_bearer past.version.bearers c.life has in
-    let b = found.0 in
-    let same = follows.same_bearer b c found.1 there found.2 in
+    let b = found.bearer in
+    let same = follows.same_bearer b c found.there there found.same in
     let was_guaranteed : is_guaranteed b.qos.qci ≡ true = ap (λ (q : Qos). is_guaranteed q.qci) same.1 ∙ guaranteed in
-    subst (λ life. Polices (bucket_of up (own_meter meters c.index)) (mbr up c.qos) (filter (is_of_life life up) past.forwarded) (moment_of past)) found.2
+    subst (λ life. Polices (bucket_of up (own_meter meters c.index)) (mbr up c.qos) (filter (is_of_life life up) past.forwarded) (moment_of past)) found.same
     (subst (λ (q : Qos). Polices (bucket_of up (own_meter meters c.index)) (mbr up q) (filter (is_of_life b.life up) past.forwarded) (moment_of past)) same.1
     (subst (λ index. Polices (bucket_of up (own_meter meters index)) (mbr up b.qos) (filter (is_of_life b.life up) past.forwarded) (moment_of past)) same.0
-    (stands.own b up found.1 was_guaranteed)))
+    (stands.own b up found.there was_guaranteed)))
 
 -- the meters at a new version
 pub learnt_stand : (meters : Meters) (past : Past) (after : VersionState) → MetersStand meters past → Follows past after → IsVersion after

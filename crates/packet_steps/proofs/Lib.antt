@@ -11,3 +11,4 @@ pub mod ReleaseLemmas
 pub mod FoldLemmas
 pub mod LearntMeters
 mod WorkedPasts
+pub mod LawfulMarks

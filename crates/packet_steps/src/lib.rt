@@ -3,6 +3,7 @@
 //! answer as the subscriber's whole past would. How versions come about is left to others.
 #![tactic(auto)]
 
+mod advancing;
 mod counters;
 mod effects;
 mod held;
@@ -16,6 +17,7 @@ mod handling;
 mod releasing;
 mod stepping;
 
+pub use advancing::advance;
 pub use counters::Counters;
 pub use effects::Effects;
 pub use handling::{handle, judge};
