@@ -15,7 +15,7 @@ use Rattle.packet_steps.specs.Policing.{passes}
 use Rattle.packet_steps.specs.Change.{bearer_of, enb_of, waits, fated, released_to, released_by, released}
 
 -- one packet, by whether it passes
-abbrev passed_or : Bool → Past × List Effect → HeldRow → ActiveBearer → Peer → Past × List Effect
+abbrev pub passed_or : Bool → Past × List Effect → HeldRow → ActiveBearer → Peer → Past × List Effect
 passed_or b so_far row bearer peer =
     cond b (fated (with_row so_far.0 (row_for so_far.0 bearer false (length row.packet.octets)), so_far.1) row (fate.Down row.life peer.addr (gpdu peer row.packet.octets)))
     (fated so_far row (fate.Policed row.life))

@@ -12,3 +12,4 @@ pub mod FoldLemmas
 pub mod LearntMeters
 mod WorkedPasts
 pub mod LawfulMarks
+pub mod AdvanceLemmas
