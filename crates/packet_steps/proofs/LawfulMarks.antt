@@ -130,14 +130,13 @@ has_filter q (b ∷ bs) life = has_filter_at q b bs life (q b.life) (b.life == l
 without_open : (before : List Happening) (life : ℕ) (p : ℕ → Bool) → AreOpen before p → AreOpen (before ++ closed life Gone ∷ []) (λ other. p other && not (life == other))
 without_open before life p opens other =
     let q : ℕ → Bool = λ x. not (x == life) in
-    let is : lives_of (before ++ closed life Gone ∷ []) ≡ filter q (lives_of before) = lives-push before (closed life Gone) in
-    (
+    let is : lives_of (before ++ closed life Gone ∷ []) ≡ filter q (lives_of before) = lives-push before (closed life Gone) in (
       λ there.
-        let known = kept q (lives_of before) other (subst (λ (xs : List ℕ). Contains xs other) is there) in
-        and_from (p other) (not (life == other)) ((opens other).0 known.0) (ap not (either_way life other) ∙ known.1),
+          let known = kept q (lives_of before) other (subst (λ (xs : List ℕ). Contains xs other) is there) in
+          and_from (p other) (not (life == other)) ((opens other).0 known.0) (ap not (either_way life other) ∙ known.1),
       λ holds.
-        let parts = and_parts (p other) (not (life == other)) holds in
-        subst (λ (xs : List ℕ). Contains xs other) (sym is) (keeps q (lives_of before) other ((opens other).1 parts.0) (ap not (sym (either_way life other)) ∙ parts.1)),
+          let parts = and_parts (p other) (not (life == other)) holds in
+          subst (λ (xs : List ℕ). Contains xs other) (sym is) (keeps q (lives_of before) other ((opens other).1 parts.0) (ap not (sym (either_way life other)) ∙ parts.1)),
     )
   where
     either_way : (a b : ℕ) → (a == b) ≡ (b == a)
@@ -183,8 +182,7 @@ cut_going (b ∷ bs) before p opens each =
 -- a life that begins
 with_open : (before : List Happening) (life ebi qci : ℕ) (p : ℕ → Bool) → AreOpen before p → AreOpen (before ++ started life ebi qci ∷ []) (λ other. p other || (life == other))
 with_open before life ebi qci p opens other =
-    let is : lives_of (before ++ started life ebi qci ∷ []) ≡ lives_of before ++ life ∷ [] = lives-push before (started life ebi qci) in
-    (
+    let is : lives_of (before ++ started life ebi qci ∷ []) ≡ lives_of before ++ life ∷ [] = lives-push before (started life ebi qci) in (
       λ there. elim (Contains-push_cases (lives_of before) life other (subst (λ (xs : List ℕ). Contains xs other) is there)) [
         | inl old ↦ ap (λ t. t || (life == other)) ((opens other).0 old)
         | inr new ↦ ap (λ t. p other || t) (eq-eqb life other new) ∙ or_true (p other)
@@ -199,6 +197,7 @@ with_open before life ebi qci p opens other =
     or_true : (a : Bool) → (a || true) ≡ true
     or_true true = refl
     or_true false = refl
+
     either : (a b : Bool) → (a || b) ≡ true → (a ≡ true) ⊎ (b ≡ true)
     either true b holds = inl refl
     either false b holds = inr holds

@@ -78,14 +78,14 @@ all_own before meters [] c pairs there within = absurd (none_in_nil c there)
 all_own before meters (b ∷ bearers) c pairs there within =
     elim (of_cons b bearers c there) [
       | inl here ↦ subst (λ (x : ActiveBearer). own_meter (fold (with_begun before) (with_begun before meters b) bearers) x.index ≡ own_then before meters x) here
-        (all_other before (with_begun before meters b) bearers b.index
-        (λ d behind same. let known = each_of (IsActiveBefore b) bearers d pairs.0 behind in omega (arith, known.indices_rise, same))
-        ∙ begun_own before meters b (subst (λ (x : ActiveBearer). x.index < length meters.own) (sym here) within))
+          (all_other before (with_begun before meters b) bearers b.index
+          (λ d behind same. let known = each_of (IsActiveBefore b) bearers d pairs.0 behind in omega (arith, known.indices_rise, same))
+          ∙ begun_own before meters b (subst (λ (x : ActiveBearer). x.index < length meters.own) (sym here) within))
       | inr behind ↦
-        let known = each_of (IsActiveBefore b) bearers c pairs.0 behind in
-        let apart : c.index ≢ b.index = λ same. omega (arith, known.indices_rise, same) in
-        all_own before (with_begun before meters b) bearers c pairs.1 behind (subst (λ n. c.index < n) (sym (begun_sized before meters b)) within)
-        ∙ ap (cond (begins_guaranteed before c) (new_meter c.qos.mbr_up c.qos.mbr_down)) (begun_other before meters b c.index apart)
+          let known = each_of (IsActiveBefore b) bearers c pairs.0 behind in
+          let apart : c.index ≢ b.index = λ same. omega (arith, known.indices_rise, same) in
+          all_own before (with_begun before meters b) bearers c pairs.1 behind (subst (λ n. c.index < n) (sym (begun_sized before meters b)) within)
+          ∙ ap (cond (begins_guaranteed before c) (new_meter c.qos.mbr_up c.qos.mbr_down)) (begun_other before meters b c.index apart)
     ]
 
 -- a life that is active has a bearer

@@ -72,32 +72,34 @@ guaranteed_put meters past bearer up octets b stands ranges there guaranteed beh
   own = λ other way there_other guaranteed_other.
       elim (cases_eq other.index bearer.index) [
         | inl same ↦
-          let equal : bearer ≡ other = sym (same_by_index past.version other bearer ranges there_other there same) in
-          subst (λ (x : ActiveBearer). Polices (bucket_of way (own_meter put x.index)) (mbr way x.qos) (filter (is_of_life x.life way) (past.forwarded ++ row ∷ [])) (moment_of past)) equal
-          (subst (λ (m : Meter). Polices (bucket_of way m) (mbr way bearer.qos) (filter (is_of_life bearer.life way) (past.forwarded ++ row ∷ [])) (moment_of past))
-          (sym (get_or-set_same meters.own bearer.index (with_bucket up b (own_meter meters bearer.index)) (new_meter 0 0) within))
-          (elim (ways up way) [
-            | inl one ↦ subst (λ w. Polices (bucket_of w (with_bucket up b (own_meter meters bearer.index))) (mbr w bearer.qos) (filter (is_of_life bearer.life w) (past.forwarded ++ row ∷ [])) (moment_of past)) one
-              (subst (λ (c : BucketState). Polices c (mbr up bearer.qos) (filter (is_of_life bearer.life up) (past.forwarded ++ row ∷ [])) (moment_of past))
-              (sym (same_bucket up b (own_meter meters bearer.index))) behind)
-            | inr two ↦ subst (λ (c : BucketState). Polices c (mbr way bearer.qos) (filter (is_of_life bearer.life way) (past.forwarded ++ row ∷ [])) (moment_of past))
-              (sym (other_bucket up way b (own_meter meters bearer.index) two))
-              (polices_without _ _ (is_of_life bearer.life way) past.forwarded row (moment_of past) (and_no (row.life == bearer.life) (same_way up way) two)
-              (stands.own bearer way there guaranteed))
-          ]))
+            let equal : bearer ≡ other = sym (same_by_index past.version other bearer ranges there_other there same) in
+            subst (λ (x : ActiveBearer). Polices (bucket_of way (own_meter put x.index)) (mbr way x.qos) (filter (is_of_life x.life way) (past.forwarded ++ row ∷ [])) (moment_of past)) equal
+            (subst (λ (m : Meter). Polices (bucket_of way m) (mbr way bearer.qos) (filter (is_of_life bearer.life way) (past.forwarded ++ row ∷ [])) (moment_of past))
+            (sym (get_or-set_same meters.own bearer.index (with_bucket up b (own_meter meters bearer.index)) (new_meter 0 0) within))
+            (elim (ways up way) [
+              | inl one ↦ subst (λ w. Polices (bucket_of w (with_bucket up b (own_meter meters bearer.index))) (mbr w bearer.qos) (filter (is_of_life bearer.life w) (past.forwarded ++ row ∷ [])) (moment_of past)) one
+                  (subst (λ (c : BucketState). Polices c (mbr up bearer.qos) (filter (is_of_life bearer.life up) (past.forwarded ++ row ∷ [])) (moment_of past))
+                  (sym (same_bucket up b (own_meter meters bearer.index))) behind)
+              | inr two ↦ subst (λ (c : BucketState). Polices c (mbr way bearer.qos) (filter (is_of_life bearer.life way) (past.forwarded ++ row ∷ [])) (moment_of past))
+                  (sym (other_bucket up way b (own_meter meters bearer.index) two))
+                  (polices_without _ _ (is_of_life bearer.life way) past.forwarded row (moment_of past) (and_no (row.life == bearer.life) (same_way up way) two)
+                  (stands.own bearer way there guaranteed))
+            ]))
         | inr apart ↦
-          let differs : bearer.life ≢ other.life = λ same. apart (ap (λ (x : ActiveBearer). x.index) (sym (same_by_life past.version bearer other ranges there there_other same))) in
-          subst (λ (m : Meter). Polices (bucket_of way m) (mbr way other.qos) (filter (is_of_life other.life way) (past.forwarded ++ row ∷ [])) (moment_of past))
-          (sym (get_or-set_other meters.own bearer.index other.index (with_bucket up b (own_meter meters bearer.index)) (new_meter 0 0) apart))
-          (polices_without _ _ (is_of_life other.life way) past.forwarded row (moment_of past)
-          (ap (λ t. t && same_way up way) (ne_eqb bearer.life other.life differs)) (stands.own other way there_other guaranteed_other))
+            let differs : bearer.life ≢ other.life = λ same. apart (ap (λ (x : ActiveBearer). x.index) (sym (same_by_life past.version bearer other ranges there there_other same))) in
+            subst (λ (m : Meter). Polices (bucket_of way m) (mbr way other.qos) (filter (is_of_life other.life way) (past.forwarded ++ row ∷ [])) (moment_of past))
+            (sym (get_or-set_other meters.own bearer.index other.index (with_bucket up b (own_meter meters bearer.index)) (new_meter 0 0) apart))
+            (polices_without _ _ (is_of_life other.life way) past.forwarded row (moment_of past)
+            (ap (λ t. t && same_way up way) (ne_eqb bearer.life other.life differs)) (stands.own other way there_other guaranteed_other))
       ];
 }
   where
     row : ForwardedRow
     row = row_for past bearer up octets
+
     put : Meters
     put = record meters { own = set_own meters bearer up b }
+
     within : bearer.index < length meters.own
     within = subst (λ n. bearer.index < n) (sym stands.sized) (index_in_range past.version bearer ranges there)
 
@@ -110,13 +112,13 @@ shared_put meters past bearer up octets b stands ranges there shares behind = re
   shared = λ way.
       elim (ways up way) [
         | inl one ↦ subst (λ w. Polices (bucket_of w (with_bucket up b meters.shared)) (ambr w past.version) (filter (is_of_rates past.version.rates w) (past.forwarded ++ row ∷ [])) (moment_of past)) one
-          (subst (λ (c : BucketState). Polices c (ambr up past.version) (filter (is_of_rates past.version.rates up) (past.forwarded ++ row ∷ [])) (moment_of past))
-          (sym (same_bucket up b meters.shared)) behind)
+            (subst (λ (c : BucketState). Polices c (ambr up past.version) (filter (is_of_rates past.version.rates up) (past.forwarded ++ row ∷ [])) (moment_of past))
+            (sym (same_bucket up b meters.shared)) behind)
         | inr two ↦ subst (λ (c : BucketState). Polices c (ambr way past.version) (filter (is_of_rates past.version.rates way) (past.forwarded ++ row ∷ [])) (moment_of past))
-          (sym (other_bucket up way b meters.shared two))
-          (polices_without _ _ (is_of_rates past.version.rates way) past.forwarded row (moment_of past)
-          (and_no (not (is_guaranteed bearer.qos.qci)) (row.rates == past.version.rates && same_way up way) (and_no (row.rates == past.version.rates) (same_way up way) two))
-          (stands.shared way))
+            (sym (other_bucket up way b meters.shared two))
+            (polices_without _ _ (is_of_rates past.version.rates way) past.forwarded row (moment_of past)
+            (and_no (not (is_guaranteed bearer.qos.qci)) (row.rates == past.version.rates && same_way up way) (and_no (row.rates == past.version.rates) (same_way up way) two))
+            (stands.shared way))
       ];
   own = λ other way there_other guaranteed_other.
       let differs : bearer.life ≢ other.life = λ same.

@@ -81,7 +81,7 @@ released_to so_far row bearer None = (with_held so_far.0 row, so_far.1)
 released_to so_far row bearer (Some peer) =
     if passes so_far.0 bearer false (length row.packet.octets)
     then fated (with_row so_far.0 (row_for so_far.0 bearer false (length row.packet.octets)), so_far.1) row
-        (fate.Down row.life peer.addr (gpdu peer row.packet.octets))
+    (fate.Down row.life peer.addr (gpdu peer row.packet.octets))
     else fated so_far row (fate.Policed row.life)
 
 abbrev pub released_by : Past × List Effect → HeldRow → Option ActiveBearer → Past × List Effect

@@ -11,10 +11,10 @@ ghost use Rattle.packet_steps.specs.Verdicts.{at_moment, bearer_for, judged_now,
 ghost use Rattle.packet_steps.specs.Standing.{StandsFor, AreFew, last_of};
 ghost use Rattle.packet_steps.specs.Plans.{Plans, Does, PolicesBehind};
 
+use crate::NoMemory;
 use crate::counters::Counters;
 use crate::messages::notification;
 use crate::plan::Plan;
-use crate::NoMemory;
 use bearer_state::{ActiveBearer, Version};
 use ipv4_packet::Ip4;
 use pc_base::{Moment, Octets, Way, addr_of};
@@ -62,7 +62,10 @@ impl Counters {
         if ip.source() != addr_of(version.slot).0 {
             return Plan::Spoof;
         }
-        match self.meters.tried(bearer, true, moment, packet_len(ip.octets())) {
+        match self
+            .meters
+            .tried(bearer, true, moment, packet_len(ip.octets()))
+        {
             Some(bucket) => Plan::Up {
                 bearer: *bearer,
                 bucket,
@@ -89,7 +92,10 @@ impl Counters {
         let Some(peer) = bearer.enb else {
             return self.plan_waiting(version, number, bearer);
         };
-        match self.meters.tried(bearer, false, moment, packet_len(ip.octets())) {
+        match self
+            .meters
+            .tried(bearer, false, moment, packet_len(ip.octets()))
+        {
             Some(bucket) => Ok(Plan::Down {
                 bearer: *bearer,
                 peer,
@@ -118,12 +124,7 @@ impl Counters {
         })
     }
 
-    fn notice(
-        &self,
-        version: &Version,
-        number: u64,
-        ebi: u8,
-    ) -> Result<Option<Octets>, NoMemory>
+    fn notice(&self, version: &Version, number: u64, ebi: u8) -> Result<Option<Octets>, NoMemory>
         requires { IsEbi ebi }
         ensures { (past : Past) → self.now.held ≡ past.held → past.version.mme ≡ version.now.mme
             → IfOk result (λ message. message ≡ notice past number ebi) }

@@ -6,6 +6,7 @@
 mod advancing;
 mod counters;
 mod effects;
+mod handling;
 mod held;
 mod judged;
 mod judging;
@@ -13,7 +14,6 @@ mod marks;
 mod messages;
 mod meters;
 mod plan;
-mod handling;
 mod releasing;
 mod stepping;
 

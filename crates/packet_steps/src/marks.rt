@@ -128,7 +128,12 @@ pub(crate) fn markers(
 {
     let mut effects = Vec::new(alloc);
     for bearer in before.bearers() {
-        push_marker(alloc, &mut effects, bearer, enb_of(after.bearers(), bearer.life))?;
+        push_marker(
+            alloc,
+            &mut effects,
+            bearer,
+            enb_of(after.bearers(), bearer.life),
+        )?;
     }
     Ok(effects)
 }

@@ -112,7 +112,10 @@ impl Meters {
     fn begin(&mut self, before: &Version, bearer: &ActiveBearer)
         ensures { self.new ≡ with_begun before.now self.old bearer.now }
     {
-        if has_guaranteed_rate(bearer) && !has_life(before.bearers(), bearer.life) && bearer.index < 11 {
+        if has_guaranteed_rate(bearer)
+            && !has_life(before.bearers(), bearer.life)
+            && bearer.index < 11
+        {
             self.own[bearer.index as usize] = Meter::new(bearer.qos.mbr_up, bearer.qos.mbr_down);
         }
     }
