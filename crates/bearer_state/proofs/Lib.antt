@@ -3,3 +3,4 @@ pub mod VersionLemmas
 pub mod FirstLemmas
 pub mod BearerLemmas
 pub mod SessionLemmas
+pub mod Few

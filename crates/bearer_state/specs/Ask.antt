@@ -4,10 +4,16 @@ use Rattle.std.specs.List.{AllByRecursion, find}
 use Rattle.bearer_state.specs.declared.ask.Ask.{Ask}
 use Rattle.bearer_state.specs.Bearer.{IsEbi, EachPair}
 
+abbrev pub IsAsk : Ask → Type 0
+IsAsk ask = IsEbi ask.ebi
+
+abbrev pub HaveTwoEbis : Ask → Ask → Type 0
+HaveTwoEbis ask other = ask.ebi ≢ other.ebi
+
 -- the EBIs differ, so there are at most as many asks as EBIs from 5 to 15
 pub record AreAsks (asks : List Ask) : Type 0 where
-  pub each : AllByRecursion (λ (ask : Ask). IsEbi ask.ebi) asks
-  pub differ : EachPair (λ (ask other : Ask). ask.ebi ≢ other.ebi) asks
+  pub each : AllByRecursion IsAsk asks
+  pub differ : EachPair HaveTwoEbis asks
   pub few : length asks ≤ 11
 
 -- the ask for an EBI

@@ -117,9 +117,10 @@ refiltered session ebi filters = record session { bearers = with_first (is_activ
 abbrev pub dropped : SessionState → ℕ → SessionState
 dropped session ebi = record session { bearers = without_first (is_dedicated ebi) session.bearers }
 
--- another MME; another answer that is kept
-abbrev pub with_mme : SessionState → Peer → SessionState
-with_mme session mme = record session { mme = Some mme }
+-- the MME is replaced where one is given
+abbrev pub with_mme : SessionState → Option Peer → SessionState
+with_mme session mme = record session { mme = option_or mme session.mme }
 
+-- another answer is kept
 abbrev pub keeping : SessionState → Kept → SessionState
 keeping session kept = record session { last = Some kept }

@@ -1,5 +1,5 @@
 -- A session as contracts see it, and the ranges that it keeps.
-use Rattle.std.specs.Prelude.{◌≡◌, ℕ, ◌<◌, ◌≤◌, ◌^◌, Bool, true, false, List, [], ◌∷◌, length, Option, Some, None, IfSome}
+use Rattle.std.specs.Prelude.{◌≡◌, ℕ, ◌-◌, ◌<◌, ◌≤◌, ◌^◌, Bool, true, false, List, [], ◌∷◌, length, Option, Some, None, IfSome}
 use Rattle.std.specs.List.{AllByRecursion}
 use Rattle.pc_base.specs.declared.packet.Peer.{Peer}
 use Rattle.bearer_state.specs.declared.bearer.Phase.{Phase}
@@ -64,3 +64,8 @@ pub record IsSession (session : SessionState) : Type 0 where
   pub lives_below : AllByRecursion (λ bearer. bearer.life < session.lives) session.bearers
   pub bearers : HasBearersOf session.live session.bearers
   pub last : IfSome session.last IsKept
+
+-- the counts may rise
+pub record HasRoom (session : SessionState) : Type 0 where
+  pub rates : session.rates ≤ 2 ^ 61 - 20
+  pub lives : session.lives ≤ 2 ^ 61 - 20

@@ -1,4 +1,5 @@
 //! What a Modify Bearer Request asks for.
+use crate::ranges::are_asks;
 use pc_base::Peer;
 use std::marker::Model;
 
@@ -30,8 +31,20 @@ impl Model for Asks {
 }
 
 impl Asks {
-    ghost use Rattle.std.specs.Prelude.{◌≡◌};
+    ghost use Rattle.std.specs.Prelude.{◌≡◌, IfSome, IfNone};
     ghost use Rattle.bearer_state.specs.Ask.{AreAsks};
+
+    /// The asks of a list; None where they are more than 11, an EBI is out of its range, or two have one.
+    pub fn of(items: Vec<Ask>) -> Option<Asks>
+        ensures made { IfSome result (λ asks. (asks ≡ items.items) × AreAsks items.items) }
+        ensures none { IfNone result (¬ AreAsks items.items) }
+    {
+        if are_asks(&items) {
+            Some(Asks { items })
+        } else {
+            None
+        }
+    }
 
     /// Lends the asks. Takes no memory.
     pub fn as_slice(&self) -> &[Ask]

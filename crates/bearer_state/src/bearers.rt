@@ -7,6 +7,7 @@ ghost use Rattle.bearer_state.specs.Bearer.{index_of, is_active, is_asked};
 ghost use Rattle.bearer_state.specs.Lookup.{is_dedicated};
 ghost use Rattle.bearer_state.specs.Changes.{placed, unbound, enb_asked, rebound_bearer};
 
+use crate::ranges::are_bearers;
 use crate::{ActiveBearer, Ask, Bearer, NoMemory, Phase};
 use pc_base::Peer;
 use std::alloc::Global;
@@ -32,12 +33,13 @@ impl Model for Bearers {
 }
 
 impl Bearers {
-    ghost use Rattle.std.specs.Prelude.{◌≡◌, ◌≢◌, ◌<◌, false, [], ◌∷◌, map, OnOk, OnErr, IfOk, Some, None};
+    ghost use Rattle.std.specs.Prelude.{◌≡◌, ◌≢◌, ◌<◌, false, [], ◌∷◌, map, OnOk, OnErr, IfOk, IfSome, IfNone, Some, None, length, ◌≤◌};
     ghost use Rattle.std.specs.List.{AllByRecursion, find};
     ghost use Rattle.std.specs.Option.{option_copied};
     ghost use Rattle.bearer_state.specs.declared.bearer.Bearer.{Bearer};
     ghost use Rattle.bearer_state.specs.Ask.{AreAsks};
     ghost use Rattle.bearer_state.specs.Bearer.{AreBearers, IsBearer, IsEbi, index_of, is_active, is_asked};
+    ghost use Rattle.bearer_state.specs.Qos.{IsQos};
     ghost use Rattle.bearer_state.specs.Lookup.{at_index, least_free, has_index, has_active, has_dedicated, has_asked, is_dedicated, active_index, default_of};
     ghost use Rattle.bearer_state.specs.Changes.{placed, with_first, without_first, unbound, rebound_bearer, filtered, granted_bearer};
 
@@ -47,6 +49,19 @@ impl Bearers {
     {
         Bearers {
             items: Vec::new(alloc),
+        }
+    }
+
+    /// The bearers of a list; None where the indices don't rise, or two lives or two EBIs are the same,
+    /// or a number is out of its range.
+    pub fn of(items: Vec<Bearer>) -> Option<Bearers>
+        ensures made { IfSome result (λ bearers. (bearers ≡ items.items) × AreBearers items.items) }
+        ensures none { IfNone result (¬ AreBearers items.items) }
+    {
+        if are_bearers(&items) {
+            Some(Bearers { items })
+        } else {
+            None
         }
     }
 
@@ -66,23 +81,29 @@ impl Bearers {
     }
 
     /// Lends the bearers. Takes no memory.
+    #[tactic(auto, using(crate::proofs::Few::few_bearers))]
     pub fn as_slice(&self) -> &[Bearer]
         ensures value { result.now ≡ self.now }
         ensures valid { AreBearers self.now }
+        ensures few { length self.now ≤ 11 }
     {
         &self.items
     }
 
     /// The bearer of an index.
     pub fn at(&self, index: u8) -> Option<&Bearer>
-        ensures { option_copied result ≡ at_index self.now index }
+        ensures value { option_copied result ≡ at_index self.now index }
+        ensures valid { IfSome result (λ bearer. IsBearer bearer.now) }
     {
-        self.items.iter().find(|bearer| bearer.choice.index == index)
+        self.items
+            .iter()
+            .find(|bearer| bearer.choice.index == index)
     }
 
     /// The default bearer, where it is there and active.
     pub fn default_bearer(&self) -> Option<ActiveBearer>
-        ensures { result ≡ default_of self.now }
+        ensures value { result ≡ default_of self.now }
+        ensures valid { IfSome result (λ bearer. IsEbi bearer.ebi × IsQos bearer.qos) }
     {
         match self.at(0) {
             Some(bearer) => bearer.active(),
@@ -106,9 +127,21 @@ impl Bearers {
 
     /// The active bearer of an EBI.
     pub fn active(&self, ebi: u8) -> Option<&Bearer>
-        ensures { option_copied result ≡ find (is_active ebi) self.now }
+        ensures value { option_copied result ≡ find (is_active ebi) self.now }
+        ensures valid { IfSome result (λ bearer. IsBearer bearer.now) }
     {
         self.items.iter().find(|bearer| bearer.is_active(ebi))
+    }
+
+    /// The index of the active bearer of an EBI.
+    pub fn active_index(&self, ebi: u8) -> Option<u8>
+        ensures value { result ≡ active_index self.now ebi }
+        ensures range { IfSome result (λ index. index ≤ 10) }
+    {
+        match self.active(ebi) {
+            Some(bearer) => Some(bearer.choice.index),
+            None => None,
+        }
     }
 
     /// Whether a bearer is active under an EBI.

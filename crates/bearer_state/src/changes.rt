@@ -3,7 +3,7 @@
 ghost use Rattle.std.specs.Prelude.{◌≡◌, ◌≤◌, ◌-◌, ◌^◌, false, Some, None, IsTrue, OnOk, OnErr};
 ghost use Rattle.bearer_state.specs.Bearer.{IsEbi, IsSeq};
 ghost use Rattle.bearer_state.specs.Qos.{IsQos};
-ghost use Rattle.bearer_state.specs.Session.{IsAmbr, IsKept};
+ghost use Rattle.bearer_state.specs.Session.{HasRoom, IsAmbr, IsKept};
 ghost use Rattle.bearer_state.specs.Lookup.{has_active, least_free};
 ghost use Rattle.bearer_state.specs.Changes.{attached, detached, rerated, with_mme, rebound, released, with_asked, granted, denied, refiltered, dropped, keeping};
 
@@ -26,14 +26,14 @@ impl Session {
         requires down { IsAmbr down }
         requires ebi { IsEbi ebi }
         requires qos { IsQos qos }
-        requires rates { self.old.rates ≤ 2 ^ 61 - 20 }
-        requires lives { self.old.lives ≤ 2 ^ 61 - 20 }
+        requires room { HasRoom self.old }
         ensures attached { OnOk result (self.new ≡ attached self.old mme up down ebi qos enb) }
         ensures unchanged { OnErr result (self.new ≡ self.old) }
     {
         let alloc = self.bearers.allocator();
+        let life = self.lives;
         let bearer = Bearer {
-            life: self.lives,
+            life,
             phase: Phase::Active(ebi),
             qos,
             enb,
@@ -45,11 +45,9 @@ impl Session {
         let bearers = Bearers::only(alloc, bearer)?;
         self.live = true;
         self.mme = mme;
-        self.up = up;
-        self.down = down;
-        self.rates += 1;
         self.bearers = bearers;
-        self.lives += 1;
+        self.lives = life + 1;
+        self.set_rates(up, down);
         Ok(())
     }
 
@@ -66,7 +64,7 @@ impl Session {
     pub fn set_rates(&mut self, up: Kbps, down: Kbps)
         requires up { IsAmbr up }
         requires down { IsAmbr down }
-        requires rates { self.old.rates ≤ 2 ^ 61 - 20 }
+        requires room { self.old.rates ≤ 2 ^ 61 - 20 }
         ensures { self.new ≡ rerated self.old up down }
     {
         self.up = up;
@@ -74,11 +72,11 @@ impl Session {
         self.rates += 1;
     }
 
-    /// Another MME.
-    pub fn set_mme(&mut self, mme: Peer)
+    /// Another MME, where one is given.
+    pub fn set_mme(&mut self, mme: Option<Peer>)
         ensures { self.new ≡ with_mme self.old mme }
     {
-        self.mme = Some(mme);
+        self.mme = mme.or(self.mme);
     }
 
     /// An answer is kept for repeats of its request.
@@ -110,7 +108,7 @@ impl Session {
         requires index { least_free self.old.bearers ≡ Some index }
         requires seq { IsSeq seq }
         requires qos { IsQos qos }
-        requires lives { self.old.lives ≤ 2 ^ 61 - 20 }
+        requires room { HasRoom self.old }
         ensures asked { OnOk result (self.new ≡ with_asked self.old index seq qos filters) }
         ensures unchanged { OnErr result (self.new ≡ self.old) }
     {

@@ -9,6 +9,7 @@ mod bearers;
 mod changes;
 mod kept;
 mod qos;
+mod ranges;
 mod session;
 mod version;
 

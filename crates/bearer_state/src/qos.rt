@@ -16,3 +16,17 @@ pub struct Qos {
     pub gbr_up: Kbps,
     pub gbr_down: Kbps,
 }
+
+impl Qos {
+    ghost use Rattle.std.specs.Prelude.{◌↔◌, IsTrue};
+    ghost use Rattle.bearer_state.specs.Qos.{IsQos};
+
+    /// Whether the spare bits of the ARP octet are 0; the other ranges are those of the fields.
+    pub fn is_in_range(&self) -> bool
+        ensures { IsTrue result ↔ IsQos self.now }
+    {
+        let _rates = (self.mbr_up.0, self.mbr_down.0, self.gbr_up.0, self.gbr_down.0);
+        let _qci = self.qci;
+        self.arp < 128 && self.arp / 2 % 2 == 0
+    }
+}

@@ -1,8 +1,11 @@
 //! A subscriber's session.
-use crate::{Bearers, Kept, NoMemory, Version};
+use crate::{ActiveBearer, Bearers, Kept, NoMemory, Version};
 use pc_base::{Kbps, Peer, Slot};
 use std::alloc::Global;
 use std::marker::Model;
+
+/// A count above this doesn't rise any more, so that none passes 2^61.
+const MOST_COUNT: u64 = 0x2000_0000_0000_0000 - 20;
 
 /// A subscriber's session, with the ranges that `IsSession` names.
 #[derive(Debug, Drop)]
@@ -55,9 +58,11 @@ impl Model for Session {
 }
 
 impl Session {
-    ghost use Rattle.std.specs.Prelude.{◌≡◌, ◌≤◌, ◌^◌, IfOk};
-    ghost use Rattle.bearer_state.specs.Session.{new_session, IsSession};
-    ghost use Rattle.bearer_state.specs.Bearer.{AreBearers};
+    ghost use Rattle.std.specs.Prelude.{◌≡◌, ◌≤◌, ◌^◌, ◌↔◌, IsTrue, IsSome, IfOk, IfSome};
+    ghost use Rattle.bearer_state.specs.Session.{new_session, HasRoom, IsSession};
+    ghost use Rattle.bearer_state.specs.Bearer.{AreBearers, IsEbi};
+    ghost use Rattle.bearer_state.specs.Lookup.{default_of};
+    ghost use Rattle.bearer_state.specs.Qos.{IsQos};
     ghost use Rattle.bearer_state.specs.Version.{version_of};
 
     /// The session of a slot before its first command.
@@ -83,6 +88,22 @@ impl Session {
         ensures bearers { AreBearers self.now.bearers }
     {
         let _bearers = self.bearers.as_slice();
+    }
+
+    /// The default bearer, which a live session has, and no other.
+    pub fn default_bearer(&self) -> Option<ActiveBearer>
+        ensures value { result ≡ default_of self.now.bearers }
+        ensures live { IsSome result ↔ IsTrue self.now.live }
+        ensures valid { IfSome result (λ bearer. IsEbi bearer.ebi × IsQos bearer.qos) }
+    {
+        self.bearers.default_bearer()
+    }
+
+    /// Whether the counts of lives and of rates may rise: each is at most 2^61 − 20.
+    pub fn has_room(&self) -> bool
+        ensures { IsTrue result ↔ HasRoom self.now }
+    {
+        self.rates <= MOST_COUNT && self.lives <= MOST_COUNT
     }
 
     /// The version of the session under a number, at most 2^61: what its packets go by.

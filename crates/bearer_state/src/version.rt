@@ -3,7 +3,7 @@ ghost use Rattle.std.specs.Prelude.{◌≡◌, IfOk};
 ghost use Rattle.bearer_state.specs.Version.{actives, rows_of};
 
 use crate::{Bearer, NoMemory, Phase, Qos, Session};
-use pc_base::{Kbps, Peer, Slot};
+use pc_base::{Kbps, Numbered, Peer, Slot};
 use std::alloc::Global;
 use std::marker::Model;
 use tft_codec::BearerFilters;
@@ -69,6 +69,14 @@ impl Model for Version {
       bearers = version.actives.items;
       rows = version.rows.items;
     }) };
+}
+
+impl Numbered for Version {
+    ghost number_of = { λ version. version.number };
+
+    fn number(&self) -> u64 {
+        self.number
+    }
 }
 
 impl Version {

@@ -1,5 +1,5 @@
 -- Elements that are written one behind another stand there, and each reads as it was written.
-use Rattle.std.proofs.Common.{◌≡◌, ℕ, ◌+◌, ◌-◌, ◌/◌, ◌%◌, ◌^◌, ◌<◌, List, [], ◌∷◌, ◌++◌, length, get_or, take, drop, Option, Some, refl, sym, ap, subst, ◌∙◌, append_assoc, arith, length-append}
+use Rattle.std.proofs.Common.{◌≡◌, ℕ, ◌+◌, ◌-◌, ◌*◌, ◌/◌, ◌%◌, ◌^◌, ◌<◌, List, [], ◌∷◌, ◌++◌, length, get_or, take, drop, Option, Some, refl, sym, ap, subst, ◌∙◌, append_assoc, arith, length-append}
 use Rattle.std.specs.Prelude.{slice_range}
 use Rattle.std.specs.Int.{w16, from_be_bytes}
 use Rattle.std.specs.List.{flat_map, filter_map, cons_option, AllByRecursion}
@@ -12,7 +12,8 @@ use Rattle.gtpv2_ie.specs.declared.raw.RawIe.{RawIe}
 use Rattle.gtpv2_ie.specs.declared.value.IeValue.{IeValue}
 use Rattle.gtpv2_ie.specs.Element.{Element}
 use Rattle.gtpv2_ie.specs.Kind.{type_octet}
-use Rattle.gtpv2_ie.specs.Numbers.{number16, octets16}
+use Rattle.wire_octets.proofs.NumberLemmas.{be16-again}
+use Rattle.wire_octets.specs.Numbers.{be16_at, be16_octets}
 use Rattle.gtpv2_ie.specs.ReadBack.{end_of, places_by, AreReadAs}
 use Rattle.gtpv2_ie.specs.Spelling.{ie_octets, kind_of, plain_octets, element_octets}
 use Rattle.gtpv2_ie.specs.Stand.{raw_at, value_len, StandsAt, StandBetween, Stand}
@@ -23,9 +24,6 @@ pub record IsWritten (context : Context → List ℕ) (reads : List ℕ → Opti
   pub instance : ie.instance < 16
   pub len : length (plain_octets context ie.value) < 2 ^ 16
   pub again : value_at reads (type_octet (kind_of ie.value)) (plain_octets context ie.value) ≡ Some ie.value
-
-number16_again : (n : ℕ) → n < 2 ^ 16 → number16 (octets16 n) 0 ≡ n
-number16_again n fits = omega arith
 
 raw_at_is : (octets : List ℕ) (at kind instance len : ℕ) → get_or octets at 0 ≡ kind → get_or octets (at + 3) 0 % 16 ≡ instance → value_len octets at ≡ len
     → raw_at octets at ≡ record { kind = kind; instance = instance; from = at + 4; to = at + 4 + len }
@@ -49,10 +47,10 @@ header_is front more value kind instance low fits =
     let at_low : get_or (front ++ text) (length front + 1 + 1) 0 ≡ length value % 256 =
     ap (λ k. get_or (front ++ text) k 0) third ∙ get_or-append-add front text 2 0 in
     let at_instance : get_or (front ++ text) (length front + 3) 0 ≡ instance = get_or-append-add front text 3 0 in
-    let len : number16 (octets16 (length value)) 0 ≡ length value = number16_again (length value) fits in
+    let len : be16_at (be16_octets (length value)) 0 ≡ length value = be16-again (length value) [] fits in
     let len_is : value_len (front ++ text) (length front) ≡ length value =
-    ap (λ (h : ℕ). from_be_bytes w16 (h ∷ get_or (front ++ text) (length front + 1 + 1) 0 ∷ [])) at_high
-    ∙ ap (λ (l : ℕ). from_be_bytes w16 (length value / 256 % 256 ∷ l ∷ [])) at_low ∙ len in
+    ap (λ (h : ℕ). 0x100 * h + get_or (front ++ text) (length front + 1 + 1) 0) at_high
+    ∙ ap (λ (l : ℕ). 0x100 * (length value / 256 % 256) + l) at_low ∙ len in
     raw_at_is (front ++ text) (length front) kind instance (length value) at_kind
     (ap (λ (i : ℕ). i % 16) at_instance ∙ mod-eq_of_lt low) len_is
 

@@ -1,5 +1,5 @@
 -- Elements that stand in octets are those that reading gives.
-use Rattle.std.proofs.Common.{◌≡◌, ℕ, zero, suc, ◌+◌, ◌^◌, ◌%◌, ◌<◌, ◌≤◌, List, [], ◌∷◌, ◌++◌, length, get_or, drop, All, Result, Ok, Err, refl, sym, ap, subst, ◌∙◌, arith, drop-cons, length-drop}
+use Rattle.std.proofs.Common.{◌≡◌, ℕ, zero, suc, ◌+◌, ◌^◌, ◌%◌, ◌<◌, ◌≤◌, List, [], ◌∷◌, ◌++◌, length, get_or, drop, All, Result, Ok, Err, refl, sym, ap, subst, ◌∙◌, arith, drop-cons, length-drop, get_or-drop}
 use Rattle.std.proofs.Math.Seq.{drop-length}
 use Rattle.std.proofs.lemmas.List.{drop-drop}
 use Rattle.std.proofs.lemmas.List.Elements.{All-nil, All-cons}
@@ -8,6 +8,7 @@ use Rattle.std.specs.Global.{Vec}
 use Rattle.gtpv2_ie.specs.declared.raw.RawIe.{RawIe}
 use Rattle.gtpv2_ie.specs.declared.fault.IeBad.{IeBad}
 use Rattle.gtpv2_ie.specs.declared.fault.IeBad.TheVariants.{Short, Length, NoMemory}
+use Rattle.wire_octets.specs.Numbers.{be16_at}
 use Rattle.gtpv2_ie.specs.Stand.{value_len, raw_at, StandsAt, StandBetween, Stand, EndsShort, PassesEnd, IsInside, with_first, ies_from, ies_of, Gives}
 
 -- one element more stands behind those before it
@@ -89,6 +90,86 @@ ies_of-Stand octets ies stand =
     ies_from-front octets 0 (length octets) ies stand
     ∙ ap (λ rest. with_front ies (ies_from 0 (length octets) rest)) (drop-length octets)
     ∙ with_front-Ok ies
+
+-- ---- what is read stands
+
+at_front : (octets rest : List ℕ) (at k first : ℕ) → drop at octets ≡ rest → get_or rest k 0 ≡ first → get_or octets (at + k) 0 ≡ first
+at_front octets rest at k first is here = sym (get_or-drop at octets k 0) ∙ ap (λ xs. get_or xs k 0) is ∙ here
+
+behind_front : (octets rest : List ℕ) (at k : ℕ) → drop at octets ≡ rest → drop (at + k) octets ≡ drop k rest
+behind_front octets rest at k is = ap (λ n. drop n octets) (omega arith) ∙ sym (drop-drop k at octets) ∙ ap (drop k) is
+
+header_stands : (octets : List ℕ) (at kind high low last : ℕ) (rest : List ℕ) → drop at octets ≡ kind ∷ high ∷ low ∷ last ∷ rest
+    → let len : ℕ = be16_at (high ∷ low ∷ []) 0 in
+    raw_at octets at ≡ record { kind = kind; instance = last % 16; from = at + 4; to = at + 4 + len }
+header_stands octets at kind high low last rest is =
+    let text : List ℕ = kind ∷ high ∷ low ∷ last ∷ rest in
+    let first : get_or octets at 0 ≡ kind = ap (λ k. get_or octets k 0) (omega arith) ∙ at_front octets text at 0 kind is refl in
+    let second : get_or octets (at + 1) 0 ≡ high = at_front octets text at 1 high is refl in
+    let third : get_or octets (at + 1 + 1) 0 ≡ low = ap (λ k. get_or octets k 0) (omega arith) ∙ at_front octets text at 2 low is refl in
+    let fourth : get_or octets (at + 3) 0 ≡ last = at_front octets text at 3 last is refl in
+    ap (λ k. made k (get_or octets (at + 3) 0) (get_or octets (at + 1) 0) (get_or octets (at + 1 + 1) 0)) first
+    ∙ ap (λ i. made kind i (get_or octets (at + 1) 0) (get_or octets (at + 1 + 1) 0)) fourth
+    ∙ ap (λ h. made kind last h (get_or octets (at + 1 + 1) 0)) second ∙ ap (made kind last high) third
+  where
+    made : ℕ → ℕ → ℕ → ℕ → RawIe
+    made kind last high low =
+        record { kind = kind; instance = last % 16; from = at + 4; to = at + 4 + be16_at (high ∷ low ∷ []) 0 }
+
+-- elements that are read from a place on, behind the rest of a value
+record StandsFrom (octets : List ℕ) (left at : ℕ) (ies : List RawIe) : Type 0 where
+  inside : at + left ≤ length octets
+  stand : StandBetween octets (at + left) ies (length octets)
+
+first_stands : (octets : List ℕ) (at len : ℕ) (raw : RawIe) (ies : List RawIe) (read : Result (List RawIe) IeBad)
+    → raw_at octets at ≡ raw → raw.to ≡ at + 4 + len → with_first raw read ≡ Ok ies
+    → ((others : List RawIe) → read ≡ Ok others → StandsFrom octets len (at + 4) others) → StandsFrom octets 0 at ies
+first_stands octets at len raw ies (Err bad) header to is behind = absurd cc
+first_stands octets at len raw ies (Ok others) header to is behind =
+    let rest = behind others refl in
+    let whole : raw ∷ others ≡ ies = cc in
+    let here : StandsAt octets at raw = record { header = sym header; inside = omega (arith, to, rest.inside) } in
+    let both : StandBetween octets at (raw ∷ others) (length octets) =
+    (here, subst (λ k. StandBetween octets k others (length octets)) (sym to) rest.stand) in
+    record {
+      inside = omega (arith, to, rest.inside);
+      stand = subst (λ k. StandBetween octets k ies (length octets)) (omega arith)
+          (subst (λ xs. StandBetween octets at xs (length octets)) whole both);
+    }
+
+stand_from : (octets : List ℕ) (left at : ℕ) (rest : List ℕ) (ies : List RawIe) → drop at octets ≡ rest → at ≤ length octets
+    → ies_from left at rest ≡ Ok ies → StandsFrom octets left at ies
+unfolding ies_from
+stand_from octets zero at [] ies is inside read =
+    let none : [] ≡ ies = cc in
+    let end : at ≡ length octets = omega (arith, length-drop at octets, ap length is) in
+    record {
+      inside = omega arith;
+      stand = subst (λ xs. StandBetween octets (at + 0) xs (length octets)) none (omega (arith, end));
+    }
+stand_from octets zero at (kind ∷ high ∷ low ∷ last ∷ rest) ies is inside read =
+    let len : ℕ = be16_at (high ∷ low ∷ []) 0 in
+    let raw : RawIe = record { kind = kind; instance = last % 16; from = at + 4; to = at + 4 + len } in
+    let four : at + 4 ≤ length octets = omega (arith, length-drop at octets, ap length is) in
+    first_stands octets at len raw ies (ies_from len (at + 4) rest) (header_stands octets at kind high low last rest is) refl read
+    (λ others. stand_from octets len (at + 4) rest others (behind_front octets (kind ∷ high ∷ low ∷ last ∷ rest) at 4 is) four)
+stand_from octets zero at (a ∷ []) ies is inside read = absurd cc
+stand_from octets zero at (a ∷ b ∷ []) ies is inside read = absurd cc
+stand_from octets zero at (a ∷ b ∷ c ∷ []) ies is inside read = absurd cc
+stand_from octets (suc left) at [] ies is inside read = absurd cc
+stand_from octets (suc left) at (octet ∷ rest) ies is inside read =
+    let one : at + 1 ≤ length octets = omega (arith, length-drop at octets, ap length is) in
+    let rest_is = stand_from octets left (at + 1) rest ies (behind_front octets (octet ∷ rest) at 1 is) one read in
+    record {
+      inside = omega (arith, rest_is.inside);
+      stand = subst (λ k. StandBetween octets k ies (length octets)) (omega arith) rest_is.stand;
+    }
+
+-- what is read stands
+pub Stand-ies_of : (octets : List ℕ) (ies : List RawIe) → ies_of octets ≡ Ok ies → Stand octets ies
+Stand-ies_of octets ies read = (stand_from octets 0 0 octets ies refl (omega arith) read).stand
+
+-- ---- what doesn't read
 
 ies_from-few : (at : ℕ) (octets : List ℕ) → 0 < length octets → length octets < 4 → ies_from 0 at octets ≡ Err Short
 unfolding ies_from

@@ -7,29 +7,19 @@ use Rattle.std.specs.Prelude.{IfSome}
 use Rattle.std.proofs.Math.Nat.{mod-eq_of_lt}
 use Rattle.std.proofs.lemmas.Bool.{le-ltb}
 use Rattle.std.proofs.lemmas.Bool.Decides.{nat_tests}
-use Rattle.std.proofs.lemmas.Nat.{from_be_bytes-to_be_bytes_4, from_be_bytes-to_be_bytes_8}
 use Rattle.gtpv2_ie.specs.declared.cause.CauseIe.{CauseIe}
 use Rattle.gtpv2_ie.specs.declared.context.Context.{Context}
 use Rattle.gtpv2_ie.specs.declared.fteid.Fteid.{Fteid}
 use Rattle.gtpv2_ie.specs.declared.qos.QosIe.{QosIe}
 use Rattle.gtpv2_ie.specs.declared.value.IeValue.{IeValue}
 use Rattle.gtpv2_ie.specs.declared.value.IeValue.TheVariants as values
-use Rattle.gtpv2_ie.specs.Numbers.{number32, number40, octets32, octets40}
+use Rattle.wire_octets.proofs.NumberLemmas.{be32-again, be40-again}
+use Rattle.wire_octets.specs.Numbers.{be32_at, be40_at, be32_octets, be40_octets}
 use Rattle.gtpv2_ie.specs.Fields.{ebi_of, pdn_of, paa_of, octets_of, cause_of, fteid_of, qos_of}
 use Rattle.gtpv2_ie.specs.Kind.{type_octet}
 use Rattle.gtpv2_ie.specs.Spelling.{kind_of, offending_octets, cause_octets, fteid_octets, qos_octets, plain_octets}
 use Rattle.gtpv2_ie.specs.Validity.{IsEbi, IsCause, IsFteid, IsQos, IsValue}
 use Rattle.gtpv2_ie.specs.Value.{value_at}
-
-number32_again : (n : ℕ) → n < 2 ^ 32 → number32 (octets32 n) 0 ≡ n
-number32_again n fits = from_be_bytes-to_be_bytes_4 n fits
-
-number40_again : (n : ℕ) → n < 2 ^ 40 → number40 (octets40 n) 0 ≡ n
-number40_again n fits =
-    let first : n / 256 ^ 7 % 256 ≡ 0 = omega arith in
-    let second : n / 256 ^ 6 % 256 ≡ 0 = omega arith in
-    let third : n / 256 ^ 5 % 256 ≡ 0 = omega arith in
-    rw (first, second, third) at (from_be_bytes-to_be_bytes_8 n (omega arith))
 
 ebi_again : (ebi : ℕ) → IsEbi ebi → ebi_of (ebi ∷ []) ≡ Some ebi
 ebi_again ebi is =
@@ -41,8 +31,8 @@ pdn_again pdn least most =
     let low : pdn % 8 ≡ pdn = omega arith in
     rw low (grind (arith, nat_tests))
 
-paa_again : (addr : ℕ) → addr < 2 ^ 32 → paa_of (1 ∷ octets32 addr) ≡ Some addr
-paa_again addr fits = ap Some (number32_again addr fits)
+paa_again : (addr : ℕ) → addr < 2 ^ 32 → paa_of (1 ∷ be32_octets addr) ≡ Some addr
+paa_again addr fits = ap Some (be32-again addr [] fits)
 
 octets_again : (most : ℕ) (octets : List ℕ) → length octets ≤ most → octets_of most octets ≡ Some octets
 octets_again most octets few = grind (arith, nat_tests)
@@ -61,16 +51,16 @@ fteid_again : (fteid : Fteid) → IsFteid fteid → fteid_of (fteid_octets fteid
 fteid_again fteid is =
     let flag : ltb (128 + fteid.interface) 128 ≡ false = le-ltb _ _ (omega arith) in
     let interface : (128 + fteid.interface) % 64 ≡ fteid.interface = omega (arith, is.interface) in
-    let teid : number32 (octets32 fteid.teid) 0 ≡ fteid.teid = number32_again fteid.teid is.teid in
-    let addr : number32 (octets32 fteid.addr) 0 ≡ fteid.addr = number32_again fteid.addr is.addr in
+    let teid : be32_at (be32_octets fteid.teid) 0 ≡ fteid.teid = be32-again fteid.teid [] is.teid in
+    let addr : be32_at (be32_octets fteid.addr) 0 ≡ fteid.addr = be32-again fteid.addr [] is.addr in
     rw (flag, interface, teid, addr) refl
 
 qos_again : (qos : QosIe) → IsQos qos → qos_of (qos_octets qos) ≡ qos
 qos_again qos is =
-    let mbr_up : number40 (octets40 qos.mbr_up) 0 ≡ qos.mbr_up = number40_again qos.mbr_up is.mbr_up in
-    let mbr_down : number40 (octets40 qos.mbr_down) 0 ≡ qos.mbr_down = number40_again qos.mbr_down is.mbr_down in
-    let gbr_up : number40 (octets40 qos.gbr_up) 0 ≡ qos.gbr_up = number40_again qos.gbr_up is.gbr_up in
-    let gbr_down : number40 (octets40 qos.gbr_down) 0 ≡ qos.gbr_down = number40_again qos.gbr_down is.gbr_down in
+    let mbr_up : be40_at (be40_octets qos.mbr_up) 0 ≡ qos.mbr_up = be40-again qos.mbr_up [] is.mbr_up in
+    let mbr_down : be40_at (be40_octets qos.mbr_down) 0 ≡ qos.mbr_down = be40-again qos.mbr_down [] is.mbr_down in
+    let gbr_up : be40_at (be40_octets qos.gbr_up) 0 ≡ qos.gbr_up = be40-again qos.gbr_up [] is.gbr_up in
+    let gbr_down : be40_at (be40_octets qos.gbr_down) 0 ≡ qos.gbr_down = be40-again qos.gbr_down [] is.gbr_down in
     rw (is.arp_spare, mbr_up, mbr_down, gbr_up, gbr_down) refl
 
 -- every value but a Context
@@ -92,8 +82,8 @@ plain_again reads context (values.Recovery counter) plain is = refl
 plain_again reads context (values.Apn octets) plain is =
     not_shorter 1 (length octets) None _ is.some ∙ ap (option_map values.Apn) (octets_again 100 octets is.few)
 plain_again reads context (values.Ambr up down) plain is =
-    let up_is : number32 (octets32 up) 0 ≡ up = number32_again up is.0 in
-    let down_is : number32 (octets32 down) 0 ≡ down = number32_again down is.1 in
+    let up_is : be32_at (be32_octets up) 0 ≡ up = be32-again up [] is.0 in
+    let down_is : be32_at (be32_octets down) 0 ≡ down = be32-again down [] is.1 in
     rw (up_is, down_is) refl
 plain_again reads context (values.Ebi ebi) plain is = ap (option_map values.Ebi) (ebi_again ebi is)
 plain_again reads context (values.Paa addr) plain is = ap (option_map values.Paa) (paa_again addr is)

@@ -4,7 +4,7 @@ use Rattle.std.specs.Prelude.{ℕ, ◌+◌, ◌*◌, ◌/◌, ◌%◌, ◌&&◌,
 use Rattle.gtpv2_ie.specs.declared.cause.CauseIe.{CauseIe}
 use Rattle.gtpv2_ie.specs.declared.fteid.Fteid.{Fteid}
 use Rattle.gtpv2_ie.specs.declared.qos.QosIe.{QosIe}
-use Rattle.gtpv2_ie.specs.Numbers.{number16, number32, number40}
+use Rattle.wire_octets.specs.Numbers.{be16_at, be32_at, be40_at}
 
 -- EBI (8.8): the low four bits, 0 or 5 to 15
 abbrev pub ebi_of : List ℕ → Option ℕ
@@ -20,7 +20,7 @@ pdn_of octets =
 
 -- PAA (8.14): the low three bits 1, for IPv4, and the address
 abbrev pub paa_of : List ℕ → Option ℕ
-paa_of octets = if slice_index octets 0 % 8 == 1 then Some (number32 octets 1) else None
+paa_of octets = if slice_index octets 0 % 8 == 1 then Some (be32_at octets 1) else None
 
 -- octets that are not looked into, at most so many
 abbrev pub octets_of : ℕ → List ℕ → Option (List ℕ)
@@ -32,7 +32,7 @@ abbrev pub cause_of : List ℕ → Option CauseIe
 cause_of octets =
     let cause = slice_index octets 0 in
     if length octets == 6 then
-    (if number16 octets 3 == 0 then
+    (if be16_at octets 3 == 0 then
     Some (record { cause = cause; offending = Some (slice_index octets 2, slice_index octets 5 % 16) })
     else None)
     else Some (record { cause = cause; offending = None })
@@ -42,7 +42,7 @@ abbrev pub fteid_of : List ℕ → Option Fteid
 fteid_of octets =
     let first = slice_index octets 0 in
     if nat_lt first 128 then None
-    else Some (record { interface = first % 64; teid = number32 octets 1; addr = number32 octets 5 })
+    else Some (record { interface = first % 64; teid = be32_at octets 1; addr = be32_at octets 5 })
 
 -- the bits of an ARP octet that mean something: PCI bit 7, PL bits 6 to 3, PVI bit 1
 abbrev pub arp_bits : ℕ → ℕ
@@ -53,8 +53,8 @@ abbrev pub qos_of : List ℕ → QosIe
 qos_of octets = record {
   arp = arp_bits (slice_index octets 0);
   qci = slice_index octets 1;
-  mbr_up = number40 octets 2;
-  mbr_down = number40 octets 7;
-  gbr_up = number40 octets 12;
-  gbr_down = number40 octets 17;
+  mbr_up = be40_at octets 2;
+  mbr_down = be40_at octets 7;
+  gbr_up = be40_at octets 12;
+  gbr_down = be40_at octets 17;
 }

@@ -7,7 +7,7 @@ use Rattle.gtpv2_ie.specs.declared.kind.IeKind.{IeKind}
 use Rattle.gtpv2_ie.specs.declared.kind.IeKind.TheVariants as kinds
 use Rattle.gtpv2_ie.specs.declared.value.IeValue.{IeValue}
 use Rattle.gtpv2_ie.specs.declared.value.IeValue.TheVariants as values
-use Rattle.gtpv2_ie.specs.Numbers.{number32}
+use Rattle.wire_octets.specs.Numbers.{be32_at}
 use Rattle.gtpv2_ie.specs.Imsi.{imsi_of}
 use Rattle.gtpv2_ie.specs.Fields.{ebi_of, pdn_of, paa_of, octets_of, cause_of, fteid_of, qos_of}
 
@@ -26,7 +26,7 @@ row context kinds.Imsi = row_of 1 3 (λ octets. option_map values.Imsi (imsi_of 
 row context kinds.Cause = row_of 2 2 (λ octets. option_map values.Cause (cause_of octets))
 row context kinds.Recovery = row_of 3 1 (λ octets. Some (values.Recovery (slice_index octets 0)))
 row context kinds.Apn = row_of 71 1 (λ octets. option_map values.Apn (octets_of 100 octets))
-row context kinds.Ambr = row_of 72 8 (λ octets. Some (values.Ambr (number32 octets 0) (number32 octets 4)))
+row context kinds.Ambr = row_of 72 8 (λ octets. Some (values.Ambr (be32_at octets 0) (be32_at octets 4)))
 row context kinds.Ebi = row_of 73 1 (λ octets. option_map values.Ebi (ebi_of octets))
 row context kinds.Paa = row_of 79 5 (λ octets. option_map values.Paa (paa_of octets))
 row context kinds.Qos = row_of 80 22 (λ octets. Some (values.Qos (qos_of octets)))

@@ -1,4 +1,3 @@
-pub mod Numbers
 pub mod Stand
 pub mod Element
 pub mod Fields

@@ -9,14 +9,14 @@ use Rattle.gtpv2_ie.specs.declared.kind.IeKind.TheVariants as kinds
 use Rattle.gtpv2_ie.specs.declared.qos.QosIe.{QosIe}
 use Rattle.gtpv2_ie.specs.declared.value.IeValue.{IeValue}
 use Rattle.gtpv2_ie.specs.declared.value.IeValue.TheVariants as values
-use Rattle.gtpv2_ie.specs.Numbers.{octets16, octets32, octets40}
+use Rattle.wire_octets.specs.Numbers.{be16_octets, be32_octets, be40_octets}
 use Rattle.gtpv2_ie.specs.Element.{Element}
 use Rattle.gtpv2_ie.specs.Imsi.{imsi_octets}
 use Rattle.gtpv2_ie.specs.Kind.{type_octet}
 
 -- type, length of the value, instance with the spare bits 0 (8.2.1)
 abbrev pub ie_header : ℕ → ℕ → ℕ → List ℕ
-ie_header kind instance len = kind ∷ octets16 len ++ instance ∷ []
+ie_header kind instance len = kind ∷ be16_octets len ++ instance ∷ []
 
 abbrev pub ie_octets : ℕ → ℕ → List ℕ → List ℕ
 ie_octets kind instance value = ie_header kind instance (length value) ++ value
@@ -46,12 +46,12 @@ cause_octets cause = cause.cause ∷ 0 ∷ offending_octets cause.offending
 
 -- F-TEID (8.22), with V4 alone
 abbrev pub fteid_octets : Fteid → List ℕ
-fteid_octets fteid = (128 + fteid.interface) ∷ octets32 fteid.teid ++ octets32 fteid.addr
+fteid_octets fteid = (128 + fteid.interface) ∷ be32_octets fteid.teid ++ be32_octets fteid.addr
 
 -- Bearer QoS (8.15)
 abbrev pub qos_octets : QosIe → List ℕ
 qos_octets qos =
-    qos.arp ∷ qos.qci ∷ octets40 qos.mbr_up ++ octets40 qos.mbr_down ++ octets40 qos.gbr_up ++ octets40 qos.gbr_down
+    qos.arp ∷ qos.qci ∷ be40_octets qos.mbr_up ++ be40_octets qos.mbr_down ++ be40_octets qos.gbr_up ++ be40_octets qos.gbr_down
 
 -- the octets of a value, where `context` gives those of a Context
 abbrev pub plain_octets : (Context → List ℕ) → IeValue → List ℕ
@@ -59,9 +59,9 @@ plain_octets context (values.Imsi digits) = imsi_octets digits
 plain_octets context (values.Cause cause) = cause_octets cause
 plain_octets context (values.Recovery counter) = counter ∷ []
 plain_octets context (values.Apn octets) = octets
-plain_octets context (values.Ambr up down) = octets32 up ++ octets32 down
+plain_octets context (values.Ambr up down) = be32_octets up ++ be32_octets down
 plain_octets context (values.Ebi ebi) = ebi ∷ []
-plain_octets context (values.Paa addr) = 1 ∷ octets32 addr
+plain_octets context (values.Paa addr) = 1 ∷ be32_octets addr
 plain_octets context (values.Qos qos) = qos_octets qos
 plain_octets context (values.Rat rat) = rat ∷ []
 plain_octets context (values.Tft octets) = octets

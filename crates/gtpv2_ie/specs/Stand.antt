@@ -5,11 +5,11 @@ use Rattle.std.specs.Global.{Vec}
 use Rattle.gtpv2_ie.specs.declared.raw.RawIe.{RawIe}
 use Rattle.gtpv2_ie.specs.declared.fault.IeBad.{IeBad}
 use Rattle.gtpv2_ie.specs.declared.fault.IeBad.TheVariants.{Short, Length, NoMemory}
-use Rattle.gtpv2_ie.specs.Numbers.{number16}
+use Rattle.wire_octets.specs.Numbers.{be16_at}
 
 -- the length of the value whose header begins at a place
 abbrev pub value_len : List ℕ → ℕ → ℕ
-value_len octets at = number16 octets (at + 1)
+value_len octets at = be16_at octets (at + 1)
 
 -- what a header that begins at a place says
 abbrev pub raw_at : List ℕ → ℕ → RawIe
@@ -71,7 +71,7 @@ with_first ie (Err bad) = Err bad
 unfoldable pub ies_from : ℕ → ℕ → List ℕ → Result (List RawIe) IeBad
 ies_from zero at [] = Ok []
 ies_from zero at (kind ∷ high ∷ low ∷ last ∷ rest) =
-    let len = number16 (high ∷ low ∷ []) 0 in
+    let len = be16_at (high ∷ low ∷ []) 0 in
     with_first (record { kind = kind; instance = last % 16; from = at + 4; to = at + 4 + len }) (ies_from len (at + 4) rest)
 ies_from zero at (_ ∷ _) = Err Short
 ies_from (suc left) at [] = Err Length

@@ -1,38 +1,12 @@
-ghost use Rattle.std.specs.Prelude.{◌≡◌, ◌<◌, ◌≤◌, ◌+◌, ◌^◌, length, IfOk, IfSome};
+ghost use Rattle.std.specs.Prelude.{◌≡◌, ◌≤◌, length, IfOk, IfSome};
 ghost use Rattle.gtpv2_ie.specs.Fields as grammar;
 ghost use Rattle.gtpv2_ie.specs.Kind.{least_len};
-ghost use Rattle.gtpv2_ie.specs.Numbers as numbers;
 ghost use Rattle.gtpv2_ie.specs.Validity.{IsEbi};
 
 use crate::kind::IeKind;
 use crate::octets::IeOctets;
 use std::alloc::{AllocError as NoMemory, Global};
-
-/// The number of four octets that begins at a place.
-pub fn number32(octets: &[u8], at: usize) -> u32
-    requires { at + 4 ≤ length octets.now }
-    ensures { result ≡ numbers.number32 octets.now at }
-{
-    u32::from_be_bytes([octets[at], octets[at + 1], octets[at + 2], octets[at + 3]])
-}
-
-/// The number of five octets that begins at a place.
-pub fn number40(octets: &[u8], at: usize) -> u64
-    requires { at + 5 ≤ length octets.now }
-    ensures value { result ≡ numbers.number40 octets.now at }
-    ensures range { result < 2 ^ 40 }
-{
-    u64::from_be_bytes([
-        0,
-        0,
-        0,
-        octets[at],
-        octets[at + 1],
-        octets[at + 2],
-        octets[at + 3],
-        octets[at + 4],
-    ])
-}
+use wire_octets::be32_at;
 
 /// The EPS bearer identity that octets spell.
 pub fn ebi_of(octets: &[u8]) -> Option<u8>
@@ -67,7 +41,7 @@ pub fn paa_of(octets: &[u8]) -> Option<u32>
     ensures { result ≡ grammar.paa_of octets.now }
 {
     if octets[0] & 7 == 1 {
-        Some(number32(octets, 1))
+        Some(be32_at(octets, 1))
     } else {
         None
     }

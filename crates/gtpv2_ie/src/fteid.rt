@@ -4,11 +4,11 @@ ghost use Rattle.gtpv2_ie.specs.Kind.{least_len};
 ghost use Rattle.gtpv2_ie.specs.Spelling.{ie_octets, fteid_octets};
 ghost use Rattle.gtpv2_ie.specs.Validity.{IsFteid};
 
-use crate::fields::number32;
 use crate::kind::IeKind;
 use crate::writing::push_header;
 use std::alloc::AllocError as NoMemory;
 use std::marker::Model;
+use wire_octets::{be32_at, be32_octets};
 
 /// The highest bit of an F-TEID's first octet: an IPv4 address stands in it.
 const V4: u8 = 128;
@@ -76,8 +76,8 @@ pub fn fteid_of(octets: &[u8]) -> Option<Fteid>
     }
     Some(Fteid {
         interface: first & 63,
-        teid: number32(octets, 1),
-        addr: number32(octets, 5),
+        teid: be32_at(octets, 1),
+        addr: be32_at(octets, 5),
     })
 }
 
@@ -88,6 +88,6 @@ pub fn push_fteid(out: &mut Vec<u8>, instance: u8, fteid: &Fteid) -> Result<(), 
 {
     push_header(out, IeKind::Fteid, instance, 9)?;
     out.push(V4 + fteid.interface)?;
-    out.extend_from_slice(&fteid.teid.to_be_bytes())?;
-    out.extend_from_slice(&fteid.addr.to_be_bytes())
+    out.extend_from_slice(&be32_octets(fteid.teid))?;
+    out.extend_from_slice(&be32_octets(fteid.addr))
 }

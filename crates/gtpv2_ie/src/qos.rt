@@ -1,14 +1,14 @@
-ghost use Rattle.std.specs.Prelude.{◌≡◌, ◌≤◌, ◌++◌, length, OnOk};
+ghost use Rattle.std.specs.Prelude.{◌≡◌, ◌+◌, ◌<◌, ◌≤◌, ◌^◌, ◌++◌, length, OnOk};
 ghost use Rattle.gtpv2_ie.specs.Fields.{qos_of};
 ghost use Rattle.gtpv2_ie.specs.Kind.{least_len};
-ghost use Rattle.gtpv2_ie.specs.Numbers.{octets40};
+ghost use Rattle.wire_octets.specs.Numbers.{be40_at, be40_octets};
 ghost use Rattle.gtpv2_ie.specs.Spelling.{ie_octets, qos_octets};
 ghost use Rattle.gtpv2_ie.specs.Validity.{IsQos};
 
-use crate::fields::number40;
 use crate::kind::IeKind;
 use crate::writing::push_header;
 use std::alloc::AllocError as NoMemory;
+use wire_octets::{be40_at, be40_octets};
 
 /// A Bearer Level QoS (TS 29.274, 8.15). Rates are in kbps, below 2^40.
 /// 1: ARP   2: QCI   3-7: MBR up   8-12: MBR down   13-17: GBR up   18-22: GBR down
@@ -24,6 +24,15 @@ pub struct QosIe {
     pub gbr_down: u64,
 }
 
+/// The rate that begins at a place.
+fn rate_of(octets: &[u8], at: usize) -> u64
+    requires { at + 5 ≤ length octets.now }
+    ensures value { result ≡ be40_at octets.now at }
+    ensures range { result < 2 ^ 40 }
+{
+    be40_at(octets, at)
+}
+
 /// The Bearer QoS that 22 octets or more spell.
 pub fn qos_of(octets: &[u8]) -> QosIe
     requires { least_len IeKind.Qos ≤ length octets.now }
@@ -33,27 +42,19 @@ pub fn qos_of(octets: &[u8]) -> QosIe
     QosIe {
         arp: (octets[0] >> 2) % 32 * 4 + octets[0] % 2,
         qci: octets[1],
-        mbr_up: number40(octets, 2),
-        mbr_down: number40(octets, 7),
-        gbr_up: number40(octets, 12),
-        gbr_down: number40(octets, 17),
+        mbr_up: rate_of(octets, 2),
+        mbr_down: rate_of(octets, 7),
+        gbr_up: rate_of(octets, 12),
+        gbr_down: rate_of(octets, 17),
     }
-}
-
-/// The five octets of a rate.
-fn rate_octets(kbps: u64) -> [u8; 5]
-    ensures { result ≡ octets40 kbps }
-{
-    let [_, _, _, a, b, c, d, e] = kbps.to_be_bytes();
-    [a, b, c, d, e]
 }
 
 /// Appends the rates of both directions.
 fn push_rates(out: &mut Vec<u8>, up: u64, down: u64) -> Result<(), NoMemory>
-    ensures { OnOk result (out.new.items ≡ out.old.items ++ octets40 up ++ octets40 down) }
+    ensures { OnOk result (out.new.items ≡ out.old.items ++ be40_octets up ++ be40_octets down) }
 {
-    out.extend_from_slice(&rate_octets(up))?;
-    out.extend_from_slice(&rate_octets(down))
+    out.extend_from_slice(&be40_octets(up))?;
+    out.extend_from_slice(&be40_octets(down))
 }
 
 /// Appends a Bearer QoS as an element.

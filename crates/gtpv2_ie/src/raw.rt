@@ -4,6 +4,7 @@ ghost use Rattle.gtpv2_ie.specs.Stand.{StandsAt, StandBetween, Stand, EndsShort,
 
 use crate::fault::IeBad;
 use std::alloc::Global;
+use wire_octets::be16_at;
 
 /// An element in octets (TS 29.274, 8.2.1): its value stands at the places `from` up to `to`.
 /// 1: type   2-3: length of the value   4: spare (4) instance (4)   5-: value
@@ -28,7 +29,7 @@ fn ie_at(octets: &[u8], at: usize) -> Result<RawIe, IeBad>
         return Err(IeBad::Short);
     }
     let from = at + 4;
-    let len = usize::from(u16::from_be_bytes([octets[at + 1], octets[at + 2]]));
+    let len = usize::from(be16_at(octets, at + 1));
     if octets.len() - from < len {
         return Err(IeBad::Length);
     }

@@ -6,13 +6,14 @@ ghost use Rattle.gtpv2_ie.specs.Validity.{IsValue};
 
 use crate::cause::cause_of;
 use crate::context::context_of;
-use crate::fields::{ebi_of, number32, octets_of, paa_of, pdn_of};
+use crate::fields::{ebi_of, octets_of, paa_of, pdn_of};
 use crate::fteid::fteid_of;
 use crate::imsi::imsi_of;
 use crate::kind::IeKind;
 use crate::qos::qos_of;
 use crate::value::IeValue;
 use std::alloc::{AllocError as NoMemory, Global};
+use wire_octets::be32_at;
 
 /// The value of a kind that octets spell; a Context isn't read.
 pub fn plain_value(alloc: Global, kind: IeKind, octets: &[u8]) -> Result<Option<IeValue>, NoMemory>
@@ -28,7 +29,7 @@ pub fn plain_value(alloc: Global, kind: IeKind, octets: &[u8]) -> Result<Option<
         IeKind::Cause => Ok(cause_of(octets).map(IeValue::Cause)),
         IeKind::Recovery => Ok(Some(IeValue::Recovery(octets[0]))),
         IeKind::Apn => Ok(octets_of(alloc, octets, 100)?.map(IeValue::Apn)),
-        IeKind::Ambr => Ok(Some(IeValue::Ambr(number32(octets, 0), number32(octets, 4)))),
+        IeKind::Ambr => Ok(Some(IeValue::Ambr(be32_at(octets, 0), be32_at(octets, 4)))),
         IeKind::Ebi => Ok(ebi_of(octets).map(IeValue::Ebi)),
         IeKind::Paa => Ok(paa_of(octets).map(IeValue::Paa)),
         IeKind::Qos => Ok(Some(IeValue::Qos(qos_of(octets)))),

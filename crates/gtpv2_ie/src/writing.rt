@@ -1,6 +1,6 @@
 ghost use Rattle.std.specs.Prelude.{◌≡◌, ◌<◌, ◌^◌, [], ◌∷◌, ◌++◌, length, IfOk, OnOk};
 ghost use Rattle.gtpv2_ie.specs.ReadBack.{ReadBack};
-ghost use Rattle.gtpv2_ie.specs.Numbers.{octets32};
+ghost use Rattle.wire_octets.specs.Numbers.{be32_octets};
 ghost use Rattle.gtpv2_ie.specs.Kind.{type_octet};
 ghost use Rattle.gtpv2_ie.specs.Imsi.{IsImsi, imsi_octets};
 ghost use Rattle.gtpv2_ie.specs.Spelling.{ie_header, ie_octets, context_octets, spelling};
@@ -14,6 +14,7 @@ use crate::kind::IeKind;
 use crate::qos::push_qos;
 use crate::value::{Ie, IeValue};
 use std::alloc::{AllocError as NoMemory, Global};
+use wire_octets::{be16_octets, be32_octets};
 
 /// Appends the header of an element whose value has so many octets.
 pub fn push_header(
@@ -25,7 +26,7 @@ pub fn push_header(
     requires { len < 2 ^ 16 }
     ensures { OnOk result (out.new.items ≡ out.old.items ++ ie_header (type_octet kind) instance len) }
 {
-    let [high, low] = (len as u16).to_be_bytes();
+    let [high, low] = be16_octets(len as u16);
     out.extend_from_slice(&[kind.octet(), high, low, instance])
 }
 
@@ -40,20 +41,20 @@ pub fn push_ie(out: &mut Vec<u8>, kind: IeKind, instance: u8, value: &[u8]) -> R
 
 /// Appends an AMBR as an element.
 fn push_ambr(out: &mut Vec<u8>, instance: u8, up: u32, down: u32) -> Result<(), NoMemory>
-    ensures { OnOk result (out.new.items ≡ out.old.items ++ ie_octets 72 instance (octets32 up ++ octets32 down)) }
+    ensures { OnOk result (out.new.items ≡ out.old.items ++ ie_octets 72 instance (be32_octets up ++ be32_octets down)) }
 {
     push_header(out, IeKind::Ambr, instance, 8)?;
-    out.extend_from_slice(&up.to_be_bytes())?;
-    out.extend_from_slice(&down.to_be_bytes())
+    out.extend_from_slice(&be32_octets(up))?;
+    out.extend_from_slice(&be32_octets(down))
 }
 
 /// Appends a PAA of an IPv4 address as an element.
 fn push_paa(out: &mut Vec<u8>, instance: u8, addr: u32) -> Result<(), NoMemory>
-    ensures { OnOk result (out.new.items ≡ out.old.items ++ ie_octets 79 instance (1 ∷ octets32 addr)) }
+    ensures { OnOk result (out.new.items ≡ out.old.items ++ ie_octets 79 instance (1 ∷ be32_octets addr)) }
 {
     push_header(out, IeKind::Paa, instance, 5)?;
     out.push(1)?;
-    out.extend_from_slice(&addr.to_be_bytes())
+    out.extend_from_slice(&be32_octets(addr))
 }
 
 /// Appends an IMSI as an element.

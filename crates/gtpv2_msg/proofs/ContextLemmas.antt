@@ -6,7 +6,7 @@ use Rattle.gtpv2_ie.specs.Stand.{value_in}
 use Rattle.gtpv2_msg.specs.declared.element.ReadIe.{ReadIe}
 use Rattle.gtpv2_msg.specs.declared.table.Part.{Part}
 use Rattle.gtpv2_msg.specs.Elements.{is_context, contexts_in, elements_of}
-use Rattle.gtpv2_msg.specs.Required.{inside_fault, contexts_fault}
+use Rattle.gtpv2_msg.specs.RowFault.{inside_fault, contexts_fault}
 
 none_before : (is any : Bool) (context : Option (List ReadIe)) (rest : List (Option (List ReadIe))) → (any ≡ false → rest ≡ []) → (is || any) ≡ false
     → cons_option (cond is (Some context) None) rest ≡ []

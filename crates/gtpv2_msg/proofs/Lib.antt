@@ -1,7 +1,10 @@
 mod StandardFacts
 mod ContextLemmas
 mod HeaderLemmas
+mod EbiLemmas
 mod NoLonger
 mod RequiredLemmas
+mod MeetsLemmas
 mod ReadingLemmas
 mod RoundTrip
+mod WhatIsRead

@@ -20,7 +20,7 @@ use Rattle.gtpv2_ie.specs.Element.{Element}
 use Rattle.gtpv2_ie.specs.Fields.{ebi_of, pdn_of, paa_of, octets_of, cause_of, fteid_of}
 use Rattle.gtpv2_ie.specs.Imsi.{digit_pair, pair_digits, second_digit, with_pair, digits_of, if_imsi, imsi_of, imsi_octets}
 use Rattle.gtpv2_ie.specs.Kind.{row, no_context, least_len, kind_at}
-use Rattle.gtpv2_ie.specs.Numbers.{number16}
+use Rattle.wire_octets.specs.Numbers.{be16_at}
 use Rattle.gtpv2_ie.specs.Spelling.{cause_octets, plain_octets, element_octets, empty_context, inner_spellings, if_some, fteid_element, context_octets, spellings}
 use Rattle.gtpv2_ie.specs.Stand.{with_first, ies_from, ies_of, value_in}
 use Rattle.gtpv2_ie.specs.Value.{kind_value, value_at, element_at, inner_elements, context_in, context_of, known_elements}
@@ -48,7 +48,7 @@ total_from : (left at : ℕ) (octets : List ℕ) → at_most_left left (length o
 unfolding ies_from
 total_from zero at [] = omega arith
 total_from zero at (kind ∷ high ∷ low ∷ last ∷ rest) =
-    let len : ℕ = number16 (high ∷ low ∷ []) 0 in
+    let len : ℕ = be16_at (high ∷ low ∷ []) 0 in
     one_more at 0 len (length rest) (record { kind = kind; instance = last % 16; from = at + 4; to = at + 4 + len }) (ies_from len (at + 4) rest) (omega arith) (total_from len (at + 4) rest)
 total_from zero at (a ∷ []) = tt
 total_from zero at (a ∷ b ∷ []) = tt
@@ -124,7 +124,7 @@ value_few reads writes contexts kind octets =
     long kinds.Imsi least = if_map values.Imsi (imsi_of octets) (Few writes octets) (imsi_few (digits_of octets) (length octets) (digits_few octets))
     long kinds.Cause least =
         if_map values.Cause (cause_of octets) (Few writes octets)
-        (cause_few (eqb (length octets) 6) (eqb (number16 octets 3) 0) (length octets) (get_or octets 0 0) (get_or octets 2 0) (get_or octets 5 0 % 16) refl least)
+        (cause_few (eqb (length octets) 6) (eqb (be16_at octets 3) 0) (length octets) (get_or octets 0 0) (get_or octets 2 0) (get_or octets 5 0 % 16) refl least)
     long kinds.Recovery least = least
     long kinds.Apn least = if_map values.Apn (octets_of 100 octets) (Few writes octets) (if_then (leb (length octets) 100) octets (λ os. length os ≤ length octets) (omega arith))
     long kinds.Ambr least = least

@@ -2,7 +2,7 @@
 use Rattle.std.proofs.Common.{◌≡◌, ℕ, List, [], Option, Some, None, Result, Ok, Err, refl, sym, ap, subst, ◌∙◌}
 use Rattle.std.specs.Prelude.{IfOk, IfErr, IfSome}
 use Rattle.std.specs.Option.{option_or}
-use Rattle.gtpv2_ie.proofs.StandLemmas.{ies_of-Stand}
+use Rattle.gtpv2_ie.proofs.StandLemmas.{ies_of-Stand, Stand-ies_of}
 use Rattle.gtpv2_ie.specs.declared.raw.RawIe.{RawIe}
 use Rattle.gtpv2_ie.specs.declared.fault.IeBad.{IeBad}
 use Rattle.gtpv2_ie.specs.Element.{Element}
@@ -13,8 +13,9 @@ use Rattle.gtpv2_msg.specs.Elements.{read_ies, known_of}
 use Rattle.gtpv2_msg.specs.Header.{kind_of, teid_of, seq_of, body_of}
 use Rattle.gtpv2_msg.specs.Message.{Message}
 use Rattle.gtpv2_msg.specs.Reading.{IsBody, Spells, Gives}
-use Rattle.gtpv2_msg.specs.Refusal.{body_fault, elements_fault, first_fault, Tells}
+use Rattle.gtpv2_msg.specs.Refusal.{header_fault, body_fault, elements_fault, first_fault, Tells}
 use Rattle.gtpv2_msg.proofs.HeaderLemmas.{right_without_fault}
+use Rattle.gtpv2_msg.proofs.RequiredLemmas.{right_of}
 
 -- the elements of octets that read, and the message that octets with a right header would be
 abbrev raws_in : Result (List RawIe) IeBad → List RawIe
@@ -55,6 +56,27 @@ the_message octets message spells =
 -- two messages that octets spell are one
 pub one_message : (octets : List ℕ) (first second : Message) → Spells octets first → Spells octets second → first ≡ second
 one_message octets first second spells_first spells_second = sym (the_message octets first spells_first) ∙ the_message octets second spells_second
+
+-- octets without a fault spell a message
+body_of_read : (kind : ℕ) (octets : List ℕ) (read : Result (List RawIe) IeBad) → ies_of octets ≡ read
+    → elements_fault kind octets read ≡ None → IsBody kind octets (known_of (read_ies octets (raws_in read)))
+body_of_read kind octets (Err bad) is none = absurd cc
+body_of_read kind octets (Ok raws) is none =
+    record { raws = raws; stand = Stand-ies_of octets raws is; required = none; known = refl }
+
+none_in_header : (header body : Option CBad) → option_or header body ≡ None → (header ≡ None) × (body ≡ None)
+none_in_header None body none = (refl, none)
+none_in_header (Some bad) body none = absurd cc
+
+pub message_of : (octets : List ℕ) → first_fault octets ≡ None → (message : Message) × Spells octets message
+message_of octets none =
+    let nones = none_in_header (header_fault octets) (body_fault (kind_of octets) (body_of octets)) none in (
+      message_in octets,
+      record {
+        header = record { right = right_of octets nones.0; kind = refl; teid = refl; seq = refl };
+        body = body_of_read (kind_of octets) (body_of octets) (ies_of (body_of octets)) refl nones.1;
+      },
+    )
 
 -- a fault is one that may be told
 pub told : (fault : Option CBad) (bad : CBad) → fault ≡ Some bad → Tells fault bad

@@ -2,20 +2,25 @@
 use Rattle.std.proofs.Common.{◌≡◌, ℕ, ◌+◌, ◌-◌, ◌≤◌, Bool, true, false, eqb, ltb, cond, not, ◌||◌, List, [], ◌∷◌, length, Option, Some, None, Result, Ok, Err, refl, ap, subst, ◌∙◌, arith}
 use Rattle.std.specs.Prelude.{IfSome}
 use Rattle.std.specs.List.{find, list_any, AllByRecursion}
-use Rattle.std.specs.Option.{option_or}
+use Rattle.std.specs.Option.{is_some, option_or}
 use Rattle.std.proofs.lemmas.Bool.{eqb-true, ltb-false}
 use Rattle.gtpv2_ie.specs.declared.fault.IeBad.{IeBad}
+use Rattle.gtpv2_ie.specs.declared.kind.IeKind.{IeKind}
+use Rattle.gtpv2_ie.specs.declared.kind.IeKind.TheVariants as kinds
 use Rattle.gtpv2_ie.specs.declared.raw.RawIe.{RawIe}
+use Rattle.gtpv2_ie.specs.Kind.{type_octet}
 use Rattle.gtpv2_ie.specs.Stand.{ies_of}
 use Rattle.gtpv2_msg.specs.declared.element.ReadIe.{ReadIe}
 use Rattle.gtpv2_msg.specs.declared.fault.CBad.{CBad}
 use Rattle.gtpv2_msg.specs.declared.fault.CBad.TheVariants as bads
 use Rattle.gtpv2_msg.specs.declared.table.Part.{Part}
+use Rattle.gtpv2_msg.specs.declared.table.Part.TheVariants as parts
 use Rattle.gtpv2_msg.specs.Elements.{read_ies, contexts_in}
 use Rattle.gtpv2_msg.specs.Header.{IsRight, version_of, has_piggyback, has_teid, kind_of, end_of, header_len, body_of}
 use Rattle.gtpv2_msg.specs.Kinds.{requests, is_request, is_kind}
 use Rattle.gtpv2_msg.specs.Refusal.{header_fault, has_wrong_length, elements_fault, body_fault, first_fault}
-use Rattle.gtpv2_msg.specs.Required.{Row, required, will_do, is_first, part_octet, element_fault, part_fault, parts_fault, context_fault, inside_fault, contexts_fault, row_fault}
+use Rattle.gtpv2_msg.specs.Required.{Row, required}
+use Rattle.gtpv2_msg.specs.RowFault.{is_first, element_fault, kind_fault, first_ebi, held_ebi, is_zero, zero_fault, part_fault, kinds_fault, parts_fault, context_fault, inside_fault, contexts_fault, row_fault}
 
 -- a fault of a header
 abbrev OfHeader : CBad → Type 0
@@ -50,14 +55,26 @@ header_faults P short version piggyback len kind octets =
     (one_test P (has_wrong_length octets) bads.Length _ len
     (one_test P (not (is_kind (kind_of octets))) bads.Kind None kind tt))))
 
-of_part : (part : Part) (ie : Option ReadIe) → IfSome (element_fault part ie) OfFirst
-of_part part None = refl
-of_part part (Some ie) = no_test OfFirst (will_do part ie.element) (bads.Incorrect (part_octet part) 0) refl
+of_element : (kind : IeKind) (ie : Option ReadIe) → IfSome (element_fault kind ie) OfFirst
+of_element kind None = refl
+of_element kind (Some ie) = no_test OfFirst (is_some ie.element) (bads.Incorrect (type_octet kind) 0) refl
+
+of_kind : (ies : List ReadIe) (kind : IeKind) → IfSome (kind_fault ies kind) OfFirst
+of_kind ies kind = of_element kind (find (is_first (type_octet kind)) ies)
+
+of_kinds : (ies : List ReadIe) (kinds : List IeKind) → IfSome (kinds_fault ies kinds) OfFirst
+of_kinds ies [] = tt
+of_kinds ies (kind ∷ kinds) = either OfFirst (kind_fault ies kind) (kinds_fault ies kinds) (of_kind ies kind) (of_kinds ies kinds)
+
+of_part : (ies : List ReadIe) (part : Part) → IfSome (part_fault ies part) OfFirst
+of_part ies (parts.Ie kind) = of_kind ies kind
+of_part ies parts.AssignedEbi =
+    either OfFirst (kind_fault ies kinds.Ebi) (zero_fault ies) (of_kind ies kinds.Ebi)
+    (one_test OfFirst (is_zero (first_ebi ies) || is_zero (held_ebi ies)) (bads.Incorrect 73 0) None refl tt)
 
 of_parts : (ies : List ReadIe) (parts : List Part) → IfSome (parts_fault ies parts) OfFirst
 of_parts ies [] = tt
-of_parts ies (part ∷ parts) =
-    either OfFirst (part_fault ies part) (parts_fault ies parts) (of_part part (find (is_first (part_octet part)) ies)) (of_parts ies parts)
+of_parts ies (part ∷ parts) = either OfFirst (part_fault ies part) (parts_fault ies parts) (of_part ies part) (of_parts ies parts)
 
 of_context : (inside : List Part) (ies : Option (List ReadIe)) → IfSome (context_fault inside ies) OfFirst
 of_context inside None = refl
@@ -75,8 +92,9 @@ of_contexts false inside contexts = of_inside inside contexts
 
 of_row : (row : Row) (ies : List ReadIe) (contexts : List (Option (List ReadIe))) → IfSome (row_fault row ies contexts) OfFirst
 of_row row ies contexts =
-    either OfFirst (parts_fault ies row.before) (option_or (contexts_fault row.must row.inside contexts) (parts_fault ies row.after)) (of_parts ies row.before)
-    (either OfFirst (contexts_fault row.must row.inside contexts) (parts_fault ies row.after) (of_contexts row.must row.inside contexts) (of_parts ies row.after))
+    let inside : Option CBad = contexts_fault row.must row.inside contexts in
+    either OfFirst (kinds_fault ies row.before) (option_or inside (kinds_fault ies row.after)) (of_kinds ies row.before)
+    (either OfFirst inside (kinds_fault ies row.after) (of_contexts row.must row.inside contexts) (of_kinds ies row.after))
 
 of_body : (kind : ℕ) (octets : List ℕ) (read : Result (List RawIe) IeBad) → IfSome (elements_fault kind octets read) OfFirst
 of_body kind octets (Ok raws) = of_row (required kind) (read_ies octets raws) (contexts_in octets raws)
@@ -114,7 +132,7 @@ neither : (first second : Bool) → (first || second) ≡ false → (first ≡ f
 neither true second is = absurd cc
 neither false second is = (refl, is)
 
-right_of : (octets : List ℕ) → header_fault octets ≡ None → IsRight octets
+pub right_of : (octets : List ℕ) → header_fault octets ≡ None → IsRight octets
 right_of octets none =
     let short = untold (ltb (length octets) 8) bads.Short _ none in
     let version = untold (not (eqb (version_of octets) 2)) bads.Version _ short.1 in

@@ -1,10 +1,9 @@
 -- A written message reads back.
-use Rattle.std.proofs.Common.{◌≡◌, ℕ, ◌+◌, ◌-◌, ◌/◌, ◌%◌, ◌^◌, ◌<◌, eqb, cond, ◌&&◌, List, [], ◌∷◌, ◌++◌, length, take, drop, map, Option, Some, None, refl, sym, ap, subst, ◌∙◌, append_assoc, arith, length-append, lit<}
+use Rattle.std.proofs.Common.{◌≡◌, ℕ, ◌+◌, ◌-◌, ◌<◌, Bool, true, false, eqb, cond, ◌&&◌, List, [], ◌∷◌, ◌++◌, length, take, drop, map, Option, Some, None, refl, sym, ap, subst, ◌∙◌, append_assoc, arith, length-append, lit<}
 use Rattle.std.specs.Prelude.{IfSome, slice_range}
 use Rattle.std.specs.List.{cons_option, AllByRecursion}
 use Rattle.std.specs.Option.{option_map}
 use Rattle.std.proofs.Math.Seq.{take-append_seam, drop-append-add}
-use Rattle.std.proofs.lemmas.Nat.{from_be_bytes-to_be_bytes_4}
 use Rattle.gtpv2_ie.specs.declared.context.Context.{Context}
 use Rattle.gtpv2_ie.specs.declared.fteid.Fteid.{Fteid}
 use Rattle.gtpv2_ie.specs.declared.raw.RawIe.{RawIe}
@@ -12,7 +11,8 @@ use Rattle.gtpv2_ie.specs.declared.value.IeValue.{IeValue}
 use Rattle.gtpv2_ie.specs.declared.value.IeValue.TheVariants as values
 use Rattle.gtpv2_ie.specs.Element.{Element}
 use Rattle.gtpv2_ie.specs.Kind.{type_octet}
-use Rattle.gtpv2_ie.specs.Numbers.{number16, number32, octets16, octets32}
+use Rattle.wire_octets.proofs.NumberLemmas.{be16-again, be24-again, be32-again}
+use Rattle.wire_octets.specs.Numbers.{be16_at, be16_octets}
 use Rattle.gtpv2_ie.specs.ReadBack.{end_of, places_by, places, AreReadAs, ReadBack}
 use Rattle.gtpv2_ie.specs.Spelling.{kind_of, ie_octets, plain_octets, empty_context, if_some, fteid_element, context_elements, context_octets, spelling, spellings}
 use Rattle.gtpv2_ie.specs.Validity.{IsEbi, IsCause, IsFteid, IsQos, IsOctets, IsContext, IsElement, IsValue}
@@ -24,11 +24,14 @@ use Rattle.gtpv2_ie.proofs.ContextReadBack.{read_back}
 use Rattle.gtpv2_msg.specs.declared.element.ReadIe.{ReadIe}
 use Rattle.gtpv2_msg.specs.Elements.{read_ies, elements_in, elements_of, contexts_in, known_of}
 use Rattle.gtpv2_msg.specs.Message.{Message}
-use Rattle.gtpv2_msg.specs.Header.{number24, octets24, body_of}
+use Rattle.gtpv2_msg.specs.Header.{body_of}
 use Rattle.gtpv2_msg.specs.Reading.{IsBody, IsHeader, Spells}
 use Rattle.gtpv2_msg.specs.Spelling.{header_octets, spelling as message_spelling}
-use Rattle.gtpv2_msg.specs.Required.{required, row_fault}
-use Rattle.gtpv2_msg.specs.Validity.{IsMessage, as_read, own_context, own_contexts, HasRequired}
+use Rattle.gtpv2_msg.specs.HasRequired.{first_context, contexts_of, MeetsRow, HasRequired, as_read, context_as_read, contexts_as_read}
+use Rattle.gtpv2_msg.specs.Required.{required}
+use Rattle.gtpv2_msg.specs.RowFault.{row_fault}
+use Rattle.gtpv2_msg.specs.Validity.{IsMessage}
+use Rattle.gtpv2_msg.proofs.MeetsLemmas.{meets_no_fault}
 
 -- ---- elements
 
@@ -101,25 +104,33 @@ value_is front more value kind instance =
     ∙ ap (take (length value)) (drop-append-add front text 4)
     ∙ take-append_seam value more
 
+-- a Context that was written, as the table sees it
+abbrev own_context : Element → Option (Option (List ReadIe))
+own_context ie = option_map context_as_read (first_context ie)
+
+no_context : (test : Bool) → let none : Option Context = None in option_map context_as_read (cond test none none) ≡ None
+no_context true = refl
+no_context false = refl
+
+a_context : (test : Bool) (c : Context) (ies : Option (List ReadIe)) → ies ≡ context_as_read c
+    → cond test (Some ies) None ≡ option_map context_as_read (cond test (Some c) None)
+a_context true c ies is = ap Some is
+a_context false c ies is = refl
+
 own_again : (instance : ℕ) (value : IeValue) (octets : List ℕ) → IsValue value → octets ≡ plain_octets context_octets value
-    → cond (eqb (type_octet (kind_of value)) 93 && eqb instance 0) (Some (elements_of octets)) None ≡ own_context (record { instance = instance; value = value })
-own_again instance (values.Imsi _) octets is octets_are = refl
-own_again instance (values.Cause _) octets is octets_are = refl
-own_again instance (values.Recovery _) octets is octets_are = refl
-own_again instance (values.Apn _) octets is octets_are = refl
-own_again instance (values.Ambr _ _) octets is octets_are = refl
-own_again instance (values.Ebi _) octets is octets_are = refl
-own_again instance (values.Paa _) octets is octets_are = refl
-own_again instance (values.Qos _) octets is octets_are = refl
-own_again instance (values.Rat _) octets is octets_are = refl
-own_again instance (values.Tft _) octets is octets_are = refl
-own_again instance (values.Fteid _) octets is octets_are = refl
-own_again instance (values.Pdn _) octets is octets_are = refl
+    → cond (eqb (type_octet (kind_of value)) 93 && eqb instance 0) (Some (elements_of octets)) None
+    ≡ own_context (record { instance = instance; value = value })
 own_again instance (values.Context c) octets is octets_are =
-    ap (λ (ies : Option (List ReadIe)). cond (eqb instance 0) (Some ies) None) (ap elements_of octets_are ∙ elements_again c is)
+    a_context (eqb instance 0) c (elements_of octets) (ap elements_of octets_are ∙ elements_again c is)
+own_again instance _ octets is octets_are = sym (no_context (eqb instance 0))
+
+own_behind : (first : Option Context) (rest : List Context)
+    → cons_option (option_map context_as_read first) (map context_as_read rest) ≡ map context_as_read (cons_option first rest)
+own_behind None rest = refl
+own_behind (Some c) rest = refl
 
 contexts_behind : (front : List ℕ) (ies : List Element) → AllByRecursion IsElement ies
-    → contexts_in (front ++ spellings ies) (places_by context_octets (length front) ies) ≡ own_contexts ies
+    → contexts_in (front ++ spellings ies) (places_by context_octets (length front) ies) ≡ contexts_as_read ies
 contexts_behind front [] are = refl
 contexts_behind front (ie ∷ ies) are =
     let text : List ℕ = spelling ie in
@@ -127,41 +138,30 @@ contexts_behind front (ie ∷ ies) are =
     let octets_are : (front ++ text) ++ rest ≡ front ++ (text ++ rest) = append_assoc front text rest in
     let behind : length (front ++ text) ≡ end_of context_octets (length front) ie = length-append front text ∙ omega arith in
     let later = contexts_behind (front ++ text) ies are.1 in
-    let moved : contexts_in ((front ++ text) ++ rest) (places_by context_octets (end_of context_octets (length front) ie) ies) ≡ own_contexts ies =
-    subst (λ (k : ℕ). contexts_in ((front ++ text) ++ rest) (places_by context_octets k ies) ≡ own_contexts ies) behind later in
-    let others : contexts_in (front ++ (text ++ rest)) (places_by context_octets (end_of context_octets (length front) ie) ies) ≡ own_contexts ies =
-    subst (λ (octets : List ℕ). contexts_in octets (places_by context_octets (end_of context_octets (length front) ie) ies) ≡ own_contexts ies) octets_are moved in
+    let moved : contexts_in ((front ++ text) ++ rest) (places_by context_octets (end_of context_octets (length front) ie) ies) ≡ contexts_as_read ies =
+    subst (λ (k : ℕ). contexts_in ((front ++ text) ++ rest) (places_by context_octets k ies) ≡ contexts_as_read ies) behind later in
+    let others : contexts_in (front ++ (text ++ rest)) (places_by context_octets (end_of context_octets (length front) ie) ies) ≡ contexts_as_read ies =
+    subst (λ (octets : List ℕ). contexts_in octets (places_by context_octets (end_of context_octets (length front) ie) ies) ≡ contexts_as_read ies) octets_are moved in
     ap (λ (first : Option (Option (List ReadIe))). cons_option first (contexts_in (front ++ (text ++ rest)) (places_by context_octets (end_of context_octets (length front) ie) ies)))
     (own_again ie.instance ie.value _ are.0.value (value_is front rest (plain_octets context_octets ie.value) (type_octet (kind_of ie.value)) ie.instance))
-    ∙ ap (cons_option (own_context ie)) others
+    ∙ ap (cons_option (own_context ie)) others ∙ own_behind (first_context ie) (contexts_of ies)
 
 -- the elements of a message that has what its type asks for read back
-pub body_again : (kind : ℕ) (ies : List Element) → AllByRecursion IsElement ies → row_fault (required kind) (map as_read ies) (own_contexts ies) ≡ None
+pub body_again : (kind : ℕ) (ies : List Element) → AllByRecursion IsElement ies → MeetsRow (required kind) ies
     → IsBody kind (spellings ies) ies
 body_again kind ies are has =
     let back : ReadBack (spellings ies) ies = read_back ies are in
     let seen : read_ies (spellings ies) (places ies) ≡ map as_read ies = seen_as (spellings ies) (places ies) ies back.read in
-    let contexts : contexts_in (spellings ies) (places ies) ≡ own_contexts ies = contexts_behind [] ies are in
+    let contexts : contexts_in (spellings ies) (places ies) ≡ contexts_as_read ies = contexts_behind [] ies are in
     record {
       raws = places ies;
       stand = back.stand;
       required = ap (λ (read : List ReadIe). row_fault (required kind) read (contexts_in (spellings ies) (places ies))) seen
-          ∙ ap (row_fault (required kind) (map as_read ies)) contexts ∙ has;
+          ∙ ap (row_fault (required kind) (map as_read ies)) contexts ∙ meets_no_fault (required kind) ies has;
       known = ap known_of seen ∙ known_again ies;
     }
 
 -- ---- the header
-
-number16_again : (n : ℕ) → n < 2 ^ 16 → number16 (octets16 n) 0 ≡ n
-number16_again n fits = omega arith
-
-number24_again : (n : ℕ) → n < 2 ^ 24 → number24 (octets24 n) 0 ≡ n
-number24_again n fits =
-    let first : n / 256 ^ 3 % 256 ≡ 0 = omega arith in
-    rw first at (from_be_bytes-to_be_bytes_4 n (omega arith))
-
-number32_again : (n : ℕ) → n < 2 ^ 32 → number32 (octets32 n) 0 ≡ n
-number32_again n fits = from_be_bytes-to_be_bytes_4 n fits
 
 -- the elements behind a header, whatever is behind them
 body_behind : (body more : List ℕ) (from end : ℕ) → end ≡ from + length body → take (end - from) (body ++ more) ≡ body
@@ -179,8 +179,8 @@ pub header_again : (kind : ℕ) (teid : Option ℕ) (seq : ℕ) (ies : List Elem
     × (body_of (written kind teid seq (spellings ies) more) ≡ spellings ies)
 header_again kind None seq ies more is =
     let body : List ℕ = spellings ies in
-    let len : number16 (octets16 (4 + length body)) 0 ≡ 4 + length body = number16_again (4 + length body) (omega (arith, is.len)) in
-    let end : 4 + number16 (octets16 (4 + length body)) 0 ≡ 8 + length body = omega (arith, len) in (
+    let len : be16_at (be16_octets (4 + length body)) 0 ≡ 4 + length body = be16-again (4 + length body) [] (omega (arith, is.len)) in
+    let end : 4 + be16_at (be16_octets (4 + length body)) 0 ≡ 8 + length body = omega (arith, len) in (
       record {
         right = record {
           least = omega arith;
@@ -192,14 +192,14 @@ header_again kind None seq ies more is =
         };
         kind = refl;
         teid = refl;
-        seq = number24_again seq is.seq;
+        seq = be24-again seq [] is.seq;
       },
       body_behind body more 8 _ end,
     )
 header_again kind (Some teid) seq ies more is =
     let body : List ℕ = spellings ies in
-    let len : number16 (octets16 (8 + length body)) 0 ≡ 8 + length body = number16_again (8 + length body) (omega (arith, is.len)) in
-    let end : 4 + number16 (octets16 (8 + length body)) 0 ≡ 12 + length body = omega (arith, len) in (
+    let len : be16_at (be16_octets (8 + length body)) 0 ≡ 8 + length body = be16-again (8 + length body) [] (omega (arith, is.len)) in
+    let end : 4 + be16_at (be16_octets (8 + length body)) 0 ≡ 12 + length body = omega (arith, len) in (
       record {
         right = record {
           least = omega arith;
@@ -210,8 +210,8 @@ header_again kind (Some teid) seq ies more is =
           kind = is.kind;
         };
         kind = refl;
-        teid = ap Some (number32_again teid is.teid);
-        seq = number24_again seq is.seq;
+        teid = ap Some (be32-again teid [] is.teid);
+        seq = be24-again seq [] is.seq;
       },
       body_behind body more 12 _ end,
     )

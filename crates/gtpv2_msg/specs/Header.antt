@@ -1,8 +1,7 @@
 -- The header (TS 29.274, 5.1) by its octets, which count from 0 here: version (3), P, T and spare;
 -- type; length without the first four octets (2); with T the TEID (4); sequence number (3); spare.
-use Rattle.std.specs.Prelude.{◌≡◌, ℕ, ◌+◌, ◌/◌, ◌%◌, ◌≤◌, Bool, true, false, List, [], ◌∷◌, length, slice_index, slice_range, Option, Some, None, if◌then◌else◌, ◌==◌}
-use Rattle.std.specs.Int.{w32, from_be_bytes, bytes_high_first}
-use Rattle.gtpv2_ie.specs.Numbers.{number16, number32}
+use Rattle.std.specs.Prelude.{◌≡◌, ℕ, ◌+◌, ◌/◌, ◌%◌, ◌≤◌, Bool, true, false, List, length, slice_index, slice_range, Option, Some, None, if◌then◌else◌, ◌==◌}
+use Rattle.wire_octets.specs.Numbers.{be16_at, be24_at, be32_at}
 use Rattle.gtpv2_msg.specs.Kinds.{is_kind}
 
 abbrev pub version_of : List ℕ → ℕ
@@ -21,25 +20,17 @@ kind_of octets = slice_index octets 1
 
 -- the place behind the message
 abbrev pub end_of : List ℕ → ℕ
-end_of octets = 4 + number16 octets 2
-
--- the number of three octets that begins at a place, and the three octets of a number
-abbrev pub number24 : List ℕ → ℕ → ℕ
-number24 octets at =
-    from_be_bytes w32 (0 ∷ slice_index octets at ∷ slice_index octets (at + 1) ∷ slice_index octets (at + 2) ∷ [])
-
-abbrev pub octets24 : ℕ → List ℕ
-octets24 n = bytes_high_first 3 n
+end_of octets = 4 + be16_at octets 2
 
 -- the octets of the whole header, with a TEID and without
 abbrev pub header_len : Bool → ℕ
 header_len teid = if teid then 12 else 8
 
 abbrev pub teid_of : List ℕ → Option ℕ
-teid_of octets = if has_teid octets then Some (number32 octets 4) else None
+teid_of octets = if has_teid octets then Some (be32_at octets 4) else None
 
 abbrev pub seq_of : List ℕ → ℕ
-seq_of octets = number24 octets (if has_teid octets then 8 else 4)
+seq_of octets = be24_at octets (if has_teid octets then 8 else 4)
 
 -- a right header: all of it is there, and the message behind it
 pub record IsRight (octets : List ℕ) : Type 0 where

@@ -1,13 +1,11 @@
 -- The message types that are known (TS 29.274, table 6.1-1): a request, and one more, its answer.
 use Rattle.std.specs.Prelude.{ℕ, ◌+◌, ◌-◌, Bool, ◌||◌, List, [], ◌∷◌, ◌==◌}
 use Rattle.std.specs.List.{list_any}
-use Rattle.gtpv2_msg.specs.declared.kind.TheConstants.{ECHO_REQUEST, CREATE_SESSION_REQUEST, MODIFY_BEARER_REQUEST, DELETE_SESSION_REQUEST, CREATE_BEARER_REQUEST, UPDATE_BEARER_REQUEST, DELETE_BEARER_REQUEST, RELEASE_ACCESS_BEARERS_REQUEST, DOWNLINK_DATA_NOTIFICATION}
 
+-- Echo; Create Session, Modify Bearer, Delete Session; Create, Update and Delete Bearer; Release
+-- Access Bearers; Downlink Data Notification
 abbrev pub requests : List ℕ
-requests =
-    ECHO_REQUEST ∷ CREATE_SESSION_REQUEST ∷ MODIFY_BEARER_REQUEST ∷ DELETE_SESSION_REQUEST
-    ∷ CREATE_BEARER_REQUEST ∷ UPDATE_BEARER_REQUEST ∷ DELETE_BEARER_REQUEST
-    ∷ RELEASE_ACCESS_BEARERS_REQUEST ∷ DOWNLINK_DATA_NOTIFICATION ∷ []
+requests = 1 ∷ 32 ∷ 34 ∷ 36 ∷ 95 ∷ 97 ∷ 99 ∷ 170 ∷ 176 ∷ []
 
 unfoldable pub is_request : ℕ → Bool
 is_request kind = list_any (λ request. request == kind) requests

@@ -3,6 +3,8 @@ pub mod Message
 pub mod Header
 pub mod Required
 pub mod Elements
+pub mod RowFault
+pub mod HasRequired
 pub mod Refusal
 pub mod Spelling
 pub mod Reading

@@ -8,7 +8,8 @@ use Rattle.gtpv2_msg.specs.declared.fault.CBad.TheVariants.{NoMemory}
 use Rattle.gtpv2_msg.specs.Elements.{read_ies, contexts_in, known_of}
 use Rattle.gtpv2_msg.specs.Header.{IsRight, kind_of, teid_of, seq_of, body_of}
 use Rattle.gtpv2_msg.specs.Message.{Message}
-use Rattle.gtpv2_msg.specs.Required.{required, row_fault}
+use Rattle.gtpv2_msg.specs.Required.{required}
+use Rattle.gtpv2_msg.specs.RowFault.{row_fault}
 
 -- a right header with what a message says
 pub record IsHeader (octets : List ℕ) (message : Message) : Type 0 where

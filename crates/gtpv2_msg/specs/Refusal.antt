@@ -8,13 +8,12 @@ use Rattle.gtpv2_ie.specs.Element.{Element}
 use Rattle.gtpv2_ie.specs.Stand.{ies_of}
 use Rattle.gtpv2_msg.specs.declared.fault.CBad.{CBad}
 use Rattle.gtpv2_msg.specs.declared.fault.CBad.TheVariants.{Short, Version, Piggyback, Length, Kind, Missing, Incorrect, NoMemory}
-use Rattle.gtpv2_msg.specs.declared.kind.TheConstants.{ECHO_REQUEST}
-use Rattle.gtpv2_msg.specs.declared.refusing.TheConstants.{MANDATORY_IE_INCORRECT, MANDATORY_IE_MISSING}
 use Rattle.gtpv2_msg.specs.Elements.{read_ies, contexts_in}
 use Rattle.gtpv2_msg.specs.Header.{version_of, has_piggyback, has_teid, kind_of, end_of, header_len, seq_of, body_of}
 use Rattle.gtpv2_msg.specs.Kinds.{is_kind, is_request, answer_of}
 use Rattle.gtpv2_msg.specs.Message.{Message}
-use Rattle.gtpv2_msg.specs.Required.{required, row_fault}
+use Rattle.gtpv2_msg.specs.Required.{required}
+use Rattle.gtpv2_msg.specs.RowFault.{row_fault}
 use Rattle.gtpv2_msg.specs.Spelling.{spelling}
 
 -- the length passes the end, or doesn't reach the end of the header
@@ -53,9 +52,9 @@ Tells fault bad = fault ≡ Some bad
 abbrev pub IsRefusal : List ℕ → CBad → Type 0
 IsRefusal octets bad = Tells (first_fault octets) bad
 
--- an answer's header TEID is 0; an Echo has none
+-- an answer's header TEID is 0; that of an Echo Request (1) has none
 abbrev pub no_teid : ℕ → Option ℕ
-no_teid request = if request == ECHO_REQUEST then None else Some 0
+no_teid request = if request == 1 then None else Some 0
 
 abbrev pub cause_element : ℕ → ℕ × ℕ → Element
 cause_element cause of = record { instance = 0; value = values.Cause (record { cause = cause; offending = Some of }) }
@@ -73,10 +72,11 @@ abbrev pub if_request : List ℕ → ℕ → ℕ × ℕ → Option Message
 if_request octets cause of =
     if is_request (kind_of octets) then Some (refusing (kind_of octets) (seq_of octets) cause of) else None
 
--- only a request with a missing or an incorrect element is answered
+-- only a request with a missing or an incorrect element is answered (8.4: 70 Mandatory IE missing, 69
+-- Mandatory IE incorrect)
 abbrev pub refusal_message : List ℕ → CBad → Option Message
-refusal_message octets (Missing kind instance) = if_request octets MANDATORY_IE_MISSING (kind, instance)
-refusal_message octets (Incorrect kind instance) = if_request octets MANDATORY_IE_INCORRECT (kind, instance)
+refusal_message octets (Missing kind instance) = if_request octets 70 (kind, instance)
+refusal_message octets (Incorrect kind instance) = if_request octets 69 (kind, instance)
 refusal_message octets bad = None
 
 abbrev pub refusal_of : List ℕ → CBad → Option (List ℕ)

@@ -3,7 +3,7 @@ ghost use Rattle.std.specs.List.{list_any};
 ghost use Rattle.gtpv2_ie.specs.Stand.{IsInside};
 ghost use Rattle.gtpv2_msg.specs.Elements as elements;
 ghost use Rattle.gtpv2_msg.specs.Elements.{elements_of, contexts_in};
-ghost use Rattle.gtpv2_msg.specs.Required as grammar;
+ghost use Rattle.gtpv2_msg.specs.RowFault as grammar;
 
 use crate::elements::read_elements;
 use crate::fault::CBad;

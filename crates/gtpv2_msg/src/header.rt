@@ -5,6 +5,7 @@ ghost use Rattle.gtpv2_msg.specs.Refusal.{header_fault};
 
 use crate::fault::CBad;
 use crate::kind::is_kind;
+use wire_octets::{be16_at, be24_at, be32_at};
 
 /// The header of a message (TS 29.274, 5.1).
 /// 1: version (3) P T * (3)   2: type   3-4: length without the first four octets
@@ -18,15 +19,6 @@ pub struct Header {
     /// Where the elements begin and end.
     pub from: usize,
     pub to: usize,
-}
-
-/// The number of three octets that begins at a place.
-fn number24(octets: &[u8], at: usize) -> u32
-    requires { at + 3 ≤ length octets.now }
-    ensures value { result ≡ grammar.number24 octets.now at }
-    ensures range { result < 2 ^ 24 }
-{
-    u32::from_be_bytes([0, octets[at], octets[at + 1], octets[at + 2]])
 }
 
 /// Whether a TEID stands in the header.
@@ -50,7 +42,7 @@ fn end_of(octets: &[u8]) -> usize
     ensures value { result ≡ grammar.end_of octets.now }
     ensures range { result < 4 + 2 ^ 16 }
 {
-    4 + usize::from(u16::from_be_bytes([octets[2], octets[3]]))
+    4 + usize::from(be16_at(octets, 2))
 }
 
 /// What is wrong with the header.
@@ -83,7 +75,7 @@ fn teid_of(octets: &[u8]) -> Option<u32>
     ensures range { IfSome result (λ teid. teid < 2 ^ 32) }
 {
     if has_teid(octets) {
-        Some(u32::from_be_bytes([octets[4], octets[5], octets[6], octets[7]]))
+        Some(be32_at(octets, 4))
     } else {
         None
     }
@@ -96,9 +88,9 @@ pub fn seq_of(octets: &[u8]) -> u32
     ensures range { result < 2 ^ 24 }
 {
     if has_teid(octets) {
-        number24(octets, 8)
+        be24_at(octets, 8)
     } else {
-        number24(octets, 4)
+        be24_at(octets, 4)
     }
 }
 

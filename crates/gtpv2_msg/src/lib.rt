@@ -27,7 +27,9 @@ pub use kind::{
     RELEASE_ACCESS_BEARERS_RESPONSE, UPDATE_BEARER_REQUEST, UPDATE_BEARER_RESPONSE, is_kind,
     is_request,
 };
-pub use laws::messages_read_back;
+pub use laws::{
+    faults_or_spells, messages_read_back, read_messages_read_back, required_or_faulty, spells_one,
+};
 pub use message::{Ies, Msg};
 pub use reading::read;
 pub use refusing::{MANDATORY_IE_INCORRECT, MANDATORY_IE_MISSING, refusal};

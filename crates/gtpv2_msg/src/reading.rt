@@ -2,10 +2,12 @@ ghost use Rattle.std.specs.Prelude.{◌≡◌, ◌≤◌, List, length, All, IfO
 ghost use Rattle.gtpv2_ie.specs.Spelling.{spellings};
 ghost use Rattle.gtpv2_ie.specs.Stand.{IsInside};
 ghost use Rattle.gtpv2_msg.specs.Elements.{contexts_in};
+ghost use Rattle.gtpv2_msg.specs.HasRequired.{HasRequired};
 ghost use Rattle.gtpv2_msg.specs.Message.{Message};
 ghost use Rattle.gtpv2_msg.specs.Reading.{IsBody, Spells, Gives};
 ghost use Rattle.gtpv2_msg.specs.Refusal.{body_fault, first_fault, Tells, IsRefusal};
-ghost use Rattle.gtpv2_msg.specs.Required as grammar;
+ghost use Rattle.gtpv2_msg.specs.Required as table;
+ghost use Rattle.gtpv2_msg.specs.RowFault as grammar;
 
 use crate::contexts::contexts_fault;
 use crate::element::ReadIe;
@@ -13,7 +15,7 @@ use crate::elements::{known_of, read_elements};
 use crate::fault::CBad;
 use crate::header::read_header;
 use crate::message::{Ies, Msg};
-use crate::required::parts_fault;
+use crate::required::kinds_fault;
 use crate::table::required;
 use gtpv2_ie::{Ie, IeBad, RawIe, read_ies};
 use std::alloc::{AllocError as NoMemory, Global};
@@ -27,10 +29,10 @@ fn row_fault(
     ies: &[ReadIe],
 ) -> Result<Option<CBad>, NoMemory>
     requires { All (IsInside octets.now) raws.now }
-    ensures { IfOk result (λ fault. fault ≡ grammar.row_fault (grammar.required kind) ies.now (contexts_in octets.now raws.now)) }
+    ensures { IfOk result (λ fault. fault ≡ grammar.row_fault (table.required kind) ies.now (contexts_in octets.now raws.now)) }
 {
     let row = required(kind);
-    let before = parts_fault(ies, row.before);
+    let before = kinds_fault(ies, row.before);
     if before.is_some() {
         return Ok(before);
     }
@@ -38,7 +40,7 @@ fn row_fault(
     if contexts.is_some() {
         return Ok(contexts);
     }
-    Ok(parts_fault(ies, row.after))
+    Ok(kinds_fault(ies, row.after))
 }
 
 /// The elements behind a header of some type.
@@ -81,6 +83,9 @@ pub fn read(alloc: Global, bytes: &[u8]) -> Result<Msg, CBad>
     // What is read is spelled so, and what is spelled so is read, unless memory runs out.
     ensures found { IfOk result (Spells bytes.now) }
     ensures only { (message : Message) → Spells bytes.now message → Gives result (Ok message) }
+
+    // It has the elements that its type asks for, so what is written of it reads back.
+    ensures required { IfOk result HasRequired }
 
     // A refusal is the first fault, and each fault is refused, unless memory runs out.
     ensures refused { IfErr result (IsRefusal bytes.now) }

@@ -9,34 +9,22 @@ use crate::kind::{
 };
 use gtpv2_ie::IeKind;
 
-/// An element that must be there, of instance 0, the first one inside its grammar.
+/// An element that must be in a Context, of instance 0, the first one inside its grammar.
 #[derive(Clone, Copy, Debug, PartialEq, Eq)]
 pub enum Part {
     Ie(IeKind),
-    /// An EBI, and not 0.
+    /// An EBI, and neither it nor the one that the Context holds is 0.
     AssignedEbi,
-}
-
-impl Part {
-    /// The type octet of the element.
-    pub fn octet(self) -> u8
-        ensures { result ≡ required.part_octet self }
-    {
-        match self {
-            Part::Ie(kind) => kind.octet(),
-            Part::AssignedEbi => IeKind::Ebi.octet(),
-        }
-    }
 }
 
 /// What a message must have: elements before its Contexts, whether a Context must be there, what
 /// each Context must have, and elements behind them.
 #[derive(Clone, Copy, Debug)]
 pub struct Row {
-    pub before: &'static [Part],
+    pub before: &'static [IeKind],
     pub must: bool,
     pub inside: &'static [Part],
-    pub after: &'static [Part],
+    pub after: &'static [IeKind],
 }
 
 /// The row of a message type in the table of required elements.
@@ -49,12 +37,7 @@ pub fn required(kind: u8) -> Row
 {
     match kind {
         CREATE_SESSION_REQUEST => Row {
-            before: &[
-                Part::Ie(IeKind::Imsi),
-                Part::Ie(IeKind::Fteid),
-                Part::Ie(IeKind::Pdn),
-                Part::Ie(IeKind::Ambr),
-            ],
+            before: &[IeKind::Imsi, IeKind::Fteid, IeKind::Pdn, IeKind::Ambr],
             must: true,
             inside: &[Part::AssignedEbi, Part::Ie(IeKind::Qos)],
             after: &[],
@@ -66,7 +49,7 @@ pub fn required(kind: u8) -> Row
             after: &[],
         },
         CREATE_BEARER_REQUEST => Row {
-            before: &[Part::Ie(IeKind::Ebi)],
+            before: &[IeKind::Ebi],
             must: true,
             inside: &[
                 Part::Ie(IeKind::Ebi),
@@ -76,7 +59,7 @@ pub fn required(kind: u8) -> Row
             after: &[],
         },
         CREATE_BEARER_RESPONSE => Row {
-            before: &[Part::Ie(IeKind::Cause)],
+            before: &[IeKind::Cause],
             must: true,
             inside: &[Part::Ie(IeKind::Ebi), Part::Ie(IeKind::Cause)],
             after: &[],
@@ -85,7 +68,7 @@ pub fn required(kind: u8) -> Row
             before: &[],
             must: true,
             inside: &[Part::Ie(IeKind::Ebi)],
-            after: &[Part::Ie(IeKind::Ambr)],
+            after: &[IeKind::Ambr],
         },
         CREATE_SESSION_RESPONSE
         | MODIFY_BEARER_RESPONSE
@@ -94,7 +77,7 @@ pub fn required(kind: u8) -> Row
         | DELETE_BEARER_RESPONSE
         | RELEASE_ACCESS_BEARERS_RESPONSE
         | DOWNLINK_DATA_NOTIFICATION_ACKNOWLEDGE => Row {
-            before: &[Part::Ie(IeKind::Cause)],
+            before: &[IeKind::Cause],
             must: false,
             inside: &[],
             after: &[],

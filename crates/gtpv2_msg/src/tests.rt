@@ -384,3 +384,93 @@ fn other_spellings_are_read(rt: HostRuntime) -> Result<(), Fail> {
     );
     Ok(())
 }
+
+/// The Context of a message holds this EBI.
+fn holds_ebi(alloc: Global, octets: &[u8], ebi: u8) -> Result<bool, Fail> {
+    for ie in read(alloc, octets)?.ies.as_slice() {
+        if let IeValue::Context(context) = &ie.value {
+            return Ok(context.ebi == Some(ebi));
+        }
+    }
+    Ok(false)
+}
+
+/// A Create Session Request up to its Context, which has two EBIs and no Bearer QoS.
+const CREATE_HEAD: [u8; 58] = [
+    0x48, 0x20, 0x00, 0x40, 0x00, 0x00, 0x00, 0x00, 0x00, 0x00, 0x01, 0x00, 0x01, 0x00, 0x08, 0x00,
+    0x00, 0x01, 0x01, 0x21, 0x43, 0x65, 0x87, 0xf9, 0x57, 0x00, 0x09, 0x00, 0x8a, 0x00, 0x00, 0x10,
+    0x00, 0xc6, 0x33, 0x64, 0x01, 0x63, 0x00, 0x01, 0x00, 0x03, 0x48, 0x00, 0x08, 0x00, 0x00, 0x00,
+    0xc3, 0x50, 0x00, 0x01, 0x86, 0xa0, 0x5d, 0x00, 0x0a, 0x00,
+];
+
+/// A Modify Bearer Request up to two EBIs in its Context.
+const MODIFY_HEAD: [u8; 16] = *b"\x48\x22\x00\x16\x00\x00\x00\x10\x00\x00\x02\x00\x5d\x00\x0a\x00";
+
+/// A Create Bearer Response up to two EBIs in its Context, and the Cause behind them.
+const CREATED_HEAD: [u8; 22] =
+    *b"\x48\x60\x00\x22\x00\x00\x00\x10\x00\x00\x05\x00\x02\x00\x02\x00\x10\x00\x5d\x00\x10\x00";
+
+const CREATED_TAIL: [u8; 6] = *b"\x02\x00\x02\x00\x10\x00";
+
+/// Two EBIs of instances 0 and 1, in both orders: their octets, the one that a Context holds, and
+/// whether neither it nor the first of instance 0 is 0.
+const EBIS: [(&[u8; 10], u8, bool); 4] = [
+    (b"\x49\x00\x01\x00\x05\x49\x00\x01\x01\x00", 5, true),
+    (b"\x49\x00\x01\x00\x00\x49\x00\x01\x01\x05", 0, false),
+    (b"\x49\x00\x01\x01\x05\x49\x00\x01\x00\x00", 5, false),
+    (b"\x49\x00\x01\x01\x00\x49\x00\x01\x00\x05", 0, false),
+];
+
+/// A message with two EBIs in its Context.
+fn with_ebis(alloc: Global, head: &[u8], ebis: &[u8], tail: &[u8]) -> Result<Vec<u8>, Fail> {
+    let mut octets = Vec::from_slice(alloc, head)?;
+    octets.extend_from_slice(ebis)?;
+    octets.extend_from_slice(tail)?;
+    Ok(octets)
+}
+
+#[test]
+fn ebi_zero_is_refused_where_another_is_asked_for(rt: HostRuntime) -> Result<(), Fail> {
+    let alloc = rt.alloc();
+    let zero = CBad::Incorrect {
+        kind: 73,
+        instance: 0,
+    };
+    let no_qos = CBad::Missing {
+        kind: 80,
+        instance: 0,
+    };
+    for (ebis, held, right) in EBIS {
+        // it is told before the missing Bearer QoS
+        let create = with_ebis(alloc, &CREATE_HEAD, ebis, b"")?;
+        let told = if right { no_qos } else { zero };
+        assert_eq!(rt; read(alloc, &create).err(), Some(told));
+
+        let modify = with_ebis(alloc, &MODIFY_HEAD, ebis, b"")?;
+        if right {
+            assert!(rt; holds_ebi(alloc, &modify, held)?);
+        } else {
+            assert_eq!(rt; read(alloc, &modify).err(), Some(zero));
+        }
+
+        // in an answer to Create Bearer 0 is read
+        let created = with_ebis(alloc, &CREATED_HEAD, ebis, &CREATED_TAIL)?;
+        assert!(rt; holds_ebi(alloc, &created, held)?);
+    }
+    Ok(())
+}
+
+#[test]
+fn ebi_of_another_instance_alone_is_missing(rt: HostRuntime) {
+    assert_eq!(rt;
+        read(
+            rt.alloc(),
+            b"\x48\x22\x00\x11\x00\x00\x00\x10\x00\x00\x02\x00\x5d\x00\x05\x00\x49\x00\x01\x01\x00"
+        )
+        .err(),
+        Some(CBad::Missing {
+            kind: 73,
+            instance: 0
+        })
+    );
+}

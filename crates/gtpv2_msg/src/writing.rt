@@ -4,13 +4,15 @@ ghost use Rattle.std.specs.Option.{is_some};
 ghost use Rattle.gtpv2_ie.specs.Spelling.{spellings};
 ghost use Rattle.gtpv2_ie.specs.Validity.{IsElement};
 ghost use Rattle.gtpv2_msg.specs.Header.{header_len};
+ghost use Rattle.gtpv2_msg.specs.HasRequired.{HasRequired};
 ghost use Rattle.gtpv2_msg.specs.Reading.{Spells};
 ghost use Rattle.gtpv2_msg.specs.Spelling.{header_octets, spelling};
-ghost use Rattle.gtpv2_msg.specs.Validity.{IsMessage, HasRequired};
+ghost use Rattle.gtpv2_msg.specs.Validity.{IsMessage};
 
 use crate::message::{Ies, Msg};
 use gtpv2_ie::write_ie;
 use std::alloc::{AllocError as NoMemory, Global};
+use wire_octets::{be16_octets, be24_octets, be32_octets};
 
 /// The octets of elements, one behind another.
 fn elements_octets(alloc: Global, ies: &Ies) -> Result<Vec<u8>, NoMemory>
@@ -35,15 +37,15 @@ fn push_header(
     requires { header_len (is_some teid) + len < 4 + 2 ^ 16 }
     ensures { OnOk result (out.new.items ≡ out.old.items ++ header_octets kind teid seq len) }
 {
-    let [_, high, middle, low] = seq.to_be_bytes();
+    let [high, middle, low] = be24_octets(seq);
     match teid {
         None => {
-            let [first, second] = (4 + len as u16).to_be_bytes();
+            let [first, second] = be16_octets(4 + len as u16);
             out.extend_from_slice(&[0x40, kind, first, second, high, middle, low, 0])
         }
         Some(teid) => {
-            let [first, second] = (8 + len as u16).to_be_bytes();
-            let [a, b, c, d] = teid.to_be_bytes();
+            let [first, second] = be16_octets(8 + len as u16);
+            let [a, b, c, d] = be32_octets(teid);
             out.extend_from_slice(&[0x48, kind, first, second, a, b, c, d, high, middle, low, 0])
         }
     }

@@ -13,6 +13,7 @@
 mod addresses;
 mod effect;
 mod imsi;
+mod numbered;
 mod numbers;
 mod octets;
 mod packet;
@@ -24,6 +25,7 @@ mod tests;
 pub use addresses::{addr_of, addresses_are_distinct, slot_of_addr};
 pub use effect::{Effect, Fate};
 pub use imsi::Imsi;
+pub use numbered::Numbered;
 pub use numbers::{Addr4, Kbps, Moment, SliceNo, Slot, Teid};
 pub use octets::Octets;
 pub use packet::{Packet, Peer, Place, TeidUse, Verdict, Way};

@@ -1,6 +1,6 @@
 use Rattle.std.proofs.Common.{◌≡◌, drop}
 use Rattle.gtpv2_msg.specs.Elements.{contexts_in}
-use Rattle.gtpv2_msg.specs.Required as grammar
+use Rattle.gtpv2_msg.specs.RowFault as grammar
 use Rattle.gtpv2_msg.proofs.contexts.inside_fault.Given as goal
 
 -- no Context so far has a fault

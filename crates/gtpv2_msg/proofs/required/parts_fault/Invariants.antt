@@ -1,5 +1,5 @@
 use Rattle.std.proofs.Common.{◌≡◌, drop}
-use Rattle.gtpv2_msg.specs.Required as grammar
+use Rattle.gtpv2_msg.specs.RowFault as grammar
 use Rattle.gtpv2_msg.proofs.required.parts_fault.Given as goal
 
 -- no part so far has a fault

@@ -1,0 +1,10 @@
+pub mod Command
+pub mod Messages
+pub mod Row
+pub mod Table
+pub mod Steps
+pub mod Answer
+pub mod Creation
+pub mod Order
+pub mod Granting
+pub mod Kinds

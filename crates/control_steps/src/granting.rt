@@ -1,0 +1,44 @@
+//! Create Bearer Responses: a bearer that was asked for becomes active, or goes (TS 23.401, 5.4.1).
+ghost use Rattle.std.specs.Prelude.{◌≡◌};
+ghost use Rattle.control_steps.specs.Granting.{response};
+ghost use Rattle.control_steps.specs.Row.{first_row};
+ghost use Rattle.control_steps.specs.Steps.{IsDone};
+
+use crate::REQUEST_ACCEPTED;
+use crate::answer::silent;
+use bearer_state::Session;
+use pc_base::{Outcome, Peer, Reply};
+
+/// What a Create Bearer Response says: its cause, and the EBI, cause and eNodeB of its Bearer Context.
+#[derive(Clone, Copy, Debug)]
+pub struct Response {
+    pub seq: u32,
+    pub cause: u8,
+    pub ebi: u8,
+    pub row_cause: u8,
+    pub enb: Option<Peer>,
+}
+
+/// A Create Bearer Response. Takes no memory.
+pub fn settle(session: &mut Session, said: &Response) -> Reply
+    ensures { IsDone (first_row session.old (response said.now)) (response said.now) session.old session.new result }
+{
+    if !session.bearers.has_asked(said.seq) {
+        return silent(Outcome::No);
+    }
+    match said.enb {
+        Some(enb)
+            if said.cause == REQUEST_ACCEPTED
+                && said.row_cause == REQUEST_ACCEPTED
+                && said.ebi >= 5
+                && said.ebi <= 15
+                && !session.bearers.has_active(said.ebi) => {
+            session.grant(said.seq, said.ebi, enb);
+            silent(Outcome::Done)
+        }
+        _ => {
+            session.deny(said.seq);
+            silent(Outcome::No)
+        }
+    }
+}
