@@ -1,19 +1,31 @@
 //! The address book.
 ghost use Rattle.std.specs.Prelude.{◌≡◌, ◌↔◌, [], length, None, IfOk, IfSome, OnOk, OnErr};
+ghost use Rattle.address_book.specs.declared.book.AdmitNo.TheVariants as no;
 ghost use Rattle.address_book.specs.Book.{IsBook, IsFull, slot_in, admitted};
 
 use pc_base::{Imsi, LAST_SLOT, Slot};
-use std::alloc::Global;
+use std::alloc::{AllocFailed, Global};
 use std::collections::HashMap;
 use std::marker::Model;
+use thiserror::Error;
 
 /// Why an IMSI gets no slot.
-#[derive(Clone, Copy, Debug, PartialEq, Eq)]
+#[derive(Clone, Copy, Debug, PartialEq, Eq, Error)]
 pub enum AdmitNo {
     /// It is new, and all 65,533 slots are taken.
+    #[error("all addresses are taken")]
     PoolUsed,
     /// It is new, and there is no memory for it.
+    #[error("out of memory")]
     NoMemory,
+}
+
+impl<T: Drop> From<AllocFailed<T>> for AdmitNo {
+    ghost from_gives = { λ _ e. e ≡ no.NoMemory };
+
+    fn from(_e: AllocFailed<T>) -> AdmitNo {
+        AdmitNo::NoMemory
+    }
 }
 
 /// The IMSIs that were admitted, each once, by slot. Contracts see it as the list of them.
@@ -66,12 +78,10 @@ impl AddressBook {
             return Err(AdmitNo::PoolUsed);
         }
         let slot = Slot(place as u32);
-        if self.imsis.push(imsi).is_err() {
-            return Err(AdmitNo::NoMemory);
-        }
-        if self.slots.insert(imsi, slot).is_err() {
+        self.imsis.push(imsi)?;
+        if let Err(full) = self.slots.insert(imsi, slot) {
             let _ = self.imsis.pop();
-            return Err(AdmitNo::NoMemory);
+            return Err(AdmitNo::from(full));
         }
         Ok(slot)
     }

@@ -45,3 +45,10 @@ fn pool_used(rt: HostRuntime) -> Result<(), Fail> {
     assert_eq!(rt; book.len(), 65_533);
     Ok(())
 }
+
+#[test]
+fn a_refusal_prints_as_a_sentence(rt: HostRuntime) -> Result<(), Fail> {
+    let text = format!(in rt.alloc(); "{}", AdmitNo::PoolUsed)?;
+    assert_eq!(rt; text.as_str(), "all addresses are taken");
+    Ok(())
+}

@@ -11,7 +11,8 @@ brought-between rate from mid to low high =
     let parts : to - from ≡ (mid - from) + (to - mid) = omega arith in
     ap (λ micros. rate * micros) parts ∙ mul-add rate (mid - from) (to - mid)
 
-pub min-min : (most level first then : ℕ) → min most (min most (level + first) + then) ≡ min most (level + (first + then))
+pub min-min : (most level first then : ℕ)
+    → min most (min most (level + first) + then) ≡ min most (level + (first + then))
 min-min most level first then = omega arith
 
 -- a level that has moved on is the same at each later moment
@@ -19,7 +20,8 @@ pub level_at-moved : (bucket : BucketState) (at later : ℕ) → bucket.last ≤
     → level_at (record { rate = bucket.rate; level = level_at bucket at; last = at }) later ≡ level_at bucket later
 level_at-moved bucket at later low high =
     min-min (burst bucket.rate) bucket.level (bucket.rate * (at - bucket.last)) (bucket.rate * (later - at))
-    ∙ ap (λ brought. min (burst bucket.rate) (bucket.level + brought)) (sym (brought-between bucket.rate bucket.last at later low high))
+    ∙ ap (λ brought. min (burst bucket.rate) (bucket.level + brought))
+    (sym (brought-between bucket.rate bucket.last at later low high))
 
 -- a cost is within what a charge left and what was brought since, where both together, less what was
 -- brought, were within the level

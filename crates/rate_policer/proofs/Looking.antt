@@ -15,15 +15,18 @@ FitsFrom rate passed cost place = (before after : List Cost) (earlier : Cost) �
     → length before ≡ place → FitsSince rate cost earlier (earlier ∷ after)
 
 -- what the program computes at a place says that
-pub fits_from : (rate : ℕ) (passed : List Cost) (cost earlier : Cost) (place : ℕ) → earlier ≡ get_or passed place earlier
+pub fits_from : (rate : ℕ) (passed : List Cost) (cost earlier : Cost) (place : ℕ)
+    → earlier ≡ get_or passed place earlier
     → FitsSince rate cost earlier (drop place passed) → FitsFrom rate passed cost place
 fits_from rate passed cost item place is fits before after earlier e here =
     let rest : drop place passed ≡ earlier ∷ after =
-    ap (drop place) e ∙ ap (λ n. drop n (before ++ earlier ∷ after)) (sym here) ∙ drop-append_seam before (earlier ∷ after) in
+    ap (drop place) e ∙ ap (λ n. drop n (before ++ earlier ∷ after)) (sym here)
+    ∙ drop-append_seam before (earlier ∷ after) in
     let same : item ≡ earlier =
     is ∙ ap (λ xs. get_or xs place item) e ∙ ap (λ n. get_or (before ++ earlier ∷ after) n item) (sym here)
     ∙ get_or-append_seam before earlier after item in
-    subst (λ (c : Cost). FitsSince rate cost c (earlier ∷ after)) same (subst (λ (since : List Cost). FitsSince rate cost item since) rest fits)
+    subst (λ (c : Cost). FitsSince rate cost c (earlier ∷ after)) same
+    (subst (λ (since : List Cost). FitsSince rate cost item since) rest fits)
 
 -- a cost conforms where it is within the burst and fits from each place
 pub conforms_from : (rate : ℕ) (passed : List Cost) (cost : Cost) → cost.millibits ≤ burst rate
@@ -31,7 +34,8 @@ pub conforms_from : (rate : ℕ) (passed : List Cost) (cost : Cost) → cost.mil
 conforms_from rate passed cost alone each = record {
   alone = alone;
   since = λ before after earlier e.
-      each (length before) (omega (arith, ap length e, length-append before (earlier ∷ after))) before after earlier e refl;
+      each (length before) (omega (arith, ap length e, length-append before (earlier ∷ after))) before after earlier e
+      refl;
 }
 
 -- a conforming cost fits by what the program computes at each place

@@ -40,7 +40,8 @@ split_push xs before (z ∷ zs) x y e =
     inr (record { rest = last.front; split = same.0; is = last.is ∙ ap (λ w. last.front ++ w ∷ []) (sym same.1) })
 
 -- what holds of each element holds of the one at a split
-pub All-split : {X : Type 0} (P : X → Type 0) (xs before after : List X) (x : X) → xs ≡ before ++ x ∷ after → All P xs → P x
+pub All-split : {X : Type 0} (P : X → Type 0) (xs before after : List X) (x : X) → xs ≡ before ++ x ∷ after → All P xs
+    → P x
 All-split P xs before after x e all =
     let inside : length before < length (before ++ x ∷ after) = omega (arith, length-append before (x ∷ after)) in
     subst P (get_or-append_seam before x after x) (subst (All P) e all (length before) x inside)

@@ -25,26 +25,31 @@ pub since_push : (rate : ℕ) (passed before after : List Cost) (last later earl
     → later.millibits + volume (earlier ∷ after) ≤ burst rate + rate * (later.at - earlier.at)
 since_push rate passed before after last later earlier past high conforms (inl end) =
     let here : volume (earlier ∷ after) ≡ last.millibits =
-    ap (λ rest. volume (earlier ∷ rest)) end.nothing ∙ volume-one earlier ∙ ap (λ (c : Cost). c.millibits) (sym end.is) in
+    ap (λ rest. volume (earlier ∷ rest)) end.nothing ∙ volume-one earlier
+    ∙ ap (λ (c : Cost). c.millibits) (sym end.is) in
     let alone : later.millibits + last.millibits - rate * (later.at - last.at) ≤ burst rate = conforms.alone in
-    let moment : rate * (later.at - last.at) ≡ rate * (later.at - earlier.at) = ap (λ (c : Cost). rate * (later.at - c.at)) end.is in
+    let moment : rate * (later.at - last.at) ≡ rate * (later.at - earlier.at)
+    = ap (λ (c : Cost). rate * (later.at - c.at)) end.is in
     omega (arith, here, alone, moment)
 since_push rate passed before after last later earlier past high conforms (inr inner) =
     let whole : volume (earlier ∷ after) ≡ volume (earlier ∷ inner.rest) + last.millibits =
     ap (λ rest. volume (earlier ∷ rest)) inner.is ∙ volume-push (earlier ∷ inner.rest) last in
     let since = conforms.since before inner.rest earlier inner.split in
-    let low : earlier.at ≤ last.at = All-split (λ (c : Cost). c.at ≤ last.at) passed before inner.rest earlier inner.split past in
+    let low : earlier.at ≤ last.at
+    = All-split (λ (c : Cost). c.at ≤ last.at) passed before inner.rest earlier inner.split past in
     let brought = brought-between rate earlier.at last.at later.at low high in
     omega (arith, whole, since, brought)
 
 -- a cost conforms behind one more, where joined with that it conformed before
 pub conforms_push : (rate : ℕ) (passed : List Cost) (last later : Cost)
-    → AreBy last.at passed → last.at ≤ later.at → later.millibits ≤ burst rate → Conforms rate passed (joined rate last later)
+    → AreBy last.at passed → last.at ≤ later.at → later.millibits ≤ burst rate
+    → Conforms rate passed (joined rate last later)
     → Conforms rate (passed ++ last ∷ []) later
 conforms_push rate passed last later past high alone conforms = record {
   alone = alone;
   since = λ before after earlier e.
-      since_push rate passed before after last later earlier past high conforms (split_push passed before after earlier last e);
+      since_push rate passed before after last later earlier past high conforms
+      (split_push passed before after earlier last e);
 }
 
 -- and the other way round, where no octets at all conformed at the moment of the last one
@@ -52,15 +57,14 @@ pub conforms_joined : (rate : ℕ) (passed : List Cost) (last later : Cost)
     → AreBy last.at passed → last.at ≤ later.at → Conforms rate passed (record { at = last.at; millibits = 0 })
     → Conforms rate (passed ++ last ∷ []) later → Conforms rate passed (joined rate last later)
 conforms_joined rate passed last later past high nothing conforms = record {
-  alone =
-      let since = conforms.since passed [] last refl in
-      omega (arith, since, volume-one last);
+  alone = let since = conforms.since passed [] last refl in omega (arith, since, volume-one last);
   since = λ before after earlier e.
       let without = nothing.since before after earlier e in
       let split : passed ++ last ∷ [] ≡ before ++ earlier ∷ (after ++ last ∷ []) =
       ap (λ xs. xs ++ last ∷ []) e ∙ append_assoc before (earlier ∷ after) (last ∷ []) in
       let since = conforms.since before (after ++ last ∷ []) earlier split in
-      let whole : volume (earlier ∷ after ++ last ∷ []) ≡ volume (earlier ∷ after) + last.millibits = volume-push (earlier ∷ after) last in
+      let whole : volume (earlier ∷ after ++ last ∷ []) ≡ volume (earlier ∷ after) + last.millibits
+      = volume-push (earlier ∷ after) last in
       let low : earlier.at ≤ last.at = All-split (λ (c : Cost). c.at ≤ last.at) passed before after earlier e past in
       let brought = brought-between rate earlier.at last.at later.at low high in
       omega (arith, without, since, whole, brought);
@@ -80,7 +84,8 @@ stands_full rate level full = record {
 }
 
 -- a bucket whose level and moment have moved on stands for what it stood for
-pub stands_moved : (bucket : BucketState) (passed : List Cost) (at rate level : ℕ) → StandsFor bucket passed → bucket.last ≤ at
+pub stands_moved : (bucket : BucketState) (passed : List Cost) (at rate level : ℕ) → StandsFor bucket passed
+    → bucket.last ≤ at
     → rate ≡ bucket.rate → level ≡ level_at bucket at
     → StandsFor (record { rate = rate; level = level; last = at }) passed
 stands_moved bucket passed at rate level stands low same_rate same_level =
@@ -93,7 +98,8 @@ stands_moved bucket passed at rate level stands low same_rate same_level =
     })
 
 -- and where it let a cost through, and keeps what that leaves, also for this
-pub stands_charged : (bucket : BucketState) (passed : List Cost) (cost : Cost) (rate level : ℕ) → StandsFor bucket passed
+pub stands_charged : (bucket : BucketState) (passed : List Cost) (cost : Cost) (rate level : ℕ)
+    → StandsFor bucket passed
     → bucket.last ≤ cost.at → LetsThrough bucket cost → rate ≡ bucket.rate → level ≡ level_at bucket cost.at
     → StandsFor (record { rate = rate; level = level - cost.millibits; last = cost.at }) (passed ++ cost ∷ [])
 stands_charged bucket passed cost rate level stands low lets same_rate same_level =
@@ -106,7 +112,8 @@ stands_charged bucket passed cost rate level stands low lets same_rate same_leve
           let nothing = (stands.same (record { at = cost.at; millibits = 0 }) low).0 (omega arith) in (
             λ fits. let parts = within.0 fits in
                 conforms_push bucket.rate passed cost later past late parts.0 (same.0 parts.1),
-            λ conforms. within.1 (conforms.alone, same.1 (conforms_joined bucket.rate passed cost later past late nothing conforms)),
+            λ conforms. within.1
+                (conforms.alone, same.1 (conforms_joined bucket.rate passed cost later past late nothing conforms)),
           );
     })
   where

@@ -38,7 +38,8 @@ ConformingIsTested = (rate : ℕ) (passed : List Cost) (cost : Cost) → IsTrue 
 
 -- each cost conformed to those that passed before it
 abbrev pub ArePoliced : ℕ → List Cost → Type 0
-ArePoliced rate passed = (before after : List Cost) (cost : Cost) → passed ≡ before ++ cost ∷ after → Conforms rate before cost
+ArePoliced rate passed =
+    (before after : List Cost) (cost : Cost) → passed ≡ before ++ cost ∷ after → Conforms rate before cost
 
 -- a list stays policed where a conforming cost passes
 abbrev pub PolicedListsGrow : Type 0

@@ -45,7 +45,8 @@ pub fn policed_lists_grow()
 
 // Whether a cost fits with what passed since an earlier cost, that cost included.
 fn fits_since(rate: Kbps, earlier: &Cost, since: &[Cost], cost: &Cost) -> bool
-    ensures { IsTrue result ↔ (cost.now.millibits + volume since.now ≤ burst rate + rate * (cost.now.at - earlier.now.at)) }
+    ensures { IsTrue result
+        ↔ (cost.now.millibits + volume since.now ≤ burst rate + rate * (cost.now.at - earlier.now.at)) }
 {
     let micros = cost.at.0.saturating_sub(earlier.at.0);
     let allowed = u128::from(burst(rate)) + brought(rate, micros);

@@ -16,7 +16,8 @@ pub record AreIdsTaken (n : ℕ) (seen octets : List ℕ) : Type 0 where
   pub count : length (ids_at octets) ≡ n
 
 none_taken : (seen octets : List ℕ) → octets ≡ [] → AreIdsTaken 0 seen octets
-none_taken seen octets nothing = subst (AreIdsTaken 0 seen) (sym nothing) (record { spelled = refl; each = tt; fresh = tt; count = refl })
+none_taken seen octets nothing =
+    subst (AreIdsTaken 0 seen) (sym nothing) (record { spelled = refl; each = tt; fresh = tt; count = refl })
 
 pub ids_taken : (n : ℕ) (seen octets : List ℕ) → ids_fault n seen octets ≡ None → AreIdsTaken n seen octets
 unfolding ids_fault
@@ -25,12 +26,21 @@ ids_taken (suc n) seen [] e = absurd cc
 ids_taken (suc n) seen (octet ∷ octets) e =
     let new = passed (has seen (octet % 16)) bad.RepeatedId (ids_fault n (seen ++ octet % 16 ∷ []) octets) e in
     let others = ids_taken n (seen ++ octet % 16 ∷ []) octets new.1 in
-    record { spelled = (octet, octets, refl, refl, others.spelled); each = (omega arith, others.each); fresh = (new.0, others.fresh); count = ap suc others.count }
+    record {
+      spelled = (octet, octets, refl, refl, others.spelled);
+      each = (omega arith, others.each);
+      fresh = (new.0, others.fresh);
+      count = ap suc others.count;
+    }
 
-pub ids_again : (xs seen octets : List ℕ) → SpellsIds octets xs → AreFresh seen xs → (ids_fault (length xs) seen octets ≡ None) × (ids_at octets ≡ xs)
+pub ids_again : (xs seen octets : List ℕ) → SpellsIds octets xs → AreFresh seen xs
+    → (ids_fault (length xs) seen octets ≡ None) × (ids_at octets ≡ xs)
 unfolding ids_fault
 ids_again [] seen octets spelled fresh = (ap end_fault spelled, ap ids_at spelled)
 ids_again (x ∷ xs) seen octets spelled fresh =
     let others = ids_again xs (seen ++ x ∷ []) spelled.1 spelled.4 fresh.1 in
-    let again : (ids_fault (suc (length xs)) seen (spelled.0 ∷ spelled.1) ≡ None) × (ids_at (spelled.0 ∷ spelled.1) ≡ x ∷ xs) = rw (spelled.3, fresh.0) (others.0, ap (λ (ys : List ℕ). x ∷ ys) others.1) in
-    subst (λ (all : List ℕ). (ids_fault (suc (length xs)) seen all ≡ None) × (ids_at all ≡ x ∷ xs)) (sym spelled.2) again
+    let again : (ids_fault (suc (length xs)) seen (spelled.0 ∷ spelled.1) ≡ None)
+    × (ids_at (spelled.0 ∷ spelled.1) ≡ x ∷ xs) =
+    rw (spelled.3, fresh.0) (others.0, ap (λ (ys : List ℕ). x ∷ ys) others.1) in
+    subst (λ (all : List ℕ). (ids_fault (suc (length xs)) seen all ≡ None) × (ids_at all ≡ x ∷ xs))
+    (sym spelled.2) again

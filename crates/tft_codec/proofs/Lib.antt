@@ -10,3 +10,4 @@ pub mod Loops
 pub mod ReadLemmas
 pub mod Bounds
 pub mod ApplyLemmas
+mod StandardFacts

@@ -5,11 +5,13 @@ use Rattle.std.proofs.lemmas.Bool.{false≢true}
 use Rattle.std.proofs.lemmas.Cmp.{nat_eq_equiv}
 use Rattle.tft_codec.specs.Component.{has}
 
-pub list_any_map : {X : Type 0} (p : ℕ → Bool) (f : X → ℕ) (xs : List X) → list_any p (map f xs) ≡ list_any (λ x. p (f x)) xs
+pub list_any_map : {X : Type 0} (p : ℕ → Bool) (f : X → ℕ) (xs : List X)
+    → list_any p (map f xs) ≡ list_any (λ x. p (f x)) xs
 list_any_map p f [] = refl
 list_any_map p f (x ∷ xs) = ap (λ b. p (f x) || b) (list_any_map p f xs)
 
-pub list_all_map : {X : Type 0} (p : ℕ → Bool) (f : X → ℕ) (xs : List X) → list_all p (map f xs) ≡ list_all (λ x. p (f x)) xs
+pub list_all_map : {X : Type 0} (p : ℕ → Bool) (f : X → ℕ) (xs : List X)
+    → list_all p (map f xs) ≡ list_all (λ x. p (f x)) xs
 list_all_map p f [] = refl
 list_all_map p f (x ∷ xs) = ap (λ b. p (f x) && b) (list_all_map p f xs)
 
@@ -25,16 +27,19 @@ unfolding IsDistinct
 none_differ = tt
 
 -- what holds of each, and of one more
-pub each_push : {X : Type 0} (P : X → Type 0) (xs : List X) (y : X) → AllByRecursion P xs → P y → AllByRecursion P (xs ++ y ∷ [])
+pub each_push : {X : Type 0} (P : X → Type 0) (xs : List X) (y : X) → AllByRecursion P xs → P y
+    → AllByRecursion P (xs ++ y ∷ [])
 each_push P [] y each last = (last, tt)
 each_push P (x ∷ xs) y each last = (each.0, each_push P xs y each.1 last)
 
-pub each_append : {X : Type 0} (P : X → Type 0) (xs ys : List X) → AllByRecursion P xs → AllByRecursion P ys → AllByRecursion P (xs ++ ys)
+pub each_append : {X : Type 0} (P : X → Type 0) (xs ys : List X) → AllByRecursion P xs → AllByRecursion P ys
+    → AllByRecursion P (xs ++ ys)
 each_append P [] ys front back = back
 each_append P (x ∷ xs) ys front back = (front.0, each_append P xs ys front.1 back)
 
 -- what holds of each holds of one in the middle
-pub each_middle : {X : Type 0} (P : X → Type 0) (xs : List X) (y : X) (ys : List X) → AllByRecursion P (xs ++ y ∷ ys) → P y
+pub each_middle : {X : Type 0} (P : X → Type 0) (xs : List X) (y : X) (ys : List X) → AllByRecursion P (xs ++ y ∷ ys)
+    → P y
 each_middle P [] y ys each = each.0
 each_middle P (x ∷ xs) y ys each = each_middle P xs y ys each.1
 

@@ -1,5 +1,5 @@
 -- What a template makes of the filters of a bearer.
-use Rattle.std.specs.Prelude.{◌≡◌, ℕ, ◌==◌, ◌++◌, nat_eq, not, Bool, if◌then◌else◌, List, [], ◌∷◌, map, Result, Ok, Err, unwrap_or, ◌⊎◌}
+use Rattle.std.specs.Prelude.{ℕ, ◌==◌, ◌++◌, nat_eq, not, Bool, if◌then◌else◌, List, [], ◌∷◌, map, Result, Ok, Err, unwrap_or}
 use Rattle.std.specs.List.{list_any, list_all, filter, find}
 use Rattle.tft_codec.specs.declared.fault.TftNo.{TftNo}
 use Rattle.tft_codec.specs.declared.fault.TftNo.TheVariants as no
@@ -30,10 +30,6 @@ without fs gone = filter (λ f. not (has gone f.id)) fs
 abbrev pub left : List Filter → Result (List Filter) TftNo
 left [] = Err no.Empty
 left (f ∷ fs) = Ok (f ∷ fs)
-
--- the answer is this one, unless memory ran out
-abbrev pub OrNoMemory : Result (List Filter) TftNo → Result (List Filter) TftNo → Type 0
-OrNoMemory answer this = (answer ≡ this) ⊎ (answer ≡ Err no.NoMemory)
 
 -- the table of operations: the new list, or why there is none
 abbrev pub applied : List Filter → Tft → Result (List Filter) TftNo

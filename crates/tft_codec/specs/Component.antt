@@ -1,22 +1,22 @@
 -- The components of a packet filter (TS 24.008, 10.5.6.12): which octets each one is.
 use Rattle.std.specs.Prelude.{ℕ, ◌<◌, ◌^◌, ◌++◌, nat_eq, List, [], ◌∷◌, map, Bool}
 use Rattle.std.specs.List.{flat_map, list_any, AllByRecursion, IsDistinct}
-use Rattle.std.specs.Int.{w16, w32, to_be_bytes}
+use Rattle.wire_octets.specs.Numbers.{be16_octets, be32_octets}
 use Rattle.tft_codec.specs.declared.component.Component.{Component}
 use Rattle.tft_codec.specs.declared.component.Component.TheVariants.{RemoteAddr, LocalAddr, Protocol, LocalPort, LocalRange, RemotePort, RemoteRange, Spi, Tos}
-use Rattle.tft_codec.specs.declared.component.TheConstants.{REMOTE_ADDRESS, LOCAL_ADDRESS, PROTOCOL, LOCAL_PORT, LOCAL_PORT_RANGE, REMOTE_PORT, REMOTE_PORT_RANGE, SECURITY_PARAMETER_INDEX, TYPE_OF_SERVICE}
+use Rattle.tft_codec.specs.Types.{remote_address_type, local_address_type, protocol_type, local_port_type, local_range_type, remote_port_type, remote_range_type, spi_type, tos_type}
 
 -- the table of components: the type octet, and the octets after it (an address and its mask, a range from low to high)
 abbrev pub row : Component → ℕ × List ℕ
-row (RemoteAddr address mask) = (REMOTE_ADDRESS, to_be_bytes w32 address ++ to_be_bytes w32 mask)
-row (LocalAddr address mask) = (LOCAL_ADDRESS, to_be_bytes w32 address ++ to_be_bytes w32 mask)
-row (Protocol number) = (PROTOCOL, number ∷ [])
-row (LocalPort port) = (LOCAL_PORT, to_be_bytes w16 port)
-row (LocalRange low high) = (LOCAL_PORT_RANGE, to_be_bytes w16 low ++ to_be_bytes w16 high)
-row (RemotePort port) = (REMOTE_PORT, to_be_bytes w16 port)
-row (RemoteRange low high) = (REMOTE_PORT_RANGE, to_be_bytes w16 low ++ to_be_bytes w16 high)
-row (Spi spi) = (SECURITY_PARAMETER_INDEX, to_be_bytes w32 spi)
-row (Tos value mask) = (TYPE_OF_SERVICE, value ∷ mask ∷ [])
+row (RemoteAddr address mask) = (remote_address_type, be32_octets address ++ be32_octets mask)
+row (LocalAddr address mask) = (local_address_type, be32_octets address ++ be32_octets mask)
+row (Protocol number) = (protocol_type, number ∷ [])
+row (LocalPort port) = (local_port_type, be16_octets port)
+row (LocalRange low high) = (local_range_type, be16_octets low ++ be16_octets high)
+row (RemotePort port) = (remote_port_type, be16_octets port)
+row (RemoteRange low high) = (remote_range_type, be16_octets low ++ be16_octets high)
+row (Spi spi) = (spi_type, be32_octets spi)
+row (Tos value mask) = (tos_type, value ∷ mask ∷ [])
 
 abbrev pub type_octet : Component → ℕ
 type_octet c = (row c).0

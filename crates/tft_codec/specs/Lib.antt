@@ -1,3 +1,4 @@
+pub mod Types
 pub mod Component
 pub mod Filter
 pub mod Tft

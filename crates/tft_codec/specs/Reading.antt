@@ -1,13 +1,13 @@
 -- What stands at the front of octets, by place.
 use Rattle.std.specs.Prelude.{◌≡◌, ℕ, zero, suc, ◌/◌, ◌%◌, ◌==◌, nat_lt, if◌then◌else◌, List, [], ◌∷◌, ◌++◌, length, take, drop, Option, Some, None, slice_index, unwrap_or, map}
-use Rattle.std.specs.Int.{Width, w16, w32, byte_len, from_be_bytes}
+use Rattle.wire_octets.specs.Numbers.{be16_at, be32_at}
 use Rattle.tft_codec.specs.declared.component.Component.{Component}
 use Rattle.tft_codec.specs.declared.component.Component.TheVariants.{RemoteAddr, LocalAddr, Protocol, LocalPort, LocalRange, RemotePort, RemoteRange, Spi, Tos}
-use Rattle.tft_codec.specs.declared.component.TheConstants.{REMOTE_ADDRESS, LOCAL_ADDRESS, PROTOCOL, LOCAL_PORT, LOCAL_PORT_RANGE, REMOTE_PORT, REMOTE_PORT_RANGE, SECURITY_PARAMETER_INDEX, TYPE_OF_SERVICE}
+use Rattle.tft_codec.specs.Types.{remote_address_type, local_address_type, protocol_type, local_port_type, local_range_type, remote_port_type, remote_range_type, spi_type, tos_type}
 use Rattle.tft_codec.specs.declared.filter.Filter.{Filter}
 use Rattle.tft_codec.specs.declared.tft.Tft.{Tft}
 use Rattle.tft_codec.specs.declared.tft.Tft.TheVariants.{Create, Delete, Add, Replace, Remove, Nothing}
-use Rattle.tft_codec.specs.declared.tft.TheConstants.{CREATE_TFT, DELETE_TFT, ADD_FILTERS, REPLACE_FILTERS, DELETE_FILTERS}
+use Rattle.tft_codec.specs.Types.{create_operation, delete_operation, add_operation, replace_operation, remove_operation}
 use Rattle.tft_codec.specs.Component.{has}
 
 infixl 10 ◌>>=◌
@@ -15,9 +15,9 @@ abbrev pub ◌>>=◌ : {A B : Type 0} → Option A → (A → Option B) → Opti
 None >>= f = None
 (Some x) >>= f = f x
 
--- a number of that many octets, and what follows it
-abbrev pub number_at : Width → List ℕ → Option (ℕ × List ℕ)
-number_at w octets = if nat_lt (length octets) (byte_len w) then None else Some (from_be_bytes w (take (byte_len w) octets), drop (byte_len w) octets)
+-- a number of so many octets, by what it is at a place, and what follows it
+abbrev pub number_at : ℕ → (List ℕ → ℕ → ℕ) → List ℕ → Option (ℕ × List ℕ)
+number_at len number octets = if nat_lt (length octets) len then None else Some (number octets 0, drop len octets)
 
 abbrev pub octet_at : List ℕ → Option (ℕ × List ℕ)
 octet_at [] = None
@@ -49,15 +49,15 @@ two at make octets = do
 -- the component of a type octet, by what follows it
 unfoldable pub component_of : ℕ → List ℕ → Option (Component × List ℕ)
 component_of kind octets =
-    if kind == REMOTE_ADDRESS then two (number_at w32) RemoteAddr octets
-    else if kind == LOCAL_ADDRESS then two (number_at w32) LocalAddr octets
-    else if kind == PROTOCOL then one octet_at Protocol octets
-    else if kind == LOCAL_PORT then one (number_at w16) LocalPort octets
-    else if kind == LOCAL_PORT_RANGE then two (number_at w16) LocalRange octets
-    else if kind == REMOTE_PORT then one (number_at w16) RemotePort octets
-    else if kind == REMOTE_PORT_RANGE then two (number_at w16) RemoteRange octets
-    else if kind == SECURITY_PARAMETER_INDEX then one (number_at w32) Spi octets
-    else if kind == TYPE_OF_SERVICE then two octet_at Tos octets
+    if kind == remote_address_type then two (number_at 4 be32_at) RemoteAddr octets
+    else if kind == local_address_type then two (number_at 4 be32_at) LocalAddr octets
+    else if kind == protocol_type then one octet_at Protocol octets
+    else if kind == local_port_type then one (number_at 2 be16_at) LocalPort octets
+    else if kind == local_range_type then two (number_at 2 be16_at) LocalRange octets
+    else if kind == remote_port_type then one (number_at 2 be16_at) RemotePort octets
+    else if kind == remote_range_type then two (number_at 2 be16_at) RemoteRange octets
+    else if kind == spi_type then one (number_at 4 be32_at) Spi octets
+    else if kind == tos_type then two octet_at Tos octets
     else None
 
 -- the components that octets are, of types that differ and were not seen before; the first number bounds how many
@@ -88,7 +88,14 @@ abbrev pub after_filter : List ℕ → List ℕ
 after_filter octets = drop (slice_index octets 2) (drop 3 octets)
 
 unfoldable pub filter_at : List ℕ → Filter
-filter_at octets = record { id = id_at octets; direction = slice_index octets 0 / 16 % 4; precedence = slice_index octets 1; components = components_or_none (contents_at octets) }
+filter_at octets =
+    record {
+      id = id_at octets;
+      direction = slice_index octets 0 / 16 % 4;
+      precedence
+          = slice_index octets 1;
+      components = components_or_none (contents_at octets);
+    }
 
 -- the filters at the front, that many
 unfoldable pub filters_at : ℕ → List ℕ → List Filter
@@ -103,9 +110,9 @@ ids_at octets = map (λ octet. octet % 16) octets
 abbrev pub tft_at : List ℕ → Tft
 tft_at [] = Nothing
 tft_at (first ∷ octets) =
-    if first / 32 == CREATE_TFT then Create (filters_at (first % 16) octets)
-    else if first / 32 == DELETE_TFT then Delete
-    else if first / 32 == ADD_FILTERS then Add (filters_at (first % 16) octets)
-    else if first / 32 == REPLACE_FILTERS then Replace (filters_at (first % 16) octets)
-    else if first / 32 == DELETE_FILTERS then Remove (ids_at octets)
+    if first / 32 == create_operation then Create (filters_at (first % 16) octets)
+    else if first / 32 == delete_operation then Delete
+    else if first / 32 == add_operation then Add (filters_at (first % 16) octets)
+    else if first / 32 == replace_operation then Replace (filters_at (first % 16) octets)
+    else if first / 32 == remove_operation then Remove (ids_at octets)
     else Nothing

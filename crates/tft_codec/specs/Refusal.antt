@@ -1,10 +1,9 @@
 -- Why octets are no traffic flow template: the first fault from left to right.
-use Rattle.std.specs.Prelude.{◌≡◌, ℕ, zero, suc, ◌+◌, ◌/◌, ◌%◌, ◌==◌, ◌||◌, not, Bool, nat_lt, if◌then◌else◌, List, [], ◌∷◌, ◌++◌, length, Option, Some, None, is_none, slice_index, Result, Ok, Err, ◌⊎◌}
+use Rattle.std.specs.Prelude.{◌≡◌, ℕ, zero, suc, ◌+◌, ◌/◌, ◌%◌, ◌==◌, ◌||◌, not, Bool, nat_lt, if◌then◌else◌, List, [], ◌∷◌, ◌++◌, length, Option, Some, None, is_none, slice_index, Result, Ok, Err}
 use Rattle.std.specs.Borrow.{Bor}
-use Rattle.tft_codec.specs.declared.tft.Tft.{Tft}
 use Rattle.tft_codec.specs.declared.fault.TBad.{TBad}
 use Rattle.tft_codec.specs.declared.fault.TBad.TheVariants as bad
-use Rattle.tft_codec.specs.declared.tft.TheConstants.{CREATE_TFT, DELETE_TFT, ADD_FILTERS, REPLACE_FILTERS, DELETE_FILTERS, NO_OPERATION}
+use Rattle.tft_codec.specs.Types.{create_operation, delete_operation, add_operation, replace_operation, remove_operation, no_operation}
 use Rattle.tft_codec.specs.Component.{has}
 use Rattle.tft_codec.specs.Reading.{components_of, id_at, contents_at, after_filter}
 
@@ -33,10 +32,6 @@ abbrev pub ReadsFront : {X : Type 0} → Result (X × Bor (List ℕ)) TBad → O
 ReadsFront (Ok x) fault value after = (fault ≡ None) × (x.0 ≡ value) × (x.1.now ≡ after)
 ReadsFront (Err e) fault value after = Says e fault
 
--- the answer is this one, unless memory ran out
-abbrev pub OrNoMemory : Result Tft TBad → Result Tft TBad → Type 0
-OrNoMemory answer this = (answer ≡ this) ⊎ (answer ≡ Err bad.NoMemory)
-
 -- octets behind the last entry
 abbrev pub end_fault : List ℕ → Option TBad
 end_fault [] = None
@@ -57,13 +52,15 @@ filter_fault seen octets =
 -- that many filters, and the end
 unfoldable pub filters_fault : ℕ → List ℕ → List ℕ → Option TBad
 filters_fault zero seen octets = end_fault octets
-filters_fault (suc n) seen octets = or_else (filter_fault seen octets) (filters_fault n (seen ++ id_at octets ∷ []) (after_filter octets))
+filters_fault (suc n) seen octets =
+    or_else (filter_fault seen octets) (filters_fault n (seen ++ id_at octets ∷ []) (after_filter octets))
 
 -- that many identifiers, and the end
 unfoldable pub ids_fault : ℕ → List ℕ → List ℕ → Option TBad
 ids_fault zero seen octets = end_fault octets
 ids_fault (suc n) seen [] = Some bad.Short
-ids_fault (suc n) seen (octet ∷ octets) = if has seen (octet % 16) then Some bad.RepeatedId else ids_fault n (seen ++ octet % 16 ∷ []) octets
+ids_fault (suc n) seen (octet ∷ octets) =
+    if has seen (octet % 16) then Some bad.RepeatedId else ids_fault n (seen ++ octet % 16 ∷ []) octets
 
 -- the parts of the first octet
 abbrev pub operation_of : ℕ → ℕ
@@ -77,23 +74,34 @@ number_of first = first % 16
 
 -- what entries an operation has
 abbrev pub has_filters : ℕ → Bool
-has_filters operation = operation == CREATE_TFT || operation == ADD_FILTERS || operation == REPLACE_FILTERS
+has_filters operation = operation == create_operation || operation == add_operation || operation == replace_operation
 
 abbrev pub has_ids : ℕ → Bool
-has_ids operation = operation == DELETE_FILTERS
+has_ids operation = operation == remove_operation
 
 abbrev pub has_nothing : ℕ → Bool
-has_nothing operation = operation == DELETE_TFT || operation == NO_OPERATION
+has_nothing operation = operation == delete_operation || operation == no_operation
 
 -- an operation that there is, with entries where it has some, and with none where it has none
 abbrev pub is_operation : ℕ → ℕ → Bool
-is_operation operation number = if number == 0 then has_nothing operation else has_filters operation || has_ids operation
+is_operation operation number =
+    if number == 0 then has_nothing operation else has_filters operation || has_ids operation
 
-abbrev pub first_fault : List ℕ → Option TBad
-first_fault [] = Some bad.Short
-first_fault (first ∷ octets) =
+-- what is wrong with the first octet: no memory is needed to tell
+abbrev pub first_octet_fault : List ℕ → Option TBad
+first_octet_fault [] = Some bad.Short
+first_octet_fault (first ∷ octets) =
     if has_parameters first then Some bad.Parameters
     else if not (is_operation (operation_of first) (number_of first)) then Some bad.Operation
-    else if has_filters (operation_of first) then filters_fault (number_of first) [] octets
+    else None
+
+-- what is wrong with the entries behind it
+abbrev pub entries_fault : List ℕ → Option TBad
+entries_fault [] = None
+entries_fault (first ∷ octets) =
+    if has_filters (operation_of first) then filters_fault (number_of first) [] octets
     else if has_ids (operation_of first) then ids_fault (number_of first) [] octets
     else end_fault octets
+
+abbrev pub first_fault : List ℕ → Option TBad
+first_fault octets = or_else (first_octet_fault octets) (entries_fault octets)

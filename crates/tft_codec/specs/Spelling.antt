@@ -4,7 +4,7 @@ use Rattle.std.specs.List.{flat_map}
 use Rattle.tft_codec.specs.declared.filter.Filter.{Filter}
 use Rattle.tft_codec.specs.declared.tft.Tft.{Tft}
 use Rattle.tft_codec.specs.declared.tft.Tft.TheVariants.{Create, Delete, Add, Replace, Remove, Nothing}
-use Rattle.tft_codec.specs.declared.tft.TheConstants.{CREATE_TFT, DELETE_TFT, ADD_FILTERS, REPLACE_FILTERS, DELETE_FILTERS, NO_OPERATION}
+use Rattle.tft_codec.specs.Types.{create_operation, delete_operation, add_operation, replace_operation, remove_operation, no_operation}
 use Rattle.tft_codec.specs.Component.{contents}
 use Rattle.tft_codec.specs.Tft.{IsTft}
 
@@ -23,24 +23,29 @@ filter_body f = f.precedence ∷ length (contents f.components) ∷ contents f.c
 -- octets are these filters, one after another; bits 8 and 7 of the first octet of each are spare
 abbrev pub SpellsFilters : List ℕ → List Filter → Type 0
 SpellsFilters octets [] = octets ≡ []
-SpellsFilters octets (f ∷ fs) = (first : ℕ) × (rest : List ℕ) × (octets ≡ first ∷ filter_body f ++ rest) × (first % 64 ≡ filter_octet f) × SpellsFilters rest fs
+SpellsFilters octets (f ∷ fs) =
+    (first : ℕ) × (rest : List ℕ) × (octets ≡ first ∷ filter_body f ++ rest) × (first % 64 ≡ filter_octet f)
+    × SpellsFilters rest fs
 
 -- octets are these identifiers; bits 8 to 5 of each are spare
 abbrev pub SpellsIds : List ℕ → List ℕ → Type 0
 SpellsIds octets [] = octets ≡ []
-SpellsIds octets (x ∷ xs) = (first : ℕ) × (rest : List ℕ) × (octets ≡ first ∷ rest) × (first % 16 ≡ x) × SpellsIds rest xs
+SpellsIds octets (x ∷ xs) =
+    (first : ℕ) × (rest : List ℕ) × (octets ≡ first ∷ rest) × (first % 16 ≡ x) × SpellsIds rest xs
 
 -- the entries behind the first octet
 abbrev pub SpellsEntries : List ℕ → ℕ → List Filter → Type 0
-SpellsEntries octets operation fs = (rest : List ℕ) × (octets ≡ first_octet operation (length fs) ∷ rest) × SpellsFilters rest fs
+SpellsEntries octets operation fs =
+    (rest : List ℕ) × (octets ≡ first_octet operation (length fs) ∷ rest) × SpellsFilters rest fs
 
 abbrev pub SpellsOperation : List ℕ → Tft → Type 0
-SpellsOperation octets (Create fs) = SpellsEntries octets CREATE_TFT fs
-SpellsOperation octets Delete = octets ≡ first_octet DELETE_TFT 0 ∷ []
-SpellsOperation octets (Add fs) = SpellsEntries octets ADD_FILTERS fs
-SpellsOperation octets (Replace fs) = SpellsEntries octets REPLACE_FILTERS fs
-SpellsOperation octets (Remove xs) = (rest : List ℕ) × (octets ≡ first_octet DELETE_FILTERS (length xs) ∷ rest) × SpellsIds rest xs
-SpellsOperation octets Nothing = octets ≡ first_octet NO_OPERATION 0 ∷ []
+SpellsOperation octets (Create fs) = SpellsEntries octets create_operation fs
+SpellsOperation octets Delete = octets ≡ first_octet delete_operation 0 ∷ []
+SpellsOperation octets (Add fs) = SpellsEntries octets add_operation fs
+SpellsOperation octets (Replace fs) = SpellsEntries octets replace_operation fs
+SpellsOperation octets (Remove xs) =
+    (rest : List ℕ) × (octets ≡ first_octet remove_operation (length xs) ∷ rest) × SpellsIds rest xs
+SpellsOperation octets Nothing = octets ≡ first_octet no_operation 0 ∷ []
 
 -- the octets are this template
 abbrev pub Spells : List ℕ → Tft → Type 0
@@ -55,9 +60,9 @@ entries_text operation fs = first_octet operation (length fs) ∷ flat_map filte
 
 -- the one text of a template
 abbrev pub spelling : Tft → List ℕ
-spelling (Create fs) = entries_text CREATE_TFT fs
-spelling Delete = first_octet DELETE_TFT 0 ∷ []
-spelling (Add fs) = entries_text ADD_FILTERS fs
-spelling (Replace fs) = entries_text REPLACE_FILTERS fs
-spelling (Remove xs) = first_octet DELETE_FILTERS (length xs) ∷ xs
-spelling Nothing = first_octet NO_OPERATION 0 ∷ []
+spelling (Create fs) = entries_text create_operation fs
+spelling Delete = first_octet delete_operation 0 ∷ []
+spelling (Add fs) = entries_text add_operation fs
+spelling (Replace fs) = entries_text replace_operation fs
+spelling (Remove xs) = first_octet remove_operation (length xs) ∷ xs
+spelling Nothing = first_octet no_operation 0 ∷ []

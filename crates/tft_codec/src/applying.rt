@@ -1,13 +1,16 @@
 //! A template on the filters of a bearer.
 
-ghost use Rattle.std.specs.Prelude.{◌≡◌, ◌++◌, IfOk, map};
-ghost use Rattle.std.specs.List.{list_all};
-ghost use Rattle.tft_codec.specs.Apply.{applied, has_id, has_any, has_each, replaced, without, OrNoMemory};
+ghost use Rattle.std.specs.Prelude.{◌≡◌, ◌++◌, IfOk, IfErr, map, not};
+ghost use Rattle.std.specs.List.{list_any, list_all};
+ghost use Rattle.wire_octets.specs.Memory.{OrNoMemory};
+ghost use Rattle.tft_codec.specs.Component.{has};
+ghost use Rattle.tft_codec.specs.Apply.{applied, has_id, has_any, has_each, replaced, without};
 
+use crate::NoMemory;
 use crate::fault::TftNo;
 use crate::filter::{Filter, Filters, contains_id, copies, has_id};
 use crate::tft::Tft;
-use std::alloc::{AllocError, Global};
+use std::alloc::Global;
 
 /// Whether one of the filters has an identifier of the others.
 fn any_taken(filters: &[Filter], others: &[Filter]) -> bool
@@ -30,6 +33,13 @@ fn ids_there(filters: &[Filter], ids: &[u8]) -> bool
     ids.iter().all(|id| has_id(filters, *id))
 }
 
+/// Whether a filter has another identifier than all these.
+fn any_left(filters: &[Filter], gone: &[u8]) -> bool
+    ensures { result ≡ list_any (λ f. not (has gone.now f.id)) filters.now }
+{
+    filters.iter().any(|filter| !contains_id(gone, filter.id))
+}
+
 /// The new filter of the same identifier, or else this one.
 fn replacement<'a>(new: &'a [Filter], filter: &'a Filter) -> &'a Filter
     ensures { result.now ≡ replaced new.now filter.now }
@@ -42,7 +52,7 @@ fn replacement<'a>(new: &'a [Filter], filter: &'a Filter) -> &'a Filter
     filter
 }
 
-fn add(alloc: Global, filters: &[Filter], new: &[Filter]) -> Result<Vec<Filter>, AllocError>
+fn add(alloc: Global, filters: &[Filter], new: &[Filter]) -> Result<Vec<Filter>, NoMemory>
     ensures { IfOk result (λ v. v.items ≡ filters.now ++ new.now) }
 {
     let mut items = copies(alloc, filters)?;
@@ -52,7 +62,7 @@ fn add(alloc: Global, filters: &[Filter], new: &[Filter]) -> Result<Vec<Filter>,
     Ok(items)
 }
 
-fn replace(alloc: Global, filters: &[Filter], new: &[Filter]) -> Result<Vec<Filter>, AllocError>
+fn replace(alloc: Global, filters: &[Filter], new: &[Filter]) -> Result<Vec<Filter>, NoMemory>
     ensures { IfOk result (λ v. v.items ≡ map (replaced new.now) filters.now) }
 {
     let mut items = Vec::new(alloc);
@@ -62,7 +72,7 @@ fn replace(alloc: Global, filters: &[Filter], new: &[Filter]) -> Result<Vec<Filt
     Ok(items)
 }
 
-fn remove(alloc: Global, filters: &[Filter], gone: &[u8]) -> Result<Vec<Filter>, AllocError>
+fn remove(alloc: Global, filters: &[Filter], gone: &[u8]) -> Result<Vec<Filter>, NoMemory>
     ensures { IfOk result (λ v. v.items ≡ without filters.now gone.now) }
 {
     let mut items = Vec::new(alloc);
@@ -76,7 +86,11 @@ fn remove(alloc: Global, filters: &[Filter], gone: &[u8]) -> Result<Vec<Filter>,
 
 /// The filters that the template makes of a bearer's. The list that is given stays as it is.
 pub fn apply(alloc: Global, list: &Filters, tft: &Tft) -> Result<Filters, TftNo>
-    ensures { OrNoMemory result (applied list.now tft.now) }
+    ensures made { OrNoMemory result (applied list.now tft.now) TftNo.NoMemory }
+
+    // A refusal needs no memory, nor does a deletion.
+    ensures refused { IfErr (applied list.now tft.now) (λ no. result ≡ Err no) }
+    ensures deleted { tft.now ≡ Tft.Delete → result ≡ applied list.now tft.now }
 {
     let filters = list.as_slice();
     match tft {
@@ -111,12 +125,12 @@ pub fn apply(alloc: Global, list: &Filters, tft: &Tft) -> Result<Filters, TftNo>
             if !ids_there(filters, ids) {
                 return Err(TftNo::NoSuchId);
             }
-            let items = remove(alloc, filters, ids)?;
-            if items.is_empty() {
+            if !any_left(filters, ids) {
                 return Err(TftNo::Empty);
             }
+            let items = remove(alloc, filters, ids)?;
             Ok(Filters { items })
         }
-        Tft::Nothing => Ok(list.try_clone(alloc)?),
+        Tft::Nothing => Ok(list.try_clone()?),
     }
 }

@@ -3,27 +3,36 @@
 ghost use Rattle.std.specs.Prelude.{◌≡◌, ◌↔◌, IsTrue, IfSome, IfNone, IfOk, length, nat_eq};
 ghost use Rattle.tft_codec.specs.Component.{type_octet, component_text, IsComponent, AreComponents};
 ghost use Rattle.std.specs.List.{list_any};
+ghost use Rattle.std.specs.Cmp.Lexicographic.{pointwise, lists_per, lists_equiv};
 
-use std::alloc::AllocError;
+use crate::NoMemory;
 use std::marker::Model;
 
-/// Component type identifiers (TS 24.008, table 10.5.162).
+/// Component type: an IPv4 remote address and its mask (TS 24.008, table 10.5.162, as those below).
 pub const REMOTE_ADDRESS: u8 = 0x10;
 
+/// Component type: an IPv4 local address and its mask.
 pub const LOCAL_ADDRESS: u8 = 0x11;
 
+/// Component type: a protocol number.
 pub const PROTOCOL: u8 = 0x30;
 
+/// Component type: one local port.
 pub const LOCAL_PORT: u8 = 0x40;
 
+/// Component type: a range of local ports.
 pub const LOCAL_PORT_RANGE: u8 = 0x41;
 
+/// Component type: one remote port.
 pub const REMOTE_PORT: u8 = 0x50;
 
+/// Component type: a range of remote ports.
 pub const REMOTE_PORT_RANGE: u8 = 0x51;
 
+/// Component type: a security parameter index.
 pub const SECURITY_PARAMETER_INDEX: u8 = 0x60;
 
+/// Component type: a type of service and its mask.
 pub const TYPE_OF_SERVICE: u8 = 0x70;
 
 /// One condition on a packet. Remote is the far end, local the user's.
@@ -164,11 +173,30 @@ impl Components {
     }
 
     /// A copy of the list.
-    pub fn try_clone(&self) -> Result<Components, AllocError>
+    pub fn try_clone(&self) -> Result<Components, NoMemory>
         ensures { IfOk result (λ copy. copy ≡ self.now) }
     {
         Ok(Components {
             items: self.items.clone()?,
         })
     }
+}
+
+impl PartialEq for Components {
+    ghost use Rattle.tft_codec.specs.contracts.component.ComponentPartialEq.TheImpl as component;
+    ghost use Rattle.tft_codec.specs.contracts.component.ComponentPartialEq.TheImpl.Laws.{laws-law};
+
+    ghost eq = { pointwise component.ghosts.eq };
+
+    ghost laws = { lists_per laws-law };
+
+    fn eq(&self, other: &Components) -> bool {
+        self.items == other.items
+    }
+}
+
+impl Eq for Components {
+    ghost use Rattle.tft_codec.specs.contracts.component.ComponentEq.TheImpl.Laws.{laws-law};
+
+    ghost laws = { lists_equiv laws-law };
 }

@@ -2,19 +2,36 @@
 
 ghost use Rattle.std.specs.Prelude.{◌≡◌, ◌↔◌, IsTrue, ◌≤◌, IfSome, IfNone, IfOk, [], length, nat_eq};
 ghost use Rattle.std.specs.List.{list_any};
+ghost use Rattle.std.specs.Cmp.Rules.{comparing};
+ghost use Rattle.std.specs.Cmp.Lexicographic.{pointwise, lists_per, lists_equiv};
+ghost use Rattle.std.proofs.Common.{rules};
 ghost use Rattle.tft_codec.specs.Component.{has};
 ghost use Rattle.tft_codec.specs.Filter.{ids, IsFilter, AreFilters, ArePacketFilters, AreIds};
 
+use crate::NoMemory;
 use crate::component::Components;
-use std::alloc::{AllocError, Global};
+use std::alloc::Global;
 use std::marker::Model;
 
+/// Direction of a filter from before Release 7, which counts as downlink (TS 24.008, 10.5.6.12, as
+/// those below).
+pub const BEFORE_RELEASE_7: u8 = 0;
+
+/// Direction of a filter for packets to the user.
+pub const DOWNLINK_ONLY: u8 = 1;
+
+/// Direction of a filter for packets from the user.
+pub const UPLINK_ONLY: u8 = 2;
+
+/// Direction of a filter for packets both ways.
+pub const BIDIRECTIONAL: u8 = 3;
+
 /// A packet filter: a packet fits it where it fits each component.
-#[derive(Debug, Drop)]
+#[derive(Debug, Drop, PartialEq, Eq)]
 pub struct Filter {
     /// The packet filter identifier, below 16.
     pub id: u8,
-    /// 0: as before Release 7, 1: downlink only, 2: uplink only, 3: both.
+    /// `BEFORE_RELEASE_7`, `DOWNLINK_ONLY`, `UPLINK_ONLY` or `BIDIRECTIONAL`.
     pub direction: u8,
     /// The evaluation precedence: the lowest is looked at first.
     pub precedence: u8,
@@ -23,7 +40,7 @@ pub struct Filter {
 
 impl Filter {
     /// A copy of the filter.
-    pub fn try_clone(&self) -> Result<Filter, AllocError>
+    pub fn try_clone(&self) -> Result<Filter, NoMemory>
         ensures { IfOk result (λ copy. copy ≡ self.now) }
     {
         Ok(Filter {
@@ -64,7 +81,7 @@ fn are_filters(items: &[Filter]) -> bool
 }
 
 /// The copies of some filters.
-pub(crate) fn copies(alloc: Global, items: &[Filter]) -> Result<Vec<Filter>, AllocError>
+pub(crate) fn copies(alloc: Global, items: &[Filter]) -> Result<Vec<Filter>, NoMemory>
     ensures { IfOk result (λ copy. copy.items ≡ items.now) }
 {
     let mut copy = Vec::new(alloc);
@@ -123,10 +140,10 @@ impl Filters {
     }
 
     /// A copy of the list.
-    pub fn try_clone(&self, alloc: Global) -> Result<Filters, AllocError>
+    pub fn try_clone(&self) -> Result<Filters, NoMemory>
         ensures { IfOk result (λ copy. copy ≡ self.now) }
     {
-        let items = copies(alloc, &self.items)?;
+        let items = copies(*self.items.allocator(), &self.items)?;
         Ok(Filters { items })
     }
 }
@@ -171,10 +188,10 @@ impl PacketFilters {
     }
 
     /// A copy of the list.
-    pub fn try_clone(&self, alloc: Global) -> Result<PacketFilters, AllocError>
+    pub fn try_clone(&self) -> Result<PacketFilters, NoMemory>
         ensures { IfOk result (λ copy. copy ≡ self.now) }
     {
-        let items = copies(alloc, &self.items)?;
+        let items = copies(*self.items.allocator(), &self.items)?;
         Ok(PacketFilters { items })
     }
 }
@@ -239,11 +256,63 @@ impl Ids {
     }
 
     /// A copy of the list.
-    pub fn try_clone(&self) -> Result<Ids, AllocError>
+    pub fn try_clone(&self) -> Result<Ids, NoMemory>
         ensures { IfOk result (λ copy. copy ≡ self.now) }
     {
         Ok(Ids {
             items: self.items.clone()?,
         })
     }
+}
+
+impl PartialEq for Filters {
+    ghost use Rattle.tft_codec.specs.contracts.filter.FilterPartialEq.TheImpl as filter;
+    ghost use Rattle.tft_codec.specs.contracts.filter.FilterPartialEq.TheImpl.Laws.{laws-law};
+
+    ghost eq = { pointwise filter.ghosts.eq };
+
+    ghost laws = { lists_per laws-law };
+
+    fn eq(&self, other: &Filters) -> bool {
+        self.items == other.items
+    }
+}
+
+impl Eq for Filters {
+    ghost use Rattle.tft_codec.specs.contracts.filter.FilterEq.TheImpl.Laws.{laws-law};
+
+    ghost laws = { lists_equiv laws-law };
+}
+
+impl PartialEq for PacketFilters {
+    ghost use Rattle.tft_codec.specs.contracts.filter.FilterPartialEq.TheImpl as filter;
+    ghost use Rattle.tft_codec.specs.contracts.filter.FilterPartialEq.TheImpl.Laws.{laws-law};
+
+    ghost eq = { pointwise filter.ghosts.eq };
+
+    ghost laws = { lists_per laws-law };
+
+    fn eq(&self, other: &PacketFilters) -> bool {
+        self.items == other.items
+    }
+}
+
+impl Eq for PacketFilters {
+    ghost use Rattle.tft_codec.specs.contracts.filter.FilterEq.TheImpl.Laws.{laws-law};
+
+    ghost laws = { lists_equiv laws-law };
+}
+
+impl PartialEq for Ids {
+    ghost eq = { pointwise nat_eq };
+
+    ghost laws = { Prim.search (comparing, rules) };
+
+    fn eq(&self, other: &Ids) -> bool {
+        self.items == other.items
+    }
+}
+
+impl Eq for Ids {
+    ghost laws = { Prim.search (comparing, rules) };
 }

@@ -1,13 +1,13 @@
 //! Octets to a template.
 
 ghost use Rattle.std.specs.Prelude.{◌≡◌, ◌≢◌, ◌<◌, ◌≤◌, [], IfOk, IfErr, IfSome};
-ghost use Rattle.std.specs.Int.{w16, w32};
-ghost use Rattle.tft_codec.specs.declared.fault.TBad.TheVariants as bad;
+ghost use Rattle.wire_octets.specs.Memory.{OrNoMemory};
+ghost use Rattle.wire_octets.specs.Numbers.{be16_at, be32_at};
 ghost use Rattle.tft_codec.specs.declared.tft.Tft.{Tft};
 ghost use Rattle.tft_codec.specs.Filter.{ids};
 ghost use Rattle.tft_codec.specs.Spelling.{Spells};
 ghost use Rattle.tft_codec.specs.Reading.{Finds, number_at, octet_at, pair_at, component_of, components_or_none, filter_at, after_filter, filters_at, ids_at, tft_at};
-ghost use Rattle.tft_codec.specs.Refusal.{Reads, ReadsFront, OrNoMemory, contents_fault, filter_fault, filters_fault, ids_fault, first_fault};
+ghost use Rattle.tft_codec.specs.Refusal.{Reads, ReadsFront, contents_fault, filter_fault, filters_fault, ids_fault, first_octet_fault, first_fault};
 
 use crate::component::{
     Component, Components, LOCAL_ADDRESS, LOCAL_PORT, LOCAL_PORT_RANGE, PROTOCOL, REMOTE_ADDRESS,
@@ -19,28 +19,22 @@ use crate::tft::{
     ADD_FILTERS, CREATE_TFT, DELETE_FILTERS, DELETE_TFT, NO_OPERATION, REPLACE_FILTERS, Tft,
 };
 use std::alloc::Global;
+use wire_octets::{be16, be32};
 
 fn u32_at(bytes: &[u8]) -> Option<(u32, &[u8])>
-    ensures { Finds (λ x. (x.0, x.1.now)) result (number_at w32 bytes.now) }
+    ensures { Finds (λ x. (x.0, x.1.now)) result (number_at 4 be32_at bytes.now) }
 {
-    if bytes.len() < 4 {
-        return None;
-    }
-    let (front, rest) = bytes.split_at(4);
-    Some((
-        u32::from_be_bytes([front[0], front[1], front[2], front[3]]),
-        rest,
-    ))
+    let number = be32(bytes, 0)?;
+    let (_, rest) = bytes.split_at(4);
+    Some((number, rest))
 }
 
 fn u16_at(bytes: &[u8]) -> Option<(u16, &[u8])>
-    ensures { Finds (λ x. (x.0, x.1.now)) result (number_at w16 bytes.now) }
+    ensures { Finds (λ x. (x.0, x.1.now)) result (number_at 2 be16_at bytes.now) }
 {
-    if bytes.len() < 2 {
-        return None;
-    }
-    let (front, rest) = bytes.split_at(2);
-    Some((u16::from_be_bytes([front[0], front[1]]), rest))
+    let number = be16(bytes, 0)?;
+    let (_, rest) = bytes.split_at(2);
+    Some((number, rest))
 }
 
 fn u8_at(bytes: &[u8]) -> Option<(u8, &[u8])>
@@ -53,7 +47,7 @@ fn u8_at(bytes: &[u8]) -> Option<(u8, &[u8])>
 }
 
 fn pair_u32(bytes: &[u8]) -> Option<((u32, u32), &[u8])>
-    ensures { Finds (λ x. (x.0.0, x.0.1, x.1.now)) result (pair_at (number_at w32) bytes.now) }
+    ensures { Finds (λ x. (x.0.0, x.0.1, x.1.now)) result (pair_at (number_at 4 be32_at) bytes.now) }
 {
     let (first, rest) = u32_at(bytes)?;
     let (second, rest) = u32_at(rest)?;
@@ -61,7 +55,7 @@ fn pair_u32(bytes: &[u8]) -> Option<((u32, u32), &[u8])>
 }
 
 fn pair_u16(bytes: &[u8]) -> Option<((u16, u16), &[u8])>
-    ensures { Finds (λ x. (x.0.0, x.0.1, x.1.now)) result (pair_at (number_at w16) bytes.now) }
+    ensures { Finds (λ x. (x.0.0, x.0.1, x.1.now)) result (pair_at (number_at 2 be16_at) bytes.now) }
 {
     let (first, rest) = u16_at(bytes)?;
     let (second, rest) = u16_at(rest)?;
@@ -148,7 +142,8 @@ fn filter_of<'a>(
     before: &[Filter],
     bytes: &'a [u8],
 ) -> Result<(Filter, &'a [u8]), TBad>
-    ensures { ReadsFront result (filter_fault (ids before.now) bytes.now) (filter_at bytes.now) (after_filter bytes.now) }
+    ensures { ReadsFront result (filter_fault (ids before.now) bytes.now)
+        (filter_at bytes.now) (after_filter bytes.now) }
 {
     if bytes.len() < 3 {
         return Err(TBad::Short);
@@ -219,7 +214,8 @@ fn ids_of(alloc: Global, number: u8, bytes: &[u8]) -> Result<Ids, TBad>
 
 /// The template that the octets are, all of them.
 fn whole(alloc: Global, bytes: &[u8]) -> Result<Tft, TBad>
-    ensures { Reads (λ t. t) result (first_fault bytes.now) (tft_at bytes.now) }
+    ensures read { Reads (λ t. t) result (first_fault bytes.now) (tft_at bytes.now) }
+    ensures first_octet { IfSome (first_octet_fault bytes.now) (λ fault. result ≡ Err fault) }
 {
     let Some((first, rest)) = u8_at(bytes) else {
         return Err(TBad::Short);
@@ -255,11 +251,14 @@ fn whole(alloc: Global, bytes: &[u8]) -> Result<Tft, TBad>
 pub fn read(alloc: Global, bytes: &[u8]) -> Result<Tft, TBad>
     // What is read is spelled so, and what is spelled so is read.
     ensures found { IfOk result (λ t. Spells bytes.now t) }
-    ensures only { (t : Tft) → Spells bytes.now t → OrNoMemory result (Ok t) }
+    ensures only { (t : Tft) → Spells bytes.now t → OrNoMemory result (Ok t) TBad.NoMemory }
 
     // A refusal is the first fault, and each fault is refused.
-    ensures refused { IfErr result (λ fault. fault ≢ bad.NoMemory → first_fault bytes.now ≡ Some fault) }
-    ensures fault { IfSome (first_fault bytes.now) (λ fault. OrNoMemory result (Err fault)) }
+    ensures refused { IfErr result (λ fault. fault ≢ TBad.NoMemory → first_fault bytes.now ≡ Some fault) }
+    ensures fault { IfSome (first_fault bytes.now) (λ fault. OrNoMemory result (Err fault) TBad.NoMemory) }
+
+    // What is wrong with the first octet is told without memory.
+    ensures first_octet { IfSome (first_octet_fault bytes.now) (λ fault. result ≡ Err fault) }
 {
     whole(alloc, bytes)
 }

@@ -20,21 +20,20 @@ fn fault(alloc: Global, octets: &[u8]) -> Option<TBad> {
     }
 }
 
-/// What a template does to the filters of another.
+/// What a template does to the filters of another, by identifier and precedence.
 fn applied(alloc: Global, rows: &[u8], octets: &[u8]) -> Result<Vec<(u8, u8)>, TftNo> {
-    let list = Filters::new(alloc);
-    let tft = read(alloc, rows).ok().ok_or(TftNo::NoMemory)?;
-    let list = if rows.len() > 1 {
-        apply(alloc, &list, &tft)?
-    } else {
-        list
-    };
-    let tft = read(alloc, octets).ok().ok_or(TftNo::NoMemory)?;
-    let mut rows = Vec::new(alloc);
-    for filter in apply(alloc, &list, &tft)?.as_slice() {
-        if rows.push((filter.id, filter.precedence)).is_err() {
-            return Err(TftNo::NoMemory);
+    let mut list = Filters::new(alloc);
+    if rows.len() > 1 {
+        if let Ok(tft) = read(alloc, rows) {
+            list = apply(alloc, &list, &tft)?;
         }
+    }
+    if let Ok(tft) = read(alloc, octets) {
+        list = apply(alloc, &list, &tft)?;
+    }
+    let mut rows = Vec::new(alloc);
+    for filter in list.as_slice() {
+        rows.push((filter.id, filter.precedence))?;
     }
     Ok(rows)
 }
@@ -173,6 +172,37 @@ fn applied_to_a_list(rt: HostRuntime) -> Result<(), Fail> {
             (Err(now), Err(then)) => assert_eq!(rt; now, then, "{octets:?}"),
             (_, _) => assert!(rt; false, "{octets:?}"),
         }
+    }
+    Ok(())
+}
+
+#[test]
+fn copies_equal_and_faults_print(rt: HostRuntime) -> Result<(), Fail> {
+    for octets in [UDP.as_slice(), &[0x40], &[0xa2, 3, 4], &[0xc0]] {
+        let tft = read(rt.alloc(), octets)?;
+        assert_eq!(rt; tft.try_clone()?, tft);
+    }
+    let udp = read(rt.alloc(), &UDP)?;
+    let tcp = read(rt.alloc(), &[0x21, 0x30, 9, 2, 0x30, 6])?;
+    assert!(rt; udp != tcp);
+    let text = format!(in rt.alloc(); "{}; {}", TBad::RepeatedId, TftNo::IdTaken)?;
+    assert_eq!(rt;
+        text.as_str(),
+        "an identifier stands twice; a filter has this identifier"
+    );
+    Ok(())
+}
+
+/// The example at the head of the crate.
+#[test]
+fn head_example(rt: HostRuntime) -> Result<(), Fail> {
+    let octets = [0x21, 0x30, 9, 2, 0x30, 17];
+    let tft = read(rt.alloc(), &octets)?;
+    assert_eq!(rt; write(rt.alloc(), &tft)?.as_slice(), octets.as_slice());
+    let filters = apply(rt.alloc(), &Filters::new(rt.alloc()), &tft)?;
+    for filter in filters.as_slice() {
+        let components = filter.components.as_slice();
+        assert_eq!(rt; components, [Component::Protocol(17)].as_slice());
     }
     Ok(())
 }

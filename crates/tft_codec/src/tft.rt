@@ -3,24 +3,29 @@
 ghost use Rattle.std.specs.Prelude.{◌≡◌, IfOk};
 ghost use Rattle.tft_codec.specs.Tft.{IsTft};
 
+use crate::NoMemory;
 use crate::filter::{Filters, Ids, PacketFilters};
-use std::alloc::{AllocError, Global};
 
-/// TFT operation codes (TS 24.008, table 10.5.162).
+/// Operation code: create a new template (TS 24.008, table 10.5.162, as those below).
 pub const CREATE_TFT: u8 = 1;
 
+/// Operation code: delete the template.
 pub const DELETE_TFT: u8 = 2;
 
+/// Operation code: add packet filters.
 pub const ADD_FILTERS: u8 = 3;
 
+/// Operation code: replace packet filters.
 pub const REPLACE_FILTERS: u8 = 4;
 
+/// Operation code: delete packet filters.
 pub const DELETE_FILTERS: u8 = 5;
 
+/// Operation code: nothing is done.
 pub const NO_OPERATION: u8 = 6;
 
 /// A traffic flow template: an operation on the filters of a bearer.
-#[derive(Debug, Drop)]
+#[derive(Debug, Drop, PartialEq, Eq)]
 pub enum Tft {
     /// These are the filters.
     Create(PacketFilters),
@@ -53,14 +58,14 @@ impl Tft {
     }
 
     /// A copy of the template.
-    pub fn try_clone(&self, alloc: Global) -> Result<Tft, AllocError>
+    pub fn try_clone(&self) -> Result<Tft, NoMemory>
         ensures { IfOk result (λ copy. copy ≡ self.now) }
     {
         match self {
-            Tft::Create(filters) => Ok(Tft::Create(filters.try_clone(alloc)?)),
+            Tft::Create(filters) => Ok(Tft::Create(filters.try_clone()?)),
             Tft::Delete => Ok(Tft::Delete),
-            Tft::Add(filters) => Ok(Tft::Add(filters.try_clone(alloc)?)),
-            Tft::Replace(filters) => Ok(Tft::Replace(filters.try_clone(alloc)?)),
+            Tft::Add(filters) => Ok(Tft::Add(filters.try_clone()?)),
+            Tft::Replace(filters) => Ok(Tft::Replace(filters.try_clone()?)),
             Tft::Remove(ids) => Ok(Tft::Remove(ids.try_clone()?)),
             Tft::Nothing => Ok(Tft::Nothing),
         }
@@ -68,7 +73,7 @@ impl Tft {
 }
 
 /// The filters of the bearer of that index.
-#[derive(Debug, Drop)]
+#[derive(Debug, Drop, PartialEq, Eq)]
 pub struct BearerFilters {
     pub index: u8,
     pub filters: Filters,
@@ -76,12 +81,12 @@ pub struct BearerFilters {
 
 impl BearerFilters {
     /// A copy of the row.
-    pub fn try_clone(&self, alloc: Global) -> Result<BearerFilters, AllocError>
+    pub fn try_clone(&self) -> Result<BearerFilters, NoMemory>
         ensures { IfOk result (λ copy. copy ≡ self.now) }
     {
         Ok(BearerFilters {
             index: self.index,
-            filters: self.filters.try_clone(alloc)?,
+            filters: self.filters.try_clone()?,
         })
     }
 }

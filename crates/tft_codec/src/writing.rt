@@ -6,31 +6,33 @@ ghost use Rattle.tft_codec.specs.Component.{component_text, contents, AreCompone
 ghost use Rattle.tft_codec.specs.Filter.{IsFilter, ArePacketFilters};
 ghost use Rattle.tft_codec.specs.Spelling.{Spells, spelling, filter_text, entries_text};
 
+use crate::NoMemory;
 use crate::component::Component;
 use crate::filter::Filter;
 use crate::tft::{
     ADD_FILTERS, CREATE_TFT, DELETE_FILTERS, DELETE_TFT, NO_OPERATION, REPLACE_FILTERS, Tft,
 };
-use std::alloc::{AllocError, Global};
+use std::alloc::Global;
+use wire_octets::{be16_octets, be32_octets};
 
-fn put_component(text: &mut Vec<u8>, component: &Component) -> Result<(), AllocError>
+fn put_component(text: &mut Vec<u8>, component: &Component) -> Result<(), NoMemory>
     ensures { OnOk result (text.new.items ≡ text.old.items ++ component_text component.now) }
 {
     text.push(component.type_octet())?;
     match component {
         Component::RemoteAddr(first, second) | Component::LocalAddr(first, second) => {
-            text.extend_from_slice(&first.to_be_bytes())?;
-            text.extend_from_slice(&second.to_be_bytes())?;
+            text.extend_from_slice(&be32_octets(*first))?;
+            text.extend_from_slice(&be32_octets(*second))?;
         }
         Component::Protocol(number) => text.push(*number)?,
         Component::LocalPort(port) | Component::RemotePort(port) => {
-            text.extend_from_slice(&port.to_be_bytes())?;
+            text.extend_from_slice(&be16_octets(*port))?;
         }
         Component::LocalRange(low, high) | Component::RemoteRange(low, high) => {
-            text.extend_from_slice(&low.to_be_bytes())?;
-            text.extend_from_slice(&high.to_be_bytes())?;
+            text.extend_from_slice(&be16_octets(*low))?;
+            text.extend_from_slice(&be16_octets(*high))?;
         }
-        Component::Spi(spi) => text.extend_from_slice(&spi.to_be_bytes())?,
+        Component::Spi(spi) => text.extend_from_slice(&be32_octets(*spi))?,
         Component::Tos(value, mask) => {
             text.push(*value)?;
             text.push(*mask)?;
@@ -51,7 +53,7 @@ fn contents_len(components: &[Component]) -> u8
     len as u8
 }
 
-fn put_filter(text: &mut Vec<u8>, filter: &Filter) -> Result<(), AllocError>
+fn put_filter(text: &mut Vec<u8>, filter: &Filter) -> Result<(), NoMemory>
     requires { IsFilter filter.now }
     ensures { OnOk result (text.new.items ≡ text.old.items ++ filter_text filter.now) }
 {
@@ -66,7 +68,7 @@ fn put_filter(text: &mut Vec<u8>, filter: &Filter) -> Result<(), AllocError>
 }
 
 /// The text of an operation with filters.
-fn entries(alloc: Global, operation: u8, filters: &[Filter]) -> Result<Vec<u8>, AllocError>
+fn entries(alloc: Global, operation: u8, filters: &[Filter]) -> Result<Vec<u8>, NoMemory>
     requires operation { operation < 8 }
     requires filters { ArePacketFilters filters.now }
     ensures { IfOk result (λ text. text.items ≡ entries_text operation filters.now) }
@@ -80,7 +82,7 @@ fn entries(alloc: Global, operation: u8, filters: &[Filter]) -> Result<Vec<u8>, 
 }
 
 /// The text of the template.
-fn text_of(alloc: Global, tft: &Tft) -> Result<Vec<u8>, AllocError>
+fn text_of(alloc: Global, tft: &Tft) -> Result<Vec<u8>, NoMemory>
     ensures { IfOk result (λ text. text.items ≡ spelling tft.now) }
 {
     match tft {
@@ -99,7 +101,7 @@ fn text_of(alloc: Global, tft: &Tft) -> Result<Vec<u8>, AllocError>
 }
 
 /// The one text of the template, of at most 706 octets, with spare bits 0.
-pub fn write(alloc: Global, tft: &Tft) -> Result<Vec<u8>, AllocError>
+pub fn write(alloc: Global, tft: &Tft) -> Result<Vec<u8>, NoMemory>
     ensures text { IfOk result (λ text. text.items ≡ spelling tft.now) }
     ensures reads_back { IfOk result (λ text. Spells text.items tft.now) }
     ensures bound { IfOk result (λ text. length text.items ≤ 706) }

@@ -15,7 +15,8 @@ use Rattle.tft_match.specs.Choice.{Rank, OneFilterDecides}
 use Rattle.tft_match.proofs.ChoiceLemmas.{same_rank}
 
 -- the key of the element at a place
-key_at : {X : Type 0} (key : X → ℕ) (xs : List X) (x : X) → (there : Contains xs x) → get_or (map key xs) there.0 0 ≡ key x
+key_at : {X : Type 0} (key : X → ℕ) (xs : List X) (x : X) → (there : Contains xs x)
+    → get_or (map key xs) there.0 0 ≡ key x
 key_at key xs x there = get_or-map key xs there.0 x 0 there.1 ∙ ap key there.2
 
 -- numbers that rise differ
@@ -45,8 +46,15 @@ pub one_filter : OneFilterDecides
 one_filter rows packet row other_row filter other bearers first second =
     let ranked = same_rank rows packet row filter other_row other first second in
     let in_rows = first.candidate.in_rows in
-    let row_same : row ≡ other_row = element_from_key (λ (r : BearerFilters). r.index) rows (rising_differ (map (λ (r : BearerFilters). r.index) rows) bearers.rise)
+    let row_same : row ≡ other_row
+    = element_from_key (λ (r : BearerFilters). r.index) rows
+    (rising_differ (map (λ (r : BearerFilters). r.index) rows) bearers.rise)
     row other_row in_rows second.candidate.in_rows (ap (λ (r : Rank). r.1) ranked) in
-    let differ = AllPairs-from_IsDistinct unsigned_Decides (ids row.filters) (All-contains (λ (r : BearerFilters). IsDistinct nat_eq (ids r.filters)) rows row bearers.differ in_rows) in
-    let inside : Contains row.filters other = subst (λ (r : BearerFilters). Contains r.filters other) (sym row_same) second.candidate.in_row in
-    (row_same, element_from_key (λ (f : Filter). f.id) row.filters differ filter other first.candidate.in_row inside (ap (λ (r : Rank). r.2) ranked))
+    let differ = AllPairs-from_IsDistinct unsigned_Decides (ids row.filters)
+    (All-contains (λ (r : BearerFilters). IsDistinct nat_eq (ids r.filters)) rows row bearers.differ in_rows) in
+    let inside : Contains row.filters other
+    = subst (λ (r : BearerFilters). Contains r.filters other) (sym row_same) second.candidate.in_row in (
+      row_same,
+      element_from_key (λ (f : Filter). f.id) row.filters differ filter other first.candidate.in_row inside
+          (ap (λ (r : Rank). r.2) ranked),
+    )

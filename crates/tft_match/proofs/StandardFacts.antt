@@ -15,7 +15,8 @@ use Rattle.tft_match.proofs.ChoiceLemmas.{takes_first, no_candidate}
 -- from 203.0.113.9, port 5060, to 10.45.0.2, port 10000, by type of service, fragment offset and protocol
 abbrev datagram : ℕ → ℕ → ℕ → List ℕ
 datagram tos offset protocol =
-    69 ∷ tos ∷ 0 ∷ 28 ∷ 0 ∷ 0 ∷ 0 ∷ offset ∷ 64 ∷ protocol ∷ 0 ∷ 0 ∷ 203 ∷ 0 ∷ 113 ∷ 9 ∷ 10 ∷ 45 ∷ 0 ∷ 2 ∷ 19 ∷ 196 ∷ 39 ∷ 16 ∷ 0 ∷ 8 ∷ 0 ∷ 0 ∷ []
+    69 ∷ tos ∷ 0 ∷ 28 ∷ 0 ∷ 0 ∷ 0 ∷ offset ∷ 64 ∷ protocol ∷ 0 ∷ 0 ∷ 203 ∷ 0 ∷ 113 ∷ 9 ∷ 10 ∷ 45 ∷ 0 ∷ 2 ∷ 19 ∷ 196
+    ∷ 39 ∷ 16 ∷ 0 ∷ 8 ∷ 0 ∷ 0 ∷ []
 
 abbrev udp : List ℕ
 udp = datagram 0 0 17
@@ -133,21 +134,27 @@ abbrev bearers : List BearerFilters
 bearers = default_bearer ∷ dedicated ∷ []
 
 fits-from_port : Fits Down udp from_port
-fits-from_port = record { counts = refl; each = All-cons (Holds Down udp) (RemotePort 5060) [] refl (All-nil (Holds Down udp)) }
+fits-from_port =
+    record { counts = refl; each = All-cons (Holds Down udp) (RemotePort 5060) [] refl (All-nil (Holds Down udp)) }
 
 unfit-later_fragment : ¬ Fits Down (datagram 0 1 17) from_port
 unfit-later_fragment = λ fits. let held = All-head (Holds Down (datagram 0 1 17)) (RemotePort 5060) [] fits.each in cc
 
 begun : (packet : List ℕ) → IsFirstRank (default_bearer ∷ with_filters dedicated [] ∷ []) packet None
-begun packet = row_begins (default_bearer ∷ []) packet dedicated None (row_begins [] packet default_bearer None (no_ranks packet))
+begun packet =
+    row_begins (default_bearer ∷ []) packet dedicated None (row_begins [] packet default_bearer None (no_ranks packet))
 
 takes-by_filter : Takes bearers udp (Some 1)
-takes-by_filter = takes_first bearers udp (9, 1, 0) (row_leads (default_bearer ∷ []) udp dedicated [] from_port None (begun udp) tt fits-from_port)
+takes-by_filter =
+    takes_first bearers udp (9, 1, 0)
+    (row_leads (default_bearer ∷ []) udp dedicated [] from_port None (begun udp) tt fits-from_port)
 
 takes-by_default : Takes bearers (datagram 0 1 17) (Some 0)
 takes-by_default =
     by_default bearers (datagram 0 1 17)
-    (no_candidate bearers (datagram 0 1 17) (row_unfit (default_bearer ∷ []) (datagram 0 1 17) dedicated [] from_port None (begun (datagram 0 1 17)) unfit-later_fragment))
+    (no_candidate bearers (datagram 0 1 17)
+    (row_unfit (default_bearer ∷ []) (datagram 0 1 17) dedicated [] from_port None
+    (begun (datagram 0 1 17)) unfit-later_fragment))
     (0, omega arith, refl)
 
 chosen-by_filter : chosen bearers udp ≡ Some 1

@@ -23,7 +23,8 @@ IsBefore (precedence, index, id) (precedence', index', id') =
     ⊎ (precedence ≡ precedence') × (index ≡ index') × (id < id')
 
 -- a filter of a row that the downlink packet fits
-pub record IsCandidate (rows : List BearerFilters) (packet : List ℕ) (row : BearerFilters) (filter : Filter) : Type 0 where
+pub record IsCandidate (rows : List BearerFilters) (packet : List ℕ) (row : BearerFilters)
+    (filter : Filter) : Type 0 where
   pub in_rows : Contains rows row
   pub in_row : Contains row.filters filter
   pub fits : Fits Down packet filter

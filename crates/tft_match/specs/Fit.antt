@@ -10,12 +10,12 @@ use Rattle.tft_codec.specs.declared.component.Component.TheVariants.{RemoteAddr,
 use Rattle.tft_codec.specs.declared.filter.Filter.{Filter}
 use Rattle.tft_match.specs.declared.direction.Direction.{Direction}
 use Rattle.tft_match.specs.declared.direction.Direction.TheVariants.{Up, Down}
-use Rattle.tft_match.specs.declared.direction.TheConstants.{BEFORE_RELEASE_7, DOWNLINK_ONLY, UPLINK_ONLY, BIDIRECTIONAL}
 
--- the direction fields of the filters that count for packets of a direction
+-- The direction fields of the filters that count for packets of a direction: 0 is of a filter from before
+-- Release 7, which counts as downlink, 1 downlink only, 2 uplink only, 3 both.
 abbrev pub counted : Direction → List ℕ
-counted Down = BEFORE_RELEASE_7 ∷ DOWNLINK_ONLY ∷ BIDIRECTIONAL ∷ []
-counted Up = UPLINK_ONLY ∷ BIDIRECTIONAL ∷ []
+counted Down = 0 ∷ 1 ∷ 3 ∷ []
+counted Up = 2 ∷ 3 ∷ []
 
 abbrev pub CountsIn : Direction → ℕ → Type 0
 CountsIn direction field = IsTrue (has (counted direction) field)

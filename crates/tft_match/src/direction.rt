@@ -2,14 +2,7 @@
 ghost use Rattle.std.specs.Prelude.{◌↔◌, IsTrue};
 ghost use Rattle.tft_match.specs.Fit.{CountsIn};
 
-/// The direction field of a filter (TS 24.008, 10.5.6.12): one from before Release 7 counts as downlink.
-pub(crate) const BEFORE_RELEASE_7: u8 = 0;
-
-pub(crate) const DOWNLINK_ONLY: u8 = 1;
-
-pub(crate) const UPLINK_ONLY: u8 = 2;
-
-pub(crate) const BIDIRECTIONAL: u8 = 3;
+use tft_codec::{BEFORE_RELEASE_7, BIDIRECTIONAL, DOWNLINK_ONLY, UPLINK_ONLY};
 
 /// Where a packet goes: up from the user to the far end, or down to the user.
 #[derive(Clone, Copy, Debug, PartialEq, Eq)]

@@ -3,4 +3,5 @@ use Rattle.std.specs.List.{find}
 use Rattle.tft_codec.proofs.applying.replacement.Given as goal
 
 abbrev pub invariant-loop-other : goal.invariant-loop-other
-invariant-loop-other l = find (λ g. nat_eq l.filter.id g.id) l.new ≡ find (λ g. nat_eq l.filter.id g.id) (drop l.other-index l.new)
+invariant-loop-other l =
+    find (λ g. nat_eq l.filter.id g.id) l.new ≡ find (λ g. nat_eq l.filter.id g.id) (drop l.other-index l.new)

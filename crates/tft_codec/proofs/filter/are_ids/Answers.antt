@@ -10,11 +10,16 @@ loop-i-init c = record { each = tt; differ = none_differ; some = search rules; f
 pub returns-then-item-ge16 : goal.returns-then-item-ge16
 returns-then-item-ge16 c =
     elim c.then-item-ge16.branch [
-      | then-item-ge16-via-then-item-ge16 w ↦ refuted (λ kept. let small = id_small c.args.items.now c.loop-i.i c.loop-i-test.true kept in omega arith)
-      | then-item-ge16-via-else-item-ge16+then-contains_id w ↦ refuted (id_repeated c.args.items.now c.loop-i.i c.loop-i-test.true (sym w.contains_id.ensures ∙ w.if-contains_id.true))
+      | then-item-ge16-via-then-item-ge16 w ↦ refuted
+          (λ kept. let small = id_small c.args.items.now c.loop-i.i c.loop-i-test.true kept in omega arith)
+      | then-item-ge16-via-else-item-ge16+then-contains_id w ↦ refuted
+          (id_repeated c.args.items.now c.loop-i.i c.loop-i-test.true
+          (sym w.contains_id.ensures ∙ w.if-contains_id.true))
     ]
 
 pub loop-i-preserved : goal.loop-i-preserved
 loop-i-preserved c =
-    let step = ids_step c.args.items.now c.loop-i.i c.loop-i-test.true c.loop-i.invariant.each c.loop-i.invariant.differ c.if-item-ge16.false (sym c.contains_id.ensures ∙ c.if-contains_id.false) in
+    let step
+    = ids_step c.args.items.now c.loop-i.i c.loop-i-test.true c.loop-i.invariant.each c.loop-i.invariant.differ
+    c.if-item-ge16.false (sym c.contains_id.ensures ∙ c.if-contains_id.false) in
     record { each = step.0; differ = step.1; some = c.loop-i.invariant.some; few = c.loop-i.invariant.few }

@@ -5,4 +5,6 @@ use Rattle.tft_codec.proofs.Loops.{StillFilters}
 use Rattle.tft_codec.proofs.reading.filters_of.Given as goal
 
 abbrev pub invariant-loop : goal.invariant-loop
-invariant-loop l = StillFilters l.items.items (l.number - l.counter) l.rest (filters_fault l.number [] l.bytes) (filters_at l.number l.bytes)
+invariant-loop l =
+    StillFilters l.items.items (l.number - l.counter) l.rest (filters_fault l.number [] l.bytes)
+    (filters_at l.number l.bytes)

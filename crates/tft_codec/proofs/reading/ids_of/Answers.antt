@@ -16,35 +16,54 @@ loop-init c = ids_begin c.new-items.result.items c.args.number c.args.bytes.now 
 pub returns-in_default : goal.returns-in_default
 returns-in_default c =
     let rest_is = no_octet c.loop.rest.now c.in_default.ensures in
-    ids_short c.loop.items.items c.args.number c.loop.counter (ids_fault c.args.number [] c.args.bytes.now) (ids_at c.args.bytes.now) c.loop-test.true (rw rest_is at c.loop.invariant)
+    ids_short c.loop.items.items c.args.number c.loop.counter (ids_fault c.args.number [] c.args.bytes.now)
+    (ids_at c.args.bytes.now) c.loop-test.true (rw rest_is at c.loop.invariant)
 
 pub returns-then-contains_id : goal.returns-then-contains_id
 returns-then-contains_id c =
     let rest_is = octet_is c.loop.rest.now c.in-Some.first c.in-Some.after.now c.in-Some.ensures in
-    let old : has c.loop.items.items (c.in-Some.first % 16) ≡ true = sym (rw c.deref.ensures.value at c.contains_id.ensures) ∙ c.if-contains_id.true in
-    ids_twice c.loop.items.items c.args.number c.loop.counter c.in-Some.first c.in-Some.after.now (ids_fault c.args.number [] c.args.bytes.now) (ids_at c.args.bytes.now) c.loop-test.true (rw rest_is at c.loop.invariant) old
+    let old : has c.loop.items.items (c.in-Some.first % 16) ≡ true
+    = sym (rw c.deref.ensures.value at c.contains_id.ensures) ∙ c.if-contains_id.true in
+    ids_twice c.loop.items.items c.args.number c.loop.counter c.in-Some.first c.in-Some.after.now
+    (ids_fault c.args.number [] c.args.bytes.now) (ids_at c.args.bytes.now) c.loop-test.true
+    (rw rest_is at c.loop.invariant) old
 
 pub loop-preserved : goal.loop-preserved
 loop-preserved c =
     let rest_is = octet_is c.loop.rest.now c.in-Some.first c.in-Some.after.now c.in-Some.ensures in
-    let new : has c.loop.items.items (c.in-Some.first % 16) ≡ false = sym (rw c.deref.ensures.value at c.contains_id.ensures) ∙ c.if-contains_id.false in
-    rw c.in_ok-push.ensures.items (ids_on c.loop.items.items c.args.number c.loop.counter c.in-Some.first c.in-Some.after.now (ids_fault c.args.number [] c.args.bytes.now) (ids_at c.args.bytes.now) c.loop-test.true (rw rest_is at c.loop.invariant) new)
+    let new : has c.loop.items.items (c.in-Some.first % 16) ≡ false
+    = sym (rw c.deref.ensures.value at c.contains_id.ensures) ∙ c.if-contains_id.false in
+    rw c.in_ok-push.ensures.items
+    (ids_on c.loop.items.items c.args.number c.loop.counter c.in-Some.first c.in-Some.after.now
+    (ids_fault c.args.number [] c.args.bytes.now) (ids_at c.args.bytes.now) c.loop-test.true
+    (rw rest_is at c.loop.invariant) new)
 
 pub returns-then-not-is_empty : goal.returns-then-not-is_empty
 returns-then-not-is_empty c =
-    let ended = ids_end c.loop.items.items c.args.number c.loop.counter c.loop.rest.now (ids_fault c.args.number [] c.args.bytes.now) (ids_at c.args.bytes.now) c.loop-test.false c.loop.invariant in
+    let ended = ids_end c.loop.items.items c.args.number c.loop.counter c.loop.rest.now
+    (ids_fault c.args.number [] c.args.bytes.now) (ids_at c.args.bytes.now) c.loop-test.false c.loop.invariant in
     sym ended.0 ∙ something_left c.loop.rest.now (sym c.is_empty.ensures ∙ c.if-not-is_empty.true)
 
 pub invariant_of-result : goal.invariant_of-result
 invariant_of-result c =
     let nothing = nothing_left c.loop.rest.now (sym c.is_empty.ensures ∙ c.if-not-is_empty.false) in
-    let ended = ids_end c.loop.items.items c.args.number c.loop.counter [] (ids_fault c.args.number [] c.args.bytes.now) (ids_at c.args.bytes.now) c.loop-test.false (rw nothing at c.loop.invariant) in
+    let ended = ids_end c.loop.items.items c.args.number c.loop.counter []
+    (ids_fault c.args.number [] c.args.bytes.now) (ids_at c.args.bytes.now) c.loop-test.false
+    (rw nothing at c.loop.invariant) in
     let value : c.loop.items.items ≡ ids_at c.args.bytes.now = sym (append-nil c.loop.items.items) ∙ ended.1 in
     let taken = ids_taken c.args.number [] c.args.bytes.now (sym ended.0) in
-    rw value (record { each = taken.each; differ = distinct_from_fresh [] (ids_at c.args.bytes.now) none_differ taken.fresh; some = omega (arith, taken.count, c.requires.some); few = omega (arith, taken.count, c.requires.few) })
+    rw value
+    (record {
+      each = taken.each;
+      differ = distinct_from_fresh [] (ids_at c.args.bytes.now) none_differ taken.fresh;
+      some = omega (arith, taken.count, c.requires.some);
+      few = omega (arith, taken.count, c.requires.few);
+    })
 
 pub returns : goal.returns
 returns c =
     let nothing = nothing_left c.loop.rest.now (sym c.is_empty.ensures ∙ c.if-not-is_empty.false) in
-    let ended = ids_end c.loop.items.items c.args.number c.loop.counter [] (ids_fault c.args.number [] c.args.bytes.now) (ids_at c.args.bytes.now) c.loop-test.false (rw nothing at c.loop.invariant) in
+    let ended = ids_end c.loop.items.items c.args.number c.loop.counter []
+    (ids_fault c.args.number [] c.args.bytes.now) (ids_at c.args.bytes.now) c.loop-test.false
+    (rw nothing at c.loop.invariant) in
     (sym ended.0, sym (append-nil c.loop.items.items) ∙ ended.1)

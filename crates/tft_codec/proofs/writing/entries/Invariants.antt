@@ -4,4 +4,5 @@ use Rattle.tft_codec.specs.Spelling.{first_octet, filter_text}
 use Rattle.tft_codec.proofs.writing.entries.Given as goal
 
 abbrev pub invariant-loop-filter : goal.invariant-loop-filter
-invariant-loop-filter l = l.text.items ≡ first_octet l.operation (length l.filters) ∷ flat_map filter_text (take l.filter-index l.filters)
+invariant-loop-filter l =
+    l.text.items ≡ first_octet l.operation (length l.filters) ∷ flat_map filter_text (take l.filter-index l.filters)

@@ -9,4 +9,6 @@ loop-row-preserved c =
     (c.first_with-first.ensures (take c.loop-row.row-index c.args.rows.now) c.loop-row.invariant)
 
 pub returns : goal.returns
-returns c = subst (λ rows. IsFirstRank rows c.args.packet.now c.loop-row.first) (take_all c.loop-row.row-index c.args.rows.now c.loop-row-test.false) c.loop-row.invariant
+returns c =
+    subst (λ rows. IsFirstRank rows c.args.packet.now c.loop-row.first)
+    (take_all c.loop-row.row-index c.args.rows.now c.loop-row-test.false) c.loop-row.invariant

@@ -8,9 +8,12 @@ use Rattle.rate_policer.proofs.bucket.Bucket.ask.Goals as goal
 pub returns-then-millibits-level-clause-charged : goal.returns-then-millibits-level-clause-charged
 returns-then-millibits-level-clause-charged c = λ passed stands.
     let cost = cost_of c.args.octets c.args.at in
-    let millibits : c.of-millibits.result.millibits ≡ cost.millibits = ap (λ cost. cost.millibits) c.of-millibits.ensures in
-    let lets : LetsThrough c.args.self.now cost = omega (arith, millibits, c.level_at-level.ensures, c.if-millibits-level.true) in
-    rw millibits (stands_charged c.args.self.now passed cost c.self.inside.rate c.level_at-level.result stands c.requires lets
+    let millibits : c.of-millibits.result.millibits ≡ cost.millibits
+    = ap (λ cost. cost.millibits) c.of-millibits.ensures in
+    let lets : LetsThrough c.args.self.now cost
+    = omega (arith, millibits, c.level_at-level.ensures, c.if-millibits-level.true) in
+    rw millibits
+    (stands_charged c.args.self.now passed cost c.self.inside.rate c.level_at-level.result stands c.requires lets
     (ap (λ bucket. bucket.rate) c.self.view_is) c.level_at-level.ensures)
 
 pub returns-clause-charged : goal.returns-clause-charged
