@@ -150,7 +150,7 @@ fn rows_of(alloc: Global, bearers: &[Bearer]) -> Result<Vec<BearerFilters>, NoMe
     for bearer in bearers {
         match bearer.phase {
             Phase::Asked(_) => {}
-            Phase::Active(_) => list.push(bearer.choice.try_clone(alloc)?)?,
+            Phase::Active(_) => list.push(bearer.choice.try_clone()?)?,
         }
     }
     Ok(list)

@@ -24,3 +24,6 @@ pub use handling::{handle, judge};
 pub use held::HeldPacket;
 pub use judged::Judged;
 pub use std::alloc::AllocError as NoMemory;
+
+#[cfg(test)]
+mod tests;
