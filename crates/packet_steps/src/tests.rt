@@ -99,11 +99,7 @@ fn handled(subscriber: &mut Subscriber, packet: &Packet) -> Result<Verdict, Fail
             return Err("a later moment".into());
         }
     }
-    Ok(handle(
-        &mut subscriber.counters,
-        &subscriber.version,
-        packet,
-    )?)
+    Ok(handle(&mut subscriber.counters, &subscriber.version, packet)?)
 }
 
 // A packet from the subscriber of so many octets, 20 at least.
@@ -127,14 +123,7 @@ fn told(verdict: &Verdict) -> (&'static str, u64) {
         Verdict::NoBearer => ("nobearer", 0),
         Verdict::Spoof => ("spoof", 0),
         Verdict::Idle { life } => ("idle", *life),
-        Verdict::Held { life, message } => (
-            if message.is_some() {
-                "told"
-            } else {
-                "held"
-            },
-            *life,
-        ),
+        Verdict::Held { life, message } => (if message.is_some() { "told" } else { "held" }, *life),
         Verdict::Policed { life } => ("policed", *life),
     }
 }
@@ -270,8 +259,14 @@ fn ambr_closes_a_piece(rt: HostRuntime) -> Result<(), Fail> {
     learn(&mut subscriber, 3)?;
     let rows = subscriber.counters.take_closed();
     assert_eq!(rt; rows.len(), 2);
-    assert_eq!(rt; (rows[0].seq, rows[0].up_octets, rows[0].why), (0, 20, Why::Qos));
-    assert_eq!(rt; (rows[1].seq, rows[1].up_octets, rows[1].why), (1, 0, Why::Gone));
+    assert_eq!(rt;
+        (rows[0].seq, rows[0].up_octets, rows[0].why),
+        (0, 20, Why::Qos)
+    );
+    assert_eq!(rt;
+        (rows[1].seq, rows[1].up_octets, rows[1].why),
+        (1, 0, Why::Gone)
+    );
     assert_eq!(rt; subscriber.counters.book().still_open().len(), 0);
     Ok(())
 }
@@ -302,8 +297,7 @@ fn downlink_without_enodeb(rt: HostRuntime) -> Result<(), Fail> {
     let mut subscriber = attached(alloc, 1_000, None)?;
     let waiting = packet(alloc, 1, Way::Down, &DOWN)?;
     let verdict = handled(&mut subscriber, &waiting)?;
-    let message =
-        Vec::from_slice(alloc, b"\x48\xb0\0\x0d\0\0\x10\0\0\0\0\0\x49\0\x01\0\x05")?;
+    let message = Vec::from_slice(alloc, b"\x48\xb0\0\x0d\0\0\x10\0\0\0\0\0\x49\0\x01\0\x05")?;
     let message = Some(Octets::of(message));
     assert_eq!(rt; verdict, Verdict::Held { life: 0, message });
     for _ in 0..15 {
@@ -321,7 +315,10 @@ fn downlink_without_enodeb(rt: HostRuntime) -> Result<(), Fail> {
     assert_eq!(rt; effects.as_slice().len(), 16);
     let text = tunnelled(alloc, 1, &DOWN)?;
     for effect in effects.as_slice() {
-        assert_eq!(rt; shown(effect), ("down", 0, Some(FIRST_ENB.addr), text.as_slice()));
+        assert_eq!(rt;
+            shown(effect),
+            ("down", 0, Some(FIRST_ENB.addr), text.as_slice())
+        );
     }
     let opened = subscriber.counters.book().still_open();
     assert_eq!(rt; opened.len(), 1);
@@ -350,7 +347,10 @@ fn end_marker_after_switch(rt: HostRuntime) -> Result<(), Fail> {
     let effects = learn(&mut subscriber, 2)?;
     assert_eq!(rt; effects.as_slice().len(), 1);
     let marker: &[u8] = &[0x30, 0xfe, 0, 0, 0, 0, 0x0a, 1];
-    assert_eq!(rt; shown(&effects.as_slice()[0]), ("marker", 0, Some(FIRST_ENB.addr), marker));
+    assert_eq!(rt;
+        shown(&effects.as_slice()[0]),
+        ("marker", 0, Some(FIRST_ENB.addr), marker)
+    );
 
     // No marker where the eNodeB stays, or is gone.
     assert_eq!(rt; learn(&mut subscriber, 3)?.as_slice().len(), 0);
