@@ -37,7 +37,7 @@ rows_from-append before (x ∷ xs) ys =
 pub rows-push : (happened : List Happening) (now : Happening) → rows_of (happened ++ now ∷ []) ≡ rows_of happened ++ rows_at happened now
 rows-push happened now = rows_from-append [] happened (now ∷ []) ∙ ap (λ rest. rows_of happened ++ rest) (append-nil (rows_at happened now))
 
-may_from-push : (before xs : List Happening) (now : Happening) → AllMay before xs → MayHappen (before ++ xs) now → AllMay before (xs ++ now ∷ [])
+pub may_from-push : (before xs : List Happening) (now : Happening) → AllMay before xs → MayHappen (before ++ xs) now → AllMay before (xs ++ now ∷ [])
 may_from-push before [] now all may = (rw (append-nil before) at may, tt)
 may_from-push before (x ∷ xs) now all may =
     (all.0, may_from-push (before ++ x ∷ []) xs now all.1 (rw (append_assoc before (x ∷ []) xs) may))

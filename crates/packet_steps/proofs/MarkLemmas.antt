@@ -1,0 +1,38 @@
+-- What the book hears of a change, as postings.
+use Rattle.std.proofs.Common.{◌≡◌, Bool, true, false, cond, List, [], ◌∷◌, ◌++◌, map, filter, refl, sym, ◌∙◌, ap}
+use Rattle.std.proofs.lemmas.List.{map-append}
+use Rattle.charging_book.specs.Happenings.{Happening}
+use Rattle.charging_book.specs.Postings.{happening_of}
+use Rattle.charging_book.specs.declared.accounts.posting.Posting.{Posting}
+use Rattle.charging_book.specs.declared.accounts.posting.Posting.TheVariants.{Start, Close}
+use Rattle.charging_book.specs.declared.records.Why.TheVariants.{Qos, Gone}
+use Rattle.bearer_state.specs.declared.version.ActiveBearer.{ActiveBearer}
+use Rattle.packet_steps.specs.Change.{shares_ambr, shared_with, lacking_in, ended, cut, begun, marks_between}
+use Rattle.packet_steps.proofs.ListLemmas.{map_map}
+
+abbrev closing : ActiveBearer → Posting
+closing bearer = Close bearer.life Gone
+
+abbrev cutting : ActiveBearer → Posting
+cutting bearer = Close bearer.life Qos
+
+abbrev starting : ActiveBearer → Posting
+starting bearer = Start bearer.life bearer.ebi bearer.qos.qci
+
+pieces_are : (was_set : Bool) (before after : List ActiveBearer)
+    → map happening_of (cond was_set (map cutting (filter shares_ambr (shared_with after before))) []) ≡ cut was_set before after
+pieces_are true before after = map_map happening_of cutting (filter shares_ambr (shared_with after before))
+pieces_are false before after = refl
+
+pub marks_joined : (was_set : Bool) (before after : List ActiveBearer) (first pieces lives all : List Posting) → first ≡ map closing (lacking_in after before)
+    → pieces ≡ cond was_set (map cutting (filter shares_ambr (shared_with after before))) [] → lives ≡ map starting (lacking_in before after)
+    → all ≡ (first ++ pieces) ++ lives → map happening_of all ≡ marks_between was_set before after
+marks_joined was_set before after first pieces lives all first_is pieces_is lives_is all_is =
+    let one : map happening_of first ≡ ended before after = ap (map happening_of) first_is ∙ map_map happening_of closing (lacking_in after before) in
+    let two : map happening_of pieces ≡ cut was_set before after = ap (map happening_of) pieces_is ∙ pieces_are was_set before after in
+    let three : map happening_of lives ≡ begun before after = ap (map happening_of) lives_is ∙ map_map happening_of starting (lacking_in before after) in
+    ap (map happening_of) all_is ∙ map-append happening_of (first ++ pieces) lives
+    ∙ ap (λ xs. xs ++ map happening_of lives) (map-append happening_of first pieces)
+    ∙ ap (λ xs. (xs ++ map happening_of pieces) ++ map happening_of lives) one
+    ∙ ap (λ xs. (ended before after ++ xs) ++ map happening_of lives) two
+    ∙ ap (λ xs. (ended before after ++ cut was_set before after) ++ xs) three

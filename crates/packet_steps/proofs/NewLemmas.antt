@@ -1,0 +1,55 @@
+-- New counters stand for the past before the first event.
+use Rattle.std.proofs.Common.{◌≡◌, ◌≤◌, ℕ, Bool, true, false, List, [], ◌∷◌, refl, sym, subst, None, arith}
+use Rattle.std.proofs.lemmas.List.Elements.{All-nil}
+use Rattle.charging_book.specs.Accounts as book
+use Rattle.rate_policer.proofs.Standing.{stands_full}
+use Rattle.packet_steps.specs.declared.meters.Meter.{Meter}
+use Rattle.packet_steps.specs.Rows.{ForwardedRow, HeldRow}
+use Rattle.packet_steps.specs.Past.{new_past}
+use Rattle.packet_steps.specs.Policing.{ambr}
+use Rattle.packet_steps.specs.Meters.{bucket_of, new_meter, Polices}
+use Rattle.packet_steps.specs.Standing.{StandsFor}
+
+abbrev pub rate_by : Bool → ℕ → ℕ → ℕ
+rate_by true up_rate down_rate = up_rate
+rate_by false up_rate down_rate = down_rate
+
+-- a full bucket polices nothing that passed yet
+pub full_polices : (up_rate down_rate moment : ℕ) (up : Bool)
+    → Polices (bucket_of up (new_meter up_rate down_rate)) (rate_by up up_rate down_rate) [] moment
+full_polices up_rate down_rate moment true = record { rate_is = refl; stands = stands_full up_rate _ refl; asked = omega arith }
+full_polices up_rate down_rate moment false = record { rate_is = refl; stands = stands_full down_rate _ refl; asked = omega arith }
+
+none_polices : (slot : ℕ) (up : Bool) → Polices (bucket_of up (new_meter 0 0)) (ambr up (new_past slot).version) [] 0
+none_polices slot true = full_polices 0 0 0 true
+none_polices slot false = full_polices 0 0 0 false
+
+pub new_stands : (none : Meter) (accounts : book.Accounts) (held : List HeldRow) (slot : ℕ) → none ≡ new_meter 0 0 → book.StandsFor accounts [] 0 → held ≡ []
+    → StandsFor (record {
+      meters = record { shared = none; own = none ∷ none ∷ none ∷ none ∷ none ∷ none ∷ none ∷ none ∷ none ∷ none ∷ none ∷ [] };
+      book = accounts;
+      held = held;
+      last = None;
+    }) (new_past slot) 0
+new_stands none accounts held slot is charges nothing = record {
+  meters = record {
+    sized = refl;
+    shared = λ up. subst (λ (meter : Meter). Polices (bucket_of up meter) (ambr up (new_past slot).version) [] 0) (sym is) (none_polices slot up);
+    own = λ bearer up there. absurd (omega (arith, there.1));
+  };
+  charges = charges;
+  held = nothing;
+  last = refl;
+  open_lives = λ life. (λ there. absurd (omega (arith, there.1)), λ has. absurd (cc));
+  rates = All-nil (λ (row : ForwardedRow). row.rates ≤ 0);
+  ranges = record {
+    number = omega arith;
+    up = omega arith;
+    down = omega arith;
+    rates = omega arith;
+    each = tt;
+    apart = tt;
+    rows = refl;
+    none_if_not_live = λ dead. refl;
+  };
+}

@@ -1,0 +1,10 @@
+pub mod Rows
+pub mod Messages
+pub mod Past
+pub mod Policing
+pub mod Verdicts
+pub mod Change
+pub mod Meters
+pub mod Standing
+pub mod Plans
+pub mod Releases

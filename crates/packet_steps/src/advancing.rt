@@ -1,0 +1,60 @@
+//! A new version is learnt.
+ghost use Rattle.std.specs.Prelude.{◌≡◌, ℕ, unwrap_or, filter, IfOk, OnOk, OnErr};
+ghost use Rattle.packet_steps.specs.Past.{Past};
+ghost use Rattle.packet_steps.specs.Change.{waits, learnt};
+ghost use Rattle.packet_steps.specs.Standing.{StandsFor, Follows, last_of};
+
+use crate::counters::Counters;
+use crate::marks::{markers, marks};
+use crate::releasing::{Release, look_at_all, waits};
+use crate::{Effects, HeldPacket, NoMemory};
+use bearer_state::{ActiveBearer, Version};
+use pc_base::Moment;
+
+/// Learns the version that comes next, and tells its effects: End Markers to eNodeBs that bearers left,
+/// and what becomes of held packets. Where memory is wanting, the counters are as before.
+pub fn advance(
+    counters: &mut Counters,
+    before: &Version,
+    after: &Version,
+) -> Result<Effects, NoMemory>
+    ensures effects { (past : Past) (taken : ℕ) → StandsFor counters.old past taken → past.version ≡ before.now → Follows past after.now
+        → IfOk result (λ effects. effects ≡ (learnt past after.now).1) }
+    ensures stands { (past : Past) (taken : ℕ) → StandsFor counters.old past taken → past.version ≡ before.now → Follows past after.now
+        → OnOk result (StandsFor counters.new (learnt past after.now).0 taken) }
+    ensures moment { last_of counters.new ≡ last_of counters.old }
+    ensures unchanged { OnErr result (counters.new ≡ counters.old) }
+{
+    let alloc = *counters.held.allocator();
+    let bearers = after.bearers();
+    let meters = counters.meters.learnt(before, after);
+    let postings = marks(alloc, before, after)?;
+    let effects = markers(alloc, before, after)?;
+    let mut release = Release {
+        meters,
+        postings,
+        effects,
+    };
+    let at = last_moment(counters.last);
+    look_at_all(&mut release, alloc, after, at, &counters.held)?;
+    counters.book.post(&release.postings)?;
+    counters.meters = release.meters;
+    keep_waiting(&mut counters.held, bearers);
+    Ok(Effects::of(release.effects))
+}
+
+fn last_moment(last: Option<Moment>) -> Moment
+    ensures { result ≡ unwrap_or last 0 }
+{
+    match last {
+        Some(moment) => moment,
+        None => Moment(0),
+    }
+}
+
+/// Packets whose bearers have no eNodeB stay held.
+fn keep_waiting(held: &mut Vec<HeldPacket>, bearers: &[ActiveBearer])
+    ensures { held.new.items ≡ filter (λ row. waits bearers.now row.life) held.old.items }
+{
+    held.retain(|row| waits(bearers, row.life));
+}

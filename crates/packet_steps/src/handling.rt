@@ -1,0 +1,78 @@
+//! A packet is judged and done.
+ghost use Rattle.std.specs.Prelude.{◌≡◌, ℕ, ◌≤◌, IfOk, IfSome, OnOk, OnErr, IsNone, false};
+ghost use Rattle.pc_base.specs.declared.packet.Packet.{Packet};
+ghost use Rattle.ipv4_packet.specs.Packet.{IsPacket};
+ghost use Rattle.packet_steps.specs.Past.{Past};
+ghost use Rattle.packet_steps.specs.Verdicts.{judged, is_packet};
+ghost use Rattle.packet_steps.specs.Standing.{StandsFor, AreFew, last_of};
+ghost use Rattle.packet_steps.specs.Plans.{verdict_of};
+
+use crate::counters::Counters;
+use crate::{Judged, NoMemory};
+use bearer_state::Version;
+use ipv4_packet::Ip4;
+use pc_base::{Moment, Packet, Verdict, Way};
+
+/// What becomes of a packet by a version, its octets lent. The moment isn't earlier than that of the
+/// last packet. Where memory is wanting, the counters are as before.
+pub fn judge<'a>(
+    counters: &mut Counters,
+    version: &Version,
+    number: u64,
+    moment: Moment,
+    way: Way,
+    ip: &'a Ip4<'_>,
+) -> Result<Judged<'a>, NoMemory>
+    requires { IfSome (last_of counters.old) (λ last. last ≤ moment) }
+
+    ensures verdict { (past : Past) (taken : ℕ) (packet : Packet) → StandsFor counters.old past taken → past.version ≡ version.now → AreFew past.charged
+        → packet ≡ record { number = number; moment = moment; way = way; octets = ip.now }
+        → IfOk result (λ told. verdict_of told ≡ (judged past packet).1) }
+    ensures stands { (past : Past) (taken : ℕ) (packet : Packet) → StandsFor counters.old past taken → past.version ≡ version.now → AreFew past.charged
+        → packet ≡ record { number = number; moment = moment; way = way; octets = ip.now }
+        → OnOk result (StandsFor counters.new (judged past packet).0 taken) }
+    ensures unchanged { OnErr result (counters.new ≡ counters.old) }
+{
+    let octets = ip.octets();
+    let plan = counters.plan(version, number, moment, way, ip)?;
+    counters.carry_out(&plan, number, moment, way, octets)?;
+    Ok(plan.lend(octets))
+}
+
+/// What becomes of a packet by a version. The moment isn't earlier than that of the last packet.
+/// Where memory is wanting, the counters are as before.
+pub fn handle(
+    counters: &mut Counters,
+    version: &Version,
+    packet: &Packet,
+) -> Result<Verdict, NoMemory>
+    requires { IfSome (last_of counters.old) (λ last. last ≤ packet.now.moment) }
+
+    ensures verdict { (past : Past) (taken : ℕ) → StandsFor counters.old past taken → past.version ≡ version.now → AreFew past.charged
+        → IfOk result (λ verdict. verdict ≡ (judged past packet.now).1) }
+    ensures stands { (past : Past) (taken : ℕ) → StandsFor counters.old past taken → past.version ≡ version.now → AreFew past.charged
+        → OnOk result (StandsFor counters.new (judged past packet.now).0 taken) }
+    ensures unchanged { OnErr result (counters.new ≡ counters.old) }
+{
+    let octets = packet.octets.as_slice();
+    let Some(ip) = whole(octets) else {
+        counters.stay(packet.moment);
+        return Ok(Verdict::NoBearer);
+    };
+    let plan = counters.plan(version, packet.number, packet.moment, packet.way, &ip)?;
+    let alloc = *counters.held.allocator();
+    let verdict = plan.verdict(alloc, octets)?;
+    counters.carry_out(&plan, packet.number, packet.moment, packet.way, octets)?;
+    Ok(verdict)
+}
+
+/// The packet that octets are, whole.
+fn whole(octets: &[u8]) -> Option<Ip4<'_>>
+    ensures packet { IfSome result (λ ip. (ip ≡ octets.now) × IsPacket octets.now) }
+    ensures none { IsNone result → is_packet octets.now ≡ false }
+{
+    match Ip4::read(octets) {
+        Ok(ip) if ip.octets().len() == octets.len() => Some(ip),
+        _ => None,
+    }
+}

@@ -1,0 +1,176 @@
+//! What becomes of a packet.
+ghost use Rattle.std.specs.Prelude.{◌≡◌, ℕ, ◌<◌, ◌≤◌, ◌^◌, length, IfOk, IfSome, OnOk, OnErr, Option};
+ghost use Rattle.std.specs.List.{Contains};
+ghost use Rattle.std.specs.Option.{option_copied};
+ghost use Rattle.pc_base.specs.declared.packet.Packet.{Packet};
+ghost use Rattle.bearer_state.specs.Bearer.{IsEbi};
+ghost use Rattle.bearer_state.specs.Version.{bearer_at};
+ghost use Rattle.ipv4_packet.specs.Packet.{IsPacket};
+ghost use Rattle.packet_steps.specs.Past.{Past, moment_of};
+ghost use Rattle.packet_steps.specs.Verdicts.{at_moment, bearer_for, judged_now, judged_up, judged_down, judged_waiting, notice};
+ghost use Rattle.packet_steps.specs.Standing.{StandsFor, AreFew, last_of};
+ghost use Rattle.packet_steps.specs.Plans.{Plans, Does, PolicesBehind};
+
+use crate::NoMemory;
+use crate::counters::Counters;
+use crate::messages::notification;
+use crate::plan::Plan;
+use bearer_state::{ActiveBearer, Version};
+use ipv4_packet::Ip4;
+use pc_base::{Moment, Octets, Way, addr_of};
+use tft_match::choose;
+
+/// As many packets are held at most.
+const MOST_HELD: usize = 16;
+
+impl Counters {
+    ghost use Rattle.std.specs.Prelude.{[], ◌∷◌, ◌++◌, Bool};
+    ghost use Rattle.packet_steps.specs.Past.{row_for, with_row, with_held};
+
+    /// What is to become of a packet; nothing is done yet.
+    pub(crate) fn plan(
+        &self,
+        version: &Version,
+        number: u64,
+        moment: Moment,
+        way: Way,
+        ip: &Ip4<'_>,
+    ) -> Result<Plan, NoMemory>
+        requires late { IfSome (last_of self.now) (λ last. last ≤ moment) }
+        requires packet { IsPacket ip.now }
+        ensures { (past : Past) (taken : ℕ) (packet : Packet) → StandsFor self.now past taken → past.version ≡ version.now
+            → packet ≡ record { number = number; moment = moment; way = way; octets = ip.now }
+            → IfOk result (Plans (at_moment past moment) packet (judged_now (at_moment past moment) packet)) }
+    {
+        if !version.live {
+            return Ok(Plan::NoBearer);
+        }
+        match way {
+            Way::Up(index) => Ok(self.plan_up(version, index, moment, ip)),
+            Way::Down => self.plan_down(version, number, moment, ip),
+        }
+    }
+
+    fn plan_up(&self, version: &Version, index: u8, moment: Moment, ip: &Ip4<'_>) -> Plan
+        requires { IfSome (last_of self.now) (λ last. last ≤ moment) }
+        ensures { (past : Past) (taken : ℕ) (packet : Packet) → StandsFor self.now past taken → past.version ≡ version.now → packet.octets ≡ ip.now
+            → Plans (at_moment past moment) packet (judged_up (at_moment past moment) ip.now (bearer_at version.now.bearers index)) result }
+    {
+        let Some(bearer) = active_at(version, index) else {
+            return Plan::NoBearer;
+        };
+        if ip.source() != addr_of(version.slot).0 {
+            return Plan::Spoof;
+        }
+        match self
+            .meters
+            .tried(bearer, true, moment, packet_len(ip.octets()))
+        {
+            Some(bucket) => Plan::Up {
+                bearer: *bearer,
+                bucket,
+            },
+            None => Plan::Policed { life: bearer.life },
+        }
+    }
+
+    fn plan_down(
+        &self,
+        version: &Version,
+        number: u64,
+        moment: Moment,
+        ip: &Ip4<'_>,
+    ) -> Result<Plan, NoMemory>
+        requires { IfSome (last_of self.now) (λ last. last ≤ moment) }
+        ensures { (past : Past) (taken : ℕ) (packet : Packet) → StandsFor self.now past taken → past.version ≡ version.now
+            → packet.octets ≡ ip.now → packet.number ≡ number
+            → IfOk result (Plans (at_moment past moment) packet (judged_down (at_moment past moment) packet (bearer_for version.now ip.now))) }
+    {
+        let Some(bearer) = taking(version, ip) else {
+            return Ok(Plan::NoBearer);
+        };
+        let Some(peer) = bearer.enb else {
+            return self.plan_waiting(version, number, bearer);
+        };
+        match self
+            .meters
+            .tried(bearer, false, moment, packet_len(ip.octets()))
+        {
+            Some(bucket) => Ok(Plan::Down {
+                bearer: *bearer,
+                peer,
+                bucket,
+            }),
+            None => Ok(Plan::Policed { life: bearer.life }),
+        }
+    }
+
+    fn plan_waiting(
+        &self,
+        version: &Version,
+        number: u64,
+        bearer: &ActiveBearer,
+    ) -> Result<Plan, NoMemory>
+        requires { IsEbi bearer.now.ebi }
+        ensures { (past : Past) (packet : Packet) → self.now.held ≡ past.held → past.version.mme ≡ version.now.mme → packet.number ≡ number
+            → IfOk result (Plans past packet (judged_waiting past packet bearer.now)) }
+    {
+        if self.held.len() >= MOST_HELD {
+            return Ok(Plan::Idle { life: bearer.life });
+        }
+        Ok(Plan::Hold {
+            life: bearer.life,
+            message: self.notice(version, number, bearer.ebi)?,
+        })
+    }
+
+    fn notice(&self, version: &Version, number: u64, ebi: u8) -> Result<Option<Octets>, NoMemory>
+        requires { IsEbi ebi }
+        ensures { (past : Past) → self.now.held ≡ past.held → past.version.mme ≡ version.now.mme
+            → IfOk result (λ message. message ≡ notice past number ebi) }
+    {
+        if !self.held.is_empty() {
+            return Ok(None);
+        }
+        match version.mme {
+            Some(mme) => {
+                let alloc = *self.held.allocator();
+                Ok(Some(notification(alloc, mme, number, ebi)?))
+            }
+            None => Ok(None),
+        }
+    }
+}
+
+/// The active bearer of an index.
+fn active_at<'v>(version: &'v Version, index: u8) -> Option<&'v ActiveBearer>
+    ensures value { option_copied result ≡ bearer_at version.now.bearers index }
+    ensures there { IfSome result (λ bearer. Contains version.now.bearers bearer.now) }
+    ensures index { IfSome result (λ bearer. bearer.now.index < 11) }
+    ensures ebi { IfSome result (λ bearer. IsEbi bearer.now.ebi) }
+{
+    let _bearers = version.bearers();
+    version.bearer_at(index)
+}
+
+/// The active bearer that a downlink packet takes.
+fn taking<'v>(version: &'v Version, ip: &Ip4<'_>) -> Option<&'v ActiveBearer>
+    ensures value { option_copied result ≡ bearer_for version.now ip.now }
+    ensures there { IfSome result (λ bearer. Contains version.now.bearers bearer.now) }
+    ensures index { IfSome result (λ bearer. bearer.now.index < 11) }
+    ensures ebi { IfSome result (λ bearer. IsEbi bearer.now.ebi) }
+{
+    match choose(version.rows(), ip) {
+        Some(index) => active_at(version, index),
+        None => None,
+    }
+}
+
+/// How many octets a packet has, as it says itself.
+pub(crate) fn packet_len(octets: &[u8]) -> u32
+    requires { IsPacket octets.now }
+    ensures len { result ≡ length octets.now }
+    ensures bound { result < 2 ^ 16 }
+{
+    0x100 * u32::from(octets[2]) + u32::from(octets[3])
+}

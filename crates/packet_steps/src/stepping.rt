@@ -1,0 +1,108 @@
+//! What becomes of a packet is done.
+ghost use Rattle.std.specs.Prelude.{◌≡◌, ℕ, ◌<◌, ◌≤◌, ◌^◌, length, OnOk, OnErr};
+ghost use Rattle.std.specs.List.{Contains};
+ghost use Rattle.pc_base.specs.declared.packet.Packet.{Packet};
+ghost use Rattle.pc_base.specs.declared.packet.Way.TheVariants as way;
+ghost use Rattle.ipv4_packet.specs.Packet.{IsPacket};
+ghost use Rattle.packet_steps.specs.Past.{Past, moment_of, row_for, with_row, with_held};
+ghost use Rattle.packet_steps.specs.Verdicts.{at_moment};
+ghost use Rattle.packet_steps.specs.Standing.{StandsFor, AreFew};
+ghost use Rattle.packet_steps.specs.Plans.{Does, PolicesBehind};
+
+use crate::counters::Counters;
+use crate::judging::packet_len;
+use crate::plan::Plan;
+use crate::{HeldPacket, NoMemory};
+use bearer_state::ActiveBearer;
+use charging_book::Posting;
+use pc_base::{Moment, Octets, Packet, Way};
+use rate_policer::Bucket;
+
+impl Counters {
+    ghost use Rattle.std.specs.Prelude.{[], ◌∷◌, ◌++◌};
+
+    /// Does what a plan says of a packet, or nothing where memory is wanting.
+    pub(crate) fn carry_out(
+        &mut self,
+        plan: &Plan,
+        number: u64,
+        moment: Moment,
+        way: Way,
+        octets: &[u8],
+    ) -> Result<(), NoMemory>
+        requires packet { IsPacket octets.now }
+        ensures stands { (past next : Past) (taken : ℕ) (packet : Packet) → StandsFor self.old past taken → moment_of past ≤ moment
+            → AreFew past.charged → packet ≡ record { number = number; moment = moment; way = way; octets = octets.now }
+            → Does plan.now (at_moment past moment) packet next → OnOk result (StandsFor self.new next taken) }
+        ensures unchanged { OnErr result (self.new ≡ self.old) }
+    {
+        let len = packet_len(octets);
+        match plan {
+            Plan::Up { bearer, bucket } => self.pass(bearer, true, *bucket, moment, len),
+            Plan::Down { bearer, bucket, .. } => self.pass(bearer, false, *bucket, moment, len),
+            Plan::Hold { life, .. } => self.hold(*life, number, moment, way, octets),
+            Plan::NoBearer | Plan::Spoof | Plan::Idle { .. } | Plan::Policed { .. } => {
+                self.stay(moment);
+                Ok(())
+            }
+        }
+    }
+
+    /// A packet came that changes nothing.
+    pub(crate) fn stay(&mut self, moment: Moment)
+        ensures { (past : Past) (taken : ℕ) → StandsFor self.old past taken → moment_of past ≤ moment
+            → StandsFor self.new (at_moment past moment) taken }
+    {
+        self.last = Some(moment);
+    }
+
+    fn hold(
+        &mut self,
+        life: u64,
+        number: u64,
+        moment: Moment,
+        way: Way,
+        octets: &[u8],
+    ) -> Result<(), NoMemory>
+        requires { length octets.now < 2 ^ 16 }
+        ensures stands { (past : Past) (taken : ℕ) → StandsFor self.old past taken → moment_of past ≤ moment
+            → OnOk result (StandsFor self.new (with_held (at_moment past moment)
+            (record { packet = record { number = number; moment = moment; way = way; octets = octets.now }; life = life })) taken) }
+        ensures unchanged { OnErr result (self.new ≡ self.old) }
+    {
+        let alloc = *self.held.allocator();
+        let packet = Packet {
+            number,
+            moment,
+            way,
+            octets: Octets::of(Vec::from_slice(alloc, octets)?),
+        };
+        self.held.push(HeldPacket { packet, life })?;
+        self.last = Some(moment);
+        Ok(())
+    }
+
+    fn pass(
+        &mut self,
+        bearer: &ActiveBearer,
+        up: bool,
+        bucket: Bucket,
+        moment: Moment,
+        octets: u32,
+    ) -> Result<(), NoMemory>
+        ensures stands { (past : Past) (taken : ℕ) → StandsFor self.old past taken → moment_of past ≤ moment → AreFew past.charged
+            → Contains past.version.bearers bearer.now → PolicesBehind (at_moment past moment) bearer.now up octets bucket
+            → OnOk result (StandsFor self.new (with_row (at_moment past moment) (row_for (at_moment past moment) bearer.now up octets)) taken) }
+        ensures unchanged { OnErr result (self.new ≡ self.old) }
+    {
+        self.book.post_one(&Posting::Packet {
+            life: bearer.life,
+            up,
+            octets,
+            at: moment,
+        })?;
+        self.meters.put(bearer, up, bucket);
+        self.last = Some(moment);
+        Ok(())
+    }
+}
