@@ -1,6 +1,5 @@
 -- The pieces of a life are its forwarded packets, happening after happening.
-use Rattle.std.proofs.Common.{◌≡◌, ◌≢◌, ℕ, zero, suc, ◌<◌, ◌==◌, List, [], ◌∷◌, ◌++◌, length, get_or, Contains, sym, ◌∙◌, ap, refl, subst, arith, eq-eqb, inl, inr, if◌then◌else◌, cond, Option, Some, None, append_assoc}
-use Rattle.std.specs.List.{filter_map, flat_map}
+use Rattle.std.proofs.Common.{◌≡◌, ◌≢◌, ℕ, zero, suc, ◌<◌, ◌==◌, List, [], ◌∷◌, ◌++◌, length, get_or, Contains, sym, ◌∙◌, ap, refl, subst, arith, eq-eqb, inl, inr, if◌then◌else◌, append_assoc}
 use Rattle.std.proofs.lemmas.Bool.{ne_eqb}
 use Rattle.std.proofs.lemmas.Bool.Decides.{eqb_tells}
 use Rattle.std.proofs.lemmas.Grind.{flat_map-append}
@@ -9,10 +8,10 @@ use Rattle.std.proofs.lemmas.List.Elements.{filter-append, filter_map-append}
 use Rattle.charging_book.specs.declared.records.Why.TheVariants.{Volume, Qos, Gone}
 use Rattle.charging_book.specs.Rows.{Charged}
 use Rattle.charging_book.specs.Pieces.{Forwarded, Item, packet, mark, Finished, finishes, piece_after, finished, last_piece}
-use Rattle.charging_book.specs.Happenings.{Happening, started, forwarded, closed, Story, with_item, story_step, story_of, lives_step, lives_of, rows_by, rows_at, rows_of, MayHappen, AllMay, IsLawful}
-use Rattle.charging_book.specs.Ledger.{packet_by, packets_of, rows_for, TellPieces, IsPartition, LedgersArePartitions}
+use Rattle.charging_book.specs.Happenings.{Happening, started, forwarded, closed, Story, with_item, story_step, story_of, lives_step, lives_of, rows_by, rows_at, rows_of, MayHappen, AllMay}
+use Rattle.charging_book.specs.Ledger.{packet_by, packets_of, rows_for, TellPieces, LedgersArePartitions}
 use Rattle.charging_book.proofs.Places.{IsNone, none_of_all, without, without-other, without-same}
-use Rattle.charging_book.proofs.Steps.{last_piece-push, story-push, lives-push, rows-push, lawful-push, lives-distinct}
+use Rattle.charging_book.proofs.Steps.{last_piece-push, story-push, lives-push, rows-push, lives-distinct}
 use Rattle.charging_book.proofs.Standing.{own-forwarded, other-forwarded, own-closed, other-closed}
 use Rattle.charging_book.proofs.Pieces.{joined, packet_in, item_kept, own_rows, others_rows, rows_tell, tell-append, last_of, opens_tell}
 
@@ -54,14 +53,17 @@ packets-push life before now = filter_map-append (packet_by life) before (now �
 rows_for-push : (life : ℕ) (before : List Happening) (now : Happening)
     → rows_for life (rows_of (before ++ now ∷ [])) ≡ rows_for life (rows_of before) ++ rows_for life (rows_at before now)
 rows_for-push life before now =
-    ap (rows_for life) (rows-push before now) ∙ filter-append (λ (row : Charged). row.life == life) (rows_of before) (rows_at before now)
+    ap (rows_for life) (rows-push before now)
+    ∙ filter-append (λ (row : Charged). row.life == life) (rows_of before) (rows_at before now)
 
-last-step : (life : ℕ) (before : List Happening) (now : Happening) (story : Story) → story_step life (story_of before life) now ≡ story
+last-step : (life : ℕ) (before : List Happening) (now : Happening) (story : Story)
+    → story_step life (story_of before life) now ≡ story
     → last_of life (before ++ now ∷ []) ≡ last_piece story.items
 last-step life before now story step = ap (λ (s : Story). last_piece s.items) (story-push before now life ∙ step)
 
 -- a happening that is nothing to the life
-passes : (life : ℕ) (before : List Happening) (now : Happening) → story_step life (story_of before life) now ≡ story_of before life
+passes : (life : ℕ) (before : List Happening) (now : Happening)
+    → story_step life (story_of before life) now ≡ story_of before life
     → packets_of life (now ∷ []) ≡ [] → rows_for life (rows_at before now) ≡ []
     → (IsNone life (lives_step (lives_of before) now) → IsNone life (lives_of before))
     → Holds life before → Holds life (before ++ now ∷ [])
@@ -70,7 +72,8 @@ passes life before now step no_packet no_rows fewer holds =
     record {
       pieces = holds.pieces;
       packets = ap (λ t. joined holds.pieces ++ t) last ∙ holds.packets
-          ∙ sym (packets-push life before now ∙ ap (λ t. packets_of life before ++ t) no_packet ∙ append-nil (packets_of life before));
+          ∙ sym (packets-push life before now ∙ ap (λ t. packets_of life before ++ t) no_packet
+          ∙ append-nil (packets_of life before));
       rows = rw (rows_for-push life before now, no_rows, append-nil (rows_for life (rows_of before))) holds.rows;
       over = λ none. last ∙ holds.over (fewer (subst (IsNone life) (lives-push before now) none));
     }
@@ -129,12 +132,14 @@ own_packet life p = rw (eq-eqb life life refl) refl
 others_packet : (life other : ℕ) (p : Forwarded) → other ≢ life → packets_of life (forwarded other p ∷ []) ≡ []
 others_packet life other p differs = rw (ne_eqb other life differs) refl
 
-rows_of_other : (life other : ℕ) (before : List Happening) (item : Item) → other ≢ life → rows_for life (rows_by other (story_of before other) item) ≡ []
+rows_of_other : (life other : ℕ) (before : List Happening) (item : Item) → other ≢ life
+    → rows_for life (rows_by other (story_of before other) item) ≡ []
 rows_of_other life other before item differs =
     let story = story_of before other in
     others_rows life other story.ebi story.qci (length (finished story.items)) (finishes (last_piece story.items) item) differs
 
-holds-step : (life : ℕ) (before : List Happening) (now : Happening) → MayHappen before now → Holds life before → Holds life (before ++ now ∷ [])
+holds-step : (life : ℕ) (before : List Happening) (now : Happening) → MayHappen before now → Holds life before
+    → Holds life (before ++ now ∷ [])
 holds-step life before (started other ebi qci) may holds = elim (eqb_tells other life) [
   | inl same ↦ subst (λ l. Holds l (before ++ started other ebi qci ∷ [])) same.1
       (starts other ebi qci before may (subst (λ l. Holds l before) (sym same.1) holds))
@@ -171,7 +176,8 @@ holds-step life before (closed other Gone) may holds = elim (eqb_tells other lif
       refl (rows_of_other life other before (mark Gone) apart.1) (none_with life other (lives_of before) apart.1) holds
 ]
 
-holds-from : (life : ℕ) (before later : List Happening) → AllMay before later → Holds life before → Holds life (before ++ later)
+holds-from : (life : ℕ) (before later : List Happening) → AllMay before later → Holds life before
+    → Holds life (before ++ later)
 holds-from life before [] may holds = rw (append-nil before) holds
 holds-from life before (now ∷ later) may holds =
     rw (append_assoc before (now ∷ []) later) at (holds-from life (before ++ now ∷ []) later may.1 (holds-step life before now may.0 holds))

@@ -18,8 +18,6 @@ mod tests;
 pub use built::is_built;
 pub use command::Command;
 pub use gateway::{Event, Gateway, Happened};
-pub use laws::{
-    each_packet_is_charged, every_trace_has_a_run, one_lawful_run, texts_tell_entries,
-};
+pub use laws::{each_packet_is_charged, every_trace_has_a_run, one_lawful_run, texts_tell_entries};
 pub use pc_base::{Outcome, Reply};
 pub use session::{Bearer, Bearers, Session, step};
