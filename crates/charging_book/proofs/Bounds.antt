@@ -8,7 +8,8 @@ use Rattle.charging_book.specs.Happenings.{Happening, started, forwarded, closed
 use Rattle.charging_book.specs.Accounts.{AreBounded, IsBounded}
 
 -- a story has no more items than there were happenings
-with_item-size : (b : Bool) (story : Story) (item : Item) → length (if b then with_item story item else story).items ≤ length story.items + 1
+with_item-size : (b : Bool) (story : Story) (item : Item)
+    → length (if b then with_item story item else story).items ≤ length story.items + 1
 with_item-size true story item = omega (arith, length-append story.items (item ∷ []))
 with_item-size false story item = omega arith
 
@@ -17,12 +18,14 @@ fresh-size : (b : Bool) (ebi qci : ℕ) (story : Story)
 fresh-size true ebi qci story = omega arith
 fresh-size false ebi qci story = omega arith
 
-step-size : (life : ℕ) (story : Story) (now : Happening) → length (story_step life story now).items ≤ length story.items + 1
+step-size : (life : ℕ) (story : Story) (now : Happening)
+    → length (story_step life story now).items ≤ length story.items + 1
 step-size life story (started other ebi qci) = fresh-size (other == life) ebi qci story
 step-size life story (forwarded other p) = with_item-size (other == life) story (packet p)
 step-size life story (closed other why) = with_item-size (other == life) story (mark why)
 
-steps-size : (life : ℕ) (story : Story) (happened : List Happening) → length (fold (story_step life) story happened).items ≤ length story.items + length happened
+steps-size : (life : ℕ) (story : Story) (happened : List Happening)
+    → length (fold (story_step life) story happened).items ≤ length story.items + length happened
 steps-size life story [] = omega arith
 steps-size life story (now ∷ later) =
     omega (arith, step-size life story now, steps-size life (story_step life story now) later)
@@ -54,7 +57,8 @@ piece_after-size piece (packet p) = elim (is_full (piece ++ p ∷ [])) as (λ b.
   | false ↦ omega (arith, length-append piece (p ∷ []))
 ]
 
-last_piece-size : (piece : List Forwarded) (items : List Item) → length (fold piece_after piece items) ≤ length piece + length items
+last_piece-size : (piece : List Forwarded) (items : List Item)
+    → length (fold piece_after piece items) ≤ length piece + length items
 last_piece-size piece [] = omega arith
 last_piece-size piece (item ∷ items) = omega (arith, piece_after-size piece item, last_piece-size (piece_after piece item) items)
 

@@ -10,17 +10,22 @@ use Rattle.charging_book.proofs.Partition.{ledgers_are_partitions}
 
 -- what a row, open counters and packets have of what is counted
 module _ (of_row : Charged → ℕ) (of_counters : Counters → ℕ) (weight : Forwarded → ℕ)
-    (row_has : (life ebi qci seq : ℕ) (done : Finished) → of_row (row_of life ebi qci seq done) ≡ sum_by weight done.piece)
-    (counters_have : (life ebi qci seq : ℕ) (piece : List Forwarded) → of_counters (open_of life ebi qci seq piece) ≡ sum_by weight piece) where
-  rows_have : (rows : List Charged) (pieces : List Finished) → TellPieces rows pieces → sum_by of_row rows ≡ sum_by weight (joined pieces)
+    (row_has : (life ebi qci seq : ℕ) (done : Finished)
+    → of_row (row_of life ebi qci seq done) ≡ sum_by weight done.piece)
+    (counters_have : (life ebi qci seq : ℕ) (piece : List Forwarded)
+    → of_counters (open_of life ebi qci seq piece) ≡ sum_by weight piece) where
+  rows_have : (rows : List Charged) (pieces : List Finished) → TellPieces rows pieces
+      → sum_by of_row rows ≡ sum_by weight (joined pieces)
   rows_have [] [] tell = refl
   rows_have [] (done ∷ pieces) tell = absurd tell
   rows_have (row ∷ rows) [] tell = absurd tell
   rows_have (row ∷ rows) (done ∷ pieces) tell =
-      let first : of_row row ≡ sum_by weight done.piece = ap of_row tell.0 ∙ row_has row.life row.ebi row.qci row.seq done in
+      let first : of_row row ≡ sum_by weight done.piece = ap of_row tell.0
+      ∙ row_has row.life row.ebi row.qci row.seq done in
       omega (arith, sum_by-cons of_row row rows, first, rows_have rows pieces tell.1, sum_by-append weight done.piece (joined pieces))
 
-  opens_have : (opens : List Counters) (last : List Forwarded) → TellLast opens last → sum_by of_counters opens ≡ sum_by weight last
+  opens_have : (opens : List Counters) (last : List Forwarded) → TellLast opens last
+      → sum_by of_counters opens ≡ sum_by weight last
   opens_have [] last tell = ap (sum_by weight) (sym tell)
   opens_have (counters ∷ []) last tell =
       sum_by-cons of_counters counters []

@@ -53,14 +53,17 @@ packets-push life before now = filter_map-append (packet_by life) before (now �
 rows_for-push : (life : ℕ) (before : List Happening) (now : Happening)
     → rows_for life (rows_of (before ++ now ∷ [])) ≡ rows_for life (rows_of before) ++ rows_for life (rows_at before now)
 rows_for-push life before now =
-    ap (rows_for life) (rows-push before now) ∙ filter-append (λ (row : Charged). row.life == life) (rows_of before) (rows_at before now)
+    ap (rows_for life) (rows-push before now)
+    ∙ filter-append (λ (row : Charged). row.life == life) (rows_of before) (rows_at before now)
 
-last-step : (life : ℕ) (before : List Happening) (now : Happening) (story : Story) → story_step life (story_of before life) now ≡ story
+last-step : (life : ℕ) (before : List Happening) (now : Happening) (story : Story)
+    → story_step life (story_of before life) now ≡ story
     → last_of life (before ++ now ∷ []) ≡ last_piece story.items
 last-step life before now story step = ap (λ (s : Story). last_piece s.items) (story-push before now life ∙ step)
 
 -- a happening that is nothing to the life
-passes : (life : ℕ) (before : List Happening) (now : Happening) → story_step life (story_of before life) now ≡ story_of before life
+passes : (life : ℕ) (before : List Happening) (now : Happening)
+    → story_step life (story_of before life) now ≡ story_of before life
     → packets_of life (now ∷ []) ≡ [] → rows_for life (rows_at before now) ≡ []
     → (IsNone life (lives_step (lives_of before) now) → IsNone life (lives_of before))
     → Holds life before → Holds life (before ++ now ∷ [])
@@ -69,7 +72,8 @@ passes life before now step no_packet no_rows fewer holds =
     record {
       pieces = holds.pieces;
       packets = ap (λ t. joined holds.pieces ++ t) last ∙ holds.packets
-          ∙ sym (packets-push life before now ∙ ap (λ t. packets_of life before ++ t) no_packet ∙ append-nil (packets_of life before));
+          ∙ sym (packets-push life before now ∙ ap (λ t. packets_of life before ++ t) no_packet
+          ∙ append-nil (packets_of life before));
       rows = rw (rows_for-push life before now, no_rows, append-nil (rows_for life (rows_of before))) holds.rows;
       over = λ none. last ∙ holds.over (fewer (subst (IsNone life) (lives-push before now) none));
     }
@@ -128,12 +132,14 @@ own_packet life p = rw (eq-eqb life life refl) refl
 others_packet : (life other : ℕ) (p : Forwarded) → other ≢ life → packets_of life (forwarded other p ∷ []) ≡ []
 others_packet life other p differs = rw (ne_eqb other life differs) refl
 
-rows_of_other : (life other : ℕ) (before : List Happening) (item : Item) → other ≢ life → rows_for life (rows_by other (story_of before other) item) ≡ []
+rows_of_other : (life other : ℕ) (before : List Happening) (item : Item) → other ≢ life
+    → rows_for life (rows_by other (story_of before other) item) ≡ []
 rows_of_other life other before item differs =
     let story = story_of before other in
     others_rows life other story.ebi story.qci (length (finished story.items)) (finishes (last_piece story.items) item) differs
 
-holds-step : (life : ℕ) (before : List Happening) (now : Happening) → MayHappen before now → Holds life before → Holds life (before ++ now ∷ [])
+holds-step : (life : ℕ) (before : List Happening) (now : Happening) → MayHappen before now → Holds life before
+    → Holds life (before ++ now ∷ [])
 holds-step life before (started other ebi qci) may holds = elim (eqb_tells other life) [
   | inl same ↦ subst (λ l. Holds l (before ++ started other ebi qci ∷ [])) same.1
       (starts other ebi qci before may (subst (λ l. Holds l before) (sym same.1) holds))
@@ -170,7 +176,8 @@ holds-step life before (closed other Gone) may holds = elim (eqb_tells other lif
       refl (rows_of_other life other before (mark Gone) apart.1) (none_with life other (lives_of before) apart.1) holds
 ]
 
-holds-from : (life : ℕ) (before later : List Happening) → AllMay before later → Holds life before → Holds life (before ++ later)
+holds-from : (life : ℕ) (before later : List Happening) → AllMay before later → Holds life before
+    → Holds life (before ++ later)
 holds-from life before [] may holds = rw (append-nil before) holds
 holds-from life before (now ∷ later) may holds =
     rw (append_assoc before (now ∷ []) later) at (holds-from life (before ++ now ∷ []) later may.1 (holds-step life before now may.0 holds))

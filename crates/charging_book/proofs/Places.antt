@@ -48,11 +48,13 @@ none-at x (y ∷ ys) zero none within = none.0
 none-at x (y ∷ ys) (suc place) none within = none-at x ys place none.1 (omega arith)
 
 -- two functions that differ at x alone
-pub map-others : {X : Type 0} (f g : ℕ → X) (x : ℕ) (xs : List ℕ) → IsNone x xs → ((y : ℕ) → y ≢ x → g y ≡ f y) → map g xs ≡ map f xs
+pub map-others : {X : Type 0} (f g : ℕ → X) (x : ℕ) (xs : List ℕ) → IsNone x xs → ((y : ℕ) → y ≢ x → g y ≡ f y)
+    → map g xs ≡ map f xs
 map-others f g x [] none same = refl
 map-others f g x (y ∷ ys) none same = let head = same y none.0 in let rest = map-others f g x ys none.1 same in cc
 
-pub map-at : {X : Type 0} (f g : ℕ → X) (x : ℕ) (xs : List ℕ) (place : ℕ) → AreDistinct xs → place < length xs → get_or xs place 0 ≡ x
+pub map-at : {X : Type 0} (f g : ℕ → X) (x : ℕ) (xs : List ℕ) (place : ℕ) → AreDistinct xs → place < length xs
+    → get_or xs place 0 ≡ x
     → ((y : ℕ) → y ≢ x → g y ≡ f y) → map g xs ≡ set (map f xs) place (g x)
 map-at f g x [] place distinct within is same = absurd (omega arith)
 map-at f g x (y ∷ ys) zero distinct within is same =
@@ -78,7 +80,8 @@ without-none : (x : ℕ) (xs : List ℕ) → IsNone x xs → without x xs ≡ xs
 without-none x [] none = refl
 without-none x (y ∷ ys) none = without-other x y ys none.0 ∙ ap (λ zs. y ∷ zs) (without-none x ys none.1)
 
-pub map-without : {X : Type 0} (f g : ℕ → X) (x : ℕ) (xs : List ℕ) (place : ℕ) → AreDistinct xs → place < length xs → get_or xs place 0 ≡ x
+pub map-without : {X : Type 0} (f g : ℕ → X) (x : ℕ) (xs : List ℕ) (place : ℕ) → AreDistinct xs → place < length xs
+    → get_or xs place 0 ≡ x
     → ((y : ℕ) → y ≢ x → g y ≡ f y) → map g (without x xs) ≡ remove (map f xs) place
 map-without f g x [] place distinct within is same = absurd (omega arith)
 map-without f g x (y ∷ ys) zero distinct within is same =

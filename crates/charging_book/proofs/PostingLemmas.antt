@@ -43,7 +43,8 @@ may_all_behind before (x ∷ xs) ys may =
     rw append_assoc at (may_all_behind (before ++ x ∷ []) xs ys may.1)
 
 -- a posting at its place
-pub may_at : (before : List Happening) (postings : List Posting) (place : ℕ) (posting : Posting) → place < length postings
+pub may_at : (before : List Happening) (postings : List Posting) (place : ℕ) (posting : Posting)
+    → place < length postings
     → posting ≡ get_or postings place posting → MayAllFollow before (map happening_of postings)
     → MayFollow (before ++ map happening_of (take place postings)) (happening_of posting)
 may_at before postings place posting within is may =
@@ -56,18 +57,22 @@ may_at before postings place posting within is may =
     (may_all_behind before (map happening_of (take place postings)) (happening_of posting ∷ map happening_of (drop (suc place) postings))
     (subst (MayAllFollow before) split may)).0
 
-pub posted_one : (before : List Happening) (postings : List Posting) (place : ℕ) (posting : Posting) → place < length postings
+pub posted_one : (before : List Happening) (postings : List Posting) (place : ℕ) (posting : Posting)
+    → place < length postings
     → posting ≡ get_or postings place posting
     → (before ++ map happening_of (take place postings)) ++ happening_of posting ∷ [] ≡ before ++ map happening_of (take (place + 1) postings)
 posted_one before postings place posting within is =
     append_assoc before (map happening_of (take place postings)) (happening_of posting ∷ [])
-    ∙ ap (λ xs. before ++ xs) (sym (ap (map happening_of) (take_more postings place posting within ∙ ap (λ x. take place postings ++ x ∷ []) (sym is))
+    ∙ ap (λ xs. before ++ xs) (sym (ap (map happening_of) (take_more postings place posting within
+    ∙ ap (λ x. take place postings ++ x ∷ []) (sym is))
     ∙ map-append happening_of (take place postings) (posting ∷ [])))
 
 -- a book that takes a copy's counters over, and its rows behind its own
-pub stands_joined : (book copy new : Accounts) (happened more : List Happening) (taken : ℕ) → StandsFor book happened taken
+pub stands_joined : (book copy new : Accounts) (happened more : List Happening) (taken : ℕ)
+    → StandsFor book happened taken
     → StandsFor copy (happened ++ more) (length (rows_of happened))
-    → new.opens ≡ copy.opens → new.moments ≡ copy.moments → new.rows ≡ book.rows ++ copy.rows → StandsFor new (happened ++ more) taken
+    → new.opens ≡ copy.opens → new.moments ≡ copy.moments → new.rows ≡ book.rows ++ copy.rows
+    → StandsFor new (happened ++ more) taken
 stands_joined book copy new happened more taken stands after opens moments rows =
     let all : rows_of (happened ++ more) ≡ rows_of happened ++ rows_from happened more = rows_from-append [] happened more in
     record {
@@ -83,7 +88,8 @@ stands_joined book copy new happened more taken stands after opens moments rows 
     }
 
 -- a life may start where it isn't open
-pub start_told : (book : Accounts) (life : ℕ) (told : Bool) → life ≤ 2 ^ 61 → IsTrue told ↔ Contains (lives_in book) life
+pub start_told : (book : Accounts) (life : ℕ) (told : Bool) → life ≤ 2 ^ 61
+    → IsTrue told ↔ Contains (lives_in book) life
     → IsTrue (not told) ↔ MayStart book life
 start_told book life true in_range is_open = (
   λ never. absurd (false≢true never),

@@ -62,18 +62,21 @@ last_at-push : (piece : List Forwarded) (p : Forwarded) → Some p.at ≡ last_a
 last_at-push piece p = sym (fold-append (λ _ q. Some q.at) None piece (p ∷ []))
 
 -- and its moments
-pub moments-push : (piece : List Forwarded) (p : Forwarded) → with_moment (moments_of piece) p.at ≡ moments_of (piece ++ p ∷ [])
+pub moments-push : (piece : List Forwarded) (p : Forwarded)
+    → with_moment (moments_of piece) p.at ≡ moments_of (piece ++ p ∷ [])
 moments-push [] p = refl
 moments-push (q ∷ piece) p =
     let with_last : Option ℕ → Moments = λ last. record { first = Some q.at; last = last } in
     ap with_last (last_at-push (q ∷ piece) p)
 
 -- the lives of a book are those of what happened
-pub lives-opens : (happened : List Happening) (lives : List ℕ) → map (λ counters. counters.life) (map (open_at happened) lives) ≡ lives
+pub lives-opens : (happened : List Happening) (lives : List ℕ)
+    → map (λ counters. counters.life) (map (open_at happened) lives) ≡ lives
 lives-opens happened [] = refl
 lives-opens happened (x ∷ xs) = ap (λ ys. x ∷ ys) (lives-opens happened xs)
 
-pub lives-stand : (book : Accounts) (happened : List Happening) (taken : ℕ) → StandsFor book happened taken → lives_in book ≡ lives_of happened
+pub lives-stand : (book : Accounts) (happened : List Happening) (taken : ℕ) → StandsFor book happened taken
+    → lives_in book ≡ lives_of happened
 lives-stand book happened taken stands =
     ap (λ opens. map (λ counters. counters.life) opens) stands.opens ∙ lives-opens happened (lives_of happened)
 
@@ -85,8 +88,10 @@ pub record IsAt (book : Accounts) (place life : ℕ) (counters : Counters) (mome
   pub moments_are : moments ≡ get_or book.moments place moments
 
 pub is-at : (book : Accounts) (opens : List Counters) (spans : List Moments) (place life : ℕ) (counters : Counters) (moments : Moments)
-    → opens ≡ book.opens → spans ≡ book.moments → place < length opens → get_or (map (λ counters. counters.life) opens) place 0 ≡ life
-    → counters ≡ get_or opens place counters → moments ≡ get_or spans place moments → IsAt book place life counters moments
+    → opens ≡ book.opens → spans ≡ book.moments → place < length opens
+    → get_or (map (λ counters. counters.life) opens) place 0 ≡ life
+    → counters ≡ get_or opens place counters → moments ≡ get_or spans place moments
+    → IsAt book place life counters moments
 is-at book opens spans place life counters moments same_opens same_spans within found counters_are moments_are = record {
   within = rw (← same_opens) within;
   found = ap (λ xs. get_or (map (λ counters. counters.life) xs) place 0) (sym same_opens) ∙ found;
@@ -100,7 +105,8 @@ at-lives : (book : Accounts) (happened : List Happening) (taken place life : ℕ
     × (counters ≡ open_at happened life) × (moments ≡ moments_at happened life)
 at-lives book happened taken place life counters moments stands at =
     let lives = lives-stand book happened taken stands in
-    let size : length book.opens ≡ length (lives_of happened) = ap length stands.opens ∙ length-map (lives_of happened) (open_at happened) in
+    let size : length book.opens ≡ length (lives_of happened) = ap length stands.opens
+    ∙ length-map (lives_of happened) (open_at happened) in
     let within : place < length (lives_of happened) = omega (arith, at.within, size) in
     let found : get_or (lives_of happened) place 0 ≡ life = ap (λ xs. get_or xs place 0) (sym lives) ∙ at.found in (
       within,
@@ -108,7 +114,8 @@ at-lives book happened taken place life counters moments stands at =
       at.counters_are ∙ ap (λ xs. get_or xs place counters) stands.opens
           ∙ get_or-map (open_at happened) (lives_of happened) place 0 counters within ∙ ap (open_at happened) found,
       at.moments_are ∙ ap (λ xs. get_or xs place moments) stands.moments
-          ∙ get_or-map (moments_at happened) (lives_of happened) place 0 moments within ∙ ap (moments_at happened) found,
+          ∙ get_or-map (moments_at happened) (lives_of happened) place 0 moments within
+          ∙ ap (moments_at happened) found,
     )
 
 -- a happening that changes one life's story, and no lives
@@ -128,7 +135,8 @@ stands-at book new happened taken now life place stands may lives others within 
     λ other differs. ap (λ story. open_of other story.ebi story.qci (length (finished story.items)) (last_piece story.items))
     (story-push happened now other ∙ others other differs) in
     let same_moments : (other : ℕ) → other ≢ life → moments_at later other ≡ moments_at happened other =
-    λ other differs. ap (λ story. moments_of (last_piece story.items)) (story-push happened now other ∙ others other differs) in
+    λ other differs. ap (λ story. moments_of (last_piece story.items)) (story-push happened now other
+    ∙ others other differs) in
     record {
       lawful = lawful-push happened now stands.lawful may;
       opens = opens ∙ ap (λ xs. set xs place (open_at later life)) stands.opens
@@ -153,7 +161,8 @@ open-push : (happened : List Happening) (now : Happening) (life : ℕ) (item : I
 open-push happened now life item step =
     let story = story_of happened life in
     let rows : length (finished (story.items ++ item ∷ [])) ≡ length (finished story.items) + length (finishes (last_piece story.items) item) =
-    ap length (finished-push story.items item) ∙ length-append (finished story.items) (finishes (last_piece story.items) item) in
+    ap length (finished-push story.items item)
+    ∙ length-append (finished story.items) (finishes (last_piece story.items) item) in
     ap (λ next. open_of life next.ebi next.qci (length (finished next.items)) (last_piece next.items)) (story-push happened now life ∙ step)
     ∙ ap (λ seq. open_of life story.ebi story.qci seq (last_piece (story.items ++ item ∷ []))) rows
     ∙ ap (open_of life story.ebi story.qci (length (finished story.items) + length (finishes (last_piece story.items) item)))
@@ -167,16 +176,20 @@ moments_at-push happened now life item step =
     ∙ ap moments_of (last_piece-push (story_of happened life).items item)
 
 -- what a packet does to its own life's story, and to others
-pub own-forwarded : (life : ℕ) (p : Forwarded) (story : Story) → story_step life story (forwarded life p) ≡ with_item story (packet p)
+pub own-forwarded : (life : ℕ) (p : Forwarded) (story : Story)
+    → story_step life story (forwarded life p) ≡ with_item story (packet p)
 own-forwarded life p story = rw (eq-eqb life life refl)
 
-pub other-forwarded : (life : ℕ) (p : Forwarded) (other : ℕ) (story : Story) → other ≢ life → story_step other story (forwarded life p) ≡ story
+pub other-forwarded : (life : ℕ) (p : Forwarded) (other : ℕ) (story : Story) → other ≢ life
+    → story_step other story (forwarded life p) ≡ story
 other-forwarded life p other story differs = rw (ne_eqb life other (λ is. differs (sym is)))
 
-pub own-closed : (life : ℕ) (why : Why) (story : Story) → story_step life story (closed life why) ≡ with_item story (mark why)
+pub own-closed : (life : ℕ) (why : Why) (story : Story)
+    → story_step life story (closed life why) ≡ with_item story (mark why)
 own-closed life why story = rw (eq-eqb life life refl)
 
-pub other-closed : (life : ℕ) (why : Why) (other : ℕ) (story : Story) → other ≢ life → story_step other story (closed life why) ≡ story
+pub other-closed : (life : ℕ) (why : Why) (other : ℕ) (story : Story) → other ≢ life
+    → story_step other story (closed life why) ≡ story
 other-closed life why other story differs = rw (ne_eqb life other (λ is. differs (sym is)))
 
 -- whether a packet fills its piece
@@ -186,7 +199,8 @@ unfilled piece p full =
     (ap (λ b. cond b (record { piece = piece ++ p ∷ []; why = Volume } ∷ []) []) full, ap (λ b. cond b [] (piece ++ p ∷ [])) full)
 
 pub filled : (piece : List Forwarded) (p : Forwarded) → is_full (piece ++ p ∷ []) ≡ true
-    → (finishes piece (packet p) ≡ record { piece = piece ++ p ∷ []; why = Volume } ∷ []) × (piece_after piece (packet p) ≡ [])
+    → (finishes piece (packet p) ≡ record { piece = piece ++ p ∷ []; why = Volume } ∷ [])
+    × (piece_after piece (packet p) ≡ [])
 filled piece p full =
     (ap (λ b. cond b (record { piece = piece ++ p ∷ []; why = Volume } ∷ []) []) full, ap (λ b. cond b [] (piece ++ p ∷ [])) full)
 
@@ -235,7 +249,8 @@ stands-filled book new happened taken life place p counters moments stands at is
     let seq = length (finished story.items) in
     let more : with_packet counters p.up p.octets ≡ open_of life story.ebi story.qci seq (piece ++ p ∷ []) =
     ap (λ c. with_packet c p.up p.octets) known.2 ∙ counters-push life story.ebi story.qci seq piece p in
-    let full : is_full (piece ++ p ∷ []) ≡ true = sym (ap (λ c. nat_le volume (c.up_octets + c.down_octets)) more) ∙ room in
+    let full : is_full (piece ++ p ∷ []) ≡ true = sym (ap (λ c. nat_le volume (c.up_octets + c.down_octets)) more)
+    ∙ room in
     let done = filled piece p full in
     let step = own-forwarded life p story in
     let now_open : next_piece (with_packet counters p.up p.octets) ≡ open_at (happened ++ forwarded life p ∷ []) life =
@@ -253,7 +268,8 @@ stands-filled book new happened taken life place p counters moments stands at is
     (subst (λ lives. Contains lives life) (lives-stand book happened taken stands) is_open) refl
     (λ other differs. other-forwarded life p other (story_of happened other) differs) known.0 known.1
     (opens ∙ ap (set book.opens place) now_open) (spans ∙ ap (set book.moments place) now_moments)
-    (rows ∙ ap (λ r. book.rows ++ r ∷ []) row ∙ ap (λ xs. book.rows ++ map (row_of life story.ebi story.qci seq) xs) (sym done.0))
+    (rows ∙ ap (λ r. book.rows ++ r ∷ []) row
+    ∙ ap (λ xs. book.rows ++ map (row_of life story.ebi story.qci seq) xs) (sym done.0))
 
 -- a mark after which the next piece begins
 pub stands-marked : (book new : Accounts) (happened : List Happening) (taken life place : ℕ) (why : Why) (counters : Counters) (moments : Moments)
@@ -269,7 +285,8 @@ stands-marked book new happened taken life place why counters moments stands at 
     stands-at book new happened taken (closed life why) life place stands
     (subst (λ xs. Contains xs life) (lives-stand book happened taken stands) is_open) lives
     (λ other differs. other-closed life why other (story_of happened other) differs) known.0 known.1
-    (opens ∙ ap (set book.opens place) (ap next_piece known.2 ∙ sym (open-push happened (closed life why) life (mark why) step)))
+    (opens ∙ ap (set book.opens place) (ap next_piece known.2
+    ∙ sym (open-push happened (closed life why) life (mark why) step)))
     (spans ∙ ap (set book.moments place) (sym (moments_at-push happened (closed life why) life (mark why) step)))
     (rows ∙ ap (λ c. book.rows ++ row_from c moments why ∷ []) known.2
     ∙ ap (λ m. book.rows ++ row_from (open_at happened life) m why ∷ []) known.3)
@@ -311,7 +328,8 @@ stands-gone book new happened taken life place counters moments stands at is_ope
 -- a life starts
 pub stands-started : (book new : Accounts) (happened : List Happening) (taken life ebi qci : ℕ)
     → StandsFor book happened taken → All (λ other. other ≢ life) (lives_in book)
-    → new.opens ≡ book.opens ++ open_of life ebi qci 0 [] ∷ [] → new.moments ≡ book.moments ++ no_moments ∷ [] → new.rows ≡ book.rows
+    → new.opens ≡ book.opens ++ open_of life ebi qci 0 [] ∷ [] → new.moments ≡ book.moments ++ no_moments ∷ []
+    → new.rows ≡ book.rows
     → StandsFor new (happened ++ started life ebi qci ∷ []) taken
 stands-started book new happened taken life ebi qci stands fresh opens spans rows =
     let now = started life ebi qci in

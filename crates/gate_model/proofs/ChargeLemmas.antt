@@ -21,7 +21,8 @@ use Rattle.gate_model.proofs.SessionLemmas.{session_after-command, session_after
 abbrev pub AreFew : List Bearer → Type 0
 AreFew bearers = (bearers ≡ []) ⊎ ((bearer : Bearer) × (bearers ≡ bearer ∷ []))
 
-few_by : (session : Session) (commands : List Command) → AreFew session.bearers → AreFew (controlled_by session commands).bearers
+few_by : (session : Session) (commands : List Command) → AreFew session.bearers
+    → AreFew (controlled_by session commands).bearers
 few_by session [] few = few
 few_by session (Attach enb up down ∷ commands) few =
     few_by (controlled session (Attach enb up down)).0 commands (inr (_, refl))
@@ -57,7 +58,8 @@ event_lives slot before (event.Packet packet) =
     verdict_lives packet (verdict_after slot before packet) (lives_in (session_after slot before).bearers)
     ∙ sym (ap (λ (s : Session). lives_in s.bearers) (session_after-packet slot before packet))
 
-lives_from : (slot : ℕ) (before later : List Event) (lives : List ℕ) → lives ≡ lives_in (session_after slot before).bearers
+lives_from : (slot : ℕ) (before later : List Event) (lives : List ℕ)
+    → lives ≡ lives_in (session_after slot before).bearers
     → fold lives_step lives (happenings_from slot before later) ≡ lives_in (session_after slot (before ++ later)).bearers
 lives_from slot before [] lives is = is ∙ ap (λ events. lives_in (session_after slot events).bearers) (sym (append-nil before))
 lives_from slot before (now ∷ later) lives is =
@@ -66,7 +68,8 @@ lives_from slot before (now ∷ later) lives is =
     (ap (λ l. fold lives_step l (by_event slot before now)) is ∙ event_lives slot before now)
     ∙ ap (λ events. lives_in (session_after slot events).bearers) (append_assoc before (now ∷ []) later)
 
-pub lives_are_bearers : (slot : ℕ) (events : List Event) → lives_of (happenings slot events) ≡ lives_in (session_after slot events).bearers
+pub lives_are_bearers : (slot : ℕ) (events : List Event)
+    → lives_of (happenings slot events) ≡ lives_in (session_after slot events).bearers
 lives_are_bearers slot events = lives_from slot [] events [] refl
 
 -- what one event more makes happen comes behind the rest
@@ -79,14 +82,16 @@ happenings_from-push slot before (first ∷ later) now =
     ∙ sym (append_assoc (by_event slot before first) (happenings_from slot (before ++ first ∷ []) later) (by_event slot ((before ++ first ∷ []) ++ later) now))
     ∙ ap (λ done. (by_event slot before first ++ happenings_from slot (before ++ first ∷ []) later) ++ by_event slot done now) (append_assoc before (first ∷ []) later)
 
-pub happenings-push : (slot : ℕ) (events : List Event) (now : Event) → happenings slot (events ++ now ∷ []) ≡ happenings slot events ++ by_event slot events now
+pub happenings-push : (slot : ℕ) (events : List Event) (now : Event)
+    → happenings slot (events ++ now ∷ []) ≡ happenings slot events ++ by_event slot events now
 happenings-push slot events now = happenings_from-push slot [] events now
 
 -- an event makes two things happen at the most
 few_happen : (slot : ℕ) (before : List Event) (now : Event) → length (by_event slot before now) ≤ 2
 few_happen slot before (event.Command (Attach enb up down)) = by_bearers (session_after slot before).bearers (bearers_are_few slot before)
   where
-    by_bearers : (bearers : List Bearer) → AreFew bearers → length (map gone bearers ++ begun (default_bearer (session_after slot before).lives enb) ∷ []) ≤ 2
+    by_bearers : (bearers : List Bearer) → AreFew bearers
+        → length (map gone bearers ++ begun (default_bearer (session_after slot before).lives enb) ∷ []) ≤ 2
     by_bearers bearers (inl none) = rw none (omega arith)
     by_bearers bearers (inr one) = rw (one.1) (omega arith)
 few_happen slot before (event.Packet packet) = by_verdicts (verdict_after slot before packet)

@@ -21,7 +21,8 @@ pub Above-less : (least less : ℕ) (octets : List ℕ) → less ≤ least → A
 Above-less least less [] le above = tt
 Above-less least less (octet ∷ octets) le above = (omega (arith, above.0), Above-less least less octets le above.1)
 
-pub Above-append : (least : ℕ) (front back : List ℕ) → Above least front → Above least back → Above least (front ++ back)
+pub Above-append : (least : ℕ) (front back : List ℕ) → Above least front → Above least back
+    → Above least (front ++ back)
 Above-append least [] back above more = more
 Above-append least (octet ∷ front) back above more = (above.0, Above-append least front back above.1 more)
 
@@ -61,7 +62,8 @@ abbrev pub ArePlain : List (List ℕ) → Type 0
 ArePlain [] = ⊤
 ArePlain (field ∷ rest) = Above 32 field × ArePlain rest
 
-pub fields_tell : (f g : List ℕ) (fs gs : List (List ℕ)) → ArePlain (f ∷ fs) → ArePlain (g ∷ gs) → fields (f ∷ fs) ≡ fields (g ∷ gs)
+pub fields_tell : (f g : List ℕ) (fs gs : List (List ℕ)) → ArePlain (f ∷ fs) → ArePlain (g ∷ gs)
+    → fields (f ∷ fs) ≡ fields (g ∷ gs)
     → f ∷ fs ≡ g ∷ gs
 fields_tell f g [] [] plain_f plain_g same =
     ap (λ field. field ∷ []) (parted 32 f g 10 10 [] [] plain_f.0 plain_g.0 (omega arith) (omega arith) same).0
@@ -149,13 +151,15 @@ by_the_right : (a b c d : List ℕ) → ((a ++ 46 ∷ b) ++ 46 ∷ c) ++ 46 ∷ 
 by_the_right a b c d = simp append_assoc
 
 -- the front of two numbers with a dot between
-part_tells : (a b : ℕ) (r s : List ℕ) → a < 2 ^ 64 → b < 2 ^ 64 → decimal a ++ 46 ∷ r ≡ decimal b ++ 46 ∷ s → (a ≡ b) × (r ≡ s)
+part_tells : (a b : ℕ) (r s : List ℕ) → a < 2 ^ 64 → b < 2 ^ 64 → decimal a ++ 46 ∷ r ≡ decimal b ++ 46 ∷ s
+    → (a ≡ b) × (r ≡ s)
 part_tells a b r s fits_a fits_b same =
     let both = parted 47 (decimal a) (decimal b) 46 46 r s (Above-decimal a fits_a) (Above-decimal b fits_b) (omega arith) (omega arith) same in
     (decimal_injective a b fits_a fits_b both.0, ap (drop 1) both.1)
 
 -- an address by its parts
-address_by_parts : (a b : ℕ) → a / 2 ^ 24 ≡ b / 2 ^ 24 → a / 2 ^ 16 % 2 ^ 8 ≡ b / 2 ^ 16 % 2 ^ 8 → a / 2 ^ 8 % 2 ^ 8 ≡ b / 2 ^ 8 % 2 ^ 8
+address_by_parts : (a b : ℕ) → a / 2 ^ 24 ≡ b / 2 ^ 24 → a / 2 ^ 16 % 2 ^ 8 ≡ b / 2 ^ 16 % 2 ^ 8
+    → a / 2 ^ 8 % 2 ^ 8 ≡ b / 2 ^ 8 % 2 ^ 8
     → a % 2 ^ 8 ≡ b % 2 ^ 8 → a ≡ b
 address_by_parts a b first second third fourth = omega arith
 

@@ -24,11 +24,13 @@ use Rattle.gate_model.proofs.ChargeLemmas.{AreFew, lives_in, bearers_are_few, li
 use Rattle.gate_model.proofs.LineByLine.{eqb_same}
 
 -- all lives end, and a new one starts
-attach_lawful : (before : List Happening) (bearers : List Bearer) (new : Bearer) → AreFew bearers → lives_of before ≡ lives_in bearers
+attach_lawful : (before : List Happening) (bearers : List Bearer) (new : Bearer) → AreFew bearers
+    → lives_of before ≡ lives_in bearers
     → IsLawful before → IsLawful (before ++ (map gone bearers ++ begun new ∷ []))
 attach_lawful before bearers new (inl none) are lawful =
     rw none (lawful-push before (begun new) lawful
-    (subst (λ lives. All (λ other. other ≢ new.life) lives) (sym (are ∙ ap lives_in none)) (All-nil (λ other. other ≢ new.life))))
+    (subst (λ lives. All (λ other. other ≢ new.life) lives) (sym (are
+    ∙ ap lives_in none)) (All-nil (λ other. other ≢ new.life))))
 attach_lawful before bearers new (inr one) are lawful =
     let old : Bearer = one.0 in
     let its_life : lives_of before ≡ old.life ∷ [] = are ∙ ap lives_in one.1 in
@@ -36,14 +38,17 @@ attach_lawful before bearers new (inr one) are lawful =
     (subst (λ lives. Contains lives old.life) (sym its_life) (0, omega arith, refl)) in
     let same : eqb old.life old.life ≡ true = eqb_same old.life in
     let none : lives_of (before ++ gone old ∷ []) ≡ [] =
-    fold-append lives_step [] before (gone old ∷ []) ∙ ap (λ lives. fold lives_step lives (gone old ∷ [])) its_life ∙ rw same refl in
+    fold-append lives_step [] before (gone old ∷ []) ∙ ap (λ lives. fold lives_step lives (gone old ∷ [])) its_life
+    ∙ rw same refl in
     rw (one.1) (subst IsLawful (append_assoc before (gone old ∷ []) (begun new ∷ []))
     (lawful-push (before ++ gone old ∷ []) (begun new) ended
     (subst (λ lives. All (λ other. other ≢ new.life) lives) (sym none) (All-nil (λ other. other ≢ new.life)))))
 
 -- a packet that is sent up is sent on a bearer of the session
-sent_life : (found : Option Bearer) (slot life : ℕ) (octets payload : List ℕ) (own : Bool) → own ≡ (source_of octets == addr_of slot)
-    → verdict.Up life payload ≡ sent_on found slot octets → (bearer : Bearer) × (found ≡ Some bearer) × (bearer.life ≡ life)
+sent_life : (found : Option Bearer) (slot life : ℕ) (octets payload : List ℕ) (own : Bool)
+    → own ≡ (source_of octets == addr_of slot)
+    → verdict.Up life payload ≡ sent_on found slot octets
+    → (bearer : Bearer) × (found ≡ Some bearer) × (bearer.life ≡ life)
 sent_life None slot life octets payload own test is = cc
 sent_life (Some bearer) slot life octets payload true test is =
     let up : verdict.Up life payload ≡ verdict.Up bearer.life octets = is ∙ (rw (sym test) refl) in
@@ -59,7 +64,8 @@ only_one bearer found index is =
     by_test true is' = cc
     by_test false is' = cc
 
-sent_in : (bearer : Bearer) (found : Option Bearer) (index slot life : ℕ) (octets payload : List ℕ) → found ≡ bearer_at index (bearer ∷ [])
+sent_in : (bearer : Bearer) (found : Option Bearer) (index slot life : ℕ) (octets payload : List ℕ)
+    → found ≡ bearer_at index (bearer ∷ [])
     → verdict.Up life payload ≡ sent_on found slot octets → Contains (lives_in (bearer ∷ [])) life
 sent_in bearer found index slot life octets payload at is =
     let sent = sent_life found slot life octets payload (source_of octets == addr_of slot) refl is in
@@ -67,21 +73,25 @@ sent_in bearer found index slot life octets payload at is =
     (0, omega arith, ap (λ (b : Bearer). b.life) (sym same) ∙ sent.2)
 
 pub life_of_few : (bearers : List Bearer) (live : Bool) (index slot life : ℕ) (octets payload : List ℕ) → AreFew bearers
-    → verdict.Up life payload ≡ sent_on (if live then bearer_at index bearers else None) slot octets → Contains (lives_in bearers) life
+    → verdict.Up life payload ≡ sent_on (if live then bearer_at index bearers else None) slot octets
+    → Contains (lives_in bearers) life
 life_of_few bearers false index slot life octets payload few is = cc
 life_of_few bearers true index slot life octets payload (inl none) is =
-    let refused : verdict.Up life payload ≡ verdict.NoBearer = is ∙ ap (λ bs. sent_on (bearer_at index bs) slot octets) none in cc
+    let refused : verdict.Up life payload ≡ verdict.NoBearer = is
+    ∙ ap (λ bs. sent_on (bearer_at index bs) slot octets) none in cc
 life_of_few bearers true index slot life octets payload (inr one) is =
     subst (λ bs. Contains (lives_in bs) life) (sym one.1)
     (sent_in one.0 (bearer_at index (one.0 ∷ [])) index slot life octets payload refl
     (is ∙ ap (λ bs. sent_on (bearer_at index bs) slot octets) one.1))
 
 -- no packet comes down yet
-never_down : (found : Option Bearer) (slot life peer : ℕ) (octets payload : List ℕ) → verdict.Down life peer payload ≡ sent_on found slot octets → ⊥
+never_down : (found : Option Bearer) (slot life peer : ℕ) (octets payload : List ℕ)
+    → verdict.Down life peer payload ≡ sent_on found slot octets → ⊥
 never_down None slot life peer octets payload is = cc
 never_down (Some bearer) slot life peer octets payload is = by_test (source_of octets == addr_of slot) is
   where
-    by_test : (test : Bool) → verdict.Down life peer payload ≡ cond test (verdict.Up bearer.life octets) verdict.Spoof → ⊥
+    by_test : (test : Bool) → verdict.Down life peer payload ≡ cond test (verdict.Up bearer.life octets) verdict.Spoof
+        → ⊥
     by_test true is' = cc
     by_test false is' = cc
 
@@ -96,7 +106,8 @@ IsCounted lives (verdict.Held life message) = Unit {0}
 IsCounted lives (verdict.Policed life) = Unit {0}
 
 counted_up : (session : Session) (index : ℕ) (octets : List ℕ) (v : Verdict) → AreFew session.bearers
-    → v ≡ sent_on (if session.live then bearer_at index session.bearers else None) session.slot octets → IsCounted (lives_in session.bearers) v
+    → v ≡ sent_on (if session.live then bearer_at index session.bearers else None) session.slot octets
+    → IsCounted (lives_in session.bearers) v
 counted_up session index octets (verdict.Up life payload) few is =
     life_of_few session.bearers session.live index session.slot life octets payload few is
 counted_up session index octets (verdict.Down life peer payload) few is =
@@ -107,11 +118,13 @@ counted_up session index octets (verdict.Idle life) few is = tt
 counted_up session index octets (verdict.Held life message) few is = tt
 counted_up session index octets (verdict.Policed life) few is = tt
 
-counted : (session : Session) (octets : List ℕ) (way : Way) → AreFew session.bearers → IsCounted (lives_in session.bearers) (judged_by session octets way)
+counted : (session : Session) (octets : List ℕ) (way : Way) → AreFew session.bearers
+    → IsCounted (lives_in session.bearers) (judged_by session octets way)
 counted session octets (Up index) few = counted_up session index octets (judged_by session octets (Up index)) few refl
 counted session octets Down few = tt
 
-packet_lawful : (before : List Happening) (packet : Packet) (v : Verdict) → IsCounted (lives_of before) v → IsLawful before
+packet_lawful : (before : List Happening) (packet : Packet) (v : Verdict) → IsCounted (lives_of before) v
+    → IsLawful before
     → IsLawful (before ++ by_verdict packet v)
 packet_lawful before packet (verdict.Up life octets) is_open lawful = lawful-push before _ lawful is_open
 packet_lawful before packet (verdict.Down life peer octets) is_open lawful = absurd is_open
@@ -132,7 +145,8 @@ event_lawful slot events (event.Packet packet) lawful =
     (counted (session_after slot events) packet.octets packet.way (bearers_are_few slot events)))
     lawful
 
-lawful_from : (slot : ℕ) (before later : List Event) → IsLawful (happenings slot before) → IsLawful (happenings slot (before ++ later))
+lawful_from : (slot : ℕ) (before later : List Event) → IsLawful (happenings slot before)
+    → IsLawful (happenings slot (before ++ later))
 lawful_from slot before [] lawful = rw (append-nil before) lawful
 lawful_from slot before (now ∷ later) lawful =
     subst (λ events. IsLawful (happenings slot events)) (append_assoc before (now ∷ []) later)

@@ -20,15 +20,18 @@ counted_to-suc : (n : ℕ) → counted_to (n + 1) ≡ counted_to n ++ n ∷ []
 counted_to-suc n = rw add-one refl
 
 commands_numbered_more : (slot : ℕ) (before : List Decision) (entries : List Entry) (made : Decision)
-    → CommandsNumbered slot before entries → CommandsNumbered slot (before ++ made ∷ []) (entries ++ entry_after before made ∷ [])
+    → CommandsNumbered slot before entries
+    → CommandsNumbered slot (before ++ made ∷ []) (entries ++ entry_after before made ∷ [])
 commands_numbered_more slot before entries (note text) holds = simp (filter_map-append, append-nil) holds
 commands_numbered_more slot before entries (command own c) holds =
-    at_slot (λ s. CommandsNumbered s before entries → CommandsNumbered s (before ++ command own c ∷ []) (entries ++ entry_after before (command own c) ∷ [])) own slot
+    at_slot (λ s. CommandsNumbered s before entries
+    → CommandsNumbered s (before ++ command own c ∷ []) (entries ++ entry_after before (command own c) ∷ [])) own slot
     (λ holds. simp (filter_map-append, length-append, eqb_same, counted_to-suc) (ap (λ front. front ++ length (commands_of (events_at own before)) ∷ []) holds))
     (λ other holds. simp (filter_map-append, other, append-nil) holds)
     holds
 commands_numbered_more slot before entries (packet own p) holds =
-    at_slot (λ s. CommandsNumbered s before entries → CommandsNumbered s (before ++ packet own p ∷ []) (entries ++ entry_after before (packet own p) ∷ [])) own slot
+    at_slot (λ s. CommandsNumbered s before entries
+    → CommandsNumbered s (before ++ packet own p ∷ []) (entries ++ entry_after before (packet own p) ∷ [])) own slot
     (λ holds. simp (filter_map-append, eqb_same, append-nil) holds)
     (λ other holds. simp (filter_map-append, other, append-nil) holds)
     holds
@@ -39,15 +42,18 @@ PacketsNumbered slot made entries =
     filter_map (packet_number slot) entries ≡ counted_to (length (packets_of (events_at slot made)))
 
 packets_numbered_more : (slot : ℕ) (before : List Decision) (entries : List Entry) (made : Decision)
-    → PacketsNumbered slot before entries → PacketsNumbered slot (before ++ made ∷ []) (entries ++ entry_after before made ∷ [])
+    → PacketsNumbered slot before entries
+    → PacketsNumbered slot (before ++ made ∷ []) (entries ++ entry_after before made ∷ [])
 packets_numbered_more slot before entries (note text) holds = simp (filter_map-append, append-nil) holds
 packets_numbered_more slot before entries (command own c) holds =
-    at_slot (λ s. PacketsNumbered s before entries → PacketsNumbered s (before ++ command own c ∷ []) (entries ++ entry_after before (command own c) ∷ [])) own slot
+    at_slot (λ s. PacketsNumbered s before entries
+    → PacketsNumbered s (before ++ command own c ∷ []) (entries ++ entry_after before (command own c) ∷ [])) own slot
     (λ holds. simp (filter_map-append, eqb_same, append-nil) holds)
     (λ other holds. simp (filter_map-append, other, append-nil) holds)
     holds
 packets_numbered_more slot before entries (packet own p) holds =
-    at_slot (λ s. PacketsNumbered s before entries → PacketsNumbered s (before ++ packet own p ∷ []) (entries ++ entry_after before (packet own p) ∷ [])) own slot
+    at_slot (λ s. PacketsNumbered s before entries
+    → PacketsNumbered s (before ++ packet own p ∷ []) (entries ++ entry_after before (packet own p) ∷ [])) own slot
     (λ holds. simp (filter_map-append, length-append, eqb_same, counted_to-suc) (ap (λ front. front ++ length (packets_of (events_at own before)) ∷ []) holds))
     (λ other holds. simp (filter_map-append, other, append-nil) holds)
     holds
@@ -61,12 +67,14 @@ places_more : (slot : ℕ) (before : List Decision) (entries : List Entry) (made
     → PlacesTold slot before entries → PlacesTold slot (before ++ made ∷ []) (entries ++ entry_after before made ∷ [])
 places_more slot before entries (note text) holds = simp (filter_map-append, append-nil) holds
 places_more slot before entries (command own c) holds =
-    at_slot (λ s. PlacesTold s before entries → PlacesTold s (before ++ command own c ∷ []) (entries ++ entry_after before (command own c) ∷ [])) own slot
+    at_slot (λ s. PlacesTold s before entries
+    → PlacesTold s (before ++ command own c ∷ []) (entries ++ entry_after before (command own c) ∷ [])) own slot
     (λ holds. simp (filter_map-append, eqb_same, at_packets-append, append-nil) holds)
     (λ other holds. simp (filter_map-append, other, append-nil) holds)
     holds
 places_more slot before entries (packet own p) holds =
-    at_slot (λ s. PlacesTold s before entries → PlacesTold s (before ++ packet own p ∷ []) (entries ++ entry_after before (packet own p) ∷ [])) own slot
+    at_slot (λ s. PlacesTold s before entries
+    → PlacesTold s (before ++ packet own p ∷ []) (entries ++ entry_after before (packet own p) ∷ [])) own slot
     (λ holds. simp (filter_map-append, eqb_same, at_packets-append) (ap (λ front. front ++ length (commands_of (events_at own before)) ∷ []) holds))
     (λ other holds. simp (filter_map-append, other, append-nil) holds)
     holds
@@ -80,12 +88,14 @@ verdicts_more : (slot : ℕ) (before : List Decision) (entries : List Entry) (ma
     → VerdictsTold slot before entries → VerdictsTold slot (before ++ made ∷ []) (entries ++ entry_after before made ∷ [])
 verdicts_more slot before entries (note text) holds = simp (filter_map-append, append-nil) holds
 verdicts_more slot before entries (command own c) holds =
-    at_slot (λ s. VerdictsTold s before entries → VerdictsTold s (before ++ command own c ∷ []) (entries ++ entry_after before (command own c) ∷ [])) own slot
+    at_slot (λ s. VerdictsTold s before entries
+    → VerdictsTold s (before ++ command own c ∷ []) (entries ++ entry_after before (command own c) ∷ [])) own slot
     (λ holds. simp (filter_map-append, eqb_same, at_packets-append, append-nil) holds)
     (λ other holds. simp (filter_map-append, other, append-nil) holds)
     holds
 verdicts_more slot before entries (packet own p) holds =
-    at_slot (λ s. VerdictsTold s before entries → VerdictsTold s (before ++ packet own p ∷ []) (entries ++ entry_after before (packet own p) ∷ [])) own slot
+    at_slot (λ s. VerdictsTold s before entries
+    → VerdictsTold s (before ++ packet own p ∷ []) (entries ++ entry_after before (packet own p) ∷ [])) own slot
     (λ holds. simp (filter_map-append, eqb_same, at_packets-append) (ap (λ front. front ++ verdict_after own (events_at own before) p ∷ []) holds))
     (λ other holds. simp (filter_map-append, other, append-nil) holds)
     holds
@@ -99,19 +109,22 @@ replies_more : (slot : ℕ) (before : List Decision) (entries : List Entry) (mad
     → RepliesTold slot before entries → RepliesTold slot (before ++ made ∷ []) (entries ++ entry_after before made ∷ [])
 replies_more slot before entries (note text) holds = simp (filter_map-append, append-nil) holds
 replies_more slot before entries (command own c) holds =
-    at_slot (λ s. RepliesTold s before entries → RepliesTold s (before ++ command own c ∷ []) (entries ++ entry_after before (command own c) ∷ [])) own slot
+    at_slot (λ s. RepliesTold s before entries
+    → RepliesTold s (before ++ command own c ∷ []) (entries ++ entry_after before (command own c) ∷ [])) own slot
     (λ holds. simp (filter_map-append, eqb_same, at_commands-append) (ap (λ front. front ++ reply_after own (events_at own before) c ∷ []) holds))
     (λ other holds. simp (filter_map-append, other, append-nil) holds)
     holds
 replies_more slot before entries (packet own p) holds =
-    at_slot (λ s. RepliesTold s before entries → RepliesTold s (before ++ packet own p ∷ []) (entries ++ entry_after before (packet own p) ∷ [])) own slot
+    at_slot (λ s. RepliesTold s before entries
+    → RepliesTold s (before ++ packet own p ∷ []) (entries ++ entry_after before (packet own p) ∷ [])) own slot
     (λ holds. simp (filter_map-append, eqb_same, at_commands-append, append-nil) holds)
     (λ other holds. simp (filter_map-append, other, append-nil) holds)
     holds
 
 -- each line has its entry
 answers_more : (n : ℕ) (before : List Decision) (entries : List Entry) (made : Decision) (entry : Entry)
-    → AnswersAll n before entries → Answers (n + length before) made entry → AnswersAll n (before ++ made ∷ []) (entries ++ entry ∷ [])
+    → AnswersAll n before entries → Answers (n + length before) made entry
+    → AnswersAll n (before ++ made ∷ []) (entries ++ entry ∷ [])
 answers_more n [] [] made entry all one = (subst (λ k. Answers k made entry) (add-zero n) one, tt)
 answers_more n [] (e ∷ entries) made entry all one = absurd all
 answers_more n (d ∷ before) [] made entry all one = absurd all
@@ -124,7 +137,8 @@ answers_entry before (command slot c) = (omega arith, refl)
 answers_entry before (packet slot p) = (omega arith, refl)
 
 -- an entry is that of the line at its place
-entry_is : (done rest : List Decision) (before after : List Entry) (entry : Entry) → entries_after done rest ≡ before ++ entry ∷ after
+entry_is : (done rest : List Decision) (before after : List Entry) (entry : Entry)
+    → entries_after done rest ≡ before ++ entry ∷ after
     → (made : Decision) × (entry ≡ entry_after (done ++ take (length before) rest) made)
 entry_is done [] [] after entry parts = cc
 entry_is done [] (first ∷ before) after entry parts = cc
@@ -135,7 +149,8 @@ entry_is done (made ∷ rest) (first ∷ before) after entry parts =
     (found.0, subst (λ front. entry ≡ entry_after front found.0) (append_assoc done (made ∷ []) (take (length before) rest)) found.1)
 
 counts_at_once : (front : List Decision) (made : Decision) (line slot number commands : ℕ) (verdict : Verdict)
-    → judged line slot number commands verdict ≡ entry_after front made → commands ≡ length (commands_of (events_at slot front))
+    → judged line slot number commands verdict ≡ entry_after front made
+    → commands ≡ length (commands_of (events_at slot front))
 counts_at_once front (note text) line slot number commands verdict is = cc
 counts_at_once front (command own c) line slot number commands verdict is = cc
 counts_at_once front (packet own p) line slot number commands verdict is = cc

@@ -1,5 +1,5 @@
 -- The forwarded packets are those that are charged.
-use Rattle.std.proofs.Common.{◌≡◌, ◌≢◌, ℕ, zero, suc, ◌+◌, ◌==◌, ◌<◌, Bool, true, false, not, Option, Some, None, List, [], ◌∷◌, ◌++◌, map, cond, sum_by, refl, sym, ap, ◌∙◌, inl, inr, arith, eqb, eq-eqb, if◌then◌else◌}
+use Rattle.std.proofs.Common.{◌≡◌, ◌≢◌, ℕ, zero, suc, ◌==◌, ◌<◌, Bool, true, false, not, Option, Some, None, List, [], ◌∷◌, ◌++◌, map, cond, sum_by, refl, sym, ap, ◌∙◌, inl, inr, arith, eq-eqb, if◌then◌else◌}
 use Rattle.std.specs.List.{cons_option, filter_map, flat_map}
 use Rattle.std.proofs.lemmas.Bool.{cases_eq, ne_eqb}
 use Rattle.std.proofs.lemmas.Grind.{flat_map-append}
@@ -13,7 +13,7 @@ use Rattle.pc_base.specs.declared.packet.Way.{Way}
 use Rattle.pc_base.specs.declared.packet.Way.TheVariants.{Up, Down}
 use Rattle.ipv4_packet.specs.Fields.{source_of}
 use Rattle.charging_book.specs.Happenings.{Happening, rows_of, opens_of}
-use Rattle.charging_book.specs.Ledger.{packet_by, packets_of, octets_in, packets_in, rows_for, opens_for, TellPieces, TellLast, charged_octets, open_octets, charged_packets, open_packets}
+use Rattle.charging_book.specs.Ledger.{packet_by, packets_of, octets_in, packets_in}
 use Rattle.charging_book.specs.Pieces.{Forwarded}
 use Rattle.charging_book.specs.Rows.{Charged, Counters}
 use Rattle.charging_book.proofs.LedgerSums.{each_octet_once, each_packet_once}
@@ -23,7 +23,7 @@ use Rattle.gate_model.specs.Control.{default_bearer}
 use Rattle.gate_model.specs.Decision.{Decision}
 use Rattle.gate_model.specs.Entry.{Entry, noted, replied, judged, charged, left_open}
 use Rattle.gate_model.specs.Events.{at_packets, session_after, verdict_after}
-use Rattle.gate_model.specs.Ledger.{Sent, sent_by, packet_sent, row_told, counters_told, sent_of, octets_sent, packets_sent, IsPartition, ReportsArePartitions, EachOctetCharged, EachPacketCharged}
+use Rattle.gate_model.specs.Ledger.{Sent, sent_by, packet_sent, row_told, counters_told, sent_of, octets_sent, packets_sent, ReportsArePartitions, EachOctetCharged, EachPacketCharged}
 use Rattle.gate_model.specs.Packets.{bearer_at, sent_on, judged_by}
 use Rattle.gate_model.specs.Run.{IsRun, verdict_told, counted_to}
 use Rattle.gate_model.specs.declared.command.Command.TheVariants.{Attach}
@@ -48,7 +48,8 @@ told_packets slot life (charged s row ∷ entries) = told_packets slot life entr
 told_packets slot life (left_open s counters ∷ entries) = told_packets slot life entries
 
 -- lives that end, and one that starts, forward nothing
-attach_packets : (life : ℕ) (bearers : List Bearer) (new : Bearer) → packets_of life (map gone bearers ++ begun new ∷ []) ≡ []
+attach_packets : (life : ℕ) (bearers : List Bearer) (new : Bearer)
+    → packets_of life (map gone bearers ++ begun new ∷ []) ≡ []
 attach_packets life [] new = refl
 attach_packets life (bearer ∷ bearers) new = attach_packets life bearers new
 
@@ -75,7 +76,8 @@ packet_is life packet session Down = refl
 sent-append : (life : ℕ) (event later : List Happening)
     → map sent_of (packets_of life (event ++ later)) ≡ map sent_of (packets_of life event) ++ map sent_of (packets_of life later)
 sent-append life event later =
-    ap (map sent_of) (filter_map-append (packet_by life) event later) ∙ map-append sent_of (packets_of life event) (packets_of life later)
+    ap (map sent_of) (filter_map-append (packet_by life) event later)
+    ∙ map-append sent_of (packets_of life event) (packets_of life later)
 
 -- the happenings forward what the verdicts forward
 happened_packets : (slot life : ℕ) (before later : List Event)
@@ -96,7 +98,8 @@ happened_packets slot life before (event.Packet packet ∷ later) =
     ∙ sym (filter_map-append (sent_by life) (verdict_after slot before packet ∷ []) rest)
 
 -- what the entries of a run forward is what its events do
-run_packets : (made : List Decision) (entries : List Entry) (events : ℕ → List Event) (slot life : ℕ) → IsRun made entries events
+run_packets : (made : List Decision) (entries : List Entry) (events : ℕ → List Event) (slot life : ℕ)
+    → IsRun made entries events
     → map sent_of (packets_of life (happenings slot (events slot))) ≡ filter_map (packet_sent slot life) entries
 run_packets made entries events slot life run =
     happened_packets slot life [] (events slot)
@@ -111,12 +114,15 @@ module _ {X : Type 0} (f : Entry → Option X) (of : ℕ → List Entry) where
       ∙ filter_map-append f (flat_map of (counted_to n)) (flat_map of (n ∷ []))
       ∙ ap (λ es. filter_map f (flat_map of (counted_to n)) ++ filter_map f es) (append-nil (of n))
 
-  none_of : (slots : ℕ) → ((s : ℕ) → s < slots → filter_map f (of s) ≡ []) → filter_map f (flat_map of (counted_to slots)) ≡ []
+  none_of : (slots : ℕ) → ((s : ℕ) → s < slots → filter_map f (of s) ≡ [])
+      → filter_map f (flat_map of (counted_to slots)) ≡ []
   none_of zero none = refl
   none_of (suc n) none =
-      one_more n ∙ ap (λ xs. xs ++ filter_map f (of n)) (none_of n (λ s below. none s (omega (arith, below)))) ∙ none n (omega arith)
+      one_more n ∙ ap (λ xs. xs ++ filter_map f (of n)) (none_of n (λ s below. none s (omega (arith, below))))
+      ∙ none n (omega arith)
 
-  one_of : (slot slots : ℕ) → slot < slots → ((s : ℕ) → s ≢ slot → filter_map f (of s) ≡ []) → filter_map f (flat_map of (counted_to slots)) ≡ filter_map f (of slot)
+  one_of : (slot slots : ℕ) → slot < slots → ((s : ℕ) → s ≢ slot → filter_map f (of s) ≡ [])
+      → filter_map f (flat_map of (counted_to slots)) ≡ filter_map f (of slot)
   one_of slot zero within others = absurd (omega (arith, within))
   one_of slot (suc n) within others = elim (cases_eq n slot) [
     | inl same ↦
@@ -147,7 +153,8 @@ own_opens : (slot : ℕ) (opens : List Counters) → filter_map (counters_told s
 own_opens slot [] = refl
 own_opens slot (counters ∷ opens) = rw (eqb_same slot) (ap (λ os. counters ∷ os) (own_opens slot opens))
 
-other_opens : (slot s : ℕ) (opens : List Counters) → s ≢ slot → filter_map (counters_told slot) (map (left_open s) opens) ≡ []
+other_opens : (slot s : ℕ) (opens : List Counters) → s ≢ slot
+    → filter_map (counters_told slot) (map (left_open s) opens) ≡ []
 other_opens slot s [] other = refl
 other_opens slot s (counters ∷ opens) other = rw (ne_eqb s slot other) (other_opens slot s opens other)
 
@@ -155,7 +162,8 @@ no_opens : (slot s : ℕ) (rows : List Charged) → filter_map (counters_told sl
 no_opens slot s [] = refl
 no_opens slot s (row ∷ rows) = no_opens slot s rows
 
-charged_rows : (events : ℕ → List Event) (slots slot : ℕ) → slot < slots → filter_map (row_told slot) (charges slots events) ≡ rows_of (happenings slot (events slot))
+charged_rows : (events : ℕ → List Event) (slots slot : ℕ) → slot < slots
+    → filter_map (row_told slot) (charges slots events) ≡ rows_of (happenings slot (events slot))
 charged_rows events slots slot within =
     filter_map-append (row_told slot) (records events slots) (open_counters events slots)
     ∙ ap (λ rs. filter_map (row_told slot) (records events slots) ++ rs)
@@ -164,7 +172,8 @@ charged_rows events slots slot within =
     ∙ one_of (row_told slot) (λ s. records_of s (events s)) slot slots within (λ s other. other_rows slot s (rows_of (happenings s (events s))) other)
     ∙ own_rows slot (rows_of (happenings slot (events slot)))
 
-charged_opens : (events : ℕ → List Event) (slots slot : ℕ) → slot < slots → filter_map (counters_told slot) (charges slots events) ≡ opens_of (happenings slot (events slot))
+charged_opens : (events : ℕ → List Event) (slots slot : ℕ) → slot < slots
+    → filter_map (counters_told slot) (charges slots events) ≡ opens_of (happenings slot (events slot))
 charged_opens events slots slot within =
     filter_map-append (counters_told slot) (records events slots) (open_counters events slots)
     ∙ ap (λ os. os ++ filter_map (counters_told slot) (open_counters events slots))
@@ -185,7 +194,8 @@ reports_are_partitions made entries events slots slot life run within =
     }
 
 -- what is counted of packets, with their moments or without
-counted_alike : (f : Forwarded → ℕ) (g : Sent → ℕ) → ((p : Forwarded) → f p ≡ g (sent_of p)) → (ps : List Forwarded) → sum_by f ps ≡ sum_by g (map sent_of ps)
+counted_alike : (f : Forwarded → ℕ) (g : Sent → ℕ) → ((p : Forwarded) → f p ≡ g (sent_of p)) → (ps : List Forwarded)
+    → sum_by f ps ≡ sum_by g (map sent_of ps)
 counted_alike f g same [] = refl
 counted_alike f g same (p ∷ ps) =
     omega (arith, sum_by-cons f p ps, sum_by-cons g (sent_of p) (map sent_of ps), same p, counted_alike f g same ps)
@@ -210,4 +220,5 @@ each_packet_charged made entries events slots slot life up run within =
     let happened = happenings slot (events slot) in
     rw (charged_rows events slots slot within, charged_opens events slots slot within)
     (each_packet_once happened up life (happenings_lawful slot (events slot))
-    ∙ packets_alike up (packets_of life happened) ∙ ap (packets_sent up) (run_packets made entries events slot life run))
+    ∙ packets_alike up (packets_of life happened)
+    ∙ ap (packets_sent up) (run_packets made entries events slot life run))

@@ -1,3 +1,4 @@
+pub mod StandardFacts
 pub mod FieldLemmas
 pub mod TextLemmas
 pub mod YardstickLemmas

@@ -7,8 +7,10 @@ use Rattle.gate_model.specs.Entered.{entry_after, entries_after}
 
 -- going on from lines that are done
 pub push_from : (P : List Decision → List Entry → Type 0)
-    → ((before : List Decision) (entries : List Entry) (made : Decision) → P before entries → P (before ++ made ∷ []) (entries ++ entry_after before made ∷ []))
-    → (before : List Decision) (entries : List Entry) (rest : List Decision) → P before entries → P (before ++ rest) (entries ++ entries_after before rest)
+    → ((before : List Decision) (entries : List Entry) (made : Decision) → P before entries
+    → P (before ++ made ∷ []) (entries ++ entry_after before made ∷ []))
+    → (before : List Decision) (entries : List Entry) (rest : List Decision) → P before entries
+    → P (before ++ rest) (entries ++ entries_after before rest)
 push_from P step before entries [] holds =
     subst (λ all. P all (entries ++ [])) (sym (append-nil before)) (subst (P before) (sym (append-nil entries)) holds)
 push_from P step before entries (made ∷ rest) holds =
@@ -17,7 +19,8 @@ push_from P step before entries (made ∷ rest) holds =
     (push_from P step (before ++ made ∷ []) (entries ++ entry_after before made ∷ []) rest (step before entries made holds)))
 
 pub by_push : (P : List Decision → List Entry → Type 0)
-    → ((before : List Decision) (entries : List Entry) (made : Decision) → P before entries → P (before ++ made ∷ []) (entries ++ entry_after before made ∷ []))
+    → ((before : List Decision) (entries : List Entry) (made : Decision) → P before entries
+    → P (before ++ made ∷ []) (entries ++ entry_after before made ∷ []))
     → P [] [] → (all : List Decision) → P all (entries_after [] all)
 by_push P step none all = push_from P step [] [] all none
 

@@ -40,7 +40,8 @@ module _ (made : List Decision) (entries : List Entry) (events : ℕ → List Ev
         replies = history.replies ∙ ap (at_commands (reply_after slot) []) (events_are_one slot) ∙ sym known.replies;
         packet_numbers = run.packet_numbers slot ∙ sym (line_by_line.packet_numbers slot);
         counts = same_counts slot;
-        verdicts = history.verdicts ∙ ap (at_packets (verdict_after slot) []) (events_are_one slot) ∙ sym known.verdicts;
+        verdicts = history.verdicts ∙ ap (at_packets (verdict_after slot) []) (events_are_one slot)
+            ∙ sym known.verdicts;
       }
 
   -- so the report is one

@@ -11,7 +11,8 @@ use Rattle.gate_model.proofs.OneRunForms.{answers_note, answers_command, answers
 -- each packet tells the commands of its slot in the lines before it, some of which are done
 abbrev MeetsAtOnce : List Decision → List Decision → List Entry → Type 0
 MeetsAtOnce done made entries =
-    (before after : List Entry) (line slot number commands : ℕ) (verdict : Verdict) → entries ≡ before ++ judged line slot number commands verdict ∷ after
+    (before after : List Entry) (line slot number commands : ℕ) (verdict : Verdict)
+    → entries ≡ before ++ judged line slot number commands verdict ∷ after
     → commands ≡ length (commands_of (events_at slot (done ++ take (length before) made)))
 
 -- the same of the entries behind the first
@@ -23,12 +24,14 @@ meets_later done first made entry entries meets before after line slot number co
 
 -- the first entries of two lists tell the same count
 first_count_is_one : (slot n : ℕ) (first : Decision) (done made : List Decision) (entry other : Entry) (entries others : List Entry)
-    → Answers n first entry → Answers n first other → MeetsAtOnce done (first ∷ made) (entry ∷ entries) → MeetsAtOnce done (first ∷ made) (other ∷ others)
+    → Answers n first entry → Answers n first other → MeetsAtOnce done (first ∷ made) (entry ∷ entries)
+    → MeetsAtOnce done (first ∷ made) (other ∷ others)
     → commands_told slot entry ≡ commands_told slot other
 first_count_is_one slot n (note text) done made entry other entries others answer other_answer meets other_meets =
     ap (commands_told slot) (answers_note n text entry answer ∙ sym (answers_note n text other other_answer))
 first_count_is_one slot n (command own c) done made entry other entries others answer other_answer meets other_meets =
-    ap (commands_told slot) (answers_command n own c entry answer).is ∙ sym (ap (commands_told slot) (answers_command n own c other other_answer).is)
+    ap (commands_told slot) (answers_command n own c entry answer).is
+    ∙ sym (ap (commands_told slot) (answers_command n own c other other_answer).is)
 first_count_is_one slot n (packet own p) done made entry other entries others answer other_answer meets other_meets =
     let form = answers_packet n own p entry answer in
     let other_form = answers_packet n own p other other_answer in
@@ -38,8 +41,10 @@ first_count_is_one slot n (packet own p) done made entry other entries others an
     ∙ sym (ap (commands_told slot) other_form.is)
 
 -- two lists of entries for the same lines tell the same counts
-pub counts_are_one : (slot n : ℕ) (done made : List Decision) (entries others : List Entry) → AnswersAll n made entries → AnswersAll n made others
-    → MeetsAtOnce done made entries → MeetsAtOnce done made others → filter_map (commands_told slot) entries ≡ filter_map (commands_told slot) others
+pub counts_are_one : (slot n : ℕ) (done made : List Decision) (entries others : List Entry)
+    → AnswersAll n made entries → AnswersAll n made others
+    → MeetsAtOnce done made entries → MeetsAtOnce done made others
+    → filter_map (commands_told slot) entries ≡ filter_map (commands_told slot) others
 counts_are_one slot n done [] [] [] answers other_answers meets other_meets = refl
 counts_are_one slot n done [] [] (other ∷ others) answers other_answers meets other_meets = absurd other_answers
 counts_are_one slot n done [] (entry ∷ entries) others answers other_answers meets other_meets = absurd answers

@@ -27,7 +27,8 @@ record FirstIsOne (entry other : Entry) (entries others : List Entry) : Type 0 w
   more : EachTellsTheSame entries others
 
 -- what stands behind a first item that both lists have, or neither
-rest_is_one : {X : Type 0} (test : Bool) (x y : X) (xs ys : List X) → cons_option (cond test (Some x) None) xs ≡ cons_option (cond test (Some y) None) ys
+rest_is_one : {X : Type 0} (test : Bool) (x y : X) (xs ys : List X)
+    → cons_option (cond test (Some x) None) xs ≡ cons_option (cond test (Some y) None) ys
     → xs ≡ ys
 rest_is_one true x y xs ys same = cc
 rest_is_one false x y xs ys same = same
@@ -39,7 +40,8 @@ item_is_one own x y xs ys same =
     let both : x ∷ xs ≡ y ∷ ys = rw (eqb_same own) at same in cc
 
 -- a note tells nothing of a slot
-one_note : (n : ℕ) (text : List ℕ) (entries others : List Entry) → EachTellsTheSame (noted n text ∷ entries) (noted n text ∷ others)
+one_note : (n : ℕ) (text : List ℕ) (entries others : List Entry)
+    → EachTellsTheSame (noted n text ∷ entries) (noted n text ∷ others)
     → FirstIsOne (noted n text) (noted n text) entries others
 one_note n text entries others same = record {
   first = refl;
@@ -95,10 +97,12 @@ in_form : (entry form other other_form : Entry) (entries others : List Entry) �
     → EachTellsTheSame (entry ∷ entries) (other ∷ others) → FirstIsOne entry other entries others
 in_form entry form other other_form entries others is other_is holds =
     subst (λ b. EachTellsTheSame (entry ∷ entries) (b ∷ others) → FirstIsOne entry b entries others) (sym other_is)
-    (subst (λ a. EachTellsTheSame (a ∷ entries) (other_form ∷ others) → FirstIsOne a other_form entries others) (sym is) holds)
+    (subst (λ a. EachTellsTheSame (a ∷ entries) (other_form ∷ others)
+    → FirstIsOne a other_form entries others) (sym is) holds)
 
 -- two entries for one line are one, where each slot tells the same from there on
-first_is_one : (n : ℕ) (made : Decision) (entry other : Entry) (entries others : List Entry) → Answers n made entry → Answers n made other
+first_is_one : (n : ℕ) (made : Decision) (entry other : Entry) (entries others : List Entry) → Answers n made entry
+    → Answers n made other
     → EachTellsTheSame (entry ∷ entries) (other ∷ others) → FirstIsOne entry other entries others
 first_is_one n (note text) entry other entries others answer other_answer =
     in_form entry (noted n text) other (noted n text) entries others (answers_note n text entry answer) (answers_note n text other other_answer)
@@ -116,7 +120,8 @@ first_is_one n (packet own p) entry other entries others answer other_answer =
     (one_verdict n own form.number other_form.number form.commands other_form.commands form.verdict other_form.verdict entries others)
 
 -- two lists of entries for the same lines are one, where those of each slot tell the same
-pub one_list : (n : ℕ) (made : List Decision) (entries others : List Entry) → AnswersAll n made entries → AnswersAll n made others
+pub one_list : (n : ℕ) (made : List Decision) (entries others : List Entry) → AnswersAll n made entries
+    → AnswersAll n made others
     → ((slot : ℕ) → TellTheSame slot entries others) → entries ≡ others
 one_list n [] [] [] answers other_answers same = refl
 one_list n [] [] (other ∷ others) answers other_answers same = absurd other_answers

@@ -30,7 +30,8 @@ answers_note n text (charged s row) answer = absurd answer
 answers_note n text (left_open s counters) answer = absurd answer
 
 -- a command has a reply
-pub answers_command : (n slot : ℕ) (c : Command) (entry : Entry) → Answers n (command slot c) entry → IsReply n slot entry
+pub answers_command : (n slot : ℕ) (c : Command) (entry : Entry) → Answers n (command slot c) entry
+    → IsReply n slot entry
 answers_command n slot c (noted line told) answer = absurd answer
 answers_command n slot c (replied line s number reply) answer = record {
   number = number;
@@ -42,7 +43,8 @@ answers_command n slot c (charged s row) answer = absurd answer
 answers_command n slot c (left_open s counters) answer = absurd answer
 
 -- a packet has a verdict
-pub answers_packet : (n slot : ℕ) (p : Packet) (entry : Entry) → Answers n (packet slot p) entry → IsVerdict n slot entry
+pub answers_packet : (n slot : ℕ) (p : Packet) (entry : Entry) → Answers n (packet slot p) entry
+    → IsVerdict n slot entry
 answers_packet n slot p (noted line told) answer = absurd answer
 answers_packet n slot p (replied line s number reply) answer = absurd answer
 answers_packet n slot p (judged line s number commands verdict) answer = record {

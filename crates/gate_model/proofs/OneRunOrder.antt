@@ -9,14 +9,17 @@ use Rattle.gate_model.specs.declared.gateway.Event.{Event}
 use Rattle.gate_model.specs.declared.gateway.Event.TheVariants as event
 
 -- a command is one more, and a packet isn't
-command_counts : (before : List Event) (c : Command) → length (commands_of (before ++ event.Command c ∷ [])) ≡ length (commands_of before) + 1
+command_counts : (before : List Event) (c : Command)
+    → length (commands_of (before ++ event.Command c ∷ [])) ≡ length (commands_of before) + 1
 command_counts before c = simp (filter_map-append, length-append)
 
-packet_counts_not : (before : List Event) (p : Packet) → length (commands_of (before ++ event.Packet p ∷ [])) ≡ length (commands_of before)
+packet_counts_not : (before : List Event) (p : Packet)
+    → length (commands_of (before ++ event.Packet p ∷ [])) ≡ length (commands_of before)
 packet_counts_not before p = simp (filter_map-append, append-nil)
 
 -- the next packet has all commands before it that are done
-next_place : (before events : List Event) (place : ℕ) (places : List ℕ) → at_packets commands_before before events ≡ place ∷ places
+next_place : (before events : List Event) (place : ℕ) (places : List ℕ)
+    → at_packets commands_before before events ≡ place ∷ places
     → length (commands_of before) ≤ place
 next_place before [] place places told = cc
 next_place before (event.Command c ∷ events) place places told =

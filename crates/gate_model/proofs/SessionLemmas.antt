@@ -16,12 +16,14 @@ controlled_by-push session [] command = refl
 controlled_by-push session (first ∷ commands) command = controlled_by-push (controlled session first).0 commands command
 
 -- each command sets the rates once, and makes one bearer
-pub rates-controlled_by : (session : Session) (commands : List Command) → (controlled_by session commands).rates ≡ session.rates + length commands
+pub rates-controlled_by : (session : Session) (commands : List Command)
+    → (controlled_by session commands).rates ≡ session.rates + length commands
 rates-controlled_by session [] = omega arith
 rates-controlled_by session (Attach enb up down ∷ commands) =
     omega (arith, rates-controlled_by (controlled session (Attach enb up down)).0 commands)
 
-pub lives-controlled_by : (session : Session) (commands : List Command) → (controlled_by session commands).lives ≡ session.lives + length commands
+pub lives-controlled_by : (session : Session) (commands : List Command)
+    → (controlled_by session commands).lives ≡ session.lives + length commands
 lives-controlled_by session [] = omega arith
 lives-controlled_by session (Attach enb up down ∷ commands) =
     omega (arith, lives-controlled_by (controlled session (Attach enb up down)).0 commands)
@@ -36,22 +38,29 @@ length-packets_of-le [] = omega arith
 length-packets_of-le (event.Command command ∷ events) = omega (arith, length-packets_of-le events)
 length-packets_of-le (event.Packet packet ∷ events) = omega (arith, length-packets_of-le events)
 
-pub commands_of-command : (events : List Event) (command : Command) → commands_of (events ++ event.Command command ∷ []) ≡ commands_of events ++ command ∷ []
+pub commands_of-command : (events : List Event) (command : Command)
+    → commands_of (events ++ event.Command command ∷ []) ≡ commands_of events ++ command ∷ []
 commands_of-command events command = filter_map-append as_command events (event.Command command ∷ [])
 
-pub commands_of-packet : (events : List Event) (packet : Packet) → commands_of (events ++ event.Packet packet ∷ []) ≡ commands_of events
-commands_of-packet events packet = filter_map-append as_command events (event.Packet packet ∷ []) ∙ append-nil (commands_of events)
+pub commands_of-packet : (events : List Event) (packet : Packet)
+    → commands_of (events ++ event.Packet packet ∷ []) ≡ commands_of events
+commands_of-packet events packet = filter_map-append as_command events (event.Packet packet ∷ [])
+    ∙ append-nil (commands_of events)
 
-pub packets_of-command : (events : List Event) (command : Command) → packets_of (events ++ event.Command command ∷ []) ≡ packets_of events
-packets_of-command events command = filter_map-append as_packet events (event.Command command ∷ []) ∙ append-nil (packets_of events)
+pub packets_of-command : (events : List Event) (command : Command)
+    → packets_of (events ++ event.Command command ∷ []) ≡ packets_of events
+packets_of-command events command = filter_map-append as_packet events (event.Command command ∷ [])
+    ∙ append-nil (packets_of events)
 
-pub packets_of-packet : (events : List Event) (packet : Packet) → packets_of (events ++ event.Packet packet ∷ []) ≡ packets_of events ++ packet ∷ []
+pub packets_of-packet : (events : List Event) (packet : Packet)
+    → packets_of (events ++ event.Packet packet ∷ []) ≡ packets_of events ++ packet ∷ []
 packets_of-packet events packet = filter_map-append as_packet events (event.Packet packet ∷ [])
 
 pub session_after-command : (slot : ℕ) (events : List Event) (command : Command)
     → session_after slot (events ++ event.Command command ∷ []) ≡ (controlled (session_after slot events) command).0
 session_after-command slot events command =
-    ap (controlled_by (new_session slot)) (commands_of-command events command) ∙ controlled_by-push (new_session slot) (commands_of events) command
+    ap (controlled_by (new_session slot)) (commands_of-command events command)
+    ∙ controlled_by-push (new_session slot) (commands_of events) command
 
 pub session_after-packet : (slot : ℕ) (events : List Event) (packet : Packet)
     → session_after slot (events ++ event.Packet packet ∷ []) ≡ session_after slot events

@@ -35,7 +35,8 @@ reply_tells : (a b : Reply) → a.outcome ≡ b.outcome → a.message ≡ b.mess
 reply_tells a b outcomes messages =
     ap (λ outcome. record a { outcome = outcome }) outcomes ∙ ap (λ message. record b { message = message }) messages
 
-message_tells : (a b : Option (List ℕ)) → IfSome a IsOctets → IfSome b IsOctets → message_word a ≡ message_word b → a ≡ b
+message_tells : (a b : Option (List ℕ)) → IfSome a IsOctets → IfSome b IsOctets → message_word a ≡ message_word b
+    → a ≡ b
 message_tells None None is_a is_b same = refl
 message_tells None (Some octets) is_a is_b same = absurd (encode_lower-no_dash octets (sym same))
 message_tells (Some octets) None is_a is_b same = absurd (encode_lower-no_dash octets same)
@@ -235,7 +236,8 @@ plain-counters_fields counters behind are plain = (
 )
 
 -- the words of numbers, and what stands behind them
-word_tells : (a b : ℕ) (r s : List (List ℕ)) → a < 2 ^ 64 → b < 2 ^ 64 → decimal a ∷ r ≡ decimal b ∷ s → (a ≡ b) × (r ≡ s)
+word_tells : (a b : ℕ) (r s : List (List ℕ)) → a < 2 ^ 64 → b < 2 ^ 64 → decimal a ∷ r ≡ decimal b ∷ s
+    → (a ≡ b) × (r ≡ s)
 word_tells a b r s fits_a fits_b same =
     let word : decimal a ≡ decimal b = cc in
     let behind : r ≡ s = cc in
@@ -253,7 +255,8 @@ counters_with life ebi qci seq up_octets down_octets up_packets down_packets = r
   down_packets = down_packets;
 }
 
-counters_tell : (a b : Counters) (r s : List (List ℕ)) → AreCounters a → AreCounters b → counters_fields a r ≡ counters_fields b s
+counters_tell : (a b : Counters) (r s : List (List ℕ)) → AreCounters a → AreCounters b
+    → counters_fields a r ≡ counters_fields b s
     → (a ≡ b) × (r ≡ s)
 counters_tell a b r s are_a are_b same =
     let life = word_tells a.life b.life _ _ are_a.life are_b.life same in
@@ -285,7 +288,8 @@ row_with counters first last why = record {
   why = why;
 }
 
-rows_tell : (a b : Charged) → counters_of a ≡ counters_of b → a.first ≡ b.first → a.last ≡ b.last → a.why ≡ b.why → a ≡ b
+rows_tell : (a b : Charged) → counters_of a ≡ counters_of b → a.first ≡ b.first → a.last ≡ b.last → a.why ≡ b.why
+    → a ≡ b
 rows_tell a b counters first last why =
     ap (λ c. row_with c a.first a.last a.why) counters
     ∙ ap (λ moment. row_with (counters_of b) moment a.last a.why) first

@@ -14,16 +14,20 @@ use Rattle.gate_model.specs.declared.session.Session.{Session}
 use Rattle.gate_model.proofs.SessionLemmas.{controlled_by-push, rates-controlled_by, lives-controlled_by, commands_of-command, commands_of-packet}
 
 -- a fold counts no more than there are commands
-pub rates-le : (slot : ℕ) (commands : List Command) → (controlled_by (new_session slot) commands).rates ≤ length commands
+pub rates-le : (slot : ℕ) (commands : List Command)
+    → (controlled_by (new_session slot) commands).rates ≤ length commands
 rates-le slot commands = omega (arith, rates-controlled_by (new_session slot) commands)
 
-pub lives-le : (slot : ℕ) (commands : List Command) → (controlled_by (new_session slot) commands).lives ≤ length commands
+pub lives-le : (slot : ℕ) (commands : List Command)
+    → (controlled_by (new_session slot) commands).lives ≤ length commands
 lives-le slot commands = omega (arith, lives-controlled_by (new_session slot) commands)
 
-pub rates-folded : (slot n : ℕ) (commands : List Command) → (controlled_by (new_session slot) (take n commands)).rates ≤ length commands
+pub rates-folded : (slot n : ℕ) (commands : List Command)
+    → (controlled_by (new_session slot) (take n commands)).rates ≤ length commands
 rates-folded slot n commands = omega (arith, rates-le slot (take n commands), length-take n commands)
 
-pub lives-folded : (slot n : ℕ) (commands : List Command) → (controlled_by (new_session slot) (take n commands)).lives ≤ length commands
+pub lives-folded : (slot n : ℕ) (commands : List Command)
+    → (controlled_by (new_session slot) (take n commands)).lives ≤ length commands
 lives-folded slot n commands = omega (arith, lives-le slot (take n commands), length-take n commands)
 
 -- it hears a command, and a packet changes nothing of what it has heard

@@ -77,7 +77,8 @@ packets_sent up packets = if up then count_by (λ p. p.up) packets else count_by
 
 -- in a lawful run the records and open counters of a life have the octets of its forwarded packets, each way
 abbrev pub EachOctetCharged : Type 0
-EachOctetCharged = (made : List Decision) (entries : List Entry) (events : ℕ → List Event) (slots slot life : ℕ) (up : Bool)
+EachOctetCharged = (made : List Decision) (entries : List Entry)
+    (events : ℕ → List Event) (slots slot life : ℕ) (up : Bool)
     → IsRun made entries events → slot < slots
     → charged_octets up life (filter_map (row_told slot) (charges slots events))
     + open_octets up life (filter_map (counters_told slot) (charges slots events))
@@ -85,7 +86,8 @@ EachOctetCharged = (made : List Decision) (entries : List Entry) (events : ℕ �
 
 -- and these packets themselves
 abbrev pub EachPacketCharged : Type 0
-EachPacketCharged = (made : List Decision) (entries : List Entry) (events : ℕ → List Event) (slots slot life : ℕ) (up : Bool)
+EachPacketCharged = (made : List Decision) (entries : List Entry)
+    (events : ℕ → List Event) (slots slot life : ℕ) (up : Bool)
     → IsRun made entries events → slot < slots
     → charged_packets up life (filter_map (row_told slot) (charges slots events))
     + open_packets up life (filter_map (counters_told slot) (charges slots events))

@@ -91,4 +91,6 @@ pub record IsRun (made : List Decision) (entries : List Entry) (events : ℕ →
   pub packet_numbers : (slot : ℕ) → filter_map (packet_number slot) entries ≡ counted_to (length (packets_of (events_at slot made)))
   pub histories : (slot : ℕ) → IsHistory slot made entries (events slot)
   -- a packet meets each command of its slot that was accepted before it, and no other
-  pub at_once : (before after : List Entry) (line slot number commands : ℕ) (verdict : Verdict) → entries ≡ before ++ judged line slot number commands verdict ∷ after → commands ≡ length (commands_of (events_at slot (take (length before) made)))
+  pub at_once : (before after : List Entry) (line slot number commands : ℕ) (verdict : Verdict)
+      → entries ≡ before ++ judged line slot number commands verdict ∷ after
+      → commands ≡ length (commands_of (events_at slot (take (length before) made)))

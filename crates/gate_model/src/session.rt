@@ -10,8 +10,8 @@ use std::marker::Model;
 pub const DEFAULT_EBI: u8 = 5;
 /// The QoS class of that bearer, best effort (TS 23.203, table 6.1.7).
 pub const DEFAULT_QCI: u8 = 9;
-/// The allocation and retention priority octet of that bearer: priority level 9, pre-emption neither
-/// way barred or allowed beyond the defaults (TS 29.274, 8.15).
+/// The allocation and retention priority octet of that bearer: priority level 9, both pre-emption
+/// bits 0 (TS 29.274, 8.15).
 pub const DEFAULT_ARP: u8 = 0x24;
 
 /// A bearer of a session.

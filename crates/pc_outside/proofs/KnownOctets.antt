@@ -5,14 +5,16 @@ use Rattle.std.specs.Io.KnownBytes.{Appends, Keeps, Consumes}
 use Rattle.pc_outside.specs.Fronts.{AppendsFront}
 
 -- one growth after the other
-pub appends_both : (old mid new : Option (List ℕ)) (xs ys : List ℕ) → Appends old mid xs → Appends mid new ys → Appends old new (xs ++ ys)
+pub appends_both : (old mid new : Option (List ℕ)) (xs ys : List ℕ) → Appends old mid xs → Appends mid new ys
+    → Appends old new (xs ++ ys)
 appends_both None mid new xs ys a b = tt
 appends_both (Some o) None new xs ys a b = absurd a
 appends_both (Some o) (Some m) None xs ys a b = absurd b
 appends_both (Some o) (Some m) (Some n) xs ys a b = b ∙ ap (λ t. t ++ ys) a ∙ append_assoc o xs ys
 
 -- a call that keeps them
-pub appends_kept : (old mid new : Option (List ℕ)) (xs : List ℕ) → Appends old mid xs → Keeps mid new → Appends old new xs
+pub appends_kept : (old mid new : Option (List ℕ)) (xs : List ℕ) → Appends old mid xs → Keeps mid new
+    → Appends old new xs
 appends_kept None mid new xs a b = tt
 appends_kept (Some o) None new xs a b = absurd a
 appends_kept (Some o) (Some m) None xs a b = absurd b
@@ -57,14 +59,16 @@ written-cut old mid new octets rest so_far some keeps = record {
 }
 
 -- one reading after the other
-pub consumes_both : (old mid new : Option (List ℕ)) (xs ys : List ℕ) → Consumes old mid xs → Consumes mid new ys → Consumes old new (xs ++ ys)
+pub consumes_both : (old mid new : Option (List ℕ)) (xs ys : List ℕ) → Consumes old mid xs → Consumes mid new ys
+    → Consumes old new (xs ++ ys)
 consumes_both None mid new xs ys a b = tt
 consumes_both (Some o) None new xs ys a b = absurd a
 consumes_both (Some o) (Some m) None xs ys a b = absurd b
 consumes_both (Some o) (Some m) (Some n) xs ys a b = a ∙ ap (λ t. xs ++ t) b ∙ sym (append_assoc xs ys n)
 
 -- a call that keeps them
-pub consumes_kept : (old mid new : Option (List ℕ)) (xs : List ℕ) → Consumes old mid xs → Keeps mid new → Consumes old new xs
+pub consumes_kept : (old mid new : Option (List ℕ)) (xs : List ℕ) → Consumes old mid xs → Keeps mid new
+    → Consumes old new xs
 consumes_kept None mid new xs a b = tt
 consumes_kept (Some o) None new xs a b = absurd a
 consumes_kept (Some o) (Some m) None xs a b = absurd b

@@ -9,7 +9,8 @@ use Rattle.pc_outside.specs.OneAnswer.{AreOne, OneAnswer}
 use Rattle.pc_outside.proofs.Newlines.{newline_within}
 
 -- the first newline ends the line
-same_line : (line line' rest rest' : List ℕ) → line ++ 10 ∷ rest ≡ line' ++ 10 ∷ rest' → NoNewline line → NoNewline line'
+same_line : (line line' rest rest' : List ℕ) → line ++ 10 ∷ rest ≡ line' ++ 10 ∷ rest' → NoNewline line
+    → NoNewline line'
     → (line ≡ line') × (rest ≡ rest')
 same_line [] [] rest rest' same none none' = (refl, cc)
 same_line [] (y ∷ ys) rest rest' same none none' = absurd (none' 0 0 (omega arith) (cc))
@@ -26,10 +27,12 @@ whole_or_last octets line rest line' ends last none =
     newline_within octets line rest line' [] ends (last ∙ sym (append-nil line'))
     (omega (arith, ap length (sym last ∙ ends), length-append line (10 ∷ rest))) none
 
-same_lines_held : (room after after' : ℕ) (octets rest rest' line line' : List ℕ) (last last' : Bool) → HoldsLine room after octets rest line last
+same_lines_held : (room after after' : ℕ) (octets rest rest' line line' : List ℕ) (last last' : Bool)
+    → HoldsLine room after octets rest line last
     → HoldsLine room after' octets rest' line' last' → AreOne Line Line after after' rest rest' line line' last last'
 same_lines_held room after after' octets rest rest' line line' false false one other =
-    let same = same_line line line' rest rest' (sym one.form.parts ∙ other.form.parts) one.no_newline other.no_newline in
+    let same = same_line line line' rest rest' (sym one.form.parts
+    ∙ other.form.parts) one.no_newline other.no_newline in
     record {
       read = refl;
       room = omega (arith, ap length same.0, one.form.given, other.form.given);
@@ -51,20 +54,30 @@ same_lines_held room after after' octets rest rest' line line' true true one oth
       same_last = refl;
     }
 
-none_at_end : (room after : ℕ) (octets rest line : List ℕ) (last : Bool) → HoldsLine room after octets rest line last → octets ≡ [] → ⊥
+none_at_end : (room after : ℕ) (octets rest line : List ℕ) (last : Bool) → HoldsLine room after octets rest line last
+    → octets ≡ [] → ⊥
 none_at_end room after octets rest line false holds end =
     omega (arith, ap length (sym end ∙ holds.form.parts), length-append line (10 ∷ rest))
 none_at_end room after octets rest line true holds end =
     omega (arith, holds.form.some, ap length (sym end ∙ holds.form.whole))
 
-none_of_long : (room after : ℕ) (octets rest line : List ℕ) (last : Bool) → HoldsLine room after octets rest line last → BeginsLong room octets → ⊥
+none_of_long : (room after : ℕ) (octets rest line : List ℕ) (last : Bool) → HoldsLine room after octets rest line last
+    → BeginsLong room octets → ⊥
 none_of_long room after octets rest line false holds long =
     newline_within octets line rest long.front long.rest holds.form.parts long.parts
     (omega (arith, holds.short, long.long)) long.no_newline
 none_of_long room after octets rest line true holds long =
-    omega (arith, holds.short, long.long, ap length (sym holds.form.whole ∙ long.parts), length-append long.front long.rest)
+    omega (
+      arith,
+      holds.short,
+      long.long,
+      ap length (sym holds.form.whole
+          ∙ long.parts),
+      length-append long.front long.rest,
+    )
 
-none_in_full : (room after : ℕ) (octets rest line : List ℕ) (last : Bool) → HoldsLine room after octets rest line last → FillsRoom room octets → ⊥
+none_in_full : (room after : ℕ) (octets rest line : List ℕ) (last : Bool) → HoldsLine room after octets rest line last
+    → FillsRoom room octets → ⊥
 none_in_full room after octets rest line false holds full =
     newline_within octets line rest full.front full.rest holds.form.parts full.parts
     (omega (arith, holds.form.given, full.full)) full.no_newline
@@ -90,7 +103,8 @@ long_or_full : (room : ℕ) (octets : List ℕ) → BeginsLong room octets → F
 long_or_full room octets long full = omega (arith, long.long, long.within, full.short, full.full)
 
 -- where nothing is given, the rest is settled
-same_none : (read : LineRead) (room after after' : ℕ) (octets rest rest' line line' : List ℕ) (last last' : Bool) → GivesNone room after octets rest line last
+same_none : (read : LineRead) (room after after' : ℕ) (octets rest rest' line line' : List ℕ) (last last' : Bool)
+    → GivesNone room after octets rest line last
     → GivesNone room after' octets rest' line' last' → AreOne read read after after' rest rest' line line' last last'
 same_none read room after after' octets rest rest' line line' last last' one other = record {
   read = refl;

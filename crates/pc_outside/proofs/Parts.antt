@@ -16,7 +16,8 @@ part-front octets from to len within =
 pub part-behind : (octets : List ℕ) (from to len : ℕ)
     → drop len (slice_range octets from to) ≡ slice_range octets (from + len) to
 part-behind octets from to len =
-    ap (drop len) (between_is octets from to) ∙ drop-drop len from (take to octets) ∙ sym (between_is octets (from + len) to)
+    ap (drop len) (between_is octets from to) ∙ drop-drop len from (take to octets)
+    ∙ sym (between_is octets (from + len) to)
 
 -- what was read behind the front of a buffer
 pub part-gained : (before now : List ℕ) (at count : ℕ) → take at now ≡ take at before

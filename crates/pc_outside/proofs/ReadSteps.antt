@@ -23,14 +23,17 @@ pub record IsReading (start now : Held) (left left_now : Option (List ℕ)) (see
   pub no_newline : NoNewline (take seen now.front)
 
 -- an answer about the octets held, whatever is left behind them, is one about all that was left
-pub reads-of_answers : (read : LineRead) (start now new : Held) (left left_now : Option (List ℕ)) (seen : ℕ) → IsReading start now left left_now seen
-    → ((behind : List ℕ) → left_now ≡ Some behind → Answers read now.room new.room (now.front ++ behind) (new.front ++ behind) new.line new.last)
+pub reads-of_answers : (read : LineRead) (start now new : Held) (left left_now : Option (List ℕ)) (seen : ℕ)
+    → IsReading start now left left_now seen
+    → ((behind : List ℕ) → left_now ≡ Some behind
+    → Answers read now.room new.room (now.front ++ behind) (new.front ++ behind) new.line new.last)
     → Reads read start.room new.room (prepend_known start.front left) (prepend_known new.front left_now) new.line new.last
 reads-of_answers read start now new None left_now seen so_far answers = tt
 reads-of_answers read start now new (Some xs) None seen so_far answers = absurd so_far.consumed
 reads-of_answers read start now new (Some xs) (Some ys) seen so_far answers =
     let all : now.front ++ ys ≡ start.front ++ xs =
-    ap (λ front. front ++ ys) so_far.front ∙ append_assoc start.front so_far.given ys ∙ ap (λ rest. start.front ++ rest) (sym so_far.consumed) in
+    ap (λ front. front ++ ys) so_far.front ∙ append_assoc start.front so_far.given ys
+    ∙ ap (λ rest. start.front ++ rest) (sym so_far.consumed) in
     rw (← all, ← so_far.room) (answers ys refl)
 
 -- nothing is given
@@ -44,7 +47,8 @@ gives_none now new behind line not_last same = record {
 }
 
 -- what is held gives the answer, whatever comes behind it
-pub settles-behind : (read : LineRead) (now new : Held) (behind : List ℕ) → now.line ≡ [] → now.last ≡ false → Settles read now new
+pub settles-behind : (read : LineRead) (now new : Held) (behind : List ℕ) → now.line ≡ [] → now.last ≡ false
+    → Settles read now new
     → Answers read now.room new.room (now.front ++ behind) (new.front ++ behind) new.line new.last
 settles-behind Line now new behind line not_last gives =
     subst (λ last. HoldsLine now.room new.room (now.front ++ behind) (new.front ++ behind) new.line last) (sym (gives.last ∙ not_last))
@@ -84,7 +88,8 @@ settles-behind TooLong now new behind line not_last gives =
     )
 
 -- and gives its answer
-pub settles-stays : (stop read : LineRead) (now new : Held) → HasStopped stop now → Settles read now new → (read ≡ stop) × (new.front ≡ now.front)
+pub settles-stays : (stop read : LineRead) (now new : Held) → HasStopped stop now → Settles read now new
+    → (read ≡ stop) × (new.front ≡ now.front)
 settles-stays Line read now new stopped gives = absurd stopped
 settles-stays End read now new stopped gives = absurd stopped
 settles-stays ReadFault read now new stopped gives = absurd stopped
@@ -104,7 +109,8 @@ settles-stays TooLong LineLong now new full gives = absurd (omega (arith, gives.
 settles-stays TooLong TooLong now new full gives = (refl, ap (λ held. held.front) gives.0)
 
 -- a state that has stopped is known by its octets and room
-pub stopped-now : (stop : LineRead) (start now : Held) → HasStopped stop start → now.front ≡ start.front → now.room ≡ start.room
+pub stopped-now : (stop : LineRead) (start now : Held) → HasStopped stop start → now.front ≡ start.front
+    → now.room ≡ start.room
     → HasStopped stop now
 stopped-now Line start now stopped front room = stopped
 stopped-now End start now stopped front room = stopped

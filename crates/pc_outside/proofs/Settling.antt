@@ -9,7 +9,8 @@ use Rattle.pc_outside.specs.Steps.{GivesWhole}
 use Rattle.pc_outside.proofs.Parts.{part-front, part-behind}
 
 -- a newline was found within a line's length
-pub found_whole : (octets line : List ℕ) (from to len taken : ℕ) (last : Bool) → from ≤ to → to ≤ length octets → taken ≤ input_max
+pub found_whole : (octets line : List ℕ) (from to len taken : ℕ) (last : Bool) → from ≤ to → to ≤ length octets
+    → taken ≤ input_max
     → len < to - from → len ≤ line_max → NoNewline (take len (slice_range octets from to))
     → drop len (slice_range octets from to) ≡ newline ∷ drop (len + 1) (slice_range octets from to)
     → GivesWhole

@@ -124,7 +124,8 @@ impl Model for MemSink {
       faults = sink.faults;
     } };
 
-    ghost invariant = { λ sink. (vec_len sink.octets ≤ sink.room) × (sink.room ≤ vec_capacity sink.octets) × (1 ≤ sink.piece) };
+    ghost invariant = { λ sink. (vec_len sink.octets ≤ sink.room) × (sink.room ≤ vec_capacity sink.octets)
+        × (1 ≤ sink.piece) };
 }
 
 impl MemSink {
@@ -180,14 +181,16 @@ impl Sink for MemSink {
         ensures cause { OnErr result (Rises self.old.faults self.new.faults) }
 
         // Which calls fail, and how much the others take.
-        ensures fails { IsErr result ↔ (Contains self.old.fail_at self.old.calls ⊎ (self.old.room ≤ length self.old.written)) }
+        ensures fails { IsErr result ↔ (Contains self.old.fail_at self.old.calls
+            ⊎ (self.old.room ≤ length self.old.written)) }
         ensures taken { IfOk result (λ n. n ≡ min self.old.piece (min (length from.now) (self.old.room - length self.old.written))) }
 
         // The call is counted, and its failure.
         ensures call { self.new.calls ≡ counted self.old.calls }
         ensures no_fault { OnOk result (self.new.faults ≡ self.old.faults) }
         ensures fault { OnErr result (self.new.faults ≡ counted self.old.faults) }
-        ensures same { (self.new.room ≡ self.old.room) × (self.new.piece ≡ self.old.piece) × (self.new.fail_at ≡ self.old.fail_at) }
+        ensures same { (self.new.room ≡ self.old.room) × (self.new.piece ≡ self.old.piece)
+            × (self.new.fail_at ≡ self.old.fail_at) }
     {
         let fails = self.fail_at.contains(&self.calls) || self.octets.len() >= self.room;
         self.calls = self.calls.saturating_add(1);

@@ -34,18 +34,21 @@ given_by session [] given = given
 given_by session (Attach enb up down ∷ commands) given =
     given_by (controlled session (Attach enb up down)).0 commands (λ bearer is. let same : session.lives ≡ bearer.life = cc in omega arith)
 
-pub life_is_given : (slot : ℕ) (events : List Event) (bearer : Bearer) → (session_after slot events).bearers ≡ bearer ∷ [] → bearer.life ≤ length events
+pub life_is_given : (slot : ℕ) (events : List Event) (bearer : Bearer)
+    → (session_after slot events).bearers ≡ bearer ∷ [] → bearer.life ≤ length events
 life_is_given slot events bearer is =
     let nothing : IsGiven (new_session slot) = λ b none. cc in
     omega (arith, given_by (new_session slot) (commands_of events) nothing bearer is, lives-session_after slot events)
 
-pub life_is_small : (slot : ℕ) (events : List Event) (bearer : Option Bearer) → (session_after slot events).bearers ≡ option_to_list bearer → length events ≤ 2 ^ 61
+pub life_is_small : (slot : ℕ) (events : List Event) (bearer : Option Bearer)
+    → (session_after slot events).bearers ≡ option_to_list bearer → length events ≤ 2 ^ 61
     → IfSome bearer (λ (b : Bearer). b.life ≤ 2 ^ 61)
 life_is_small slot events None is few = tt
 life_is_small slot events (Some bearer) is few = omega (arith, life_is_given slot events bearer is)
 
 pub open_for : (slot : ℕ) (events : List Event) (judgement : Judgement) (index : ℕ) (octets : List ℕ)
-    → verdict_of judgement ≡ sent_up (session_after slot events) index octets → IsOpenFor (lives_in (session_after slot events).bearers) judgement
+    → verdict_of judgement ≡ sent_up (session_after slot events) index octets
+    → IsOpenFor (lives_in (session_after slot events).bearers) judgement
 open_for slot events (Up life lent) index octets is =
     life_of_few (session_after slot events).bearers (session_after slot events).live index (session_after slot events).slot life octets lent.now
     (bearers_are_few slot events) is
@@ -57,8 +60,10 @@ by_command-is : (session : Session) (command : Command)
 by_command-is session (Attach enb up down) = refl
 
 -- the lives that a book has open are that of the row's bearer
-pub lives_of_row : (slot : ℕ) (events : List Event) (row : Subscriber) (bearer : Option Bearer) → RowStands slot row events
-    → row.session.bearers ≡ option_to_list bearer → lives_of (happenings slot events) ≡ map (λ (b : Bearer). b.life) (option_to_list bearer)
+pub lives_of_row : (slot : ℕ) (events : List Event) (row : Subscriber) (bearer : Option Bearer)
+    → RowStands slot row events
+    → row.session.bearers ≡ option_to_list bearer
+    → lives_of (happenings slot events) ≡ map (λ (b : Bearer). b.life) (option_to_list bearer)
 lives_of_row slot events row bearer stands is =
     lives_are_bearers slot events ∙ ap (λ (s : Session). lives_in s.bearers) (sym stands.session) ∙ ap lives_in is
 
@@ -75,22 +80,28 @@ book_commanded slot events command row next new old young stands stands_next is_
     let before : (session_after slot events).bearers ≡ option_to_list old =
     ap (λ (s : Session). s.bearers) (sym stands.session) ∙ is_old in
     let after : (controlled (session_after slot events) command).0.bearers ≡ option_to_list young =
-    ap (λ (s : Session). s.bearers) (sym (session_after-command slot events command)) ∙ ap (λ (s : Session). s.bearers) (sym stands_next.session) ∙ is_young in
+    ap (λ (s : Session). s.bearers) (sym (session_after-command slot events command))
+    ∙ ap (λ (s : Session). s.bearers) (sym stands_next.session) ∙ is_young in
     let happened : by_event slot events (event.Command command) ≡ map gone (option_to_list old) ++ map begun (option_to_list young) =
     by_command-is (session_after slot events) command
     ∙ ap (λ bs. map gone bs ++ map begun (controlled (session_after slot events) command).0.bearers) before
     ∙ ap (λ bs. map gone (option_to_list old) ++ map begun bs) after in
     subst (λ all. StandsFor new all 0)
-    (ap (λ more. happenings slot events ++ more) (sym happened) ∙ sym (happenings-push slot events (event.Command command))) holds
+    (ap (λ more. happenings slot events ++ more) (sym happened)
+    ∙ sym (happenings-push slot events (event.Command command))) holds
 
 -- the book of a row that judged a packet
-pub book_used : (slot : ℕ) (events : List Event) (packet : Packet) (new : Accounts) (verdict_ : Verdict) → verdict_ ≡ verdict_after slot events packet
-    → StandsFor new (happenings slot events ++ by_verdict packet verdict_) 0 → BookStands slot new (events ++ event.Packet packet ∷ [])
+pub book_used : (slot : ℕ) (events : List Event) (packet : Packet) (new : Accounts) (verdict_ : Verdict)
+    → verdict_ ≡ verdict_after slot events packet
+    → StandsFor new (happenings slot events ++ by_verdict packet verdict_) 0
+    → BookStands slot new (events ++ event.Packet packet ∷ [])
 book_used slot events packet new verdict_ is holds =
     subst (λ all. StandsFor new all 0)
-    (ap (λ v. happenings slot events ++ by_verdict packet v) is ∙ sym (happenings-push slot events (event.Packet packet))) holds
+    (ap (λ v. happenings slot events ++ by_verdict packet v) is
+    ∙ sym (happenings-push slot events (event.Packet packet))) holds
 
 pub open_by_row : (slot : ℕ) (events : List Event) (judgement : Judgement) (moment index : ℕ) (octets : List ℕ)
-    → verdict_of judgement ≡ verdict_after slot events (uplink moment index octets) → IsOpenFor (lives_of (happenings slot events)) judgement
+    → verdict_of judgement ≡ verdict_after slot events (uplink moment index octets)
+    → IsOpenFor (lives_of (happenings slot events)) judgement
 open_by_row slot events judgement moment index octets is =
     subst (λ lives. IsOpenFor lives judgement) (sym (lives_are_bearers slot events)) (open_for slot events judgement index octets is)

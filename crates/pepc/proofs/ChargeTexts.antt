@@ -10,11 +10,13 @@ use Rattle.gate_model.specs.Run.{counted_to}
 use Rattle.gate_model.specs.declared.gateway.Event.{Event}
 use Rattle.pepc.specs.Account.{AreBooks, BookStands}
 
-pub book_at : (books : List Accounts) (events : ℕ → List Event) (slot : ℕ) (book : Accounts) → AreBooks books events → slot < length books
+pub book_at : (books : List Accounts) (events : ℕ → List Event) (slot : ℕ) (book : Accounts) → AreBooks books events
+    → slot < length books
     → book ≡ get_or books slot book → BookStands slot book (events slot)
 book_at books events slot book stand within is =
     let has = stand slot within in
-    subst (λ b. BookStands slot b (events slot)) (sym (get_or_from_slice_get books slot has.value book has.found) ∙ sym is) has.holds
+    subst (λ b. BookStands slot b (events slot)) (sym (get_or_from_slice_get books slot has.value book has.found)
+    ∙ sym is) has.holds
 
 pub texts-append : (before later : List Entry) → texts (before ++ later) ≡ texts before ++ texts later
 texts-append before later = flat_map-append text_of before later
@@ -24,11 +26,13 @@ of_slots-suc : (of_slot : ℕ → List Entry) (slots : ℕ)
     → texts (flat_map of_slot (counted_to (slots + 1))) ≡ texts (flat_map of_slot (counted_to slots)) ++ texts (of_slot slots)
 of_slots-suc of_slot slots =
     let more : flat_map of_slot (counted_to (slots + 1)) ≡ flat_map of_slot (counted_to slots) ++ of_slot slots =
-    rw add-one (flat_map-append of_slot (counted_to slots) (slots ∷ []) ∙ ap (λ e. flat_map of_slot (counted_to slots) ++ e) (append-nil (of_slot slots))) in
+    rw add-one (flat_map-append of_slot (counted_to slots) (slots ∷ [])
+    ∙ ap (λ e. flat_map of_slot (counted_to slots) ++ e) (append-nil (of_slot slots))) in
     ap texts more ∙ texts-append (flat_map of_slot (counted_to slots)) (of_slot slots)
 
 -- a report with the records of one slot more
-pub records_pushed : (books : List Accounts) (events : ℕ → List Event) (slot : ℕ) (book : Accounts) (old before new : List ℕ)
+pub records_pushed : (books : List Accounts)
+    (events : ℕ → List Event) (slot : ℕ) (book : Accounts) (old before new : List ℕ)
     → AreBooks books events → slot < length books → book ≡ get_or books slot book
     → before ≡ old ++ texts (records events slot) → new ≡ before ++ texts (map (charged slot) book.rows)
     → new ≡ old ++ texts (records events (slot + 1))
@@ -40,7 +44,8 @@ records_pushed books events slot book old before new stand within is so_far push
     ∙ ap (λ more. old ++ more) (sym (of_slots-suc (λ place. records_of place (events place)) slot))
 
 -- a report with the open counters of one slot more
-pub counters_pushed : (books : List Accounts) (events : ℕ → List Event) (slot : ℕ) (book : Accounts) (old before new : List ℕ)
+pub counters_pushed : (books : List Accounts)
+    (events : ℕ → List Event) (slot : ℕ) (book : Accounts) (old before new : List ℕ)
     → AreBooks books events → slot < length books → book ≡ get_or books slot book
     → before ≡ old ++ texts (open_counters events slot) → new ≡ before ++ texts (map (left_open slot) book.opens)
     → new ≡ old ++ texts (open_counters events (slot + 1))

@@ -19,15 +19,18 @@ pub on_ok_map : {T E : Type 0} {P Q : Type 0} (r : Result T E) → (P → Q) →
 on_ok_map (Ok x) f p = f p
 on_ok_map (Err e) f p = p
 
-pub booked-attach : (book : List (List ℕ)) (line : Line) (imsi : List ℕ) (enb : Peer) (up down : ℕ) → line.kind ≡ Attach imsi enb up down
+pub booked-attach : (book : List (List ℕ)) (line : Line) (imsi : List ℕ) (enb : Peer) (up down : ℕ)
+    → line.kind ≡ Attach imsi enb up down
     → booked book line ≡ with_imsi book imsi
 booked-attach book line imsi enb up down is = ap (booked_by book) is
 
-pub decided-attach : (book : List (List ℕ)) (line : Line) (imsi : List ℕ) (enb : Peer) (up down : ℕ) → line.kind ≡ Attach imsi enb up down
+pub decided-attach : (book : List (List ℕ)) (line : Line) (imsi : List ℕ) (enb : Peer) (up down : ℕ)
+    → line.kind ≡ Attach imsi enb up down
     → decided (booked book line) line ≡ attaching (slot_in (with_imsi book imsi) imsi) (order.Attach enb up down)
 decided-attach book line imsi enb up down is = ap (λ kind. decided_by (booked_by book kind) line.moment kind) is
 
-pub booked-s1u : (book : List (List ℕ)) (line : Line) (octets : List ℕ) → line.kind ≡ S1u octets → booked book line ≡ book
+pub booked-s1u : (book : List (List ℕ)) (line : Line) (octets : List ℕ) → line.kind ≡ S1u octets
+    → booked book line ≡ book
 booked-s1u book line octets is = ap (booked_by book) is
 
 pub decided-s1u : (book : List (List ℕ)) (line : Line) (octets : List ℕ) → line.kind ≡ S1u octets
@@ -45,7 +48,8 @@ booked_by-other : (book : List (List ℕ)) (kind : LineKind) → is_built kind �
 booked_by-other book (Attach imsi enb up down) other = cc
 booked_by-other book _ other = refl
 
-decided_by-other : (book : List (List ℕ)) (moment : ℕ) (kind : LineKind) → is_built kind ≡ false → decided_by book moment kind ≡ note (codes "unbuilt")
+decided_by-other : (book : List (List ℕ)) (moment : ℕ) (kind : LineKind) → is_built kind ≡ false
+    → decided_by book moment kind ≡ note (codes "unbuilt")
 decided_by-other book moment (S1u octets) other = cc
 decided_by-other book moment (Attach imsi enb up down) other = cc
 decided_by-other book moment _ other = refl
@@ -53,7 +57,8 @@ decided_by-other book moment _ other = refl
 pub booked-other : (book : List (List ℕ)) (line : Line) → is_built line.kind ≡ false → booked book line ≡ book
 booked-other book line other = booked_by-other book line.kind other
 
-pub decided-other : (book : List (List ℕ)) (line : Line) → is_built line.kind ≡ false → decided (booked book line) line ≡ note (codes "unbuilt")
+pub decided-other : (book : List (List ℕ)) (line : Line) → is_built line.kind ≡ false
+    → decided (booked book line) line ≡ note (codes "unbuilt")
 decided-other book line other = decided_by-other (booked book line) line.moment line.kind other
 
 -- the book and the decision of the line are all that it adds
@@ -74,7 +79,8 @@ received_in_book solo book made slots moment octets meant slots_is stands is =
 
 -- and what is told of a meaning is told of its equal
 pub told_of_equal : {E : Type 0} (result : Result (Unit {0}) E) (old new : List ℕ) (made : List Decision) (one other : Decision) → one ≡ other
-    → OnOk result (new ≡ old ++ text_of (entry_after made one)) → OnOk result (new ≡ old ++ text_of (entry_after made other))
+    → OnOk result (new ≡ old ++ text_of (entry_after made one))
+    → OnOk result (new ≡ old ++ text_of (entry_after made other))
 told_of_equal result old new made one other same told = subst (λ d. OnOk result (new ≡ old ++ text_of (entry_after made d))) same told
 
 pub stands_of_equal : {E : Type 0} (result : Result (Unit {0}) E) (solo : Solo) (book : List (List ℕ)) (made : List Decision) (one other : Decision) → one ≡ other

@@ -15,20 +15,24 @@ use Rattle.pepc.specs.Next.{SaysLine, Says, Tells, TakesRoom, given_as, refused_
 use Rattle.pepc.specs.declared.reading.Next.TheVariants as next
 
 -- a line that is built, and what stands behind it · one that isn't
-built-line : (line : Line) (input : Input) → is_built line.kind ≡ true → built (after_lines (line ∷ []) input) ≡ after_lines (line ∷ []) (built input)
+built-line : (line : Line) (input : Input) → is_built line.kind ≡ true
+    → built (after_lines (line ∷ []) input) ≡ after_lines (line ∷ []) (built input)
 built-line line input is = rw is refl
 
-built-other : (line : Line) (input : Input) → is_built line.kind ≡ false → built (after_lines (line ∷ []) input) ≡ stopped (bad line.number why.Kind)
+built-other : (line : Line) (input : Input) → is_built line.kind ≡ false
+    → built (after_lines (line ∷ []) input) ≡ stopped (bad line.number why.Kind)
 built-other line input is = rw is refl
 
 -- a line and its newline say what the line means, and then what stands behind them says
-says_whole : (number least room after : ℕ) (octets rest line : List ℕ) → HoldsLine room after octets rest line false → (behind : List ℕ)
+says_whole : (number least room after : ℕ) (octets rest line : List ℕ) → HoldsLine room after octets rest line false
+    → (behind : List ℕ)
     → input_within room number least (line ++ newline ∷ behind) ≡ line_then number (line_meaning least number line) (λ l. input_within after (number + 1) l.moment behind)
 says_whole number least room after octets rest line holds behind =
     rw (holds.form.given) (whole_line after number least line behind holds.no_newline holds.short)
 
 -- octets with a line in front say what the line means, and then what the rest says
-says_held : (number least room after : ℕ) (octets rest line : List ℕ) (last : Bool) → HoldsLine room after octets rest line last
+says_held : (number least room after : ℕ) (octets rest line : List ℕ) (last : Bool)
+    → HoldsLine room after octets rest line last
     → input_within room number least octets ≡ line_then number (line_meaning least number line) (λ l. input_within after (number + 1) l.moment rest)
 says_held number least room after octets rest line false holds = rw (holds.form.parts) (says_whole number least room after octets rest line holds rest)
 says_held number least room after octets rest line true holds =
@@ -48,7 +52,8 @@ says_line number least room after octets rest text line holds means is = record 
 }
 
 tells_line : (number least room after : ℕ) (octets rest : Option (List ℕ)) (text : List ℕ) (last : Bool) (line : Line)
-    → Reads read.Line room after octets rest text last → last ≡ false → line_meaning least number text ≡ Ok line → is_built line.kind ≡ true
+    → Reads read.Line room after octets rest text last → last ≡ false → line_meaning least number text ≡ Ok line
+    → is_built line.kind ≡ true
     → Tells (next.Line line) number least room after octets rest
 tells_line number least room after None rest text last line reads is means does = tt
 tells_line number least room after (Some octets) None text last line reads is means does = absurd reads
@@ -57,7 +62,8 @@ tells_line number least room after (Some octets) (Some rest) text false line rea
     says_line number least room after octets rest text line reads means does
 
 tells_last : (number least room after : ℕ) (octets rest : Option (List ℕ)) (text : List ℕ) (last : Bool) (line : Line)
-    → Reads read.Line room after octets rest text last → last ≡ true → line_meaning least number text ≡ Ok line → is_built line.kind ≡ true
+    → Reads read.Line room after octets rest text last → last ≡ true → line_meaning least number text ≡ Ok line
+    → is_built line.kind ≡ true
     → Tells (next.Last line) number least room after octets rest
 tells_last number least room after None rest text last line reads is means does = tt
 tells_last number least room after (Some octets) None text last line reads is means does = absurd reads
@@ -73,7 +79,8 @@ tells_last number least room after (Some octets) (Some rest) text true line read
 
 -- a line of a kind that isn't built
 tells_other : (number least room after : ℕ) (octets rest : Option (List ℕ)) (text : List ℕ) (last : Bool) (line : Line)
-    → Reads read.Line room after octets rest text last → line_meaning least number text ≡ Ok line → line.number ≡ number → is_built line.kind ≡ false
+    → Reads read.Line room after octets rest text last → line_meaning least number text ≡ Ok line
+    → line.number ≡ number → is_built line.kind ≡ false
     → Tells (next.Bad why.Kind) number least room after octets rest
 tells_other number least room after None rest text last line reads means numbered other = tt
 tells_other number least room after (Some octets) None text last line reads means numbered other = absurd reads
@@ -85,7 +92,8 @@ tells_other number least room after (Some octets) (Some rest) text last line rea
 
 -- a line that is built, the last one or not
 tells_built : (number least room after : ℕ) (octets rest : Option (List ℕ)) (text : List ℕ) (last : Bool) (line : Line)
-    → Reads read.Line room after octets rest text last → line_meaning least number text ≡ Ok line → is_built line.kind ≡ true
+    → Reads read.Line room after octets rest text last → line_meaning least number text ≡ Ok line
+    → is_built line.kind ≡ true
     → Tells (if last then next.Last line else next.Line line) number least room after octets rest
 tells_built number least room after octets rest text true line reads means does =
     tells_last number least room after octets rest text true line reads refl means does
@@ -103,12 +111,14 @@ tells_given number least room after octets rest text last line reads means numbe
     by_kind false is = tells_other number least room after octets rest text last line reads means numbered is
 
 -- and takes room
-takes_built : (room after : ℕ) (octets rest text : List ℕ) (last : Bool) (line : Line) → HoldsLine room after octets rest text last
+takes_built : (room after : ℕ) (octets rest text : List ℕ) (last : Bool) (line : Line)
+    → HoldsLine room after octets rest text last
     → TakesRoom (if last then next.Last line else next.Line line) room after
 takes_built room after octets rest text true line holds = tt
 takes_built room after octets rest text false line holds = omega (arith, holds.form.given)
 
-pub takes_given : (room after : ℕ) (octets rest text : List ℕ) (last : Bool) (line : Line) → HoldsLine room after octets rest text last
+pub takes_given : (room after : ℕ) (octets rest text : List ℕ) (last : Bool) (line : Line)
+    → HoldsLine room after octets rest text last
     → TakesRoom (given_as line last) room after
 takes_given room after octets rest text last line holds = by_kind (is_built line.kind)
   where
@@ -126,13 +136,15 @@ given-no_fault last line is = by_kind (is_built line.kind) last is
     by_kind false same is = cc
 
 says_refused : (number least room after : ℕ) (octets rest text : List ℕ) (last : Bool) (bad_one : LineBad)
-    → HoldsLine room after octets rest text last → line_meaning least number text ≡ Err bad_one → trace_within room number least octets ≡ stopped (bad number bad_one)
+    → HoldsLine room after octets rest text last → line_meaning least number text ≡ Err bad_one
+    → trace_within room number least octets ≡ stopped (bad number bad_one)
 says_refused number least room after octets rest text last bad_one holds means =
     ap built (says_held number least room after octets rest text last holds
     ∙ ap (λ m. line_then number m (λ l. input_within after (number + 1) l.moment rest)) means)
 
 says_refused_as : (number least room after : ℕ) (octets rest text : List ℕ) (last : Bool) (bad_one : LineBad)
-    → HoldsLine room after octets rest text last → (bad_one ≡ why.NoMemory) ⊎ (line_meaning least number text ≡ Err bad_one)
+    → HoldsLine room after octets rest text last
+    → (bad_one ≡ why.NoMemory) ⊎ (line_meaning least number text ≡ Err bad_one)
     → Says (refused_as bad_one) number least room after octets rest
 says_refused_as number least room after octets rest text last why.Field holds (inr means) = says_refused number least room after octets rest text last why.Field holds means
 says_refused_as number least room after octets rest text last why.Number holds (inr means) = says_refused number least room after octets rest text last why.Number holds means
@@ -148,7 +160,8 @@ says_refused_as number least room after octets rest text last why.MomentBack hol
 says_refused_as number least room after octets rest text last why.NoMemory holds (inl is) = tt
 
 pub tells_refused : (number least room after : ℕ) (octets rest : Option (List ℕ)) (text : List ℕ) (last : Bool) (bad_one : LineBad)
-    → Reads read.Line room after octets rest text last → (bad_one ≡ why.NoMemory) ⊎ (line_meaning least number text ≡ Err bad_one)
+    → Reads read.Line room after octets rest text last
+    → (bad_one ≡ why.NoMemory) ⊎ (line_meaning least number text ≡ Err bad_one)
     → Tells (refused_as bad_one) number least room after octets rest
 tells_refused number least room after None rest text last bad_one reads means = tt
 tells_refused number least room after (Some octets) None text last bad_one reads means = absurd reads

@@ -18,5 +18,6 @@ report_is lines stop text report =
     let same_charges = charges_are_one (decisions lines) report.entries report.events report.run (length (book_of lines)) in
     report.written ∙ (λ i. texts (same_entries i ++ stop_entry stop ++ same_charges i))
 
-pub one_report : (lines : List Line) (stop : Stop) (text other : List ℕ) → IsReport lines stop text → IsReport lines stop other → text ≡ other
+pub one_report : (lines : List Line) (stop : Stop) (text other : List ℕ) → IsReport lines stop text
+    → IsReport lines stop other → text ≡ other
 one_report lines stop text other report also = report_is lines stop text report ∙ sym (report_is lines stop other also)

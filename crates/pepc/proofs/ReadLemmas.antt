@@ -14,12 +14,14 @@ use Rattle.pepc.specs.Progress.{HasRead, Stops, Fails}
 use Rattle.pepc.specs.Told.{WhereTold}
 use Rattle.pepc.proofs.ToldLemmas.{told_then}
 
-after_lines-push : (done : List Line) (line : Line) (input : Input) → after_lines done (after_lines (line ∷ []) input) ≡ after_lines (done ++ line ∷ []) input
+after_lines-push : (done : List Line) (line : Line) (input : Input)
+    → after_lines done (after_lines (line ∷ []) input) ≡ after_lines (done ++ line ∷ []) input
 after_lines-push done line input = ap (λ lines. record { lines = lines; stop = input.stop }) (sym (append_assoc done (line ∷ []) input.lines))
 
 -- a text behind others, and what stands behind it
 regrouped : (gone text behind : List ℕ) → gone ++ text ++ newline ∷ [] ++ behind ≡ gone ++ (text ++ newline ∷ behind)
-regrouped gone text behind = append_assoc (gone ++ text) (newline ∷ []) behind ∙ append_assoc gone text (newline ∷ behind)
+regrouped gone text behind = append_assoc (gone ++ text) (newline ∷ []) behind
+    ∙ append_assoc gone text (newline ∷ behind)
 
 -- a line and its newline are gone through too
 read_more : (number least room after : ℕ) (done : List Line) (line : Line) (octets ahead rest : List ℕ)
@@ -43,7 +45,8 @@ read_more number least room after done line octets ahead rest read line_said = r
 }
 
 pub told_more : (start a b : Option (List ℕ)) (number least room after : ℕ) (done : List Line) (line : Line)
-    → WhereTold start a (λ octets rest. HasRead octets rest number least room done) → Tells (next.Line line) number least room after a b
+    → WhereTold start a (λ octets rest. HasRead octets rest number least room done)
+    → Tells (next.Line line) number least room after a b
     → WhereTold start b (λ octets rest. HasRead octets rest (number + 1) line.moment after (done ++ line ∷ []))
 told_more start a b number least room after done line read tells =
     told_then start a b (λ octets rest. HasRead octets rest number least room done) (λ octets rest. Says (next.Line line) number least room after octets rest)
@@ -51,19 +54,23 @@ told_more start a b number least room after done line read tells =
     (read_more number least room after done line) read tells
 
 -- the octets say the lines that were read, and then what those ahead say
-pub begins_so : (number least room : ℕ) (done : List Line) (octets ahead : List ℕ) → HasRead octets ahead number least room done
+pub begins_so : (number least room : ℕ) (done : List Line) (octets ahead : List ℕ)
+    → HasRead octets ahead number least room done
     → trace_of octets ≡ after_lines done (trace_within room number least ahead)
 begins_so number least room done octets ahead read = ap trace_of read.parts ∙ read.says ahead
 
-pub stops_so : (number least room : ℕ) (done : List Line) (stop : Stop) (octets ahead : List ℕ) → HasRead octets ahead number least room done
+pub stops_so : (number least room : ℕ) (done : List Line) (stop : Stop) (octets ahead : List ℕ)
+    → HasRead octets ahead number least room done
     → trace_within room number least ahead ≡ stopped stop → Stops octets done stop
 stops_so number least room done stop octets ahead read says =
     begins_so number least room done octets ahead read ∙ ap (after_lines done) says
     ∙ ap (λ lines. record { lines = lines; stop = stop }) (append-nil done)
 
 -- one line more, and what comes behind it
-pub begins_more : (number least room : ℕ) (done : List Line) (line : Line) (behind : Input) (octets ahead : List ℕ) → HasRead octets ahead number least room done
-    → trace_within room number least ahead ≡ after_lines (line ∷ []) behind → trace_of octets ≡ after_lines (done ++ line ∷ []) behind
+pub begins_more : (number least room : ℕ) (done : List Line) (line : Line) (behind : Input) (octets ahead : List ℕ)
+    → HasRead octets ahead number least room done
+    → trace_within room number least ahead ≡ after_lines (line ∷ []) behind
+    → trace_of octets ≡ after_lines (done ++ line ∷ []) behind
 begins_more number least room done line behind octets ahead read says =
     begins_so number least room done octets ahead read ∙ ap (after_lines done) says ∙ after_lines-push done line behind
 
@@ -74,8 +81,10 @@ none_left (octet ∷ held) left none = cc
 
 -- what is told of what is next, behind what was read
 pub told_next : (start a left : Option (List ℕ)) (held : List ℕ) (number least room after : ℕ) (done : List Line) (one : Next) (R : List ℕ → List ℕ → Type 0)
-    → ((octets ahead rest : List ℕ) → HasRead octets ahead number least room done → Says one number least room after ahead (held ++ rest) → R octets rest)
-    → WhereTold start a (λ octets rest. HasRead octets rest number least room done) → Tells one number least room after a (prepend_known held left)
+    → ((octets ahead rest : List ℕ) → HasRead octets ahead number least room done
+    → Says one number least room after ahead (held ++ rest) → R octets rest)
+    → WhereTold start a (λ octets rest. HasRead octets rest number least room done)
+    → Tells one number least room after a (prepend_known held left)
     → WhereTold start left R
 told_next None a left held number least room after done one R follows read tells = tt
 told_next (Some octets) None left held number least room after done one R follows read tells = absurd read
@@ -104,7 +113,8 @@ fails_so number least room done now octets ahead rest unfinished read stays same
 -- what is next begins with this line
 abbrev pub GivesLine : Next → Line → ℕ → ℕ → ℕ → ℕ → Type 0
 GivesLine one line number least room after =
-    (ahead rest : List ℕ) → Says one number least room after ahead rest → (behind : Input) × (trace_within room number least ahead ≡ after_lines (line ∷ []) behind)
+    (ahead rest : List ℕ) → Says one number least room after ahead rest
+    → (behind : Input) × (trace_within room number least ahead ≡ after_lines (line ∷ []) behind)
 
 pub gives_line : (line : Line) (number least room after : ℕ) → GivesLine (next.Line line) line number least room after
 gives_line line number least room after = λ ahead rest says.

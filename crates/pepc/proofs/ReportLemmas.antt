@@ -1,7 +1,6 @@
 -- What a run that ends, or is cut, wrote.
-use Rattle.std.proofs.Common.{◌≡◌, ℕ, ◌+◌, List, [], ◌++◌, length, false, Option, None, Some, Result, Ok, Err, OnOk, inl, inr, refl, sym, ap, subst, ◌∙◌, append_assoc, append-nil}
+use Rattle.std.proofs.Common.{◌≡◌, ℕ, ◌+◌, List, [], ◌++◌, length, Option, None, Some, inl, inr, refl, sym, ap, subst, ◌∙◌, append_assoc, append-nil}
 use Rattle.std.specs.Io.KnownBytes.{Appends}
-use Rattle.std.specs.Result.{is_err}
 use Rattle.std.proofs.KnownBytes.{Appends-trans, Appends-nil}
 use Rattle.std.proofs.lemmas.Grind.{flat_map-append}
 use Rattle.pc_outside.specs.Fronts.{AppendsFront}
@@ -29,7 +28,8 @@ abbrev said_of : List Line → Stop → List ℕ
 said_of done stop = texts (entries_after [] (decisions done) ++ stop_entry stop ++ charges_of done)
 
 -- what is charged stands behind the entries
-charged_behind : (done : List Line) (stop : Stop) (told : List ℕ) → told ≡ texts (entries_after [] (decisions done) ++ stop_entry stop)
+charged_behind : (done : List Line) (stop : Stop) (told : List ℕ)
+    → told ≡ texts (entries_after [] (decisions done) ++ stop_entry stop)
     → told ++ texts (charges_of done) ≡ said_of done stop
 charged_behind done stop told said =
     ap (λ t. t ++ texts (charges_of done)) said
@@ -37,7 +37,8 @@ charged_behind done stop told said =
 
 -- what was written and what waits, where what is charged was appended to it
 said_in_all : (ending : Ending) (start left old new : Option (List ℕ)) (waiting report : List ℕ) (gateway : Solo) (ends : Ends ending start left old new waiting gateway)
-    → report ≡ waiting ++ texts (charges_of ends.done) → ends.sent ++ report ≡ said_of ends.done (stop_of ending (length ends.done + 1))
+    → report ≡ waiting ++ texts (charges_of ends.done)
+    → ends.sent ++ report ≡ said_of ends.done (stop_of ending (length ends.done + 1))
 said_in_all ending start left old new waiting report gateway ends charged =
     ap (λ w. ends.sent ++ w) charged ∙ sym (append_assoc ends.sent waiting (texts (charges_of ends.done)))
     ∙ charged_behind ends.done (stop_of ending (length ends.done + 1)) (ends.sent ++ waiting) ends.said
@@ -51,7 +52,8 @@ report_of done stop text said = record {
 }
 
 -- the entries of lines that octets begin with
-lines_of : (octets : List ℕ) (done : List Line) (text : List ℕ) → Begins octets done → text ≡ texts (entries_after [] (decisions done))
+lines_of : (octets : List ℕ) (done : List Line) (text : List ℕ) → Begins octets done
+    → text ≡ texts (entries_after [] (decisions done))
     → IsLinesReport (trace_of octets) text
 lines_of octets done text begins said = record {
   front = done;
@@ -64,7 +66,8 @@ lines_of octets done text begins said = record {
 }
 
 -- and of some first ones of them
-first_of : (octets : List ℕ) (done : List Line) (text : List ℕ) → Begins octets done → TellsFirst text done → IsLinesReport (trace_of octets) text
+first_of : (octets : List ℕ) (done : List Line) (text : List ℕ) → Begins octets done → TellsFirst text done
+    → IsLinesReport (trace_of octets) text
 first_of octets done text begins first = record {
   front = first.front;
   back = first.back ++ begins.0.lines;
@@ -77,14 +80,16 @@ first_of octets done text begins first = record {
 }
 
 -- the whole report, where the octets say these lines and stop so
-whole_of : (octets : List ℕ) (done : List Line) (stop : Stop) (text : List ℕ) → Stops octets done stop → text ≡ said_of done stop
+whole_of : (octets : List ℕ) (done : List Line) (stop : Stop) (text : List ℕ) → Stops octets done stop
+    → text ≡ said_of done stop
     → IsInputReport (trace_of octets) text
 whole_of octets done stop text stops said = subst (λ (i : Input). IsReport i.lines i.stop text) (sym stops) (report_of done stop text said)
 
 stop_is : (octets : List ℕ) (done : List Line) (stop : Stop) → Stops octets done stop → (trace_of octets).stop ≡ stop
 stop_is octets done stop stops = ap (λ (i : Input). i.stop) stops
 
-fault_of : (octets left text : List ℕ) (done : List Line) → Fails octets left done → text ≡ said_of done ended → IsFaultReport octets left text
+fault_of : (octets left text : List ℕ) (done : List Line) → Fails octets left done → text ≡ said_of done ended
+    → IsFaultReport octets left text
 fault_of octets left text done reached said = record {
   taken = reached.taken;
   stop = stop_is reached.taken.whole done ended reached.stops;
@@ -92,9 +97,14 @@ fault_of octets left text done reached said = record {
 }
 
 begins_stop : (octets : List ℕ) (done : List Line) (stop : Stop) → Stops octets done stop → Begins octets done
-begins_stop octets done stop stops = (stopped stop, stops ∙ ap (λ lines. record { lines = lines; stop = stop }) (sym (append-nil done)))
+begins_stop octets done stop stops = (
+  stopped stop,
+  stops
+      ∙ ap (λ lines. record { lines = lines; stop = stop }) (sym (append-nil done)),
+)
 
-reports_ending : (ending : Ending) (source_failed : Type 0) (octets left text : List ℕ) (done : List Line) → Reached ending octets left done
+reports_ending : (ending : Ending) (source_failed : Type 0) (octets left text : List ℕ) (done : List Line)
+    → Reached ending octets left done
     → text ≡ said_of done (stop_of ending (length done + 1)) → Reports (status_at ending) source_failed octets left text
 reports_ending Ended source_failed octets left text done reached said =
     (stop_is octets done ended reached.0, reached.1, whole_of octets done ended text reached.0 said)
@@ -111,7 +121,8 @@ reports_ending TooLong source_failed octets left text done reached said =
     (stop_is octets done big reached, whole_of octets done big text reached said)
 
 -- octets that stop behind lines begin with them
-begins_of : (ending : Ending) (octets left : List ℕ) (done : List Line) → Reached ending octets left done → Begins octets done
+begins_of : (ending : Ending) (octets left : List ℕ) (done : List Line) → Reached ending octets left done
+    → Begins octets done
 begins_of Ended octets left done reached = begins_stop octets done ended reached.0
 begins_of ReadFault octets left done reached = reached.begins
 begins_of (BadLine why) octets left done reached = begins_stop octets done (bad (length done + 1) why) reached
@@ -120,7 +131,8 @@ begins_of TooLong octets left done reached = begins_stop octets done big reached
 
 -- the last block is written
 pub ends_whole : (ending : Ending) (source_failed : Type 0) (start left old mid new : Option (List ℕ)) (waiting report : List ℕ) (gateway : Solo)
-    → Ends ending start left old mid waiting gateway → ((done : List Line) → StandsFor gateway done → report ≡ waiting ++ texts (charges_of done))
+    → Ends ending start left old mid waiting gateway
+    → ((done : List Line) → StandsFor gateway done → report ≡ waiting ++ texts (charges_of done))
     → Appends mid new report → Runs (status_at ending) source_failed start left old new
 ends_whole ending source_failed start left old mid new waiting report gateway ends charged written = record {
   text = ends.sent ++ report;
@@ -132,8 +144,10 @@ ends_whole ending source_failed start left old mid new waiting report gateway en
 }
 
 -- a front of the report of this ending
-cut_ending : (ending : Ending) (source_failed : Type 0) (octets left text more : List ℕ) (done : List Line) → (ending ≡ ReadFault → source_failed)
-    → Reached ending octets left done → text ++ more ≡ said_of done (stop_of ending (length done + 1)) → IsCutReport source_failed octets left text
+cut_ending : (ending : Ending) (source_failed : Type 0) (octets left text more : List ℕ) (done : List Line)
+    → (ending ≡ ReadFault → source_failed)
+    → Reached ending octets left done → text ++ more ≡ said_of done (stop_of ending (length done + 1))
+    → IsCutReport source_failed octets left text
 cut_ending Ended source_failed octets left text more done failed reached said =
     record { more = more; whole = inl (whole_of octets done ended (text ++ more) reached.0 said) }
 cut_ending ReadFault source_failed octets left text more done failed reached said =
@@ -173,7 +187,8 @@ ends_uncharged ending source_failed start left old new waiting gateway ends = re
 }
 
 -- it was cut before
-pub cuts_run : (why : Unwritten) (source_failed : Type 0) (start left old new : Option (List ℕ)) → Cuts why start left old new
+pub cuts_run : (why : Unwritten) (source_failed : Type 0) (start left old new : Option (List ℕ))
+    → Cuts why start left old new
     → Runs (status_without why) source_failed start left old new
 cuts_run unwritten.WriteFault source_failed start left old new cuts = record {
   text = cuts.sent;
@@ -193,7 +208,8 @@ cuts_run unwritten.NoMemory source_failed start left old new cuts = record {
 }
 
 -- nothing was read and nothing written
-pub nothing_runs : (source_failed : Type 0) (start old : Option (List ℕ)) → Runs status.NoMemory source_failed start start old old
+pub nothing_runs : (source_failed : Type 0) (start old : Option (List ℕ))
+    → Runs status.NoMemory source_failed start start old old
 nothing_runs source_failed start old = record { text = []; written = Appends-nil old; report = by_start start }
   where
     by_start : (begin : Option (List ℕ)) → WhereTold begin begin (λ octets rest. IsLinesReport (trace_of octets) [])

@@ -18,7 +18,8 @@ pub record IsSmall (row : Subscriber) : Type 0 where
   pub rates : row.session.rates < 2 ^ 61
   pub lives : row.session.lives < 2 ^ 61
 
-pub row_is_small : (slot : ℕ) (row : Subscriber) (events : List Event) → RowStands slot row events → length events < 2 ^ 61 → IsSmall row
+pub row_is_small : (slot : ℕ) (row : Subscriber) (events : List Event) → RowStands slot row events
+    → length events < 2 ^ 61 → IsSmall row
 row_is_small slot row events stands few = record {
   commands = omega (arith, stands.commands, length-commands_of-le events);
   packets = omega (arith, stands.packets, length-packets_of-le events);
@@ -26,11 +27,13 @@ row_is_small slot row events stands few = record {
   lives = omega (arith, ap (λ (s : Session). s.lives) stands.session, lives-session_after slot events);
 }
 
-pub row_commanded : (slot : ℕ) (row new : Subscriber) (events : List Event) (command : Command) → RowStands slot row events
+pub row_commanded : (slot : ℕ) (row new : Subscriber) (events : List Event) (command : Command)
+    → RowStands slot row events
     → new.session ≡ (controlled row.session command).0 → new.commands ≡ row.commands + 1 → new.packets ≡ row.packets
     → RowStands slot new (events ++ event.Command command ∷ [])
 row_commanded slot row new events command stands session counted same = record {
-  session = session ∙ ap (λ s. (controlled s command).0) stands.session ∙ sym (session_after-command slot events command);
+  session = session ∙ ap (λ s. (controlled s command).0) stands.session
+      ∙ sym (session_after-command slot events command);
   commands = omega (arith, stands.commands, ap length (commands_of-command events command), length-append (commands_of events) (command ∷ []));
   packets = same ∙ stands.packets ∙ sym (ap length (packets_of-command events command));
 }

@@ -28,16 +28,20 @@ use Rattle.pepc.specs.Told.{WhereTold}
 use Rattle.pepc.proofs.ReadLemmas.{told_more, begins_so, stops_so, begins_more, none_left, told_next, fails_so, GivesLine}
 
 pub texts-push : (entries : List Entry) (entry : Entry) → texts (entries ++ entry ∷ []) ≡ texts entries ++ text_of entry
-texts-push entries entry = flat_map-append text_of entries (entry ∷ []) ∙ ap (λ t. texts entries ++ t) (append-nil (text_of entry))
+texts-push entries entry = flat_map-append text_of entries (entry ∷ [])
+    ∙ ap (λ t. texts entries ++ t) (append-nil (text_of entry))
 
 -- the entries of lines, and of one line more
 pub entries-push : (done : List Line) (line : Line)
     → entries_after [] (decisions (done ++ line ∷ [])) ≡ entries_after [] (decisions done) ++ entry_at done line ∷ []
-entries-push done line = ap (entries_after []) (decisions_from-push [] done line) ∙ entries_after-push [] (decisions done) _
+entries-push done line = ap (entries_after []) (decisions_from-push [] done line)
+    ∙ entries_after-push [] (decisions done) _
 
 -- what was written and what waits, with the text of one line more
-said_more : (sent waiting front rest : List ℕ) (done : List Line) (line : Line) → sent ++ waiting ≡ texts (entries_after [] (decisions done))
-    → waiting ++ text_of (entry_at done line) ≡ front ++ rest → (sent ++ front) ++ rest ≡ texts (entries_after [] (decisions (done ++ line ∷ [])))
+said_more : (sent waiting front rest : List ℕ) (done : List Line) (line : Line)
+    → sent ++ waiting ≡ texts (entries_after [] (decisions done))
+    → waiting ++ text_of (entry_at done line) ≡ front ++ rest
+    → (sent ++ front) ++ rest ≡ texts (entries_after [] (decisions (done ++ line ∷ [])))
 said_more sent waiting front rest done line said parts =
     append_assoc sent front rest
     ∙ ap (λ w. sent ++ w) (sym parts)
@@ -47,7 +51,8 @@ said_more sent waiting front rest done line said parts =
     ∙ ap texts (sym (entries-push done line))
 
 -- some first lines of these are some of these and one more
-first_more : (sent : List ℕ) (done : List Line) (line : Line) → TellsFirst sent done → TellsFirst sent (done ++ line ∷ [])
+first_more : (sent : List ℕ) (done : List Line) (line : Line) → TellsFirst sent done
+    → TellsFirst sent (done ++ line ∷ [])
 first_more sent done line first = record {
   front = first.front;
   back = first.back ++ line ∷ [];
@@ -66,7 +71,8 @@ first_moved : (sent more left : List ℕ) (done : List Line) (line : Line) → T
 first_moved sent more left done line first said (inl none) =
     rw (none, append-nil sent) (first_more sent done line first)
 first_moved sent more left done line first said (inr all) =
-    first_all (sent ++ more) (done ++ line ∷ []) (sym (append-nil (sent ++ more)) ∙ ap (λ t. (sent ++ more) ++ t) (sym all) ∙ said)
+    first_all (sent ++ more) (done ++ line ∷ []) (sym (append-nil (sent ++ more))
+    ∙ ap (λ t. (sent ++ more) ++ t) (sym all) ∙ said)
 
 -- a line was read and answered
 pub goes_on : (start a b old mid new : Option (List ℕ)) (gateway after_it : Solo) (number least room after at : ℕ) (waiting left : List ℕ) (done : List Line) (line : Line)
@@ -92,7 +98,8 @@ unsaid : (told : List ℕ) (entries : List Entry) → told ≡ texts entries →
 unsaid told entries said = said ∙ ap texts (sym (append-nil entries))
 
 pub ends_ended : (start a left old new : Option (List ℕ)) (gateway : Solo) (number least room after : ℕ) (held waiting : List ℕ) (done : List Line)
-    → Progress start a old new gateway number least room waiting done → Tells next.End number least room after a (prepend_known held left)
+    → Progress start a old new gateway number least room waiting done
+    → Tells next.End number least room after a (prepend_known held left)
     → Ends Ended start left old new waiting gateway
 ends_ended start a left old new gateway number least room after held waiting done so_far tells = record {
   done = done;
@@ -107,7 +114,8 @@ ends_ended start a left old new gateway number least room after held waiting don
 
 -- the last line was read and answered
 pub ends_last : (start a left old mid new : Option (List ℕ)) (gateway after_it : Solo) (number least room after : ℕ) (held waiting later : List ℕ) (done : List Line) (line : Line)
-    → Progress start a old mid gateway number least room waiting done → Tells (next.Last line) number least room after a (prepend_known held left)
+    → Progress start a old mid gateway number least room waiting done
+    → Tells (next.Last line) number least room after a (prepend_known held left)
     → StandsFor after_it (done ++ line ∷ []) → Moves mid new (waiting ++ text_of (entry_at done line)) later
     → Ends Ended start left old new later after_it
 ends_last start a left old mid new gateway after_it number least room after held waiting later done line so_far tells stands moves = record {
@@ -128,7 +136,8 @@ ends_last start a left old mid new gateway after_it number least room after held
 }
 
 pub ends_long : (start a left old new : Option (List ℕ)) (gateway : Solo) (number least room after : ℕ) (held waiting : List ℕ) (done : List Line)
-    → Progress start a old new gateway number least room waiting done → Tells next.LineLong number least room after a (prepend_known held left)
+    → Progress start a old new gateway number least room waiting done
+    → Tells next.LineLong number least room after a (prepend_known held left)
     → Ends LineLong start left old new waiting gateway
 ends_long start a left old new gateway number least room after held waiting done so_far tells = record {
   done = done;
@@ -143,7 +152,8 @@ ends_long start a left old new gateway number least room after held waiting done
 }
 
 pub ends_big : (start a left old new : Option (List ℕ)) (gateway : Solo) (number least room after : ℕ) (held waiting : List ℕ) (done : List Line)
-    → Progress start a old new gateway number least room waiting done → Tells next.TooLong number least room after a (prepend_known held left)
+    → Progress start a old new gateway number least room waiting done
+    → Tells next.TooLong number least room after a (prepend_known held left)
     → Ends TooLong start left old new waiting gateway
 ends_big start a left old new gateway number least room after held waiting done so_far tells = record {
   done = done;
@@ -157,7 +167,8 @@ ends_big start a left old new gateway number least room after held waiting done 
 }
 
 pub ends_fault : (start a left old new : Option (List ℕ)) (gateway : Solo) (number least room : ℕ) (now : Held) (waiting : List ℕ) (done : List Line)
-    → Progress start a old new gateway number least room waiting done → Tells next.ReadFault number least room now.room a (prepend_known now.front left)
+    → Progress start a old new gateway number least room waiting done
+    → Tells next.ReadFault number least room now.room a (prepend_known now.front left)
     → IsUnfinished now → Ends ReadFault start left old new waiting gateway
 ends_fault start a left old new gateway number least room now waiting done so_far tells unfinished = record {
   done = done;
@@ -172,7 +183,8 @@ ends_fault start a left old new gateway number least room now waiting done so_fa
 
 -- a bad line has its entry
 pub ends_bad : (start a left old new : Option (List ℕ)) (gateway : Solo) (number least room after : ℕ) (held waiting more : List ℕ) (done : List Line) (why : LineBad)
-    → Progress start a old new gateway number least room waiting done → Tells (next.Bad why) number least room after a (prepend_known held left)
+    → Progress start a old new gateway number least room waiting done
+    → Tells (next.Bad why) number least room after a (prepend_known held left)
     → more ≡ waiting ++ texts (stop_entry (bad number why)) → Ends (BadLine why) start left old new more gateway
 ends_bad start a left old new gateway number least room after held waiting more done why so_far tells is = record {
   done = done;
@@ -192,7 +204,8 @@ ends_bad start a left old new gateway number least room after held waiting more 
 }
 
 -- some first lines of those that octets begin with
-begins_front : (octets : List ℕ) (done : List Line) (sent : List ℕ) (first : TellsFirst sent done) → Begins octets done → Begins octets first.front
+begins_front : (octets : List ℕ) (done : List Line) (sent : List ℕ) (first : TellsFirst sent done)
+    → Begins octets done → Begins octets first.front
 begins_front octets done sent first begins = (
   after_lines first.back begins.0,
   begins.1
@@ -202,7 +215,8 @@ begins_front octets done sent first begins = (
 
 -- no more is written than was, whatever is next
 pub cut_here : (why : Unwritten) (start a left old new : Option (List ℕ)) (gateway : Solo) (number least room after : ℕ) (held waiting : List ℕ) (done : List Line) (one : Next)
-    → Progress start a old new gateway number least room waiting done → Tells one number least room after a (prepend_known held left)
+    → Progress start a old new gateway number least room waiting done
+    → Tells one number least room after a (prepend_known held left)
     → Cuts why start left old new
 cut_here why start a left old new gateway number least room after held waiting done one so_far tells = record {
   done = so_far.first.front;
@@ -219,7 +233,8 @@ cut_here why start a left old new gateway number least room after held waiting d
 -- the sink failed within the block behind a line
 cut_behind : (start a left old mid new : Option (List ℕ)) (gateway : Solo) (number least room after : ℕ) (held waiting : List ℕ) (done : List Line) (one : Next) (line : Line)
     → GivesLine one line number least room after
-    → Progress start a old mid gateway number least room waiting done → Tells one number least room after a (prepend_known held left)
+    → Progress start a old mid gateway number least room waiting done
+    → Tells one number least room after a (prepend_known held left)
     → AppendsFront mid new (waiting ++ text_of (entry_at done line)) → Cuts unwritten.WriteFault start left old new
 cut_behind start a left old mid new gateway number least room after held waiting done one line gives so_far tells cut = record {
   done = done ++ line ∷ [];
@@ -237,7 +252,8 @@ cut_behind start a left old mid new gateway number least room after held waiting
 -- an error of answering a line cuts the report
 pub cut_by : {T : Type 0} (start a left old mid new : Option (List ℕ)) (gateway : Solo) (number least room after : ℕ) (held waiting : List ℕ) (done : List Line) (one : Next) (line : Line)
     (why : Unwritten) (answer : Result T Unwritten) → answer ≡ Err why → GivesLine one line number least room after
-    → Progress start a old mid gateway number least room waiting done → Tells one number least room after a (prepend_known held left)
+    → Progress start a old mid gateway number least room waiting done
+    → Tells one number least room after a (prepend_known held left)
     → (answer ≡ Err unwritten.WriteFault → AppendsFront mid new (waiting ++ text_of (entry_at done line)))
     → (answer ≡ Err unwritten.NoMemory → new ≡ mid) → Cuts why start left old new
 cut_by start a left old mid new gateway number least room after held waiting done one line unwritten.WriteFault answer is gives so_far tells cut kept =

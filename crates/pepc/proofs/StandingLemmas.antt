@@ -23,18 +23,23 @@ use Rattle.pepc.specs.Places.{HasAt}
 use Rattle.pepc.specs.Standing.{HasRow, Stands}
 
 -- a decision that is none of a slot's leaves its events
-events_at-other : (slot : ℕ) (made : List Decision) (one : Decision) → event_at slot one ≡ None → events_at slot (made ++ one ∷ []) ≡ events_at slot made
-events_at-other slot made one none = filter_map-append (event_at slot) made (one ∷ []) ∙ (rw none (append-nil (events_at slot made)))
+events_at-other : (slot : ℕ) (made : List Decision) (one : Decision) → event_at slot one ≡ None
+    → events_at slot (made ++ one ∷ []) ≡ events_at slot made
+events_at-other slot made one none = filter_map-append (event_at slot) made (one ∷ [])
+    ∙ (rw none (append-nil (events_at slot made)))
 
 -- and one that is adds an event
-events_at-own : (slot : ℕ) (made : List Decision) (one : Decision) (e : Event) → event_at slot one ≡ Some e → events_at slot (made ++ one ∷ []) ≡ events_at slot made ++ e ∷ []
+events_at-own : (slot : ℕ) (made : List Decision) (one : Decision) (e : Event) → event_at slot one ≡ Some e
+    → events_at slot (made ++ one ∷ []) ≡ events_at slot made ++ e ∷ []
 events_at-own slot made one e some = filter_map-append (event_at slot) made (one ∷ []) ∙ (rw some refl)
 
 counted_push : (n : ℕ) (made : List Decision) (one : Decision) → n ≡ length made → n + 1 ≡ length (made ++ one ∷ [])
 counted_push n made one is = omega (arith, length-append made (one ∷ []))
 
-pub stands_noted : (solo new : Solo) (book : List (List ℕ)) (made : List Decision) (text : List ℕ) → Stands solo book made
-    → new.lines ≡ solo.lines + 1 → new.book ≡ solo.book → new.subscribers.items ≡ solo.subscribers.items → new.accounts.items ≡ solo.accounts.items
+pub stands_noted : (solo new : Solo) (book : List (List ℕ)) (made : List Decision) (text : List ℕ)
+    → Stands solo book made
+    → new.lines ≡ solo.lines + 1 → new.book ≡ solo.book → new.subscribers.items ≡ solo.subscribers.items
+    → new.accounts.items ≡ solo.accounts.items
     → Stands new book (made ++ note text ∷ [])
 stands_noted solo new book made text stands lines same_book same same_accounts = record {
   counted = lines ∙ counted_push solo.lines made (note text) stands.counted;
@@ -49,33 +54,40 @@ stands_noted solo new book made text stands lines same_book same same_accounts =
 }
 
 -- what is found at a place is what holds there
-pub value_at : {X : Type 0} (items : List X) (slot place : ℕ) (P : X → Type 0) (value : X) → HasAt items slot P → place ≡ slot
+pub value_at : {X : Type 0} (items : List X) (slot place : ℕ) (P : X → Type 0) (value : X) → HasAt items slot P
+    → place ≡ slot
     → value ≡ get_or items place value → P value
 value_at items slot place P value has at is =
-    let same : has.value ≡ value = sym (get_or_from_slice_get items slot has.value value has.found) ∙ ap (λ k. get_or items k value) (sym at) ∙ sym is in
+    let same : has.value ≡ value = sym (get_or_from_slice_get items slot has.value value has.found)
+    ∙ ap (λ k. get_or items k value) (sym at) ∙ sym is in
     subst P same has.holds
 
 -- the row and the book that are found at a slot's place
-pub row_of_slot : (solo : Solo) (book : List (List ℕ)) (made : List Decision) (slot place : ℕ) (row : Subscriber) → Stands solo book made → slot < length book
+pub row_of_slot : (solo : Solo) (book : List (List ℕ)) (made : List Decision) (slot place : ℕ) (row : Subscriber)
+    → Stands solo book made → slot < length book
     → place ≡ slot → row ≡ get_or solo.subscribers.items place row → RowStands slot row (events_at slot made)
 row_of_slot solo book made slot place row stands within at is =
     value_at solo.subscribers.items slot place (λ r. RowStands slot r (events_at slot made)) row (stands.each slot within) at is
 
-pub book_of_slot : (solo : Solo) (book : List (List ℕ)) (made : List Decision) (slot place : ℕ) (account : Accounts) → Stands solo book made → slot < length book
+pub book_of_slot : (solo : Solo) (book : List (List ℕ)) (made : List Decision) (slot place : ℕ) (account : Accounts)
+    → Stands solo book made → slot < length book
     → place ≡ slot → account ≡ get_or solo.accounts.items place account → BookStands slot account (events_at slot made)
 book_of_slot solo book made slot place account stands within at is =
     value_at solo.accounts.items slot place (λ b. BookStands slot b (events_at slot made)) account (stands.each_book slot within) at is
 
-pub has_at_set : {X : Type 0} (items : List X) (slot : ℕ) (P : X → Type 0) (value : X) → slot < length items → P value → HasAt (set items slot value) slot P
+pub has_at_set : {X : Type 0} (items : List X) (slot : ℕ) (P : X → Type 0) (value : X) → slot < length items → P value
+    → HasAt (set items slot value) slot P
 has_at_set items slot P value within holds = record {
   value = value;
   found =
       let inside : slot < length (set items slot value) = omega (arith, length-set items slot value) in
-      slice_get-get_or (set items slot value) slot value inside ∙ ap (λ r. Some r) (get_or-set_same items slot value value within);
+      slice_get-get_or (set items slot value) slot value inside
+      ∙ ap (λ r. Some r) (get_or-set_same items slot value value within);
   holds = holds;
 }
 
-pub has_at_other : {X : Type 0} (items : List X) (own slot : ℕ) (P : X → Type 0) (value : X) → slot < length items → slot ≢ own
+pub has_at_other : {X : Type 0} (items : List X) (own slot : ℕ) (P : X → Type 0) (value : X) → slot < length items
+    → slot ≢ own
     → HasAt items slot P → HasAt (set items own value) slot P
 has_at_other items own slot P value within other has = record {
   value = has.value;
@@ -96,8 +108,10 @@ pub stands_more : (solo new : Solo) (book : List (List ℕ)) (made : List Decisi
     → event_at own one ≡ Some e → ((slot : ℕ) → slot ≢ own → event_at slot one ≡ None)
     → Stands new book (made ++ one ∷ [])
 stands_more solo new book made one own place row account e stands within at lines same_book written charged row_stands book_stands is_own is_other =
-    let items : new.subscribers.items ≡ set solo.subscribers.items own row = written ∙ ap (λ k. set solo.subscribers.items k row) at in
-    let accounts : new.accounts.items ≡ set solo.accounts.items own account = charged ∙ ap (λ k. set solo.accounts.items k account) at in
+    let items : new.subscribers.items ≡ set solo.subscribers.items own row = written
+    ∙ ap (λ k. set solo.subscribers.items k row) at in
+    let accounts : new.accounts.items ≡ set solo.accounts.items own account = charged
+    ∙ ap (λ k. set solo.accounts.items k account) at in
     record {
       counted = lines ∙ counted_push solo.lines made one stands.counted;
       same_book = same_book ∙ stands.same_book;
@@ -149,12 +163,14 @@ pub length-events_at-le : (slot : ℕ) (made : List Decision) → length (events
 length-events_at-le slot made = length-kept-le (event_at slot) made
 
 -- the text of a reply and of a verdict is that of the line's entry
-pub told_reply : (made : List Decision) (slot : ℕ) (c : Command) (line number : ℕ) (reply : Reply) → line ≡ length made + 1
+pub told_reply : (made : List Decision) (slot : ℕ) (c : Command) (line number : ℕ) (reply : Reply)
+    → line ≡ length made + 1
     → number ≡ length (commands_of (events_at slot made)) → reply ≡ reply_after slot (events_at slot made) c
     → replied line slot number reply ≡ entry_after made (command slot c)
 told_reply made slot c line number reply line_is number_is reply_is = cc
 
-pub told_verdict : (made : List Decision) (slot : ℕ) (p : Packet) (line number commands : ℕ) (verdict : Verdict) → line ≡ length made + 1
+pub told_verdict : (made : List Decision) (slot : ℕ) (p : Packet) (line number commands : ℕ) (verdict : Verdict)
+    → line ≡ length made + 1
     → number ≡ length (packets_of (events_at slot made)) → commands ≡ length (commands_of (events_at slot made))
     → verdict ≡ verdict_after slot (events_at slot made) p
     → judged line slot number commands verdict ≡ entry_after made (packet slot p)

@@ -3,7 +3,8 @@ use Rattle.std.proofs.Common.{ℕ, List, Option, None, Some}
 use Rattle.pepc.specs.Told.{WhereTold}
 
 -- what follows from what is said
-pub told_map : (start left : Option (List ℕ)) (P Q : List ℕ → List ℕ → Type 0) → ((octets rest : List ℕ) → P octets rest → Q octets rest)
+pub told_map : (start left : Option (List ℕ)) (P Q : List ℕ → List ℕ → Type 0)
+    → ((octets rest : List ℕ) → P octets rest → Q octets rest)
     → WhereTold start left P → WhereTold start left Q
 told_map None left P Q follows said = tt
 told_map (Some octets) None P Q follows said = absurd said

@@ -24,7 +24,8 @@ Says (next.Line line) number least room after octets rest = SaysLine line number
 Says (next.Last line) number least room after octets rest =
     (trace_within room number least octets ≡ after_lines (line ∷ []) (stopped ended)) × (rest ≡ [])
 Says (next.Bad why) number least room after octets rest = trace_within room number least octets ≡ stopped (bad number why)
-Says next.End number least room after octets rest = (trace_within room number least octets ≡ stopped ended) × (rest ≡ [])
+Says next.End number least room after octets rest = (trace_within room number least octets ≡ stopped ended)
+    × (rest ≡ [])
 Says next.LineLong number least room after octets rest = trace_within room number least octets ≡ stopped (long number)
 Says next.TooLong number least room after octets rest = trace_within room number least octets ≡ stopped big
 Says next.ReadFault number least room after octets rest = (rest ≡ octets) × (after ≡ room)

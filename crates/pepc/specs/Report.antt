@@ -94,9 +94,12 @@ Reports status.Usage source_failed octets left text = text ≡ []
 Reports status.ReadFault source_failed octets left text = IsFaultReport octets left text
 Reports status.WriteFault source_failed octets left text = IsCutReport source_failed octets left text
 Reports status.NoMemory source_failed octets left text = IsLinesReport (trace_of octets) text
-Reports status.BadLine source_failed octets left text = IsBad (trace_of octets).stop × IsInputReport (trace_of octets) text
-Reports status.LineLong source_failed octets left text = IsLong (trace_of octets).stop × IsInputReport (trace_of octets) text
-Reports status.TooLong source_failed octets left text = ((trace_of octets).stop ≡ big) × IsInputReport (trace_of octets) text
+Reports status.BadLine source_failed octets left text = IsBad (trace_of octets).stop
+    × IsInputReport (trace_of octets) text
+Reports status.LineLong source_failed octets left text = IsLong (trace_of octets).stop
+    × IsInputReport (trace_of octets) text
+Reports status.TooLong source_failed octets left text = ((trace_of octets).stop ≡ big)
+    × IsInputReport (trace_of octets) text
 
 -- octets were appended to what a sink tells, and they are the report of what a source told
 pub record Runs (ending : Status) (source_failed : Type 0) (start left old new : Option (List ℕ)) : Type 0 where

@@ -77,7 +77,8 @@ pub fn charge(
 ) -> Result<(), AllocError>
     requires { (happened : List Happening) × StandsFor book.old happened 0 × (length happened < 2 ^ 60)
         × IsOpenFor (lives_of happened) judgement }
-    ensures { (index : ℕ) (packet : List ℕ) (happened : List Happening) → length packet ≡ octets → StandsFor book.old happened 0
+    ensures { (index : ℕ) (packet : List ℕ) (happened : List Happening) → length packet ≡ octets
+        → StandsFor book.old happened 0
         → OnOk result (StandsFor book.new (happened ++ by_verdict (uplink at index packet) (verdict_of judgement.entry)) 0) }
 {
     counts_are_bounded();

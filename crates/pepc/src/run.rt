@@ -97,7 +97,8 @@ fn take_line<K: Sink>(
 ) -> Result<Moment, Unwritten>
     requires { (done : List Line) × StandsFor gateway.old done × (length done < 2 ^ 58) }
 
-    ensures stands { (done : List Line) → StandsFor gateway.old done → OnOk result (StandsFor gateway.new (done ++ line ∷ [])) }
+    ensures stands { (done : List Line) → StandsFor gateway.old done
+        → OnOk result (StandsFor gateway.new (done ++ line ∷ [])) }
     ensures moved { (done : List Line) → StandsFor gateway.old done
         → OnOk result (Moves (K.written sink.old) (K.written sink.new) (report.old.items ++ text_of (entry_at done line)) report.new.items) }
     ensures cut { (done : List Line) → StandsFor gateway.old done → result ≡ Err Unwritten.WriteFault

@@ -49,7 +49,8 @@ impl Solo {
 
     // A line that comes to a note alone.
     fn note(&mut self, text: &str, report: &mut Vec<u8>) -> Result<(), AllocError>
-        requires { (book : List (List ℕ)) × (made : List Decision) × Stands self.old book made × (length made < 2 ^ 58) }
+        requires { (book : List (List ℕ)) × (made : List Decision) × Stands self.old book made
+            × (length made < 2 ^ 58) }
 
         ensures told { (book : List (List ℕ)) (made : List Decision) → Stands self.old book made
             → OnOk result (report.new.items ≡ report.old.items ++ text_of (entry_after made (note text.now))) }
@@ -69,7 +70,8 @@ impl Solo {
         command: &Command,
         report: &mut Vec<u8>,
     ) -> Result<(), AllocError>
-        requires { (book : List (List ℕ)) × (made : List Decision) × Stands self.old book made × (slot < length book) × (length made < 2 ^ 58) }
+        requires { (book : List (List ℕ)) × (made : List Decision) × Stands self.old book made × (slot < length book)
+            × (length made < 2 ^ 58) }
 
         ensures told { (book : List (List ℕ)) (made : List Decision) → Stands self.old book made → slot < length book
             → OnOk result (report.new.items ≡ report.old.items ++ text_of (entry_after made (command_of slot command.now))) }
@@ -97,7 +99,8 @@ impl Solo {
         packet: &Ip4<'_>,
         report: &mut Vec<u8>,
     ) -> Result<(), AllocError>
-        requires { (book : List (List ℕ)) × (made : List Decision) × Stands self.old book made × (slot < length book) × (length made < 2 ^ 58) }
+        requires { (book : List (List ℕ)) × (made : List Decision) × Stands self.old book made × (slot < length book)
+            × (length made < 2 ^ 58) }
 
         ensures told { (book : List (List ℕ)) (made : List Decision) → Stands self.old book made → slot < length book
             → OnOk result (report.new.items ≡ report.old.items ++ text_of (entry_after made (packet_of slot (uplink_of moment index packet.now)))) }
@@ -146,7 +149,8 @@ impl Solo {
         order: &Command,
         report: &mut Vec<u8>,
     ) -> Result<(), AllocError>
-        requires { (book : List (List ℕ)) × (made : List Decision) × Stands self.old book made × (length made < 2 ^ 58) }
+        requires { (book : List (List ℕ)) × (made : List Decision) × Stands self.old book made
+            × (length made < 2 ^ 58) }
 
         ensures told { (book : List (List ℕ)) (made : List Decision) → Stands self.old book made
             → OnOk result (report.new.items ≡ report.old.items ++ text_of (entry_after made (attaching (slot_in (with_imsi book imsi) imsi) order.now))) }
@@ -167,7 +171,8 @@ impl Solo {
         octets: &[u8],
         report: &mut Vec<u8>,
     ) -> Result<(), AllocError>
-        requires { (book : List (List ℕ)) × (made : List Decision) × Stands self.old book made × (length made < 2 ^ 58) }
+        requires { (book : List (List ℕ)) × (made : List Decision) × Stands self.old book made
+            × (length made < 2 ^ 58) }
 
         ensures told { (book : List (List ℕ)) (made : List Decision) → Stands self.old book made
             → OnOk result (report.new.items ≡ report.old.items ++ text_of (entry_after made (received (length book) moment octets.now))) }

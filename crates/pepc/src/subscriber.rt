@@ -44,8 +44,10 @@ impl Subscriber {
     pub fn command(&mut self, command: &Command) -> (u64, Reply)
         requires { (slot : ℕ) × (events : List Event) × RowStands slot self.old events × (length events < 2 ^ 61) }
 
-        ensures number { (slot : ℕ) (events : List Event) → RowStands slot self.old events → result.0 ≡ length (commands_of events) }
-        ensures reply { (slot : ℕ) (events : List Event) → RowStands slot self.old events → result.1 ≡ reply_after slot events command.now }
+        ensures number { (slot : ℕ) (events : List Event) → RowStands slot self.old events
+            → result.0 ≡ length (commands_of events) }
+        ensures reply { (slot : ℕ) (events : List Event) → RowStands slot self.old events
+            → result.1 ≡ reply_after slot events command.now }
         ensures stands { (slot : ℕ) (events : List Event) → RowStands slot self.old events
             → RowStands slot self.new (events ++ command_event command.now ∷ []) }
     {
@@ -59,8 +61,10 @@ impl Subscriber {
     pub fn uplink<'a>(&mut self, index: u8, packet: &'a Ip4<'_>) -> (u64, u64, Judgement<'a>)
         requires { (slot : ℕ) × (events : List Event) × RowStands slot self.old events × (length events < 2 ^ 61) }
 
-        ensures number { (slot : ℕ) (events : List Event) → RowStands slot self.old events → result.0 ≡ length (packets_of events) }
-        ensures commands { (slot : ℕ) (events : List Event) → RowStands slot self.old events → result.1 ≡ length (commands_of events) }
+        ensures number { (slot : ℕ) (events : List Event) → RowStands slot self.old events
+            → result.0 ≡ length (packets_of events) }
+        ensures commands { (slot : ℕ) (events : List Event) → RowStands slot self.old events
+            → result.1 ≡ length (commands_of events) }
         ensures verdict { (slot moment : ℕ) (events : List Event) → RowStands slot self.old events
             → verdict_of result.2 ≡ verdict_after slot events (uplink moment index packet.now) }
         ensures stands { (slot moment : ℕ) (events : List Event) → RowStands slot self.old events

@@ -22,4 +22,5 @@ returns-in-None-clause-none c =
     let searched : NoNewline (take (c.args.seen + (end - c.args.seen)) front) =
     no_newline-searched front c.args.seen end (end - c.args.seen) within (omega arith) c.requires.seen_none
     (λ k low high. c.in-None.ensures k low (omega (arith, high, length-between front c.args.seen end within))) in
-    subst (λ octets. NoNewline octets) (ap (λ n. take n front) (all ∙ c.min-end.ensures) ∙ take_min 132001 front) searched
+    subst (λ octets. NoNewline octets) (ap (λ n. take n front) (all ∙ c.min-end.ensures)
+    ∙ take_min 132001 front) searched

@@ -6,4 +6,5 @@ use Rattle.pepc.specs.Account.{AreBooks}
 use Rattle.pepc.proofs.charges.push_records.Given as goal
 
 abbrev pub invariant-loop-place : goal.invariant-loop-place
-invariant-loop-place l = (events : ℕ → List Event) → AreBooks l.accounts events → l.report.items ≡ l.initial.report.items ++ texts (records events l.place)
+invariant-loop-place l = (events : ℕ → List Event) → AreBooks l.accounts events
+    → l.report.items ≡ l.initial.report.items ++ texts (records events l.place)

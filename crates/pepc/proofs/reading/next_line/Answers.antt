@@ -28,7 +28,8 @@ pub returns-in-Ok-clause-fault : goal.returns-in-Ok-clause-fault
 returns-in-Ok-clause-fault g c = λ is. absurd (given-no_fault c.is_last.result c.in-Ok.line (sym c.given.ensures ∙ is))
 
 pub returns-in-Ok-clause-unfinished : goal.returns-in-Ok-clause-unfinished
-returns-in-Ok-clause-unfinished g c = λ is. absurd (given-no_fault c.is_last.result c.in-Ok.line (sym c.given.ensures ∙ is))
+returns-in-Ok-clause-unfinished g c = λ is. absurd (given-no_fault c.is_last.result c.in-Ok.line (sym c.given.ensures
+    ∙ is))
 
 pub returns-in-Err-clause-tells : goal.returns-in-Err-clause-tells
 returns-in-Err-clause-tells g c =

@@ -2,7 +2,6 @@ use Rattle.std.proofs.Common.{[], ◌∷◌, ◌++◌, Err, refl, ap, sym, ◌�
 use Rattle.std.specs.Io.KnownBytes.{prepend_known}
 use Rattle.std.proofs.KnownBytes.{prepend_known-nil}
 use Rattle.pc_outside.specs.Held.{Held}
-use Rattle.trace_lines.specs.Line.{Line}
 use Rattle.pepc.specs.declared.reading.Next.TheVariants as next
 use Rattle.pepc.specs.declared.run.Unwritten.TheVariants.{NoMemory}
 use Rattle.pepc.proofs.ReadLemmas.{gives_line, gives_last}
@@ -15,7 +14,8 @@ loop-line-init g c = record {
     [],
     begins (g.S.Source.left c.args.source.now) (g.K.Sink.written c.args.sink.now) c.args.gateway.now _ c.args.buf.now.room c.args.report.now.items
         c.requires.first
-        (ap (λ (b : Held). prepend_known b.front (g.S.Source.left c.args.source.now)) c.requires.fresh ∙ prepend_known-nil (g.S.Source.left c.args.source.now))
+        (ap (λ (b : Held). prepend_known b.front (g.S.Source.left c.args.source.now)) c.requires.fresh
+        ∙ prepend_known-nil (g.S.Source.left c.args.source.now))
         (ap (λ (b : Held). b.room) c.requires.fresh) c.requires.empty,
   );
   source_later = omega arith;

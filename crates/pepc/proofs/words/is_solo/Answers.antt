@@ -13,7 +13,8 @@ pub returns-in-len1 : goal.returns-in-len1
 returns-in-len1 c =
     let one = single c.args.words.now c.word-item.result c.in-len1.len_at_least c.in-len1.len_below c.word-item.is in
     let all : map string_bytes c.args.words.now ≡ string_bytes c.word-item.result ∷ [] = ap (map string_bytes) one in
-    let test : c.eq.result ≡ bytes_eq (string_bytes c.word-item.result) (codes "solo") = c.eq.ensures ∙ ap (λ t. bytes_eq t (codes "solo")) c.as_str.ensures.value in
+    let test : c.eq.result ≡ bytes_eq (string_bytes c.word-item.result) (codes "solo") = c.eq.ensures
+    ∙ ap (λ t. bytes_eq t (codes "solo")) c.as_str.ensures.value in
     let decides = bytes_eq-Decides (string_bytes c.word-item.result) (codes "solo") in (
       λ yes. all ∙ ap (λ t. t ∷ []) (decides.0 (sym test ∙ yes)),
       λ is. let heads : string_bytes c.word-item.result ∷ [] ≡ codes "solo" ∷ [] = sym all ∙ is in

@@ -19,11 +19,14 @@ returns-in_ok-push-clause-stands c = λ happened taken stands.
     c.index.ensures c.index-2.ensures in
     stands-filled old _ happened taken c.args.life place (record { up = c.args.up; octets = c.args.octets; at = c.args.at })
     counters moments stands at c.requires.is_open
-    (ap (λ counted. nat_le volume (counted.up_octets + counted.down_octets)) (sym c.with-counted.ensures) ∙ sym c.is_full.ensures ∙ c.if-is_full.true)
-    (ap (λ xs. set xs place c.next.result) opens ∙ ap (set old.opens place) (c.next.ensures ∙ ap next_piece c.with-counted.ensures))
+    (ap (λ counted. nat_le volume (counted.up_octets + counted.down_octets)) (sym c.with-counted.ensures)
+    ∙ sym c.is_full.ensures ∙ c.if-is_full.true)
+    (ap (λ xs. set xs place c.next.result) opens
+    ∙ ap (set old.opens place) (c.next.ensures ∙ ap next_piece c.with-counted.ensures))
     (ap (λ xs. set xs place c.new-then-is_full.result) spans ∙ ap (set old.moments place) c.new-then-is_full.ensures)
     (pushed (c.new.result ∷ []) (ap (λ book. book.rows) c.self.view_is) c.in_ok-push.was c.push.ensures.items
-    ∙ ap (λ row. old.rows ++ row ∷ []) (c.new.ensures ∙ ap (λ counted. row_from counted c.with-span.result Volume) c.with-counted.ensures
+    ∙ ap (λ row. old.rows ++ row ∷ []) (c.new.ensures
+    ∙ ap (λ counted. row_from counted c.with-span.result Volume) c.with-counted.ensures
     ∙ ap (λ span. row_from (with_packet counters c.args.up c.args.octets) span Volume) c.with-span.ensures))
 
 pub returns-else-is_full-clause-stands : goal.returns-else-is_full-clause-stands
@@ -39,7 +42,8 @@ returns-else-is_full-clause-stands c = λ happened taken stands.
     c.index.ensures c.index-2.ensures in
     stands-counted old _ happened taken c.args.life place (record { up = c.args.up; octets = c.args.octets; at = c.args.at })
     counters moments stands at c.requires.is_open
-    (ap (λ counted. nat_le volume (counted.up_octets + counted.down_octets)) (sym c.with-counted.ensures) ∙ sym c.is_full.ensures ∙ c.if-is_full.false)
+    (ap (λ counted. nat_le volume (counted.up_octets + counted.down_octets)) (sym c.with-counted.ensures)
+    ∙ sym c.is_full.ensures ∙ c.if-is_full.false)
     (ap (λ xs. set xs place c.with-counted.result) opens ∙ ap (set old.opens place) c.with-counted.ensures)
     (ap (λ xs. set xs place c.with-span.result) spans ∙ ap (set old.moments place) c.with-span.ensures)
     (ap (λ book. book.rows) c.self.view_is)

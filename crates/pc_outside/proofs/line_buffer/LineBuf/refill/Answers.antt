@@ -12,7 +12,8 @@ returns-clause-gains g c =
     record {
       given = slice_range now at (at + count);
       front = part-gained moved now at count c.in_ok-count.ensures.before
-          ∙ ap (λ front. front ++ slice_range now at (at + count)) (c.move_to_start.ensures.moved ∙ ap (λ held. held.front) c.self.view_is);
+          ∙ ap (λ front. front ++ slice_range now at (at + count)) (c.move_to_start.ensures.moved
+          ∙ ap (λ held. held.front) c.self.view_is);
       consumed = c.in_ok-count.ensures.given;
       counted = length-between now at (at + count) (omega (arith, c.in_ok-count.ensures.count, c.in_ok-count.ensures.len)) ∙ omega arith;
       room = rw (← c.self.view_is) (omega arith);

@@ -12,7 +12,8 @@ returns-in_ok-add_book-in-Ok-2-clause-stands c = λ book made stands.
     (λ place is.
     let known : Ok c.in-Ok.slot ≡ Ok place = rw (ap (λ b. slot_in b c.args.imsi) stands.same_book ∙ is) at c.in-Ok.ensures.known in cc)
     (λ absent.
-    let new : slot_in c.args.self.now.book c.args.imsi ≡ None = ap (λ b. slot_in b c.args.imsi) stands.same_book ∙ absent in (
+    let new : slot_in c.args.self.now.book c.args.imsi ≡ None = ap (λ b. slot_in b c.args.imsi) stands.same_book
+    ∙ absent in (
       c.in-Ok.ensures.next new ∙ ap length stands.same_book,
       λ full. let refused = c.in-Ok.ensures.pool_used.1 (new, ap length stands.same_book ∙ full) in cc,
     ))

@@ -40,7 +40,8 @@ change_life-requires-clause-number c =
     c.requires.2 c.requires.3 c.slot.view_is c.index_mut-subscriber.ensures.value in
     let more = events ++ event.Command c.args.command.now ∷ [] in
     let next : RowStands c.args.slot c.command-number.new.self more = c.command-number.ensures.stands c.args.slot events row in
-    life_is_small c.args.slot more c.bearer-new.result (ap (λ (s : Session). s.bearers) (sym next.session) ∙ c.bearer-new.ensures)
+    life_is_small c.args.slot more c.bearer-new.result (ap (λ (s : Session). s.bearers) (sym next.session)
+    ∙ c.bearer-new.ensures)
     (omega (arith, length-append events (event.Command c.args.command.now ∷ []), length-events_at-le c.args.slot made, c.requires.4))
 
 pub returns-clause-told : goal.returns-clause-told

@@ -12,7 +12,8 @@ push_charges-requires c = omega (arith, ap length c.as_slice.ensures.value, c.re
 
 pub returns : goal.returns
 returns c = λ done stands.
-    let slots : length c.as_slice.result.now ≡ length (book_of done) = ap length c.as_slice.ensures.value ∙ stands.books in
+    let slots : length c.as_slice.result.now ≡ length (book_of done) = ap length c.as_slice.ensures.value
+    ∙ stands.books in
     let books : AreBooks c.as_slice.result.now (λ slot. events_at slot (decisions done)) =
     λ slot within. rw c.as_slice.ensures.value (stands.each_book slot (omega (arith, slots, within))) in
     subst (λ n. OnOk c.push_charges.result (c.push_charges.new.report.items ≡ c.args.report.now.items ++ texts (charges n (λ slot. events_at slot (decisions done))))) slots

@@ -11,7 +11,8 @@ returns-in_ok-text-in-Echo-clause-told c = λ book made stands.
     ∙ received_in_book c.args.self.now book made c.len.result c.args.moment c.args.octets.now _ c.len.ensures.length stands (c.in-Echo.ensures.decision c.args.moment))
     (c.note-in-Echo.ensures.told book made stands)
 
-unknown_is : (c : goal.After-drop-text-in-Unknown) (book : List (List ℕ)) (made : List Decision) → Stands c.args.self.now book made
+unknown_is : (c : goal.After-drop-text-in-Unknown) (book : List (List ℕ)) (made : List Decision)
+    → Stands c.args.self.now book made
     → note c.as_str-in-Unknown.result.now ≡ received (length book) c.args.moment c.args.octets.now
 unknown_is c book made stands =
     ap note (c.as_str-in-Unknown.ensures.value ∙ c.in_ok-text-in-Unknown.ensures)
