@@ -178,42 +178,6 @@ fn spoof_and_no_bearer(rt: HostRuntime) -> Result<(), Fail> {
 }
 
 #[test]
-fn policed_by_rate(rt: HostRuntime) -> Result<(), Fail> {
-    let alloc = rt.alloc();
-    let mut subscriber = attached(alloc, 8, Some(FIRST_ENB))?;
-    let large = sized(alloc, 1_500)?;
-    compare(
-        &rt,
-        alloc,
-        &mut subscriber,
-        &[
-            (0, Way::Up(0), &large, ("up", 0)),
-            (0, Way::Up(0), &large, ("up", 0)),
-            (1_000_000, Way::Up(0), &large, ("policed", 0)),
-            // The other way has a bucket of its own, and a refusal costs nothing.
-            (1_000_000, Way::Down, &DOWN, ("down", 0)),
-            (1_500_000, Way::Up(0), &large, ("up", 0)),
-            (1_500_000, Way::Up(0), &large, ("policed", 0)),
-        ],
-    )?;
-    let opened = subscriber.counters.book().still_open();
-    assert_eq!(rt; opened.len(), 1);
-    assert_eq!(rt; (opened[0].up_octets, opened[0].up_packets), (4_500, 3));
-    assert_eq!(rt; (opened[0].down_octets, opened[0].down_packets), (28, 1));
-
-    // The AMBR is set, to the same rates: the buckets are full again.
-    assert!(rt; subscriber.session.has_room());
-    subscriber.session.set_rates(Kbps(8), Kbps(8));
-    learn(&mut subscriber, 2)?;
-    compare(
-        &rt,
-        alloc,
-        &mut subscriber,
-        &[(1_500_000, Way::Up(0), &large, ("up", 0))],
-    )
-}
-
-#[test]
 fn volume_row(rt: HostRuntime) -> Result<(), Fail> {
     let alloc = rt.alloc();
     let mut subscriber = attached(alloc, 1_000_000, Some(FIRST_ENB))?;
@@ -289,43 +253,6 @@ fn tunnelled(alloc: Global, teid: u8, octets: &[u8]) -> Result<Vec<u8>, Fail> {
     let mut text = Vec::from_slice(alloc, &[0x30, 0xff, 0, 28, 0, 0, 0x0a, teid])?;
     text.extend_from_slice(octets)?;
     Ok(text)
-}
-
-#[test]
-fn downlink_without_enodeb(rt: HostRuntime) -> Result<(), Fail> {
-    let alloc = rt.alloc();
-    let mut subscriber = attached(alloc, 1_000, None)?;
-    let waiting = packet(alloc, 1, Way::Down, &DOWN)?;
-    let verdict = handled(&mut subscriber, &waiting)?;
-    let message = Vec::from_slice(alloc, b"\x48\xb0\0\x0d\0\0\x10\0\0\0\0\0\x49\0\x01\0\x05")?;
-    let message = Some(Octets::of(message));
-    assert_eq!(rt; verdict, Verdict::Held { life: 0, message });
-    for _ in 0..15 {
-        assert_eq!(rt; told(&handled(&mut subscriber, &waiting)?), ("held", 0));
-    }
-    assert_eq!(rt; told(&handled(&mut subscriber, &waiting)?), ("idle", 0));
-    assert_eq!(rt; subscriber.counters.book().still_open()[..].len(), 1);
-
-    // An eNodeB comes: sixteen are forwarded, and nothing is held any more.
-    subscriber.session.rebind(&[Ask {
-        ebi: 5,
-        enb: Some(FIRST_ENB),
-    }]);
-    let effects = learn(&mut subscriber, 2)?;
-    assert_eq!(rt; effects.as_slice().len(), 16);
-    let text = tunnelled(alloc, 1, &DOWN)?;
-    for effect in effects.as_slice() {
-        assert_eq!(rt;
-            shown(effect),
-            ("down", 0, Some(FIRST_ENB.addr), text.as_slice())
-        );
-    }
-    let opened = subscriber.counters.book().still_open();
-    assert_eq!(rt; opened.len(), 1);
-    assert_eq!(rt; (opened[0].down_octets, opened[0].down_packets), (448, 16));
-    let later = packet(alloc, 2, Way::Down, &DOWN)?;
-    assert_eq!(rt; told(&handled(&mut subscriber, &later)?), ("down", 0));
-    Ok(())
 }
 
 #[test]
