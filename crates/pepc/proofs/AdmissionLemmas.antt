@@ -4,9 +4,9 @@ use Rattle.std.proofs.lemmas.Bool.{cases_eq}
 use Rattle.std.proofs.lemmas.List.Quantifiers.{position-Some}
 use Rattle.std.specs.Str.{bytes_eq}
 use Rattle.address_book.specs.Book.{slot_in, admitted}
-use Rattle.gate_model.specs.Book.{with_imsi}
-use Rattle.gate_model.specs.Decision.{Decision, events_at}
-use Rattle.gate_model.proofs.DecisionLemmas.{with_imsi-known, with_imsi-new, with_imsi-full}
+use Rattle.uplink_gateway.specs.Book.{with_imsi}
+use Rattle.uplink_gateway.specs.Decision.{Decision, events_at}
+use Rattle.uplink_gateway.proofs.DecisionLemmas.{with_imsi-known, with_imsi-new, with_imsi-full}
 use Rattle.pepc.specs.declared.solo.Solo.{Solo}
 use Rattle.pepc.specs.Row.{RowStands}
 use Rattle.pepc.specs.Account.{BookStands, HasBook, AddsBook}

@@ -8,9 +8,9 @@ use Rattle.charging_book.specs.Counters.{HasRoom}
 use Rattle.charging_book.specs.Happenings.{Happening, lives_of, lives_step}
 use Rattle.charging_book.specs.Rows.{Counters}
 use Rattle.charging_book.proofs.Standing.{lives-stand}
-use Rattle.gate_model.specs.Charges.{gone}
-use Rattle.gate_model.specs.declared.session.Bearer.{Bearer}
-use Rattle.gate_model.proofs.LineByLine.{eqb_same}
+use Rattle.uplink_gateway.specs.Charges.{gone}
+use Rattle.uplink_gateway.specs.declared.session.Bearer.{Bearer}
+use Rattle.uplink_gateway.proofs.LineByLine.{eqb_same}
 
 -- counts are far from their end
 pub has_room : (bounded : AreBounded) (book : Accounts) (happened : List Happening) (life : ℕ)

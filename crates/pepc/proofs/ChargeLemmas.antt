@@ -5,19 +5,19 @@ use Rattle.pc_base.specs.declared.packet.Verdict.{Verdict}
 use Rattle.charging_book.specs.Accounts.{Accounts, StandsFor}
 use Rattle.charging_book.specs.Happenings.{lives_of}
 use Rattle.pc_base.specs.declared.packet.Packet.{Packet}
-use Rattle.gate_model.specs.Charges.{happenings, by_event, by_command, by_verdict, gone, begun}
-use Rattle.gate_model.specs.Control.{new_session, controlled}
-use Rattle.gate_model.specs.Events.{controlled_by, commands_of, session_after, verdict_after}
-use Rattle.gate_model.specs.Packets.{sent_up}
-use Rattle.gate_model.specs.declared.command.Command.{Command}
-use Rattle.gate_model.specs.declared.command.Command.TheVariants.{Attach}
-use Rattle.gate_model.specs.declared.gateway.Event.{Event}
-use Rattle.gate_model.specs.declared.gateway.Event.TheVariants as event
-use Rattle.gate_model.specs.declared.session.Bearer.{Bearer}
-use Rattle.gate_model.specs.declared.session.Session.{Session}
-use Rattle.gate_model.proofs.ChargeLemmas.{bearers_are_few, lives_in, lives_are_bearers, happenings-push, length-happenings-le}
-use Rattle.gate_model.proofs.LawfulCharges.{life_of_few}
-use Rattle.gate_model.proofs.SessionLemmas.{lives-session_after, session_after-command}
+use Rattle.uplink_gateway.specs.Charges.{happenings, by_event, by_command, by_verdict, gone, begun}
+use Rattle.uplink_gateway.specs.Control.{new_session, controlled}
+use Rattle.uplink_gateway.specs.Events.{controlled_by, commands_of, session_after, verdict_after}
+use Rattle.uplink_gateway.specs.Packets.{sent_up}
+use Rattle.uplink_gateway.specs.declared.command.Command.{Command}
+use Rattle.uplink_gateway.specs.declared.command.Command.TheVariants.{Attach}
+use Rattle.uplink_gateway.specs.declared.gateway.Event.{Event}
+use Rattle.uplink_gateway.specs.declared.gateway.Event.TheVariants as event
+use Rattle.uplink_gateway.specs.declared.session.Bearer.{Bearer}
+use Rattle.uplink_gateway.specs.declared.session.Session.{Session}
+use Rattle.uplink_gateway.proofs.ChargeLemmas.{bearers_are_few, lives_in, lives_are_bearers, happenings-push, length-happenings-le}
+use Rattle.uplink_gateway.proofs.LawfulCharges.{life_of_few}
+use Rattle.uplink_gateway.proofs.SessionLemmas.{lives-session_after, session_after-command}
 use Rattle.pepc.specs.Account.{IsOpenFor, BookStands}
 use Rattle.pepc.specs.Judgement.{verdict_of, uplink}
 use Rattle.pepc.specs.Row.{RowStands}

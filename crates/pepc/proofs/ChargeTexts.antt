@@ -4,10 +4,10 @@ use Rattle.std.specs.List.{flat_map}
 use Rattle.std.proofs.lemmas.Grind.{flat_map-append}
 use Rattle.std.proofs.lemmas.Option.{get_or_from_slice_get}
 use Rattle.charging_book.specs.Accounts.{Accounts, StandsFor}
-use Rattle.gate_model.specs.Charges.{records, records_of, open_counters, open_counters_of}
-use Rattle.gate_model.specs.Entry.{Entry, charged, left_open, text_of, texts}
-use Rattle.gate_model.specs.Run.{counted_to}
-use Rattle.gate_model.specs.declared.gateway.Event.{Event}
+use Rattle.uplink_gateway.specs.Charges.{records, records_of, open_counters, open_counters_of}
+use Rattle.uplink_gateway.specs.Entry.{Entry, charged, left_open, text_of, texts}
+use Rattle.uplink_gateway.specs.Run.{counted_to}
+use Rattle.uplink_gateway.specs.declared.gateway.Event.{Event}
 use Rattle.pepc.specs.Account.{AreBooks, BookStands}
 
 pub book_at : (books : List Accounts) (events : ℕ → List Event) (slot : ℕ) (book : Accounts) → AreBooks books events

@@ -5,13 +5,13 @@ use Rattle.address_book.specs.Book.{slot_in}
 use Rattle.trace_lines.specs.Line.{Line}
 use Rattle.trace_lines.specs.declared.line.LineKind.{LineKind}
 use Rattle.trace_lines.specs.declared.line.LineKind.TheVariants.{S1u, Attach}
-use Rattle.gate_model.specs.Built.{is_built}
-use Rattle.gate_model.specs.Book.{with_imsi, booked, booked_by, book_of}
-use Rattle.gate_model.specs.Decision.{Decision, decided, decided_by, decisions, attaching, received, note}
-use Rattle.gate_model.specs.Entered.{entry_after}
-use Rattle.gate_model.specs.Entry.{text_of}
-use Rattle.gate_model.specs.declared.command.Command.TheVariants as order
-use Rattle.gate_model.proofs.DecisionLemmas.{book_from-push, decisions_from-push}
+use Rattle.uplink_gateway.specs.Built.{is_built}
+use Rattle.uplink_gateway.specs.Book.{with_imsi, booked, booked_by, book_of}
+use Rattle.uplink_gateway.specs.Decision.{Decision, decided, decided_by, decisions, attaching, received, note}
+use Rattle.uplink_gateway.specs.Entered.{entry_after}
+use Rattle.uplink_gateway.specs.Entry.{text_of}
+use Rattle.uplink_gateway.specs.declared.command.Command.TheVariants as order
+use Rattle.uplink_gateway.proofs.DecisionLemmas.{book_from-push, decisions_from-push}
 use Rattle.pepc.specs.declared.solo.Solo.{Solo}
 use Rattle.pepc.specs.Standing.{Stands, StandsFor}
 

@@ -5,7 +5,7 @@ use Rattle.pc_outside.specs.LineReads.{Reads}
 use Rattle.pc_outside.specs.declared.reading.LineRead.TheVariants as read
 use Rattle.pc_outside.specs.Limits.{newline}
 use Rattle.trace_lines.specs.Input.{Input, bad, ended, stopped, after_lines, line_then, input_within}
-use Rattle.gate_model.specs.Built.{is_built, built, trace_within}
+use Rattle.uplink_gateway.specs.Built.{is_built, built, trace_within}
 use Rattle.trace_lines.specs.Line.{Line}
 use Rattle.trace_lines.specs.Meaning.{line_meaning}
 use Rattle.trace_lines.specs.declared.bad.LineBad.{LineBad}

@@ -2,12 +2,12 @@
 use Rattle.std.proofs.Common.{◌≡◌, ℕ, List, [], ◌++◌, length, sym, ◌∙◌}
 use Rattle.trace_lines.specs.Input.{Stop}
 use Rattle.trace_lines.specs.Line.{Line}
-use Rattle.gate_model.specs.Book.{book_of}
-use Rattle.gate_model.specs.Charges.{charges}
-use Rattle.gate_model.specs.Decision.{decisions, events_at}
-use Rattle.gate_model.specs.Entered.{entries_after}
-use Rattle.gate_model.specs.Entry.{texts}
-use Rattle.gate_model.proofs.OneRun.{entries_are_one, charges_are_one}
+use Rattle.uplink_gateway.specs.Book.{book_of}
+use Rattle.uplink_gateway.specs.Charges.{charges}
+use Rattle.uplink_gateway.specs.Decision.{decisions, events_at}
+use Rattle.uplink_gateway.specs.Entered.{entries_after}
+use Rattle.uplink_gateway.specs.Entry.{texts}
+use Rattle.uplink_gateway.proofs.OneRun.{entries_are_one, charges_are_one}
 use Rattle.pepc.specs.Report.{stop_entry, IsReport}
 
 -- it is that of a gateway which answers each line at once

@@ -4,7 +4,7 @@ use Rattle.std.specs.Io.KnownBytes.{prepend_known}
 use Rattle.pc_outside.specs.Held.{Held, IsUnfinished}
 use Rattle.pc_outside.specs.Limits.{newline}
 use Rattle.trace_lines.specs.Input.{Input, Stop, ended, stopped, after_lines}
-use Rattle.gate_model.specs.Built.{built, trace_within, trace_of}
+use Rattle.uplink_gateway.specs.Built.{built, trace_within, trace_of}
 use Rattle.trace_lines.specs.Line.{Line}
 use Rattle.trace_lines.proofs.InputLemmas.{at_end}
 use Rattle.pepc.specs.declared.reading.Next.{Next}

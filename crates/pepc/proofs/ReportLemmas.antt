@@ -5,12 +5,12 @@ use Rattle.std.proofs.KnownBytes.{Appends-trans, Appends-nil}
 use Rattle.std.proofs.lemmas.Grind.{flat_map-append}
 use Rattle.pc_outside.specs.Fronts.{AppendsFront}
 use Rattle.trace_lines.specs.Input.{Input, Stop, bad, long, big, ended, stopped}
-use Rattle.gate_model.specs.Built.{trace_of}
+use Rattle.uplink_gateway.specs.Built.{trace_of}
 use Rattle.trace_lines.specs.Line.{Line}
-use Rattle.gate_model.specs.Decision.{decisions, events_at}
-use Rattle.gate_model.specs.Entry.{text_of, texts}
-use Rattle.gate_model.specs.Entered.{entries_after}
-use Rattle.gate_model.proofs.LawfulRun.{entered_is_run}
+use Rattle.uplink_gateway.specs.Decision.{decisions, events_at}
+use Rattle.uplink_gateway.specs.Entry.{text_of, texts}
+use Rattle.uplink_gateway.specs.Entered.{entries_after}
+use Rattle.uplink_gateway.proofs.LawfulRun.{entered_is_run}
 use Rattle.pepc.specs.declared.run.Ending.{Ending}
 use Rattle.pepc.specs.declared.run.Ending.TheVariants.{Ended, ReadFault, BadLine, LineLong, TooLong}
 use Rattle.pepc.specs.declared.run.Unwritten.{Unwritten}

@@ -1,13 +1,13 @@
 -- A row that stands for events, and what it stands for with one event more.
 use Rattle.std.proofs.Common.{◌≡◌, ℕ, ◌+◌, ◌<◌, ◌^◌, List, [], ◌∷◌, ◌++◌, length, sym, ap, ◌∙◌, arith, length-append}
 use Rattle.pc_base.specs.declared.packet.Packet.{Packet}
-use Rattle.gate_model.specs.Control.{controlled}
-use Rattle.gate_model.specs.Events.{commands_of, packets_of}
-use Rattle.gate_model.specs.declared.command.Command.{Command}
-use Rattle.gate_model.specs.declared.gateway.Event.{Event}
-use Rattle.gate_model.specs.declared.gateway.Event.TheVariants as event
-use Rattle.gate_model.specs.declared.session.Session.{Session}
-use Rattle.gate_model.proofs.SessionLemmas.{session_after-command, session_after-packet, commands_of-command, commands_of-packet, packets_of-command, packets_of-packet, rates-session_after, lives-session_after, length-commands_of-le, length-packets_of-le}
+use Rattle.uplink_gateway.specs.Control.{controlled}
+use Rattle.uplink_gateway.specs.Events.{commands_of, packets_of}
+use Rattle.uplink_gateway.specs.declared.command.Command.{Command}
+use Rattle.uplink_gateway.specs.declared.gateway.Event.{Event}
+use Rattle.uplink_gateway.specs.declared.gateway.Event.TheVariants as event
+use Rattle.uplink_gateway.specs.declared.session.Session.{Session}
+use Rattle.uplink_gateway.proofs.SessionLemmas.{session_after-command, session_after-packet, commands_of-command, commands_of-packet, packets_of-command, packets_of-packet, rates-session_after, lives-session_after, length-commands_of-le, length-packets_of-le}
 use Rattle.pepc.specs.declared.subscriber.Subscriber.{Subscriber}
 use Rattle.pepc.specs.Row.{RowStands}
 

@@ -6,14 +6,14 @@ use Rattle.std.proofs.lemmas.Grind.{flat_map-append}
 use Rattle.pc_outside.specs.Fronts.{AppendsFront}
 use Rattle.pc_outside.specs.Held.{Held, IsUnfinished}
 use Rattle.trace_lines.specs.Input.{bad, long, big, ended, stopped, after_lines}
-use Rattle.gate_model.specs.Built.{trace_within}
+use Rattle.uplink_gateway.specs.Built.{trace_within}
 use Rattle.trace_lines.specs.Line.{Line}
 use Rattle.trace_lines.specs.declared.bad.LineBad.{LineBad}
-use Rattle.gate_model.specs.Decision.{decisions}
-use Rattle.gate_model.specs.Entry.{Entry, text_of, texts}
-use Rattle.gate_model.specs.Entered.{entries_after}
-use Rattle.gate_model.proofs.DecisionLemmas.{decisions_from-push}
-use Rattle.gate_model.proofs.LineByLine.{entries_after-push}
+use Rattle.uplink_gateway.specs.Decision.{decisions}
+use Rattle.uplink_gateway.specs.Entry.{Entry, text_of, texts}
+use Rattle.uplink_gateway.specs.Entered.{entries_after}
+use Rattle.uplink_gateway.proofs.DecisionLemmas.{decisions_from-push}
+use Rattle.uplink_gateway.proofs.LineByLine.{entries_after-push}
 use Rattle.pepc.specs.declared.reading.Next.{Next}
 use Rattle.pepc.specs.declared.reading.Next.TheVariants as next
 use Rattle.pepc.specs.declared.run.Ending.TheVariants.{Ended, ReadFault, BadLine, LineLong, TooLong}

@@ -5,8 +5,8 @@ use Rattle.address_book.specs.Book.{slot_in}
 use Rattle.trace_lines.specs.Line.{Line}
 use Rattle.trace_lines.specs.declared.line.LineKind.{LineKind}
 use Rattle.trace_lines.specs.declared.line.LineKind.TheVariants.{Attach}
-use Rattle.gate_model.specs.Book.{with_imsi, booked_by, booked, book_from, book_of}
-use Rattle.gate_model.proofs.DecisionLemmas.{with_imsi-known, with_imsi-new, with_imsi-full}
+use Rattle.uplink_gateway.specs.Book.{with_imsi, booked_by, booked, book_from, book_of}
+use Rattle.uplink_gateway.proofs.DecisionLemmas.{with_imsi-known, with_imsi-new, with_imsi-full}
 
 length-with_imsi-le : (book : List (List ℕ)) (imsi : List ℕ) → length book ≤ 65533
     → length (with_imsi book imsi) ≤ 65533

@@ -4,16 +4,16 @@ use Rattle.std.proofs.lemmas.Bool.{cases_eq, eq-eqb, ne_eqb}
 use Rattle.std.proofs.lemmas.List.Elements.{filter_map-append}
 use Rattle.std.proofs.lemmas.Option.{get_or_from_slice_get, slice_get-get_or}
 use Rattle.pc_base.specs.declared.packet.Packet.{Packet}
-use Rattle.gate_model.specs.Decision.{Decision, command, packet, note, event_at, events_at}
-use Rattle.gate_model.specs.declared.command.Command.{Command}
-use Rattle.gate_model.specs.Entry.{replied, judged}
-use Rattle.gate_model.specs.Entered.{entry_after}
-use Rattle.gate_model.specs.Events.{commands_of, packets_of, reply_after, verdict_after}
+use Rattle.uplink_gateway.specs.Decision.{Decision, command, packet, note, event_at, events_at}
+use Rattle.uplink_gateway.specs.declared.command.Command.{Command}
+use Rattle.uplink_gateway.specs.Entry.{replied, judged}
+use Rattle.uplink_gateway.specs.Entered.{entry_after}
+use Rattle.uplink_gateway.specs.Events.{commands_of, packets_of, reply_after, verdict_after}
 use Rattle.pc_base.specs.declared.reply.Reply.{Reply}
 use Rattle.pc_base.specs.declared.packet.Verdict.{Verdict}
 use Rattle.std.specs.List.{filter_map, cons_option}
-use Rattle.gate_model.specs.declared.gateway.Event.{Event}
-use Rattle.gate_model.specs.declared.gateway.Event.TheVariants as event
+use Rattle.uplink_gateway.specs.declared.gateway.Event.{Event}
+use Rattle.uplink_gateway.specs.declared.gateway.Event.TheVariants as event
 use Rattle.pepc.specs.declared.solo.Solo.{Solo}
 use Rattle.pepc.specs.declared.subscriber.Subscriber.{Subscriber}
 use Rattle.pepc.specs.Row.{RowStands}

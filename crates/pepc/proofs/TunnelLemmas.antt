@@ -6,8 +6,8 @@ use Rattle.gtpu_codec.specs.declared.kind.GtpUKind.TheVariants as kind
 use Rattle.gtpu_codec.specs.declared.message.GtpU.TheVariants as message
 use Rattle.gtpu_codec.specs.Message.{message_of}
 use Rattle.gtpu_codec.specs.Refusal.{first_fault}
-use Rattle.gate_model.specs.Decision.{tunnel_note, received, received_as, received_kind, tunnelled, note, told}
-use Rattle.gate_model.specs.Tunnel.{bearer_of}
+use Rattle.uplink_gateway.specs.Decision.{tunnel_note, received, received_as, received_kind, tunnelled, note, told}
+use Rattle.uplink_gateway.specs.Tunnel.{bearer_of}
 
 -- such octets mean what their kind does
 received_read : (slots moment : ℕ) (octets : List ℕ) (head : GtpUHead) (body : List ℕ)

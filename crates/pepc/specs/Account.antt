@@ -1,8 +1,8 @@
 -- A subscriber's charging book, and the events that it stands for.
 use Rattle.std.specs.Prelude.{◌≡◌, ℕ, ◌<◌, length, List, [], ◌∷◌, ◌++◌, Contains}
 use Rattle.charging_book.specs.Accounts.{Accounts, StandsFor}
-use Rattle.gate_model.specs.Charges.{happenings}
-use Rattle.gate_model.specs.declared.gateway.Event.{Event}
+use Rattle.uplink_gateway.specs.Charges.{happenings}
+use Rattle.uplink_gateway.specs.declared.gateway.Event.{Event}
 use Rattle.pepc.specs.Places.{HasAt}
 use Rattle.pepc.specs.declared.judgement.Judgement.{Judgement}
 use Rattle.pepc.specs.declared.judgement.Judgement.TheVariants.{Up, NoBearer, Spoof}

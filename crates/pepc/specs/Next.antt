@@ -2,7 +2,7 @@
 use Rattle.std.specs.Prelude.{◌≡◌, ℕ, ◌+◌, ◌<◌, List, [], ◌∷◌, ◌++◌, length, Bool, Option, if◌then◌else◌}
 use Rattle.pc_outside.specs.Limits.{newline}
 use Rattle.trace_lines.specs.Input.{bad, long, big, ended, stopped, after_lines}
-use Rattle.gate_model.specs.Built.{is_built, trace_within}
+use Rattle.uplink_gateway.specs.Built.{is_built, trace_within}
 use Rattle.trace_lines.specs.Line.{Line}
 use Rattle.trace_lines.specs.declared.bad.LineBad.{LineBad}
 use Rattle.trace_lines.specs.declared.bad.LineBad.TheVariants as why

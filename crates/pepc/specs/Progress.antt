@@ -2,11 +2,11 @@
 use Rattle.std.specs.Prelude.{◌≡◌, ℕ, ◌+◌, ◌≤◌, ◌^◌, ◌⊎◌, List, [], ◌++◌, length, Option}
 use Rattle.std.specs.Io.KnownBytes.{Appends}
 use Rattle.trace_lines.specs.Input.{Input, Stop, bad, long, big, ended, after_lines}
-use Rattle.gate_model.specs.Built.{trace_within, trace_of}
+use Rattle.uplink_gateway.specs.Built.{trace_within, trace_of}
 use Rattle.trace_lines.specs.Line.{Line}
-use Rattle.gate_model.specs.Decision.{decisions}
-use Rattle.gate_model.specs.Entry.{texts}
-use Rattle.gate_model.specs.Entered.{entries_after}
+use Rattle.uplink_gateway.specs.Decision.{decisions}
+use Rattle.uplink_gateway.specs.Entry.{texts}
+use Rattle.uplink_gateway.specs.Entered.{entries_after}
 use Rattle.pepc.specs.declared.run.Ending.{Ending}
 use Rattle.pepc.specs.declared.run.Ending.TheVariants.{Ended, ReadFault, BadLine, LineLong, TooLong}
 use Rattle.pepc.specs.declared.run.Unwritten.{Unwritten}

@@ -1,7 +1,7 @@
 -- What a message of an eNodeB comes to, as a decision on its line.
 use Rattle.std.specs.Prelude.{ℕ, ◌<◌, codes}
 use Rattle.gtpu_codec.specs.declared.message.GtpU.TheVariants.{EchoResponse}
-use Rattle.gate_model.specs.Decision.{Decision, packet, note, told, unknown}
+use Rattle.uplink_gateway.specs.Decision.{Decision, packet, note, told, unknown}
 use Rattle.pepc.specs.Judgement.{uplink}
 use Rattle.pepc.specs.declared.receive.Received.{Received}
 use Rattle.pepc.specs.declared.receive.Received.TheVariants.{Note, Echo, Unknown, Packet}

@@ -4,15 +4,15 @@ use Rattle.std.specs.Io.KnownBytes.{Appends}
 use Rattle.pc_outside.specs.Line.{NoNewline}
 use Rattle.pc_outside.specs.Limits.{newline, line_max}
 use Rattle.trace_lines.specs.Input.{Input, Stop, bad, long, big, ended}
-use Rattle.gate_model.specs.Built.{trace_of}
+use Rattle.uplink_gateway.specs.Built.{trace_of}
 use Rattle.trace_lines.specs.Line.{Line}
 use Rattle.trace_lines.specs.Word.{word_of}
-use Rattle.gate_model.specs.Book.{book_of}
-use Rattle.gate_model.specs.Charges.{charges}
-use Rattle.gate_model.specs.Decision.{decisions}
-use Rattle.gate_model.specs.Entry.{Entry, noted, texts}
-use Rattle.gate_model.specs.Run.{IsRun}
-use Rattle.gate_model.specs.declared.gateway.Event.{Event}
+use Rattle.uplink_gateway.specs.Book.{book_of}
+use Rattle.uplink_gateway.specs.Charges.{charges}
+use Rattle.uplink_gateway.specs.Decision.{decisions}
+use Rattle.uplink_gateway.specs.Entry.{Entry, noted, texts}
+use Rattle.uplink_gateway.specs.Run.{IsRun}
+use Rattle.uplink_gateway.specs.declared.gateway.Event.{Event}
 use Rattle.pepc.specs.declared.status.Status.{Status}
 use Rattle.pepc.specs.declared.status.Status.TheVariants as status
 use Rattle.pepc.specs.Told.{WhereTold}

@@ -1,11 +1,11 @@
 -- The lines that a gateway on one thread stands for.
 use Rattle.std.specs.Prelude.{◌≡◌, ℕ, ◌<◌, ◌≤◌, List, [], ◌∷◌, ◌++◌, length}
-use Rattle.gate_model.specs.Book.{booked, book_of}
-use Rattle.gate_model.specs.Charges.{charges}
-use Rattle.gate_model.specs.Decision.{Decision, decided, decisions, events_at}
-use Rattle.gate_model.specs.Entry.{Entry}
-use Rattle.gate_model.specs.Entered.{entry_after}
-use Rattle.gate_model.specs.declared.gateway.Event.{Event}
+use Rattle.uplink_gateway.specs.Book.{booked, book_of}
+use Rattle.uplink_gateway.specs.Charges.{charges}
+use Rattle.uplink_gateway.specs.Decision.{Decision, decided, decisions, events_at}
+use Rattle.uplink_gateway.specs.Entry.{Entry}
+use Rattle.uplink_gateway.specs.Entered.{entry_after}
+use Rattle.uplink_gateway.specs.declared.gateway.Event.{Event}
 use Rattle.trace_lines.specs.Line.{Line}
 use Rattle.pepc.specs.declared.solo.Solo.{Solo}
 use Rattle.pepc.specs.declared.subscriber.Subscriber.{Subscriber}

@@ -3,19 +3,19 @@ ghost use Rattle.std.specs.Prelude.{◌≡◌, ◌+◌, ◌^◌, ◌<◌, ◌≤
 ghost use Rattle.std.specs.Option.{option_to_list, option_map};
 ghost use Rattle.charging_book.specs.Accounts.{StandsFor};
 ghost use Rattle.charging_book.specs.Happenings.{Happening, forwarded, lives_of};
-ghost use Rattle.gate_model.specs.Charges.{gone, begun, by_verdict, records, open_counters, charges};
-ghost use Rattle.gate_model.specs.Entry.{texts, charged, left_open};
-ghost use Rattle.gate_model.specs.declared.gateway.Event.{Event};
-ghost use Rattle.gate_model.specs.declared.session.Bearer.{Bearer};
+ghost use Rattle.uplink_gateway.specs.Charges.{gone, begun, by_verdict, records, open_counters, charges};
+ghost use Rattle.uplink_gateway.specs.Entry.{texts, charged, left_open};
+ghost use Rattle.uplink_gateway.specs.declared.gateway.Event.{Event};
+ghost use Rattle.uplink_gateway.specs.declared.session.Bearer.{Bearer};
 ghost use Rattle.pepc.specs.Judgement.{verdict_of, uplink};
 ghost use Rattle.pepc.specs.Account.{AddsBook, AreBooks, IsOpenFor};
 
 use crate::entry_text::{push_open, push_row};
 use crate::judgement::Judgement;
 use charging_book::{Book, ChargeRow, Open, Why, counts_are_bounded};
-use gate_model::Bearer;
 use pc_base::{Moment, Slot};
 use std::alloc::{AllocError, Global};
+use uplink_gateway::Bearer;
 
 /// Adds the book of a new subscriber.
 pub fn add_book(alloc: Global, books: &mut Vec<Book>) -> Result<(), AllocError>

@@ -4,14 +4,14 @@ ghost use Rattle.hex.specs.Hex.{encode_lower};
 ghost use Rattle.pc_base.specs.declared.packet.Verdict.TheVariants.{Up};
 ghost use Rattle.trace_lines.specs.Word.{word_of};
 ghost use Rattle.pepc.specs.Judgement.{verdict_of};
-ghost use Rattle.gate_model.specs.Entry.{fields, text_of, noted, replied, judged, charged, left_open, outcome_word, message_word, moment_word, why_word, verdict_fields};
+ghost use Rattle.uplink_gateway.specs.Entry.{fields, text_of, noted, replied, judged, charged, left_open, outcome_word, message_word, moment_word, why_word, verdict_fields};
 
 use crate::judgement::Judgement;
 use charging_book::{ChargeRow, Open, Why};
-use gate_model::{Outcome, Reply};
 use pc_base::{Moment, Slot};
 use std::alloc::AllocError;
 use trace_lines::LineBad;
+use uplink_gateway::{Outcome, Reply};
 
 /// Appends a field: its octets behind a space.
 fn push_field(report: &mut Vec<u8>, field: &[u8]) -> Result<(), AllocError>

@@ -5,11 +5,11 @@ ghost use Rattle.pc_outside.specs.Faults.{Rises};
 ghost use Rattle.pc_outside.specs.Held.{IsUnfinished};
 ghost use Rattle.pepc.specs.Next.{Tells, TakesRoom, given_as, refused_as};
 
-use gate_model::is_built;
 use pc_base::Moment;
 use pc_outside::{LineBuf, LineRead, Source, read_line};
 use std::alloc::Global;
 use trace_lines::{LineBad, TraceLine};
+use uplink_gateway::is_built;
 
 /// What comes next in a trace.
 pub enum Next {

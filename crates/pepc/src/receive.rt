@@ -1,8 +1,8 @@
 //! What came from an eNodeB: a packet of a bearer, or a note.
 ghost use Rattle.std.specs.Prelude.{◌≡◌, ◌+◌, ℕ, Option, Some};
 ghost use Rattle.ipv4_packet.specs.Refusal.{first_fault as ip_fault};
-ghost use Rattle.gate_model.specs.Decision.{tunnel_note, ip_note, carried, tunnelled, received};
-ghost use Rattle.gate_model.specs.Tunnel.{bearer_of};
+ghost use Rattle.uplink_gateway.specs.Decision.{tunnel_note, ip_note, carried, tunnelled, received};
+ghost use Rattle.uplink_gateway.specs.Tunnel.{bearer_of};
 ghost use Rattle.pepc.specs.Received.{decision_of, IsInBook};
 
 use gtpu_codec::{GtpUKind, UBad};

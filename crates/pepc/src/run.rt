@@ -5,7 +5,7 @@ ghost use Rattle.std.specs.String.{string_bytes};
 ghost use Rattle.pc_outside.specs.Faults.{Rises};
 ghost use Rattle.pc_outside.specs.Fronts.{AppendsFront};
 ghost use Rattle.trace_lines.specs.Line.{Line};
-ghost use Rattle.gate_model.specs.Entry.{text_of};
+ghost use Rattle.uplink_gateway.specs.Entry.{text_of};
 ghost use Rattle.pepc.specs.Standing.{StandsFor, entry_at};
 ghost use Rattle.pepc.specs.Progress.{Moves, Ends, Cuts, status_at, status_without};
 ghost use Rattle.pepc.specs.Report.{Reports, Runs};

@@ -1,9 +1,9 @@
 //! The gateway on one thread: each line is answered at once.
 ghost use Rattle.std.specs.Prelude.{◌≡◌, ◌+◌, ◌^◌, ◌<◌, ◌∷◌, ◌++◌, [], ℕ, List, length, OnOk, IfOk, IfSome, IfNone};
-ghost use Rattle.gate_model.specs.Book.{book_of, with_imsi};
-ghost use Rattle.gate_model.specs.Decision.{Decision, command as command_of, packet as packet_of, note, attaching, received, told};
-ghost use Rattle.gate_model.specs.Entry.{text_of, texts};
-ghost use Rattle.gate_model.specs.Entered.{entry_after};
+ghost use Rattle.uplink_gateway.specs.Book.{book_of, with_imsi};
+ghost use Rattle.uplink_gateway.specs.Decision.{Decision, command as command_of, packet as packet_of, note, attaching, received, told};
+ghost use Rattle.uplink_gateway.specs.Entry.{text_of, texts};
+ghost use Rattle.uplink_gateway.specs.Entered.{entry_after};
 ghost use Rattle.std.specs.String.{string_bytes};
 ghost use Rattle.gtpu_codec.specs.Text.{payload_len};
 ghost use Rattle.address_book.specs.Book.{slot_in};
@@ -18,12 +18,12 @@ use crate::receive::{Received, receive};
 use crate::subscriber::Subscriber;
 use address_book::{AddressBook, AdmitNo};
 use charging_book::Book;
-use gate_model::{Command, GATEWAY_ADDR};
 use gtpu_codec::GtpU;
 use ipv4_packet::Ip4;
 use pc_base::{Addr4, Imsi, Moment, Slot};
 use std::alloc::{AllocError, Global};
 use trace_lines::{LineKind, TraceLine};
+use uplink_gateway::{Command, GATEWAY_ADDR};
 
 /// The lines so far, the book, and a subscriber for each slot in it.
 #[derive(Drop)]

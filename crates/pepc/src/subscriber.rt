@@ -1,17 +1,17 @@
 //! One subscriber of the gateway.
 ghost use Rattle.std.specs.Prelude.{◌≡◌, ◌^◌, ◌<◌, ◌∷◌, ◌++◌, [], ℕ, List, length};
 ghost use Rattle.std.specs.Option.{option_to_list};
-ghost use Rattle.gate_model.specs.Events.{commands_of, packets_of, reply_after, verdict_after};
-ghost use Rattle.gate_model.specs.declared.gateway.Event.{Event};
-ghost use Rattle.gate_model.specs.declared.gateway.Event.TheVariants.{Command as command_event, Packet as packet_event};
-ghost use Rattle.gate_model.specs.Packets.{sent_up};
+ghost use Rattle.uplink_gateway.specs.Events.{commands_of, packets_of, reply_after, verdict_after};
+ghost use Rattle.uplink_gateway.specs.declared.gateway.Event.{Event};
+ghost use Rattle.uplink_gateway.specs.declared.gateway.Event.TheVariants.{Command as command_event, Packet as packet_event};
+ghost use Rattle.uplink_gateway.specs.Packets.{sent_up};
 ghost use Rattle.pepc.specs.Judgement.{verdict_of, uplink};
 ghost use Rattle.pepc.specs.Row.{RowStands};
 
 use crate::judgement::Judgement;
-use gate_model::{Bearer, Command, Reply, Session, step};
 use ipv4_packet::Ip4;
 use pc_base::{Slot, addr_of};
+use uplink_gateway::{Bearer, Command, Reply, Session, step};
 
 /// A subscriber's session, and how many commands and packets it had.
 #[derive(Clone, Copy)]

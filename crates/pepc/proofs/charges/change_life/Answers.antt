@@ -1,6 +1,6 @@
 use Rattle.std.proofs.Common.{◌++◌, map}
 use Rattle.std.specs.Option.{option_to_list}
-use Rattle.gate_model.specs.Charges.{gone}
+use Rattle.uplink_gateway.specs.Charges.{gone}
 use Rattle.pepc.proofs.BookLemmas.{ended_lives}
 use Rattle.pepc.proofs.charges.change_life.Goals as goal
 

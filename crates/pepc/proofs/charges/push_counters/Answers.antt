@@ -1,5 +1,5 @@
 use Rattle.std.proofs.Common.{◌++◌, map, ap, ◌∙◌}
-use Rattle.gate_model.specs.Entry.{left_open, texts}
+use Rattle.uplink_gateway.specs.Entry.{left_open, texts}
 use Rattle.pepc.proofs.ChargeTexts.{counters_pushed}
 use Rattle.pepc.proofs.charges.push_counters.Goals as goal
 

@@ -1,5 +1,5 @@
 use Rattle.std.proofs.Common.{◌≡◌, ◌++◌, map, take}
-use Rattle.gate_model.specs.Entry.{texts, left_open}
+use Rattle.uplink_gateway.specs.Entry.{texts, left_open}
 use Rattle.pepc.proofs.charges.push_opens.Given as goal
 
 abbrev pub invariant-loop-open : goal.invariant-loop-open

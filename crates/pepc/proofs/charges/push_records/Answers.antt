@@ -1,5 +1,5 @@
 use Rattle.std.proofs.Common.{◌++◌, map, ap, ◌∙◌}
-use Rattle.gate_model.specs.Entry.{charged, texts}
+use Rattle.uplink_gateway.specs.Entry.{charged, texts}
 use Rattle.pepc.proofs.ChargeTexts.{records_pushed}
 use Rattle.pepc.proofs.charges.push_records.Goals as goal
 

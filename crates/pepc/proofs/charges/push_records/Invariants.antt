@@ -1,7 +1,7 @@
 use Rattle.std.proofs.Common.{◌≡◌, ℕ, List, ◌++◌}
-use Rattle.gate_model.specs.Charges.{records}
-use Rattle.gate_model.specs.Entry.{texts}
-use Rattle.gate_model.specs.declared.gateway.Event.{Event}
+use Rattle.uplink_gateway.specs.Charges.{records}
+use Rattle.uplink_gateway.specs.Entry.{texts}
+use Rattle.uplink_gateway.specs.declared.gateway.Event.{Event}
 use Rattle.pepc.specs.Account.{AreBooks}
 use Rattle.pepc.proofs.charges.push_records.Given as goal
 

@@ -1,5 +1,5 @@
 use Rattle.std.proofs.Common.{◌≡◌, ◌++◌, map, take}
-use Rattle.gate_model.specs.Entry.{texts, charged}
+use Rattle.uplink_gateway.specs.Entry.{texts, charged}
 use Rattle.pepc.proofs.charges.push_rows.Given as goal
 
 abbrev pub invariant-loop-row : goal.invariant-loop-row

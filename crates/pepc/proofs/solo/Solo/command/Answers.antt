@@ -1,9 +1,9 @@
 use Rattle.std.proofs.Common.{◌+◌, ◌++◌, ◌∷◌, [], ap, sym, ◌∙◌, arith, refl, length-append}
-use Rattle.gate_model.specs.Charges.{happenings}
-use Rattle.gate_model.specs.Decision.{command as command_of, events_at}
-use Rattle.gate_model.specs.Entry.{text_of}
-use Rattle.gate_model.specs.declared.gateway.Event.TheVariants as event
-use Rattle.gate_model.specs.declared.session.Session.{Session}
+use Rattle.uplink_gateway.specs.Charges.{happenings}
+use Rattle.uplink_gateway.specs.Decision.{command as command_of, events_at}
+use Rattle.uplink_gateway.specs.Entry.{text_of}
+use Rattle.uplink_gateway.specs.declared.gateway.Event.TheVariants as event
+use Rattle.uplink_gateway.specs.declared.session.Session.{Session}
 use Rattle.pepc.specs.Row.{RowStands}
 use Rattle.pepc.proofs.ChargeLemmas.{life_is_small, lives_of_row, few_happened, book_commanded}
 use Rattle.pepc.proofs.StandingLemmas.{row_of_slot, book_of_slot, stands_more, command_own, command_other, told_reply, length-events_at-le}

@@ -1,12 +1,12 @@
 use Rattle.std.proofs.Common.{◌≡◌, false, ap, subst, sym, ◌∙◌, arith, ◌++◌, List, [], length}
 use Rattle.trace_lines.specs.Line.{Line}
 use Rattle.trace_lines.specs.declared.line.LineKind.TheVariants.{S1u, Attach}
-use Rattle.gate_model.specs.Built.{is_built}
-use Rattle.gate_model.specs.Book.{book_of, booked}
-use Rattle.gate_model.specs.Decision.{decisions, decided, received}
-use Rattle.gate_model.specs.Entry.{text_of}
-use Rattle.gate_model.specs.Entered.{entry_after}
-use Rattle.gate_model.proofs.DecisionLemmas.{length-decisions_from}
+use Rattle.uplink_gateway.specs.Built.{is_built}
+use Rattle.uplink_gateway.specs.Book.{book_of, booked}
+use Rattle.uplink_gateway.specs.Decision.{decisions, decided, received}
+use Rattle.uplink_gateway.specs.Entry.{text_of}
+use Rattle.uplink_gateway.specs.Entered.{entry_after}
+use Rattle.uplink_gateway.proofs.DecisionLemmas.{length-decisions_from}
 use Rattle.pepc.proofs.LineLemmas.{on_ok_map, not_built, booked-other, decided-other, booked-attach, decided-attach, booked-s1u, decided-s1u, stands_for_push}
 use Rattle.pepc.proofs.solo.Solo.enter.Goals as goal
 

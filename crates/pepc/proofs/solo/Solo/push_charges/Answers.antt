@@ -1,8 +1,8 @@
 use Rattle.std.proofs.Common.{◌≡◌, ◌++◌, OnOk, length, ap, subst, ◌∙◌, arith}
-use Rattle.gate_model.specs.Book.{book_of}
-use Rattle.gate_model.specs.Charges.{charges}
-use Rattle.gate_model.specs.Decision.{decisions, events_at}
-use Rattle.gate_model.specs.Entry.{texts}
+use Rattle.uplink_gateway.specs.Book.{book_of}
+use Rattle.uplink_gateway.specs.Charges.{charges}
+use Rattle.uplink_gateway.specs.Decision.{decisions, events_at}
+use Rattle.uplink_gateway.specs.Entry.{texts}
 use Rattle.pepc.specs.Account.{AreBooks}
 use Rattle.pepc.proofs.SlotLemmas.{length-book_of-le}
 use Rattle.pepc.proofs.solo.Solo.push_charges.Goals as goal

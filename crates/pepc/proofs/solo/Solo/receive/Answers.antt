@@ -1,5 +1,5 @@
 use Rattle.std.proofs.Common.{◌≡◌, ◌<◌, ℕ, List, ap, ◌∙◌, length}
-use Rattle.gate_model.specs.Decision.{Decision, note, received}
+use Rattle.uplink_gateway.specs.Decision.{Decision, note, received}
 use Rattle.pepc.specs.Standing.{Stands}
 use Rattle.pepc.proofs.LineLemmas.{received_in_book, told_of_equal, stands_of_equal}
 use Rattle.pepc.proofs.solo.Solo.receive.Goals as goal

@@ -1,7 +1,7 @@
 use Rattle.std.proofs.Common.{◌+◌, ◌++◌, length, sym, ap, ◌∙◌, arith, refl}
-use Rattle.gate_model.specs.Charges.{happenings}
-use Rattle.gate_model.specs.Decision.{packet as packet_of, events_at}
-use Rattle.gate_model.specs.Entry.{text_of}
+use Rattle.uplink_gateway.specs.Charges.{happenings}
+use Rattle.uplink_gateway.specs.Decision.{packet as packet_of, events_at}
+use Rattle.uplink_gateway.specs.Entry.{text_of}
 use Rattle.pepc.proofs.ChargeLemmas.{open_by_row, few_happened, book_used}
 use Rattle.pepc.proofs.StandingLemmas.{row_of_slot, book_of_slot, stands_more, packet_own, packet_other, told_verdict, length-events_at-le}
 use Rattle.pepc.specs.Judgement.{verdict_of, uplink as uplink_of}
