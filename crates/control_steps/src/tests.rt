@@ -240,7 +240,7 @@ fn create_repeated(rt: HostRuntime) -> Result<(), Fail> {
     Ok(())
 }
 
-/// A session with a path switch, a dedicated bearer, other filters, and its end.
+/// A session with a path switch, a dedicated bearer, other filters, and its end; and another's attach.
 #[test]
 fn whole_trace(rt: HostRuntime) -> Result<(), Fail> {
     let steps = [
@@ -285,6 +285,12 @@ fn whole_trace(rt: HostRuntime) -> Result<(), Fail> {
         ),
     ];
     assert!(rt; answered(rt.alloc(), Slot(0), &steps)?);
+    let other = [(
+        Asked::Attach((0xb01, 0xc6336408), 1000, 1000),
+        Outcome::Done,
+        "-",
+    )];
+    assert!(rt; answered(rt.alloc(), Slot(1), &other)?);
     Ok(())
 }
 
