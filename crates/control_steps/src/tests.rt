@@ -158,6 +158,51 @@ fn answered(alloc: Global, slot: Slot, steps: &[(Asked, Outcome, &str)]) -> Resu
     Ok(true)
 }
 
+/// IPv4 alone, though both versions of IP are asked for.
+#[test]
+fn create_session(rt: HostRuntime) -> Result<(), Fail> {
+    let steps = [(
+        Asked::Create(
+            1,
+            (0x1000, 0xc6336401),
+            3,
+            5,
+            (0x24, 9, [0, 0, 0, 0]),
+            None,
+            50_000,
+            100_000,
+        ),
+        Outcome::Done,
+        "482100400000100000000100020002001200570009008b00000010c00002014f000500010a2d00025d0018004900010005020002001000570009008100000011c0000201",
+    )];
+    assert!(rt; answered(rt.alloc(), Slot(0), &steps)?);
+    Ok(())
+}
+
+/// Without a session, and of a bearer that the session doesn't have.
+#[test]
+fn no_context(rt: HostRuntime) -> Result<(), Fail> {
+    let steps = [
+        (
+            Asked::Delete(9),
+            Outcome::No,
+            "4825000e0000000000000900020002004000",
+        ),
+        (
+            Asked::Attach((0xa01, 0xc6336407), 1000, 1000),
+            Outcome::Done,
+            "-",
+        ),
+        (
+            Asked::Modify(10, None, &[(5, None), (6, Some((0xa02, 0xc6336407)))]),
+            Outcome::No,
+            "4823000e0000000000000a00020002004000",
+        ),
+    ];
+    assert!(rt; answered(rt.alloc(), Slot(0), &steps)?);
+    Ok(())
+}
+
 /// A Create Session Request and its repeat.
 #[test]
 fn create_repeated(rt: HostRuntime) -> Result<(), Fail> {
@@ -195,7 +240,7 @@ fn create_repeated(rt: HostRuntime) -> Result<(), Fail> {
     Ok(())
 }
 
-/// A session with a path switch, a dedicated bearer, other filters, and its end.
+/// A session with a path switch, a dedicated bearer, other filters, and its end; and another's attach.
 #[test]
 fn whole_trace(rt: HostRuntime) -> Result<(), Fail> {
     let steps = [
@@ -240,6 +285,12 @@ fn whole_trace(rt: HostRuntime) -> Result<(), Fail> {
         ),
     ];
     assert!(rt; answered(rt.alloc(), Slot(0), &steps)?);
+    let other = [(
+        Asked::Attach((0xb01, 0xc6336408), 1000, 1000),
+        Outcome::Done,
+        "-",
+    )];
+    assert!(rt; answered(rt.alloc(), Slot(1), &other)?);
     Ok(())
 }
 
