@@ -227,29 +227,38 @@ refusal_lacks told is_line is_slot = (
 effect_read : (its_slot command : ℕ) (told : Effect) → IsSlot its_slot → IsNumber command → IsEffect told
     → entry_of (joined (effect_fields its_slot command told)) ≡ Some (entry.Effect (record { slot = its_slot; command = command; effect = told }))
 effect_read its_slot command (effect.Marker life peer octets) is_slot is_command is =
-    apart (codes "M") _ (effect_lacks its_slot command (effect.Marker life peer octets) is_slot is_command is)
+    apart (codes "M") (decimal its_slot ∷ decimal life ∷ decimal command ∷ dotted peer ∷ encode_lower octets ∷ [])
+        (effect_lacks its_slot command (effect.Marker life peer octets) is_slot is_command is)
     ∙ ap (λ read. option_map (λ (e : Effected). entry.Effect e) read)
         (marker_taken its_slot command life peer octets is_slot is_command is.0 is.1 is.2)
 effect_read its_slot command (effect.Fate packet its_fate) is_slot is_command is =
-    apart (codes "H") _ (effect_lacks its_slot command (effect.Fate packet its_fate) is_slot is_command is)
+    apart (codes "H") (decimal its_slot ∷ decimal packet ∷ decimal command ∷ fate_fields its_fate)
+        (effect_lacks its_slot command (effect.Fate packet its_fate) is_slot is_command is)
     ∙ ap (λ read. option_map (λ (e : Effected). entry.Effect e) read)
         (settlement_taken its_slot command packet its_fate is_slot is_command is.0 is.1)
 
 pub entry_read : (told : Entry) → IsEntry told → entry_of (entry_text told) ≡ Some told
 entry_read (entry.Line (line.N told)) is = note_read told is
 entry_read (entry.Line (line.C told)) is =
-    apart (codes "C") _ (answer_lacks told is) ∙ ap (λ answered. option_map (λ a. entry.Line (line.C a)) answered) (answered_taken told is)
+    apart (codes "C")
+        (decimal told.line ∷ decimal told.slot ∷ decimal told.number ∷ outcome_word told.reply.outcome ∷ message_word told.reply.message ∷ [])
+        (answer_lacks told is)
+    ∙ ap (λ answered. option_map (λ a. entry.Line (line.C a)) answered) (answered_taken told is)
 entry_read (entry.Line (line.P told)) is =
-    apart (codes "P") _ (judgement_lacks told is) ∙ ap (λ judged. option_map (λ j. entry.Line (line.P j)) judged) (judged_taken told is)
+    apart (codes "P")
+        (decimal told.line ∷ decimal told.slot ∷ decimal told.number ∷ decimal told.commands
+        ∷ verdict_fields told.verdict (place_fields told.place told.parked))
+        (judgement_lacks told is)
+    ∙ ap (λ judged. option_map (λ j. entry.Line (line.P j)) judged) (judged_taken told is)
 entry_read (entry.Line (line.F told)) is =
-    apart (codes "F") _ (refusal_lacks told is.0 is.1)
+    apart (codes "F") (decimal told.line ∷ decimal told.slot ∷ refused_word told.packet ∷ []) (refusal_lacks told is.0 is.1)
     ∙ ap (λ refused. option_map (λ r. entry.Line (line.F r)) refused) (refusal_taken told is.0 is.1)
 entry_read (entry.Effect told) is = effect_read told.slot told.command told.effect is.slot is.command is.effect
 entry_read (entry.Charge (charge.R slot row)) is =
-    apart (codes "R") _ (charge_lacks (charge.R slot row) is)
+    apart (codes "R") (decimal slot ∷ row_fields row) (charge_lacks (charge.R slot row) is)
     ∙ ap (λ both. option_map (λ r. entry.Charge (charge.R r.0 r.1)) both) (slot_row_taken slot row is)
 entry_read (entry.Charge (charge.O slot counters)) is =
-    apart (codes "O") _ (charge_lacks (charge.O slot counters) is)
+    apart (codes "O") (decimal slot ∷ counters_fields counters []) (charge_lacks (charge.O slot counters) is)
     ∙ ap (λ both. option_map (λ c. entry.Charge (charge.O c.0 c.1)) both) (slot_open_taken slot counters is)
 
 -- the other way round: a text that is read is the text of what was read

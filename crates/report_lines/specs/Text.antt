@@ -10,13 +10,14 @@ use Rattle.pc_base.specs.declared.packet.Place.{Place}
 use Rattle.pc_base.specs.declared.packet.Verdict.{Verdict}
 use Rattle.pc_base.specs.declared.packet.Verdict.TheVariants as verdict
 use Rattle.text_fields.specs.Address.{dotted}
-use Rattle.text_fields.specs.Fields.{joined}
+use Rattle.text_fields.specs.Fields.{joined, behind}
 use Rattle.report_lines.specs.declared.entry.Entry.{Entry}
 use Rattle.report_lines.specs.declared.entry.Entry.TheVariants as entry
 use Rattle.report_lines.specs.declared.entry.LineEntry.{LineEntry}
 use Rattle.report_lines.specs.declared.entry.LineEntry.TheVariants as line
 use Rattle.report_lines.specs.declared.entry.ChargeEntry.{ChargeEntry}
 use Rattle.report_lines.specs.declared.entry.ChargeEntry.TheVariants as charge
+use Rattle.report_lines.specs.Records.{Judged}
 use Rattle.report_lines.specs.Words.{outcome_word, why_word, message_word, moment_word, place_word, refused_word}
 
 -- a verdict, a fate and a place, each in front of further fields
@@ -76,6 +77,12 @@ line_fields (line.P judged) =
     ∷ verdict_fields judged.verdict (place_fields judged.place judged.parked)
 line_fields (line.F refused) =
     codes "F" ∷ decimal refused.line ∷ decimal refused.slot ∷ refused_word refused.packet ∷ []
+
+-- the text of a judgement without its place
+abbrev pub judged_front : Judged → List ℕ
+judged_front judged =
+    codes "P" ++ behind (decimal judged.line ∷ decimal judged.slot ∷ decimal judged.number ∷ decimal judged.commands
+    ∷ verdict_fields judged.verdict [])
 
 -- an effect of a slot's command: an End Marker, or what became of a packet that was held
 abbrev pub effect_fields : ℕ → ℕ → Effect → List (List ℕ)

@@ -3,7 +3,7 @@ ghost use Rattle.std.specs.Prelude.{◌≡◌, ◌++◌, ◌∷◌, [], decimal,
 ghost use Rattle.text_fields.specs.Fields.{behind, joined};
 ghost use Rattle.report_lines.specs.declared.entry.LineEntry.TheVariants as line;
 ghost use Rattle.pc_base.specs.declared.effect.Effect.TheVariants as effect;
-ghost use Rattle.report_lines.specs.Text.{entry_text, line_fields, effect_fields, charge_fields, verdict_fields, fate_fields, place_fields, counters_fields, row_fields, ending, shown, line_shown};
+ghost use Rattle.report_lines.specs.Text.{entry_text, line_fields, effect_fields, charge_fields, verdict_fields, fate_fields, place_fields, judged_front, counters_fields, row_fields, ending, shown, line_shown};
 ghost use Rattle.report_lines.specs.Words.{message_word, moment_word, place_word};
 
 use crate::words::{outcome_word, refused_word, why_word};
@@ -81,17 +81,24 @@ fn push_judgement(
 ) -> Result<(), NoMemory>
     ensures { OnOk result (out.new.items ≡ out.old.items ++ joined (line_fields (line_shown places (line.P judgement.now)))) }
 {
-    out.push(b'P')?;
-    push_number(out, judgement.line)?;
-    push_number(out, u64::from(judgement.slot.0))?;
-    push_number(out, judgement.number)?;
-    push_number(out, judgement.commands)?;
-    push_verdict(out, &judgement.verdict)?;
+    push_front(out, judgement)?;
     if places {
         push_place(out, judgement.place, judgement.parked)
     } else {
         Ok(())
     }
+}
+
+// All but the place.
+fn push_front(out: &mut Vec<u8>, judgement: &Judgement) -> Result<(), NoMemory>
+    ensures { OnOk result (out.new.items ≡ out.old.items ++ judged_front judgement.now) }
+{
+    out.push(b'P')?;
+    push_number(out, judgement.line)?;
+    push_number(out, u64::from(judgement.slot.0))?;
+    push_number(out, judgement.number)?;
+    push_number(out, judgement.commands)?;
+    push_verdict(out, &judgement.verdict)
 }
 
 fn push_verdict(out: &mut Vec<u8>, verdict: &Verdict) -> Result<(), NoMemory>
@@ -247,10 +254,13 @@ fn push_counters(out: &mut Vec<u8>, counters: &Open) -> Result<(), NoMemory>
     ensures { OnOk result (out.new.items ≡ out.old.items ++ behind (counters_fields counters.now [])) }
 {
     push_piece(out, counters.life, counters.ebi, counters.qci, counters.seq)?;
-    push_number(out, counters.up_octets)?;
-    push_number(out, counters.down_octets)?;
-    push_number(out, counters.up_packets)?;
-    push_number(out, counters.down_packets)
+    push_counts(
+        out,
+        counters.up_octets,
+        counters.down_octets,
+        counters.up_packets,
+        counters.down_packets,
+    )
 }
 
 // Which piece of which bearer's life.
@@ -264,14 +274,34 @@ fn push_piece(out: &mut Vec<u8>, life: u64, ebi: u8, qci: u8, seq: u64) -> Resul
     push_number(out, seq)
 }
 
+// How many octets and packets it has, each up and down.
+fn push_counts(
+    out: &mut Vec<u8>,
+    up_octets: u64,
+    down_octets: u64,
+    up_packets: u64,
+    down_packets: u64,
+) -> Result<(), NoMemory>
+    ensures { OnOk result (out.new.items ≡ out.old.items
+        ++ behind (decimal up_octets ∷ decimal down_octets ∷ decimal up_packets ∷ decimal down_packets ∷ [])) }
+{
+    push_number(out, up_octets)?;
+    push_number(out, down_octets)?;
+    push_number(out, up_packets)?;
+    push_number(out, down_packets)
+}
+
 fn push_row(out: &mut Vec<u8>, row: &ChargeRow) -> Result<(), NoMemory>
     ensures { OnOk result (out.new.items ≡ out.old.items ++ behind (row_fields row.now)) }
 {
     push_piece(out, row.life, row.ebi, row.qci, row.seq)?;
-    push_number(out, row.up_octets)?;
-    push_number(out, row.down_octets)?;
-    push_number(out, row.up_packets)?;
-    push_number(out, row.down_packets)?;
+    push_counts(
+        out,
+        row.up_octets,
+        row.down_octets,
+        row.up_packets,
+        row.down_packets,
+    )?;
     push_ending(out, row)
 }
 
