@@ -12,10 +12,10 @@ use Rattle.text_fields.specs.Hexadecimal.{lower_octets_of}
 use Rattle.text_fields.proofs.LowerLemmas.{lower_octets_only}
 use Rattle.report_lines.specs.Ranges.{IsOctets, IsVerdict, IsFate}
 use Rattle.report_lines.specs.Reading.{Gives, next, message_of, any_number, verdict_of, fate_of, place_of, is_note, note_of}
-use Rattle.report_lines.specs.Records.{Noted, IsSome, KeepsVerdict, KeepsFate, KeepsPlace}
+use Rattle.report_lines.specs.Records.{Noted, HasOctets, KeepsVerdict, KeepsFate, KeepsPlace}
 use Rattle.report_lines.proofs.FieldLemmas.{messages_given, verdict_given, fate_given, place_fields_given}
 
-message_kept : (message : Option (List ℕ)) → IfSome message IsOctets → IfSome message IsSome
+message_kept : (message : Option (List ℕ)) → IfSome message IsOctets → IfSome message HasOctets
 message_kept None is = tt
 message_kept (Some octets) is = is.0
 
@@ -42,16 +42,16 @@ given_is : {A : Type 0} (given : Option (A × Option (Bor (List ℕ)))) (of : Op
 given_is None of x left gives is = cc
 given_is (Some both) of x left gives is = rw (some_both both (x, left) is) at gives
 
-pub octets_are_some : (octets text : List ℕ) → Some octets ≡ lower_octets_of text → IsSome octets
+pub octets_are_some : (octets text : List ℕ) → Some octets ≡ lower_octets_of text → HasOctets octets
 octets_are_some octets text is = (lower_octets_only text octets (sym is)).1
 
 pub octets_keep : (given : Option (List ℕ × Option (Bor (List ℕ)))) (octets : List ℕ) (left : Option (Bor (List ℕ)))
-    → IfSome given (λ some. IsSome some.0) → given ≡ Some (octets, left) → IsSome octets
+    → IfSome given (λ some. HasOctets some.0) → given ≡ Some (octets, left) → HasOctets octets
 octets_keep None octets left some is = cc
-octets_keep (Some both) octets left some is = subst (λ (b : List ℕ × Option (Bor (List ℕ))). IsSome b.0) (some_both both (octets, left) is) some
+octets_keep (Some both) octets left some is = subst (λ (b : List ℕ × Option (Bor (List ℕ))). HasOctets b.0) (some_both both (octets, left) is) some
 
 pub message_keeps : (texts : List (List ℕ)) (given : Option (Option (List ℕ) × Option (Bor (List ℕ)))) (message : Option (List ℕ))
-    (left : Option (Bor (List ℕ))) → Gives given (next message_of texts) → given ≡ Some (message, left) → IfSome message IsSome
+    (left : Option (Bor (List ℕ))) → Gives given (next message_of texts) → given ≡ Some (message, left) → IfSome message HasOctets
 message_keeps texts given message left gives is =
     message_kept message
         (messages_given texts (message, pieces_left space left) (given_is given (next message_of texts) message left gives is)).valid

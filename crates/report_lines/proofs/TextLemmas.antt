@@ -34,10 +34,10 @@ use Rattle.report_lines.specs.declared.entry.LineEntry.TheVariants as line
 use Rattle.report_lines.specs.declared.entry.Refusal.{Refusal}
 use Rattle.report_lines.specs.declared.entry.ChargeEntry.{ChargeEntry}
 use Rattle.report_lines.specs.declared.entry.ChargeEntry.TheVariants as charge
-use Rattle.report_lines.specs.Ranges.{IsNumber, IsSlot, IsAnswered, IsJudged, IsOctets, IsVerdict, IsFate, IsPlace, IsMoment, AreCounters, IsEffect, IsEffected, IsChargeEntry, IsEntry}
+use Rattle.report_lines.specs.Ranges.{IsNumber, IsSlot, IsAnswered, IsJudged, IsOctets, IsVerdict, IsFate, IsPlace, IsMoment, AreCounters, IsLineEntry, IsEffect, IsEffected, IsChargeEntry, IsEntry}
 use Rattle.report_lines.specs.Records.{Noted, Answered, Judged, Effected}
 use Rattle.report_lines.specs.Reading.{note_of, answered_of, judged_of, refusal_of, marker_of, settlement_of, slot_row, slot_open, entry_at, entry_of_fields, entry_of}
-use Rattle.report_lines.specs.Text.{verdict_fields, fate_fields, place_fields, counters_fields, counters_of, row_fields, ending, line_fields, effect_fields, charge_fields, entry_fields, entry_text}
+use Rattle.report_lines.specs.Text.{verdict_fields, fate_fields, place_fields, counters_fields, counters_of, row_fields, ending, line_fields, effect_fields, charge_fields, entry_fields, entry_text, line_shown, shown}
 use Rattle.report_lines.specs.Words.{outcome_word, why_word, message_word, moment_word, place_word, refused_word}
 use Rattle.report_lines.proofs.EntryLemmas.{answered_given, answered_taken, judged_given, judged_taken, refusal_given, refusal_taken, marker_given, marker_taken, settlement_given, settlement_taken, slot_row_given, slot_row_taken, slot_open_given, slot_open_taken, OfNote, note_given, note_taken}
 
@@ -372,3 +372,24 @@ entry_given text told read =
 
 pub text_tells : (one other : Entry) → IsEntry one → IsEntry other → entry_text one ≡ entry_text other → one ≡ other
 text_tells one other is also same = same_entry one other (sym (entry_read one is) ∙ ap entry_of same ∙ entry_read other also)
+
+-- an entry without its place
+line_shown_is : (told : LineEntry) (places : Bool) → IsLineEntry told → IsLineEntry (line_shown places told)
+line_shown_is told true is = is
+line_shown_is (line.N told) false is = is
+line_shown_is (line.C told) false is = is
+line_shown_is (line.P told) false is = record {
+  line = is.line;
+  slot = is.slot;
+  number = is.number;
+  commands = is.commands;
+  verdict = is.verdict;
+  place = tt;
+  parked = tt;
+}
+line_shown_is (line.F told) false is = is
+
+pub shown_is : (told : Entry) (places : Bool) → IsEntry told → IsEntry (shown places told)
+shown_is (entry.Line told) places is = line_shown_is told places is
+shown_is (entry.Effect told) places is = is
+shown_is (entry.Charge told) places is = is

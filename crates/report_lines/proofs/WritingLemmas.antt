@@ -7,7 +7,7 @@ use Rattle.pc_base.specs.declared.packet.Verdict.TheVariants as verdict
 use Rattle.text_fields.specs.Fields.{joined, behind}
 use Rattle.report_lines.specs.declared.entry.LineEntry.TheVariants as line
 use Rattle.report_lines.specs.Records.{Judged}
-use Rattle.report_lines.specs.Text.{verdict_fields, place_fields, judged_front, line_fields, line_shown}
+use Rattle.report_lines.specs.Text.{verdict_fields, place_fields, without_place, line_fields, line_shown}
 
 pub joined-behind : (first : List ℕ) (texts : List (List ℕ)) → joined (first ∷ texts) ≡ first ++ behind texts
 joined-behind first [] = sym (append-nil first)
@@ -31,33 +31,38 @@ verdict_fields-append (verdict.Policed life) more = refl
 abbrev counted : Judged → List (List ℕ)
 counted told = decimal told.line ∷ decimal told.slot ∷ decimal told.number ∷ decimal told.commands ∷ []
 
--- the front of a judgement, and what stands behind it
-front-behind : (told : Judged) (more : List (List ℕ))
+-- a judgement, and what stands behind its verdict
+judged-behind : (told : Judged) (more : List (List ℕ))
     → joined (codes "P" ∷ decimal told.line ∷ decimal told.slot ∷ decimal told.number ∷ decimal told.commands ∷ verdict_fields told.verdict more)
-    ≡ judged_front told ++ behind more
-front-behind told more =
+    ≡ joined (line_fields (line.P (without_place told))) ++ behind more
+judged-behind told more =
     joined-behind (codes "P") (counted told ++ verdict_fields told.verdict more)
     ∙ ap (λ fields. codes "P" ++ behind (counted told ++ fields)) (verdict_fields-append told.verdict more)
     ∙ ap (λ text. codes "P" ++ text) (behind-append (counted told ++ verdict_fields told.verdict []) more)
+    ∙ ap (λ text. text ++ behind more) (sym (joined-behind (codes "P") (counted told ++ verdict_fields told.verdict [])))
 
-pub judged_shown : (told : Judged) (places : Bool) → places ≡ true
-    → joined (line_fields (line_shown places (line.P told))) ≡ judged_front told ++ behind (place_fields told.place told.parked)
-judged_shown told true is = front-behind told (place_fields told.place told.parked)
+judged_shown : (told : Judged) (places : Bool) → places ≡ true
+    → joined (line_fields (line_shown places (line.P told)))
+    ≡ joined (line_fields (line.P (without_place told))) ++ behind (place_fields told.place told.parked)
+judged_shown told true is = judged-behind told (place_fields told.place told.parked)
 judged_shown told false is = cc
 
-pub judged_alone : (told : Judged) (places : Bool) → places ≡ false → joined (line_fields (line_shown places (line.P told))) ≡ judged_front told
+judged_alone : (told : Judged) (places : Bool) → places ≡ false
+    → joined (line_fields (line_shown places (line.P told))) ≡ joined (line_fields (line.P (without_place told)))
 judged_alone told true is = cc
-judged_alone told false is = front-behind told [] ∙ append-nil (judged_front told)
+judged_alone told false is = refl
 
--- what was appended behind a front, or the front alone
+-- what was appended behind a judgement, or the judgement alone
 pub shown_by : (told : Judged) (places : Bool) (answer : Result (Unit {0}) AllocError) (old mid new : List ℕ) (fields : List (List ℕ)) → places ≡ true
-    → mid ≡ old ++ judged_front told → fields ≡ place_fields told.place told.parked → OnOk answer (new ≡ mid ++ behind fields)
-    → OnOk answer (new ≡ old ++ joined (line_fields (line_shown places (line.P told))))
+    → mid ≡ old ++ joined (line_fields (line.P (without_place told))) → fields ≡ place_fields told.place told.parked
+    → OnOk answer (new ≡ mid ++ behind fields) → OnOk answer (new ≡ old ++ joined (line_fields (line_shown places (line.P told))))
 shown_by told places (Ok done) old mid new fields is front same appended =
-    appended ∙ ap (λ text. text ++ behind fields) front ∙ append_assoc old (judged_front told) (behind fields)
-    ∙ ap (λ f. old ++ (judged_front told ++ behind f)) same ∙ ap (λ text. old ++ text) (sym (judged_shown told places is))
+    let alone : List ℕ = joined (line_fields (line.P (without_place told))) in
+    appended ∙ ap (λ text. text ++ behind fields) front ∙ append_assoc old alone (behind fields)
+    ∙ ap (λ f. old ++ (alone ++ behind f)) same ∙ ap (λ text. old ++ text) (sym (judged_shown told places is))
 shown_by told places (Err why) old mid new fields is front same appended = tt
 
-pub alone_by : (told : Judged) (places : Bool) (old new : List ℕ) → places ≡ false → new ≡ old ++ judged_front told
+pub alone_by : (told : Judged) (places : Bool) (old new : List ℕ) → places ≡ false
+    → new ≡ old ++ joined (line_fields (line.P (without_place told)))
     → new ≡ old ++ joined (line_fields (line_shown places (line.P told)))
 alone_by told places old new is front = front ∙ ap (λ text. old ++ text) (sym (judged_alone told places is))

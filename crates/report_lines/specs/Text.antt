@@ -10,7 +10,7 @@ use Rattle.pc_base.specs.declared.packet.Place.{Place}
 use Rattle.pc_base.specs.declared.packet.Verdict.{Verdict}
 use Rattle.pc_base.specs.declared.packet.Verdict.TheVariants as verdict
 use Rattle.text_fields.specs.Address.{dotted}
-use Rattle.text_fields.specs.Fields.{joined, behind}
+use Rattle.text_fields.specs.Fields.{joined}
 use Rattle.report_lines.specs.declared.entry.Entry.{Entry}
 use Rattle.report_lines.specs.declared.entry.Entry.TheVariants as entry
 use Rattle.report_lines.specs.declared.entry.LineEntry.{LineEntry}
@@ -78,12 +78,6 @@ line_fields (line.P judged) =
 line_fields (line.F refused) =
     codes "F" ∷ decimal refused.line ∷ decimal refused.slot ∷ refused_word refused.packet ∷ []
 
--- the text of a judgement without its place
-abbrev pub judged_front : Judged → List ℕ
-judged_front judged =
-    codes "P" ++ behind (decimal judged.line ∷ decimal judged.slot ∷ decimal judged.number ∷ decimal judged.commands
-    ∷ verdict_fields judged.verdict [])
-
 -- an effect of a slot's command: an End Marker, or what became of a packet that was held
 abbrev pub effect_fields : ℕ → ℕ → Effect → List (List ℕ)
 effect_fields slot command (effect.Marker life peer octets) =
@@ -105,10 +99,13 @@ abbrev pub entry_text : Entry → List ℕ
 entry_text told = joined (entry_fields told)
 
 -- the entry as it is shown: without its place, where places aren't
+abbrev pub without_place : Judged → Judged
+without_place judged = record judged { place = None; parked = false }
+
 abbrev pub line_without_place : LineEntry → LineEntry
 line_without_place (line.N noted) = line.N noted
 line_without_place (line.C answered) = line.C answered
-line_without_place (line.P judged) = line.P (record judged { place = None; parked = false })
+line_without_place (line.P judged) = line.P (without_place judged)
 line_without_place (line.F refused) = line.F refused
 
 abbrev pub line_shown : Bool → LineEntry → LineEntry
