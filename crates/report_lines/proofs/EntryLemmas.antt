@@ -53,9 +53,9 @@ answered_given texts told read =
     let same = last.0 in
     rw (← same) (
       ap (λ t. codes "C" ∷ t) (is_head.are
-      ∙ ap (λ t. decimal head.0.0.0 ∷ decimal head.0.0.1 ∷ decimal head.0.0.2 ∷ t) is_outcome.are
-      ∙ ap (λ t. decimal head.0.0.0 ∷ decimal head.0.0.1 ∷ decimal head.0.0.2 ∷ outcome_word outcome.0.0 ∷ t) is_message.are
-      ∙ ap (λ t. decimal head.0.0.0 ∷ decimal head.0.0.1 ∷ decimal head.0.0.2 ∷ outcome_word outcome.0.0 ∷ message_word message.0.0 ∷ t) last.1),
+          ∙ ap (λ t. decimal head.0.0.0 ∷ decimal head.0.0.1 ∷ decimal head.0.0.2 ∷ t) is_outcome.are
+          ∙ ap (λ t. decimal head.0.0.0 ∷ decimal head.0.0.1 ∷ decimal head.0.0.2 ∷ outcome_word outcome.0.0 ∷ t) is_message.are
+          ∙ ap (λ t. decimal head.0.0.0 ∷ decimal head.0.0.1 ∷ decimal head.0.0.2 ∷ outcome_word outcome.0.0 ∷ message_word message.0.0 ∷ t) last.1),
       record { line = is_head.valid.0; slot = is_head.valid.1; number = is_head.valid.2; message = is_message.valid },
     )
 
@@ -83,9 +83,9 @@ judged_given texts told read =
     let same = same_some _ told place.2 in
     rw (← same) (
       ap (λ t. codes "P" ∷ t) (is_head.are
-      ∙ ap (λ t. decimal head.0.0.0 ∷ decimal head.0.0.1 ∷ decimal head.0.0.2 ∷ t) is_commands.are
-      ∙ ap (λ t. decimal head.0.0.0 ∷ decimal head.0.0.1 ∷ decimal head.0.0.2 ∷ decimal commands.0.0 ∷ t) is_verdict.are
-      ∙ ap (λ t. decimal head.0.0.0 ∷ decimal head.0.0.1 ∷ decimal head.0.0.2 ∷ decimal commands.0.0 ∷ verdict_fields its_verdict.0.0 t) is_place.are),
+          ∙ ap (λ t. decimal head.0.0.0 ∷ decimal head.0.0.1 ∷ decimal head.0.0.2 ∷ t) is_commands.are
+          ∙ ap (λ t. decimal head.0.0.0 ∷ decimal head.0.0.1 ∷ decimal head.0.0.2 ∷ decimal commands.0.0 ∷ t) is_verdict.are
+          ∙ ap (λ t. decimal head.0.0.0 ∷ decimal head.0.0.1 ∷ decimal head.0.0.2 ∷ decimal commands.0.0 ∷ verdict_fields its_verdict.0.0 t) is_place.are),
       record {
         line = is_head.valid.0;
         slot = is_head.valid.1;
@@ -122,8 +122,8 @@ refusal_given texts told read =
     let same = last.0 in
     rw (← same) (
       ap (λ t. codes "F" ∷ t) (is_at.are ∙ ap (λ t. decimal at.0.0 ∷ t) is_slot.are
-      ∙ ap (λ t. decimal at.0.0 ∷ decimal its_slot.0.0 ∷ t) is_what.are
-      ∙ ap (λ t. decimal at.0.0 ∷ decimal its_slot.0.0 ∷ refused_word what.0.0 ∷ t) last.1),
+          ∙ ap (λ t. decimal at.0.0 ∷ decimal its_slot.0.0 ∷ t) is_what.are
+          ∙ ap (λ t. decimal at.0.0 ∷ decimal its_slot.0.0 ∷ refused_word what.0.0 ∷ t) last.1),
       is_at.valid,
       is_slot.valid,
     )
@@ -154,10 +154,10 @@ marker_given texts told read =
     let same = last.0 in
     rw (← same) (
       ap (λ t. codes "M" ∷ t) (is_slot.are ∙ ap (λ t. decimal its_slot.0.0 ∷ t) is_life.are
-      ∙ ap (λ t. decimal its_slot.0.0 ∷ decimal life.0.0 ∷ t) is_command.are
-      ∙ ap (λ t. decimal its_slot.0.0 ∷ decimal life.0.0 ∷ decimal command.0.0 ∷ t) is_peer.are
-      ∙ ap (λ t. decimal its_slot.0.0 ∷ decimal life.0.0 ∷ decimal command.0.0 ∷ dotted peer.0.0 ∷ t) is_octets.are
-      ∙ ap (λ t. decimal its_slot.0.0 ∷ decimal life.0.0 ∷ decimal command.0.0 ∷ dotted peer.0.0 ∷ encode_lower octets.0.0 ∷ t) last.1),
+          ∙ ap (λ t. decimal its_slot.0.0 ∷ decimal life.0.0 ∷ t) is_command.are
+          ∙ ap (λ t. decimal its_slot.0.0 ∷ decimal life.0.0 ∷ decimal command.0.0 ∷ t) is_peer.are
+          ∙ ap (λ t. decimal its_slot.0.0 ∷ decimal life.0.0 ∷ decimal command.0.0 ∷ dotted peer.0.0 ∷ t) is_octets.are
+          ∙ ap (λ t. decimal its_slot.0.0 ∷ decimal life.0.0 ∷ decimal command.0.0 ∷ dotted peer.0.0 ∷ encode_lower octets.0.0 ∷ t) last.1),
       record { slot = is_slot.valid; command = is_command.valid; effect = (is_life.valid, is_peer.valid, is_octets.valid) },
     )
 
@@ -192,8 +192,8 @@ settlement_given texts told read =
     let same = last.0 in
     rw (← same) (
       ap (λ t. codes "H" ∷ t) (is_slot.are ∙ ap (λ t. decimal its_slot.0.0 ∷ t) is_packet.are
-      ∙ ap (λ t. decimal its_slot.0.0 ∷ decimal packet.0.0 ∷ t) is_command.are
-      ∙ ap (λ t. decimal its_slot.0.0 ∷ decimal packet.0.0 ∷ decimal command.0.0 ∷ t)
+          ∙ ap (λ t. decimal its_slot.0.0 ∷ decimal packet.0.0 ∷ t) is_command.are
+          ∙ ap (λ t. decimal its_slot.0.0 ∷ decimal packet.0.0 ∷ decimal command.0.0 ∷ t)
           (is_fate.are ∙ append_none (fate_fields its_fate.0.0) its_fate.0.1 last.1)),
       record { slot = is_slot.valid; command = is_command.valid; effect = (is_packet.valid, is_fate.valid) },
     )
@@ -227,9 +227,9 @@ row_given texts told read =
     let same = last.0 in
     rw (← same) (
       is_counters.are ∙ ap (λ t. counters_fields counters.0.0 t) (is_first.are
-      ∙ ap (λ t. moment_word first.0.0 ∷ t) is_second.are
-      ∙ ap (λ t. moment_word first.0.0 ∷ moment_word second.0.0 ∷ t) is_why.are
-      ∙ ap (λ t. moment_word first.0.0 ∷ moment_word second.0.0 ∷ why_word why.0.0 ∷ t) last.1),
+          ∙ ap (λ t. moment_word first.0.0 ∷ t) is_second.are
+          ∙ ap (λ t. moment_word first.0.0 ∷ moment_word second.0.0 ∷ t) is_why.are
+          ∙ ap (λ t. moment_word first.0.0 ∷ moment_word second.0.0 ∷ why_word why.0.0 ∷ t) last.1),
       is_counters.valid,
       is_first.valid,
       is_second.valid,

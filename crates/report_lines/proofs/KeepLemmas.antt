@@ -54,7 +54,7 @@ pub message_keeps : (texts : List (List ℕ)) (given : Option (Option (List ℕ)
     (left : Option (Bor (List ℕ))) → Gives given (next message_of texts) → given ≡ Some (message, left) → IfSome message HasOctets
 message_keeps texts given message left gives is =
     message_kept message
-        (messages_given texts (message, pieces_left space left) (given_is given (next message_of texts) message left gives is)).valid
+    (messages_given texts (message, pieces_left space left) (given_is given (next message_of texts) message left gives is)).valid
 
 pub verdict_keeps : (texts : List (List ℕ)) (given : Option (Verdict × Option (Bor (List ℕ)))) (told : Verdict) (left : Option (Bor (List ℕ)))
     → Gives given (verdict_of texts) → given ≡ Some (told, left) → KeepsVerdict told

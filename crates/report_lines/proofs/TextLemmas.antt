@@ -228,27 +228,27 @@ effect_read : (its_slot command : ℕ) (told : Effect) → IsSlot its_slot → I
     → entry_of (joined (effect_fields its_slot command told)) ≡ Some (entry.Effect (record { slot = its_slot; command = command; effect = told }))
 effect_read its_slot command (effect.Marker life peer octets) is_slot is_command is =
     apart (codes "M") (decimal its_slot ∷ decimal life ∷ decimal command ∷ dotted peer ∷ encode_lower octets ∷ [])
-        (effect_lacks its_slot command (effect.Marker life peer octets) is_slot is_command is)
+    (effect_lacks its_slot command (effect.Marker life peer octets) is_slot is_command is)
     ∙ ap (λ read. option_map (λ (e : Effected). entry.Effect e) read)
-        (marker_taken its_slot command life peer octets is_slot is_command is.0 is.1 is.2)
+    (marker_taken its_slot command life peer octets is_slot is_command is.0 is.1 is.2)
 effect_read its_slot command (effect.Fate packet its_fate) is_slot is_command is =
     apart (codes "H") (decimal its_slot ∷ decimal packet ∷ decimal command ∷ fate_fields its_fate)
-        (effect_lacks its_slot command (effect.Fate packet its_fate) is_slot is_command is)
+    (effect_lacks its_slot command (effect.Fate packet its_fate) is_slot is_command is)
     ∙ ap (λ read. option_map (λ (e : Effected). entry.Effect e) read)
-        (settlement_taken its_slot command packet its_fate is_slot is_command is.0 is.1)
+    (settlement_taken its_slot command packet its_fate is_slot is_command is.0 is.1)
 
 pub entry_read : (told : Entry) → IsEntry told → entry_of (entry_text told) ≡ Some told
 entry_read (entry.Line (line.N told)) is = note_read told is
 entry_read (entry.Line (line.C told)) is =
     apart (codes "C")
-        (decimal told.line ∷ decimal told.slot ∷ decimal told.number ∷ outcome_word told.reply.outcome ∷ message_word told.reply.message ∷ [])
-        (answer_lacks told is)
+    (decimal told.line ∷ decimal told.slot ∷ decimal told.number ∷ outcome_word told.reply.outcome ∷ message_word told.reply.message ∷ [])
+    (answer_lacks told is)
     ∙ ap (λ answered. option_map (λ a. entry.Line (line.C a)) answered) (answered_taken told is)
 entry_read (entry.Line (line.P told)) is =
     apart (codes "P")
-        (decimal told.line ∷ decimal told.slot ∷ decimal told.number ∷ decimal told.commands
-        ∷ verdict_fields told.verdict (place_fields told.place told.parked))
-        (judgement_lacks told is)
+    (decimal told.line ∷ decimal told.slot ∷ decimal told.number ∷ decimal told.commands
+    ∷ verdict_fields told.verdict (place_fields told.place told.parked))
+    (judgement_lacks told is)
     ∙ ap (λ judged. option_map (λ j. entry.Line (line.P j)) judged) (judged_taken told is)
 entry_read (entry.Line (line.F told)) is =
     apart (codes "F") (decimal told.line ∷ decimal told.slot ∷ refused_word told.packet ∷ []) (refusal_lacks told is.0 is.1)

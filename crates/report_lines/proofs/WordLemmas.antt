@@ -163,5 +163,5 @@ pub place_taken : (place : Place) → IsPlace place → place_at (place_word pla
 place_taken Closing is = refl
 place_taken (At slice) is =
     ap (λ b. if b then Some Closing else option_map (λ s. At s) (number_in 0 63 (decimal slice)))
-        (bytes_differ (decimal slice) (codes "-") (number_no_dash slice (omega (arith, is))))
+    (bytes_differ (decimal slice) (codes "-") (number_no_dash slice (omega (arith, is))))
     ∙ ap (λ v. option_map (λ s. At s) v) (number_read 0 63 slice (omega (arith, is)) (omega arith) is)

@@ -1,5 +1,10 @@
-use crate::{ChargeEntry, Entry, LineEntry, one_text_of_an_entry, read, text};
-use pc_base::{Moment, Place, SliceNo, Slot, Verdict};
+use crate::{
+    ChargeEntry, Entry, LentVerdict, LineEntry, one_text_of_an_entry, one_text_without_places,
+    push_answer, push_effect, push_note, push_open, push_packet, push_row, read, text,
+    without_place_an_entry,
+};
+use charging_book::{ChargeRow, Open, Why};
+use pc_base::{Addr4, Effect, Fate, Moment, Octets, Outcome, Place, Reply, SliceNo, Slot, Verdict};
 use std::alloc::Global;
 use std::fs;
 use std::test::Fail;
@@ -16,6 +21,8 @@ fn stands(alloc: Global, line: &[u8]) -> Result<bool, Fail> {
 #[test]
 fn lines_of_outside_reports_are_entries(rt: HostRuntime) -> Result<(), Fail> {
     one_text_of_an_entry();
+    one_text_without_places();
+    without_place_an_entry();
     let lines = fs::read(&rt, "entries.txt")?;
     let mut count = 0u64;
     for line in lines.as_slice().split(|octet| *octet == b'\n') {
@@ -100,5 +107,106 @@ fn what_a_charging_record_says(rt: HostRuntime) -> Result<(), Fail> {
     assert!(rt; row.up_octets == 28 && row.down_octets == 40);
     assert!(rt; row.up_packets == 1 && row.down_packets == 2);
     assert!(rt; row.first == Some(Moment(0)) && row.last == Some(Moment(80)));
+    Ok(())
+}
+
+#[test]
+fn notes_and_answers_of_parts(rt: HostRuntime) -> Result<(), Fail> {
+    let mut out = Vec::new(rt.alloc());
+    push_note(&mut out, 3, b"stay 0 1")?;
+    assert!(rt; out.as_slice() == b"N 3 stay 0 1".as_slice());
+    let message = Octets::of(vec![in rt.alloc(); 0x48, 0x23]?);
+    let reply = Reply {
+        outcome: Outcome::Again,
+        message: Some(message),
+    };
+    push_answer(&mut out, 4, Slot(1), 0, &reply)?;
+    assert!(rt; out.as_slice() == b"N 3 stay 0 1C 4 1 0 again 4823".as_slice());
+    Ok(())
+}
+
+#[test]
+fn packets_of_lent_octets(rt: HostRuntime) -> Result<(), Fail> {
+    let octets = [0x30, 0xff];
+    let down = LentVerdict::Down {
+        life: 1,
+        peer: Addr4(0xc633_6407),
+        octets: &octets,
+    };
+    let held = LentVerdict::Held {
+        life: 2,
+        message: None,
+    };
+    for (verdict, line) in [
+        (
+            LentVerdict::Up {
+                life: 0,
+                octets: &octets,
+            },
+            b"P 9 0 0 5 up 0 30ff".as_slice(),
+        ),
+        (down, b"P 9 0 0 5 down 1 198.51.100.7 30ff"),
+        (LentVerdict::NoBearer, b"P 9 0 0 5 nobearer"),
+        (LentVerdict::Spoof, b"P 9 0 0 5 spoof"),
+        (LentVerdict::Idle { life: 3 }, b"P 9 0 0 5 idle 3"),
+        (held, b"P 9 0 0 5 held 2 -"),
+        (LentVerdict::Policed { life: 4 }, b"P 9 0 0 5 policed 4"),
+    ] {
+        let mut out = Vec::new(rt.alloc());
+        push_packet(&mut out, 9, Slot(0), 0, 5, &verdict)?;
+        assert!(rt; out.as_slice() == line);
+    }
+    Ok(())
+}
+
+#[test]
+fn effects_of_parts(rt: HostRuntime) -> Result<(), Fail> {
+    let mut out = Vec::new(rt.alloc());
+    let octets = Octets::of(vec![in rt.alloc(); 0x30, 0xfe]?);
+    let marker = Effect::Marker {
+        life: 0,
+        peer: Addr4(0xc633_6407),
+        octets,
+    };
+    push_effect(&mut out, Slot(0), 2, &marker)?;
+    assert!(rt; out.as_slice() == b"M 0 0 2 198.51.100.7 30fe".as_slice());
+    out.clear();
+    let fate = Fate::Policed { life: 4 };
+    push_effect(&mut out, Slot(0), 2, &Effect::Fate { packet: 7, fate })?;
+    assert!(rt; out.as_slice() == b"H 0 7 2 policed 4".as_slice());
+    Ok(())
+}
+
+#[test]
+fn charges_of_parts(rt: HostRuntime) -> Result<(), Fail> {
+    let mut out = Vec::new(rt.alloc());
+    let row = ChargeRow {
+        life: 1,
+        ebi: 6,
+        qci: 9,
+        seq: 2,
+        up_octets: 28,
+        down_octets: 40,
+        up_packets: 3,
+        down_packets: 4,
+        first: None,
+        last: Some(Moment(80)),
+        why: Why::Qos,
+    };
+    push_row(&mut out, Slot(5), &row)?;
+    assert!(rt; out.as_slice() == b"R 5 1 6 9 2 28 40 3 4 - 80 qos".as_slice());
+    out.clear();
+    let counters = Open {
+        life: 1,
+        ebi: 6,
+        qci: 9,
+        seq: 2,
+        up_octets: 28,
+        down_octets: 40,
+        up_packets: 3,
+        down_packets: 4,
+    };
+    push_open(&mut out, Slot(5), &counters)?;
+    assert!(rt; out.as_slice() == b"O 5 1 6 9 2 28 40 3 4".as_slice());
     Ok(())
 }
