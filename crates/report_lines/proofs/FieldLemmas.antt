@@ -19,7 +19,7 @@ use Rattle.text_fields.proofs.AddressLemmas.{address_read, address_only}
 use Rattle.text_fields.proofs.LowerLemmas.{lower_octets_read, lower_octets_only}
 use Rattle.report_lines.specs.Ranges.{IsNumber, IsSlot, IsOctets, IsVerdict, IsFate, IsPlace, AreCounters}
 use Rattle.report_lines.specs.Records.{KeepsPlace}
-use Rattle.report_lines.specs.Reading.{Taken, with_rest, next, at_end, number, any_number, counted, slot, message_of, place_at, place_of, down_of, up_of, held_of, verdict_at, verdict_of, fate_at, fate_of, counters_at, head_of}
+use Rattle.report_lines.specs.Reading.{with_rest, next, number, any_number, counted, slot, message_of, place_at, place_of, down_of, up_of, held_of, verdict_of, fate_of, counters_at, head_of}
 use Rattle.report_lines.specs.Text.{verdict_fields, fate_fields, place_fields, counters_fields}
 use Rattle.report_lines.specs.Words.{message_word, place_word}
 use Rattle.report_lines.proofs.WordLemmas.{message_given, message_taken, place_given, place_taken}

@@ -1,5 +1,5 @@
 -- What is read keeps what its type asks, and what a note is.
-use Rattle.std.proofs.Common.{◌≡◌, ℕ, Bool, true, false, List, [], ◌∷◌, sym, ap, ◌∙◌, Option, Some, None, if◌then◌else◌, Bor, subst}
+use Rattle.std.proofs.Common.{◌≡◌, ℕ, Bool, true, false, List, sym, ap, ◌∙◌, Option, Some, None, if◌then◌else◌, Bor, subst}
 use Rattle.std.specs.Prelude.{IfSome}
 use Rattle.pc_base.specs.declared.effect.Fate.{Fate}
 use Rattle.pc_base.specs.declared.effect.Fate.TheVariants as fate
@@ -12,7 +12,7 @@ use Rattle.text_fields.specs.Hexadecimal.{lower_octets_of}
 use Rattle.text_fields.proofs.LowerLemmas.{lower_octets_only}
 use Rattle.report_lines.specs.Ranges.{IsOctets, IsVerdict, IsFate}
 use Rattle.report_lines.specs.Reading.{Gives, next, message_of, any_number, verdict_of, fate_of, place_of, is_note, note_of}
-use Rattle.report_lines.specs.Records.{Noted, HasOctets, KeepsVerdict, KeepsFate, KeepsPlace}
+use Rattle.report_lines.specs.Records.{HasOctets, KeepsVerdict, KeepsFate, KeepsPlace}
 use Rattle.report_lines.proofs.FieldLemmas.{messages_given, verdict_given, fate_given, place_fields_given}
 
 message_kept : (message : Option (List ℕ)) → IfSome message IsOctets → IfSome message HasOctets

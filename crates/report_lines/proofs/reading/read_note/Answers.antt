@@ -1,4 +1,4 @@
-use Rattle.std.proofs.Common.{◌≡◌, ap, ◌∙◌}
+use Rattle.std.proofs.Common.{ap, ◌∙◌}
 use Rattle.text_fields.specs.Fields.{space, pieces_left, joined}
 use Rattle.text_fields.proofs.FieldLemmas.{joined-pieces}
 use Rattle.report_lines.proofs.KeepLemmas.{note_found, note_refused}
