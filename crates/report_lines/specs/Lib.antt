@@ -1,0 +1,5 @@
+pub mod Records
+pub mod Words
+pub mod Text
+pub mod Ranges
+pub mod Reading

@@ -1,0 +1,191 @@
+//! The entries of a report, by what they answer.
+use charging_book::{ChargeRow, Open};
+use pc_base::{Addr4, Fate, Octets, Place, Reply, Slot, Verdict};
+use std::marker::Model;
+
+/// An entry of a report.
+#[derive(Debug, Drop, PartialEq, Eq)]
+pub enum Entry {
+    Line(LineEntry),
+    Effect(EffectEntry),
+    Charge(ChargeEntry),
+}
+
+/// The answer to a line of the trace: each line has one.
+#[derive(Debug, Drop, PartialEq, Eq)]
+pub enum LineEntry {
+    /// A note: the line is neither a command nor a packet, or is refused.
+    N(Note),
+    /// A command and its reply.
+    C(Answer),
+    /// A packet and its verdict.
+    P(Judgement),
+    /// A command or packet that found its queue full.
+    F(Refusal),
+}
+
+/// What a command does beside its reply.
+#[derive(Debug, Drop, PartialEq, Eq)]
+pub enum EffectEntry {
+    /// An End Marker.
+    M(Marker),
+    /// What became of a packet that was held.
+    H(Settlement),
+}
+
+/// What is charged for a slot.
+#[derive(Debug, Drop, PartialEq, Eq)]
+pub enum ChargeEntry {
+    /// A charging record.
+    R { slot: Slot, row: ChargeRow },
+    /// The open counters of a bearer's life.
+    O { slot: Slot, counters: Open },
+}
+
+/// A note on a line: one or more octets of printable ASCII.
+#[derive(Debug, Drop, PartialEq, Eq)]
+pub struct Note {
+    pub line: u64,
+    pub note: Octets,
+}
+
+impl Model for Note {
+    ghost use Rattle.report_lines.specs.Records.{Noted, IsNote};
+
+    ghost Value = { Noted };
+
+    ghost view = { λ held. record { line = held.line; note = held.note } };
+
+    ghost invariant = { λ held. IsNote held.note };
+
+    ghost inverse = { λ noted. record { line = noted.line; note = noted.note } };
+}
+
+/// The reply to the command of this number of a slot. A message has at least one octet.
+#[derive(Debug, Drop, PartialEq, Eq)]
+pub struct Answer {
+    pub line: u64,
+    pub slot: Slot,
+    pub number: u64,
+    pub reply: Reply,
+}
+
+impl Model for Answer {
+    ghost use Rattle.report_lines.specs.Records.{Answered, KeepsReply};
+
+    ghost Value = { Answered };
+
+    ghost view = { λ held. record { line = held.line; slot = held.slot; number = held.number; reply = held.reply } };
+
+    ghost invariant = { λ held. KeepsReply held.reply };
+
+    ghost inverse = { λ told. record { line = told.line; slot = told.slot; number = told.number; reply = told.reply } };
+}
+
+/// The verdict on the packet of this number of a slot, judged behind so many of the slot's commands;
+/// where it was handled, and whether it was parked, which only a packet with a place was. Octets are at
+/// least one.
+#[derive(Debug, Drop, PartialEq, Eq)]
+pub struct Judgement {
+    pub line: u64,
+    pub slot: Slot,
+    pub number: u64,
+    pub commands: u64,
+    pub verdict: Verdict,
+    pub place: Option<Place>,
+    pub parked: bool,
+}
+
+impl Model for Judgement {
+    ghost use Rattle.report_lines.specs.Records.{Judged, KeepsVerdict, KeepsPlace};
+
+    ghost Value = { Judged };
+
+    ghost view = { λ held. record {
+      line = held.line;
+      slot = held.slot;
+      number = held.number;
+      commands = held.commands;
+      verdict = held.verdict;
+      place = held.place;
+      parked = held.parked;
+    } };
+
+    ghost invariant = { λ held. KeepsVerdict held.verdict × KeepsPlace held.parked held.place };
+
+    ghost inverse = { λ told. record {
+      line = told.line;
+      slot = told.slot;
+      number = told.number;
+      commands = told.commands;
+      verdict = told.verdict;
+      place = told.place;
+      parked = told.parked;
+    } };
+}
+
+/// What found its queue full.
+#[derive(Clone, Copy, Debug, PartialEq, Eq)]
+pub struct Refusal {
+    pub line: u64,
+    pub slot: Slot,
+    /// A packet, or a command.
+    pub packet: bool,
+}
+
+/// An End Marker of this life to its eNodeB before, made by the slot's command of this number: at
+/// least one octet.
+#[derive(Debug, Drop, PartialEq, Eq)]
+pub struct Marker {
+    pub slot: Slot,
+    pub life: u64,
+    pub command: u64,
+    pub peer: Addr4,
+    pub octets: Octets,
+}
+
+impl Model for Marker {
+    ghost use Rattle.report_lines.specs.Records.{Marked, IsSome};
+
+    ghost Value = { Marked };
+
+    ghost view = { λ held. record {
+      slot = held.slot;
+      life = held.life;
+      command = held.command;
+      peer = held.peer;
+      octets = held.octets;
+    } };
+
+    ghost invariant = { λ held. IsSome held.octets };
+
+    ghost inverse = { λ told. record {
+      slot = told.slot;
+      life = told.life;
+      command = told.command;
+      peer = told.peer;
+      octets = told.octets;
+    } };
+}
+
+/// What became of the slot's held packet of this number, at its command of this number. Octets are at
+/// least one.
+#[derive(Debug, Drop, PartialEq, Eq)]
+pub struct Settlement {
+    pub slot: Slot,
+    pub packet: u64,
+    pub command: u64,
+    pub fate: Fate,
+}
+
+impl Model for Settlement {
+    ghost use Rattle.report_lines.specs.Records.{Settled, KeepsFate};
+
+    ghost Value = { Settled };
+
+    ghost view = { λ held. record { slot = held.slot; packet = held.packet; command = held.command; fate = held.fate } };
+
+    ghost invariant = { λ held. KeepsFate held.fate };
+
+    ghost inverse = { λ told. record { slot = told.slot; packet = told.packet; command = told.command; fate = told.fate } };
+}

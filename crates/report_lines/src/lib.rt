@@ -1,0 +1,24 @@
+//! The entries of a report, both ways: the one text of an entry, into a caller's buffer or owned, and the
+//! entry that a text is. Entries of lines, effects of commands and charges are types of their own. Which
+//! entries a trace has is left to the crates above.
+#![tactic(auto)]
+
+mod charges;
+mod entry;
+mod fields;
+mod laws;
+mod packets;
+mod reading;
+mod words;
+mod writing;
+
+pub use entry::{
+    Answer, ChargeEntry, EffectEntry, Entry, Judgement, LineEntry, Marker, Note, Refusal, Settlement,
+};
+pub use laws::one_text_of_an_entry;
+pub use reading::read;
+pub use std::alloc::AllocError as NoMemory;
+pub use writing::{push_text, text};
+
+#[cfg(test)]
+mod tests;
