@@ -8,6 +8,9 @@ use Rattle.std.proofs.lemmas.Bool.Decides.{nat_tests}
 use Rattle.std.proofs.lemmas.List.Sums.{list_all-from_AllPass, AllPass-from_list_all}
 use Rattle.charging_book.specs.Rows.{Charged, Counters}
 use Rattle.charging_book.specs.declared.records.Why.{Why}
+use Rattle.pc_base.specs.declared.effect.Effect.{Effect}
+use Rattle.pc_base.specs.declared.effect.Effect.TheVariants as effect
+use Rattle.pc_base.specs.declared.effect.Fate.{Fate}
 use Rattle.pc_base.specs.declared.reply.Reply.{Reply}
 use Rattle.text_fields.specs.Address.{address_of, dotted, ◌>>=◌}
 use Rattle.text_fields.specs.Fields.{joined}
@@ -19,12 +22,11 @@ use Rattle.hex.specs.Hex.{encode_lower}
 use Rattle.report_lines.specs.declared.entry.Entry.{Entry}
 use Rattle.report_lines.specs.declared.entry.Entry.TheVariants as entry
 use Rattle.report_lines.specs.declared.entry.LineEntry.TheVariants as line
-use Rattle.report_lines.specs.declared.entry.EffectEntry.TheVariants as effect
 use Rattle.report_lines.specs.declared.entry.ChargeEntry.TheVariants as charge
 use Rattle.report_lines.specs.declared.entry.Refusal.{Refusal}
-use Rattle.report_lines.specs.Ranges.{IsNumber, IsSlot, IsOctets, IsAnswered, IsJudged, IsMoment, AreCounters, IsFate, IsEntry}
-use Rattle.report_lines.specs.Reading.{next, at_end, any_number, slot, outcome_of, why_of, refused_of, message_of, moment_of, verdict_of, fate_of, place_of, head_of, counters_at, is_note, note_of, answered_of, judged_of, refusal_of, marked_of, settled_of, row_with, row_of, open_of, slot_row, slot_open, entry_at, entry_of_fields}
-use Rattle.report_lines.specs.Records.{Noted, Answered, Judged, Marked, Settled, IsNote, IsPrintable}
+use Rattle.report_lines.specs.Ranges.{IsNumber, IsSlot, IsOctets, IsAnswered, IsJudged, IsMoment, AreCounters, IsFate, IsEffected, IsEntry}
+use Rattle.report_lines.specs.Reading.{next, at_end, any_number, slot, outcome_of, why_of, refused_of, message_of, moment_of, verdict_of, fate_of, place_of, head_of, counters_at, is_note, note_of, answered_of, judged_of, refusal_of, marker_of, settlement_of, row_with, row_of, open_of, slot_row, slot_open, entry_at, entry_of_fields}
+use Rattle.report_lines.specs.Records.{Noted, Answered, Judged, Effected, IsNote, IsPrintable}
 use Rattle.report_lines.specs.Text.{entry_fields, line_fields, effect_fields, charge_fields, counters_fields, counters_of, row_fields, ending, verdict_fields, fate_fields, place_fields}
 use Rattle.report_lines.specs.Words.{outcome_word, why_word, refused_word, message_word, moment_word}
 use Rattle.report_lines.proofs.WordLemmas.{outcome_given, outcome_taken, why_given, why_taken, refused_given, refused_taken, message_taken, moment_given, moment_taken}
@@ -135,9 +137,9 @@ refusal_taken told is_line is_slot =
     rw (first, second, third) refl
 
 -- M
-pub marked_given : (texts : List (List ℕ)) (told : Marked) → marked_of texts ≡ Some told
-    → (codes "M" ∷ texts ≡ effect_fields (effect.M told)) × IsEntry (entry.Effect (effect.M told))
-marked_given texts told read =
+pub marker_given : (texts : List (List ℕ)) (told : Effected) → marker_of texts ≡ Some told
+    → (codes "M" ∷ texts ≡ effect_fields told.slot told.command told.effect) × IsEffected told
+marker_given texts told read =
     let its_slot = bound (slot texts) _ told read in
     let life = bound (any_number its_slot.0.1) _ told its_slot.2 in
     let command = bound (any_number life.0.1) _ told life.2 in
@@ -156,26 +158,28 @@ marked_given texts told read =
       ∙ ap (λ t. decimal its_slot.0.0 ∷ decimal life.0.0 ∷ decimal command.0.0 ∷ t) is_peer.are
       ∙ ap (λ t. decimal its_slot.0.0 ∷ decimal life.0.0 ∷ decimal command.0.0 ∷ dotted peer.0.0 ∷ t) is_octets.are
       ∙ ap (λ t. decimal its_slot.0.0 ∷ decimal life.0.0 ∷ decimal command.0.0 ∷ dotted peer.0.0 ∷ encode_lower octets.0.0 ∷ t) last.1),
-      (is_slot.valid, is_life.valid, is_command.valid, is_peer.valid, is_octets.valid),
+      record { slot = is_slot.valid; command = is_command.valid; effect = (is_life.valid, is_peer.valid, is_octets.valid) },
     )
 
-pub marked_taken : (told : Marked) → IsEntry (entry.Effect (effect.M told))
-    → marked_of (decimal told.slot ∷ decimal told.life ∷ decimal told.command ∷ dotted told.peer ∷ encode_lower told.octets ∷ []) ≡ Some told
-marked_taken told is =
-    let first = number_read 0 65532 told.slot (omega (arith, is.0)) (omega arith) is.0 in
-    let second = number_read 0 (2 ^ 64 - 1) told.life is.1 (omega arith) (omega (arith, is.1)) in
-    let third = number_read 0 (2 ^ 64 - 1) told.command is.2 (omega arith) (omega (arith, is.2)) in
-    let fourth = address_read told.peer is.3 in
-    let fifth = lower_octets_read told.octets is.4.0 is.4.1 in
+pub marker_taken : (its_slot command life peer : ℕ) (octets : List ℕ) → IsSlot its_slot → IsNumber command → IsNumber life → peer < 2 ^ 32
+    → IsOctets octets
+    → marker_of (decimal its_slot ∷ decimal life ∷ decimal command ∷ dotted peer ∷ encode_lower octets ∷ [])
+    ≡ Some (record { slot = its_slot; command = command; effect = effect.Marker life peer octets })
+marker_taken its_slot command life peer octets is_slot is_command is_life is_peer is_octets =
+    let first = number_read 0 65532 its_slot (omega (arith, is_slot)) (omega arith) is_slot in
+    let second = number_read 0 (2 ^ 64 - 1) life is_life (omega arith) (omega (arith, is_life)) in
+    let third = number_read 0 (2 ^ 64 - 1) command is_command (omega arith) (omega (arith, is_command)) in
+    let fourth = address_read peer is_peer in
+    let fifth = lower_octets_read octets is_octets.0 is_octets.1 in
     rw (first, second, third, fourth, fifth) refl
 
 -- H
 append_none : (told : List (List ℕ)) (rest : List (List ℕ)) → rest ≡ [] → told ++ rest ≡ told
 append_none told rest none = ap (λ r. told ++ r) none ∙ append-nil told
 
-pub settled_given : (texts : List (List ℕ)) (told : Settled) → settled_of texts ≡ Some told
-    → (codes "H" ∷ texts ≡ effect_fields (effect.H told)) × IsEntry (entry.Effect (effect.H told))
-settled_given texts told read =
+pub settlement_given : (texts : List (List ℕ)) (told : Effected) → settlement_of texts ≡ Some told
+    → (codes "H" ∷ texts ≡ effect_fields told.slot told.command told.effect) × IsEffected told
+settlement_given texts told read =
     let its_slot = bound (slot texts) _ told read in
     let packet = bound (any_number its_slot.0.1) _ told its_slot.2 in
     let command = bound (any_number packet.0.1) _ told packet.2 in
@@ -191,16 +195,17 @@ settled_given texts told read =
       ∙ ap (λ t. decimal its_slot.0.0 ∷ decimal packet.0.0 ∷ t) is_command.are
       ∙ ap (λ t. decimal its_slot.0.0 ∷ decimal packet.0.0 ∷ decimal command.0.0 ∷ t)
           (is_fate.are ∙ append_none (fate_fields its_fate.0.0) its_fate.0.1 last.1)),
-      (is_slot.valid, is_packet.valid, is_command.valid, is_fate.valid),
+      record { slot = is_slot.valid; command = is_command.valid; effect = (is_packet.valid, is_fate.valid) },
     )
 
-pub settled_taken : (told : Settled) → IsEntry (entry.Effect (effect.H told))
-    → settled_of (decimal told.slot ∷ decimal told.packet ∷ decimal told.command ∷ fate_fields told.fate) ≡ Some told
-settled_taken told is =
-    let first = number_read 0 65532 told.slot (omega (arith, is.0)) (omega arith) is.0 in
-    let second = number_read 0 (2 ^ 64 - 1) told.packet is.1 (omega arith) (omega (arith, is.1)) in
-    let third = number_read 0 (2 ^ 64 - 1) told.command is.2 (omega arith) (omega (arith, is.2)) in
-    let fourth = fate_taken told.fate is.3 in
+pub settlement_taken : (its_slot command packet : ℕ) (its_fate : Fate) → IsSlot its_slot → IsNumber command → IsNumber packet → IsFate its_fate
+    → settlement_of (decimal its_slot ∷ decimal packet ∷ decimal command ∷ fate_fields its_fate)
+    ≡ Some (record { slot = its_slot; command = command; effect = effect.Fate packet its_fate })
+settlement_taken its_slot command packet its_fate is_slot is_command is_packet is_fate =
+    let first = number_read 0 65532 its_slot (omega (arith, is_slot)) (omega arith) is_slot in
+    let second = number_read 0 (2 ^ 64 - 1) packet is_packet (omega arith) (omega (arith, is_packet)) in
+    let third = number_read 0 (2 ^ 64 - 1) command is_command (omega arith) (omega (arith, is_command)) in
+    let fourth = fate_taken its_fate is_fate in
     rw (first, second, third, fourth) refl
 
 -- R and O

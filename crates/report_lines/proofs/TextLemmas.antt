@@ -13,6 +13,8 @@ use Rattle.charging_book.specs.Rows.{Charged, Counters}
 use Rattle.charging_book.specs.declared.records.Why.{Why}
 use Rattle.charging_book.specs.declared.records.Why.TheVariants.{Volume, Qos, Gone}
 use Rattle.hex.specs.Hex.{encode_lower}
+use Rattle.pc_base.specs.declared.effect.Effect.{Effect}
+use Rattle.pc_base.specs.declared.effect.Effect.TheVariants as effect
 use Rattle.pc_base.specs.declared.effect.Fate.{Fate}
 use Rattle.pc_base.specs.declared.effect.Fate.TheVariants as fate
 use Rattle.pc_base.specs.declared.packet.Place.{Place}
@@ -29,17 +31,15 @@ use Rattle.report_lines.specs.declared.entry.Entry.{Entry}
 use Rattle.report_lines.specs.declared.entry.Entry.TheVariants as entry
 use Rattle.report_lines.specs.declared.entry.LineEntry.{LineEntry}
 use Rattle.report_lines.specs.declared.entry.LineEntry.TheVariants as line
-use Rattle.report_lines.specs.declared.entry.EffectEntry.{EffectEntry}
-use Rattle.report_lines.specs.declared.entry.EffectEntry.TheVariants as effect
 use Rattle.report_lines.specs.declared.entry.Refusal.{Refusal}
 use Rattle.report_lines.specs.declared.entry.ChargeEntry.{ChargeEntry}
 use Rattle.report_lines.specs.declared.entry.ChargeEntry.TheVariants as charge
-use Rattle.report_lines.specs.Ranges.{IsNumber, IsSlot, IsAnswered, IsJudged, IsOctets, IsVerdict, IsFate, IsPlace, IsMoment, AreCounters, IsEffectEntry, IsChargeEntry, IsEntry}
-use Rattle.report_lines.specs.Records.{Noted, Answered, Judged}
-use Rattle.report_lines.specs.Reading.{note_of, answered_of, judged_of, refusal_of, marked_of, settled_of, slot_row, slot_open, entry_at, entry_of_fields, entry_of}
+use Rattle.report_lines.specs.Ranges.{IsNumber, IsSlot, IsAnswered, IsJudged, IsOctets, IsVerdict, IsFate, IsPlace, IsMoment, AreCounters, IsEffect, IsEffected, IsChargeEntry, IsEntry}
+use Rattle.report_lines.specs.Records.{Noted, Answered, Judged, Effected}
+use Rattle.report_lines.specs.Reading.{note_of, answered_of, judged_of, refusal_of, marker_of, settlement_of, slot_row, slot_open, entry_at, entry_of_fields, entry_of}
 use Rattle.report_lines.specs.Text.{verdict_fields, fate_fields, place_fields, counters_fields, counters_of, row_fields, ending, line_fields, effect_fields, charge_fields, entry_fields, entry_text}
 use Rattle.report_lines.specs.Words.{outcome_word, why_word, message_word, moment_word, place_word, refused_word}
-use Rattle.report_lines.proofs.EntryLemmas.{answered_given, answered_taken, judged_given, judged_taken, refusal_given, refusal_taken, marked_given, marked_taken, settled_given, settled_taken, slot_row_given, slot_row_taken, slot_open_given, slot_open_taken, OfNote, note_given, note_taken}
+use Rattle.report_lines.proofs.EntryLemmas.{answered_given, answered_taken, judged_given, judged_taken, refusal_given, refusal_taken, marker_given, marker_taken, settlement_given, settlement_taken, slot_row_given, slot_row_taken, slot_open_given, slot_open_taken, OfNote, note_given, note_taken}
 
 -- no field has a space
 abbrev Lacks : List ℕ → Type 0
@@ -136,22 +136,20 @@ counters_lack counters rest are lack = (
   ),
 )
 
-effect_lacks : (told : EffectEntry) → IsEffectEntry told → AllLack space (effect_fields told)
-effect_lacks (effect.M told) is = (
+effect_lacks : (slot command : ℕ) (told : Effect) → IsSlot slot → IsNumber command → IsEffect told
+    → AllLack space (effect_fields slot command told)
+effect_lacks slot command (effect.Marker life peer octets) is_slot is_command is = (
   word_lacks (codes "M") refl,
   (
-    number_lacks told.slot (omega (arith, is.0)),
-    (
-      number_lacks told.life is.1,
-      (number_lacks told.command is.2, (address_lacks told.peer is.3, (octets_lack told.octets is.4, tt))),
-    ),
+    number_lacks slot (omega (arith, is_slot)),
+    (number_lacks life is.0, (number_lacks command is_command, (address_lacks peer is.1, (octets_lack octets is.2, tt)))),
   ),
 )
-effect_lacks (effect.H told) is = (
+effect_lacks slot command (effect.Fate packet its_fate) is_slot is_command is = (
   word_lacks (codes "H") refl,
   (
-    number_lacks told.slot (omega (arith, is.0)),
-    (number_lacks told.packet is.1, (number_lacks told.command is.2, fate_lacks told.fate is.3)),
+    number_lacks slot (omega (arith, is_slot)),
+    (number_lacks packet is.0, (number_lacks command is_command, fate_lacks its_fate is.1)),
   ),
 )
 
@@ -226,6 +224,17 @@ refusal_lacks told is_line is_slot = (
   (number_lacks told.line is_line, (number_lacks told.slot (omega (arith, is_slot)), (refused_lacks told.packet, tt))),
 )
 
+effect_read : (its_slot command : ℕ) (told : Effect) → IsSlot its_slot → IsNumber command → IsEffect told
+    → entry_of (joined (effect_fields its_slot command told)) ≡ Some (entry.Effect (record { slot = its_slot; command = command; effect = told }))
+effect_read its_slot command (effect.Marker life peer octets) is_slot is_command is =
+    apart (codes "M") _ (effect_lacks its_slot command (effect.Marker life peer octets) is_slot is_command is)
+    ∙ ap (λ read. option_map (λ (e : Effected). entry.Effect e) read)
+        (marker_taken its_slot command life peer octets is_slot is_command is.0 is.1 is.2)
+effect_read its_slot command (effect.Fate packet its_fate) is_slot is_command is =
+    apart (codes "H") _ (effect_lacks its_slot command (effect.Fate packet its_fate) is_slot is_command is)
+    ∙ ap (λ read. option_map (λ (e : Effected). entry.Effect e) read)
+        (settlement_taken its_slot command packet its_fate is_slot is_command is.0 is.1)
+
 pub entry_read : (told : Entry) → IsEntry told → entry_of (entry_text told) ≡ Some told
 entry_read (entry.Line (line.N told)) is = note_read told is
 entry_read (entry.Line (line.C told)) is =
@@ -235,10 +244,7 @@ entry_read (entry.Line (line.P told)) is =
 entry_read (entry.Line (line.F told)) is =
     apart (codes "F") _ (refusal_lacks told is.0 is.1)
     ∙ ap (λ refused. option_map (λ r. entry.Line (line.F r)) refused) (refusal_taken told is.0 is.1)
-entry_read (entry.Effect (effect.M told)) is =
-    apart (codes "M") _ (effect_lacks (effect.M told) is) ∙ ap (λ marked. option_map (λ m. entry.Effect (effect.M m)) marked) (marked_taken told is)
-entry_read (entry.Effect (effect.H told)) is =
-    apart (codes "H") _ (effect_lacks (effect.H told) is) ∙ ap (λ settled. option_map (λ s. entry.Effect (effect.H s)) settled) (settled_taken told is)
+entry_read (entry.Effect told) is = effect_read told.slot told.command told.effect is.slot is.command is.effect
 entry_read (entry.Charge (charge.R slot row)) is =
     apart (codes "R") _ (charge_lacks (charge.R slot row) is)
     ∙ ap (λ both. option_map (λ r. entry.Charge (charge.R r.0 r.1)) both) (slot_row_taken slot row is)
@@ -307,17 +313,17 @@ f_told texts told read =
     let same = some.2 in
     rw (← same) (record { text = ap joined is.0; is_entry = (is.1, is.2) })
 
-m_told : (texts : List (List ℕ)) (told : Entry) → option_map (λ m. entry.Effect (effect.M m)) (marked_of texts) ≡ Some told → Told (codes "M" ∷ texts) told
+m_told : (texts : List (List ℕ)) (told : Entry) → option_map (λ e. entry.Effect e) (marker_of texts) ≡ Some told → Told (codes "M" ∷ texts) told
 m_told texts told read =
-    let some = mapped (λ m. entry.Effect (effect.M m)) (marked_of texts) told read in
-    let is = marked_given texts some.0 some.1 in
+    let some = mapped (λ (e : Effected). entry.Effect e) (marker_of texts) told read in
+    let is = marker_given texts some.0 some.1 in
     let same = some.2 in
     rw (← same) (record { text = ap joined is.0; is_entry = is.1 })
 
-h_told : (texts : List (List ℕ)) (told : Entry) → option_map (λ s. entry.Effect (effect.H s)) (settled_of texts) ≡ Some told → Told (codes "H" ∷ texts) told
+h_told : (texts : List (List ℕ)) (told : Entry) → option_map (λ e. entry.Effect e) (settlement_of texts) ≡ Some told → Told (codes "H" ∷ texts) told
 h_told texts told read =
-    let some = mapped (λ s. entry.Effect (effect.H s)) (settled_of texts) told read in
-    let is = settled_given texts some.0 some.1 in
+    let some = mapped (λ (e : Effected). entry.Effect e) (settlement_of texts) told read in
+    let is = settlement_given texts some.0 some.1 in
     let same = some.2 in
     rw (← same) (record { text = ap joined is.0; is_entry = is.1 })
 

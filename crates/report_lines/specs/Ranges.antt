@@ -1,6 +1,8 @@
 -- The entries that a report can hold: what each keeps, and the ranges of its numbers.
 use Rattle.std.specs.Prelude.{ℕ, ◌<◌, ◌≤◌, ◌^◌, List, length, All, Option, IfSome, Bool}
 use Rattle.charging_book.specs.Rows.{Charged, Counters}
+use Rattle.pc_base.specs.declared.effect.Effect.{Effect}
+use Rattle.pc_base.specs.declared.effect.Effect.TheVariants as effect
 use Rattle.pc_base.specs.declared.effect.Fate.{Fate}
 use Rattle.pc_base.specs.declared.effect.Fate.TheVariants as fate
 use Rattle.pc_base.specs.declared.packet.Place.{Place}
@@ -11,11 +13,9 @@ use Rattle.report_lines.specs.declared.entry.Entry.{Entry}
 use Rattle.report_lines.specs.declared.entry.Entry.TheVariants as entry
 use Rattle.report_lines.specs.declared.entry.LineEntry.{LineEntry}
 use Rattle.report_lines.specs.declared.entry.LineEntry.TheVariants as line
-use Rattle.report_lines.specs.declared.entry.EffectEntry.{EffectEntry}
-use Rattle.report_lines.specs.declared.entry.EffectEntry.TheVariants as effect
 use Rattle.report_lines.specs.declared.entry.ChargeEntry.{ChargeEntry}
 use Rattle.report_lines.specs.declared.entry.ChargeEntry.TheVariants as charge
-use Rattle.report_lines.specs.Records.{Noted, Answered, Judged, Marked, Settled, IsNote, KeepsPlace}
+use Rattle.report_lines.specs.Records.{Noted, Answered, Judged, Effected, IsNote, KeepsPlace}
 use Rattle.report_lines.specs.Text.{counters_of}
 
 -- a number of 64 bits
@@ -82,11 +82,14 @@ IsLineEntry (line.C answered) = IsAnswered answered
 IsLineEntry (line.P judged) = IsJudged judged
 IsLineEntry (line.F refused) = IsNumber refused.line × IsSlot refused.slot
 
-abbrev pub IsEffectEntry : EffectEntry → Type 0
-IsEffectEntry (effect.M marked) =
-    IsSlot marked.slot × IsNumber marked.life × IsNumber marked.command × (marked.peer < 2 ^ 32) × IsOctets marked.octets
-IsEffectEntry (effect.H settled) =
-    IsSlot settled.slot × IsNumber settled.packet × IsNumber settled.command × IsFate settled.fate
+abbrev pub IsEffect : Effect → Type 0
+IsEffect (effect.Marker life peer octets) = IsNumber life × (peer < 2 ^ 32) × IsOctets octets
+IsEffect (effect.Fate packet its_fate) = IsNumber packet × IsFate its_fate
+
+pub record IsEffected (effected : Effected) : Type 0 where
+  pub slot : IsSlot effected.slot
+  pub command : IsNumber effected.command
+  pub effect : IsEffect effected.effect
 
 abbrev pub IsChargeEntry : ChargeEntry → Type 0
 IsChargeEntry (charge.R slot row) = IsSlot slot × AreCounters (counters_of row) × IfSome row.first IsMoment × IfSome row.last IsMoment
@@ -94,5 +97,5 @@ IsChargeEntry (charge.O slot counters) = IsSlot slot × AreCounters counters
 
 abbrev pub IsEntry : Entry → Type 0
 IsEntry (entry.Line of_line) = IsLineEntry of_line
-IsEntry (entry.Effect of_effect) = IsEffectEntry of_effect
+IsEntry (entry.Effect effected) = IsEffected effected
 IsEntry (entry.Charge of_charge) = IsChargeEntry of_charge

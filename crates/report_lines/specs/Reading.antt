@@ -8,6 +8,7 @@ use Rattle.std.specs.Str.{bytes_eq}
 use Rattle.charging_book.specs.Rows.{Charged, Counters}
 use Rattle.charging_book.specs.declared.records.Why.{Why}
 use Rattle.charging_book.specs.declared.records.Why.TheVariants.{Volume, Qos, Gone}
+use Rattle.pc_base.specs.declared.effect.Effect.TheVariants as effect
 use Rattle.pc_base.specs.declared.effect.Fate.{Fate}
 use Rattle.pc_base.specs.declared.effect.Fate.TheVariants as fate
 use Rattle.pc_base.specs.declared.packet.Place.{Place}
@@ -24,9 +25,8 @@ use Rattle.report_lines.specs.declared.entry.Entry.{Entry}
 use Rattle.report_lines.specs.declared.entry.Entry.TheVariants as entry
 use Rattle.report_lines.specs.declared.entry.LineEntry.TheVariants as line
 use Rattle.report_lines.specs.declared.entry.Refusal.{Refusal}
-use Rattle.report_lines.specs.declared.entry.EffectEntry.TheVariants as effect
 use Rattle.report_lines.specs.declared.entry.ChargeEntry.TheVariants as charge
-use Rattle.report_lines.specs.Records.{Noted, Answered, Judged, Marked, Settled}
+use Rattle.report_lines.specs.Records.{Noted, Answered, Judged, Effected}
 
 -- what was read, with the fields behind it
 abbrev pub Taken : Type 0 → Type 0
@@ -217,22 +217,22 @@ judged_of texts = do
     parked = place.1;
   })
 
-abbrev pub marked_of : List (List ℕ) → Option Marked
-marked_of texts = do
+abbrev pub marker_of : List (List ℕ) → Option Effected
+marker_of texts = do
   its_slot ← slot texts
   life ← any_number its_slot.1
   command ← any_number life.1
   peer ← next address_of command.1
   octets ← next lower_octets_of peer.1
-  at_end (record { slot = its_slot.0; life = life.0; command = command.0; peer = peer.0; octets = octets.0 }) octets.1
+  at_end (record { slot = its_slot.0; command = command.0; effect = effect.Marker life.0 peer.0 octets.0 }) octets.1
 
-abbrev pub settled_of : List (List ℕ) → Option Settled
-settled_of texts = do
+abbrev pub settlement_of : List (List ℕ) → Option Effected
+settlement_of texts = do
   its_slot ← slot texts
   packet ← any_number its_slot.1
   command ← any_number packet.1
   its_fate ← fate_of command.1
-  at_end (record { slot = its_slot.0; packet = packet.0; command = command.0; fate = its_fate.0 }) its_fate.1
+  at_end (record { slot = its_slot.0; command = command.0; effect = effect.Fate packet.0 its_fate.0 }) its_fate.1
 
 abbrev pub refusal_of : List (List ℕ) → Option Refusal
 refusal_of texts = do
@@ -281,8 +281,8 @@ entry_at letter texts =
     else if bytes_eq letter (codes "C") then option_map (λ answered. entry.Line (line.C answered)) (answered_of texts)
     else if bytes_eq letter (codes "P") then option_map (λ judged. entry.Line (line.P judged)) (judged_of texts)
     else if bytes_eq letter (codes "F") then option_map (λ refused. entry.Line (line.F refused)) (refusal_of texts)
-    else if bytes_eq letter (codes "M") then option_map (λ marked. entry.Effect (effect.M marked)) (marked_of texts)
-    else if bytes_eq letter (codes "H") then option_map (λ settled. entry.Effect (effect.H settled)) (settled_of texts)
+    else if bytes_eq letter (codes "M") then option_map (λ effected. entry.Effect effected) (marker_of texts)
+    else if bytes_eq letter (codes "H") then option_map (λ effected. entry.Effect effected) (settlement_of texts)
     else if bytes_eq letter (codes "R") then option_map (λ row. entry.Charge (charge.R row.0 row.1)) (slot_row texts)
     else if bytes_eq letter (codes "O") then option_map (λ counters. entry.Charge (charge.O counters.0 counters.1)) (slot_open texts)
     else None

@@ -1,5 +1,7 @@
 -- What entries tell, as contracts see it, and what each keeps by its type.
 use Rattle.std.specs.Prelude.{ℕ, ◌<◌, ◌≤◌, Bool, true, false, List, length, All, Option, None, Some, IfSome}
+use Rattle.pc_base.specs.declared.effect.Effect.{Effect}
+use Rattle.pc_base.specs.declared.effect.Effect.TheVariants as effect
 use Rattle.pc_base.specs.declared.effect.Fate.{Fate}
 use Rattle.pc_base.specs.declared.effect.Fate.TheVariants as fate
 use Rattle.pc_base.specs.declared.packet.Place.{Place}
@@ -29,20 +31,11 @@ pub record Judged : Type 0 where
   pub place : Option Place
   pub parked : Bool
 
--- an End Marker of a bearer's life to its eNodeB before, made by the slot's command of this number
-pub record Marked : Type 0 where
+-- an effect of the slot's command of this number
+pub record Effected : Type 0 where
   pub slot : ℕ
-  pub life : ℕ
   pub command : ℕ
-  pub peer : ℕ
-  pub octets : List ℕ
-
--- what became of a packet that was held, at the slot's command of this number
-pub record Settled : Type 0 where
-  pub slot : ℕ
-  pub packet : ℕ
-  pub command : ℕ
-  pub fate : Fate
+  pub effect : Effect
 
 -- some octets
 abbrev pub IsSome : List ℕ → Type 0
@@ -71,6 +64,10 @@ abbrev pub KeepsFate : Fate → Type 0
 KeepsFate (fate.Down life peer octets) = IsSome octets
 KeepsFate (fate.Policed life) = Unit {0}
 KeepsFate (fate.Gone life) = Unit {0}
+
+abbrev pub KeepsEffect : Effect → Type 0
+KeepsEffect (effect.Marker life peer octets) = IsSome octets
+KeepsEffect (effect.Fate packet its_fate) = KeepsFate its_fate
 
 -- parked only with a place
 abbrev pub KeepsPlace : Bool → Option Place → Type 0

@@ -2,6 +2,8 @@
 use Rattle.std.specs.Prelude.{ℕ, Bool, true, false, List, [], ◌∷◌, ◌++◌, codes, decimal, Option, None, Some, if◌then◌else◌}
 use Rattle.charging_book.specs.Rows.{Charged, Counters}
 use Rattle.hex.specs.Hex.{encode_lower}
+use Rattle.pc_base.specs.declared.effect.Effect.{Effect}
+use Rattle.pc_base.specs.declared.effect.Effect.TheVariants as effect
 use Rattle.pc_base.specs.declared.effect.Fate.{Fate}
 use Rattle.pc_base.specs.declared.effect.Fate.TheVariants as fate
 use Rattle.pc_base.specs.declared.packet.Place.{Place}
@@ -13,8 +15,6 @@ use Rattle.report_lines.specs.declared.entry.Entry.{Entry}
 use Rattle.report_lines.specs.declared.entry.Entry.TheVariants as entry
 use Rattle.report_lines.specs.declared.entry.LineEntry.{LineEntry}
 use Rattle.report_lines.specs.declared.entry.LineEntry.TheVariants as line
-use Rattle.report_lines.specs.declared.entry.EffectEntry.{EffectEntry}
-use Rattle.report_lines.specs.declared.entry.EffectEntry.TheVariants as effect
 use Rattle.report_lines.specs.declared.entry.ChargeEntry.{ChargeEntry}
 use Rattle.report_lines.specs.declared.entry.ChargeEntry.TheVariants as charge
 use Rattle.report_lines.specs.Words.{outcome_word, why_word, message_word, moment_word, place_word, refused_word}
@@ -77,11 +77,12 @@ line_fields (line.P judged) =
 line_fields (line.F refused) =
     codes "F" ∷ decimal refused.line ∷ decimal refused.slot ∷ refused_word refused.packet ∷ []
 
-abbrev pub effect_fields : EffectEntry → List (List ℕ)
-effect_fields (effect.M marked) =
-    codes "M" ∷ decimal marked.slot ∷ decimal marked.life ∷ decimal marked.command ∷ dotted marked.peer ∷ encode_lower marked.octets ∷ []
-effect_fields (effect.H settled) =
-    codes "H" ∷ decimal settled.slot ∷ decimal settled.packet ∷ decimal settled.command ∷ fate_fields settled.fate
+-- an effect of a slot's command: an End Marker, or what became of a packet that was held
+abbrev pub effect_fields : ℕ → ℕ → Effect → List (List ℕ)
+effect_fields slot command (effect.Marker life peer octets) =
+    codes "M" ∷ decimal slot ∷ decimal life ∷ decimal command ∷ dotted peer ∷ encode_lower octets ∷ []
+effect_fields slot command (effect.Fate packet its_fate) =
+    codes "H" ∷ decimal slot ∷ decimal packet ∷ decimal command ∷ fate_fields its_fate
 
 abbrev pub charge_fields : ChargeEntry → List (List ℕ)
 charge_fields (charge.R slot row) = codes "R" ∷ decimal slot ∷ row_fields row
@@ -89,7 +90,7 @@ charge_fields (charge.O slot counters) = codes "O" ∷ decimal slot ∷ counters
 
 abbrev pub entry_fields : Entry → List (List ℕ)
 entry_fields (entry.Line of_line) = line_fields of_line
-entry_fields (entry.Effect of_effect) = effect_fields of_effect
+entry_fields (entry.Effect effected) = effect_fields effected.slot effected.command effected.effect
 entry_fields (entry.Charge of_charge) = charge_fields of_charge
 
 -- fields with one space between each two
@@ -108,5 +109,5 @@ line_shown places told = if places then told else line_without_place told
 
 abbrev pub shown : Bool → Entry → Entry
 shown places (entry.Line of_line) = entry.Line (line_shown places of_line)
-shown places (entry.Effect of_effect) = entry.Effect of_effect
+shown places (entry.Effect effected) = entry.Effect effected
 shown places (entry.Charge of_charge) = entry.Charge of_charge

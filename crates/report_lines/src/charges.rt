@@ -36,7 +36,9 @@ fn next_counters(left: Option<&[u8]>) -> Option<(Open, Option<&[u8]>)>
 pub(crate) fn read_open(left: Option<&[u8]>) -> Option<Open>
     ensures { result ≡ open_of (pieces_left space left.entry) }
 {
-    let (counters, left) = next_counters(left)?;
+    let Some((counters, left)) = next_counters(left) else {
+        return None;
+    };
     match next_piece(b' ', left) {
         None => Some(counters),
         Some(_) => None,
@@ -46,9 +48,15 @@ pub(crate) fn read_open(left: Option<&[u8]>) -> Option<Open>
 pub(crate) fn read_row(left: Option<&[u8]>) -> Option<ChargeRow>
     ensures { result ≡ row_of (pieces_left space left.entry) }
 {
-    let (counters, left) = next_counters(left)?;
-    let (first, left) = next_moment(left)?;
-    let (last, left) = next_moment(left)?;
+    let Some((counters, left)) = next_counters(left) else {
+        return None;
+    };
+    let Some((first, left)) = next_moment(left) else {
+        return None;
+    };
+    let Some((last, left)) = next_moment(left) else {
+        return None;
+    };
     let (why, left) = next_piece(b' ', left)?;
     let why = read_why(why)?;
     let None = next_piece(b' ', left) else {

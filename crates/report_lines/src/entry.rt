@@ -1,6 +1,6 @@
 //! The entries of a report, by what they answer.
 use charging_book::{ChargeRow, Open};
-use pc_base::{Addr4, Fate, Octets, Place, Reply, Slot, Verdict};
+use pc_base::{Effect, Octets, Place, Reply, Slot, Verdict};
 use std::marker::Model;
 
 /// An entry of a report.
@@ -22,15 +22,6 @@ pub enum LineEntry {
     P(Judgement),
     /// A command or packet that found its queue full.
     F(Refusal),
-}
-
-/// What a command does beside its reply.
-#[derive(Debug, Drop, PartialEq, Eq)]
-pub enum EffectEntry {
-    /// An End Marker.
-    M(Marker),
-    /// What became of a packet that was held.
-    H(Settlement),
 }
 
 /// What is charged for a slot.
@@ -133,59 +124,23 @@ pub struct Refusal {
     pub packet: bool,
 }
 
-/// An End Marker of this life to its eNodeB before, made by the slot's command of this number: at
-/// least one octet.
+/// What the slot's command of this number did beside its reply: an End Marker (M), or what became of a
+/// packet that was held (H). Octets are at least one.
 #[derive(Debug, Drop, PartialEq, Eq)]
-pub struct Marker {
+pub struct EffectEntry {
     pub slot: Slot,
-    pub life: u64,
     pub command: u64,
-    pub peer: Addr4,
-    pub octets: Octets,
+    pub effect: Effect,
 }
 
-impl Model for Marker {
-    ghost use Rattle.report_lines.specs.Records.{Marked, IsSome};
+impl Model for EffectEntry {
+    ghost use Rattle.report_lines.specs.Records.{Effected, KeepsEffect};
 
-    ghost Value = { Marked };
+    ghost Value = { Effected };
 
-    ghost view = { λ held. record {
-      slot = held.slot;
-      life = held.life;
-      command = held.command;
-      peer = held.peer;
-      octets = held.octets;
-    } };
+    ghost view = { λ held. record { slot = held.slot; command = held.command; effect = held.effect } };
 
-    ghost invariant = { λ held. IsSome held.octets };
+    ghost invariant = { λ held. KeepsEffect held.effect };
 
-    ghost inverse = { λ told. record {
-      slot = told.slot;
-      life = told.life;
-      command = told.command;
-      peer = told.peer;
-      octets = told.octets;
-    } };
-}
-
-/// What became of the slot's held packet of this number, at its command of this number. Octets are at
-/// least one.
-#[derive(Debug, Drop, PartialEq, Eq)]
-pub struct Settlement {
-    pub slot: Slot,
-    pub packet: u64,
-    pub command: u64,
-    pub fate: Fate,
-}
-
-impl Model for Settlement {
-    ghost use Rattle.report_lines.specs.Records.{Settled, KeepsFate};
-
-    ghost Value = { Settled };
-
-    ghost view = { λ held. record { slot = held.slot; packet = held.packet; command = held.command; fate = held.fate } };
-
-    ghost invariant = { λ held. KeepsFate held.fate };
-
-    ghost inverse = { λ told. record { slot = told.slot; packet = told.packet; command = told.command; fate = told.fate } };
+    ghost inverse = { λ told. record { slot = told.slot; command = told.command; effect = told.effect } };
 }

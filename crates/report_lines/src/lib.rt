@@ -13,7 +13,7 @@ mod words;
 mod writing;
 
 pub use entry::{
-    Answer, ChargeEntry, EffectEntry, Entry, Judgement, LineEntry, Marker, Note, Refusal, Settlement,
+    Answer, ChargeEntry, EffectEntry, Entry, Judgement, LineEntry, Note, Refusal,
 };
 pub use laws::one_text_of_an_entry;
 pub use reading::read;

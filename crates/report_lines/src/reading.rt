@@ -5,18 +5,17 @@ ghost use Rattle.text_fields.specs.Fields.{space, pieces_left};
 ghost use Rattle.report_lines.specs.declared.entry.Entry.{Entry};
 ghost use Rattle.report_lines.specs.Ranges.{IsEntry};
 ghost use Rattle.report_lines.specs.Text.{entry_text};
-ghost use Rattle.report_lines.specs.Reading.{Gives, next, outcome_of, is_printable, is_note, note_of, head_of, answered_of, judged_of, marked_of, settled_of, refusal_of, slot_row, slot_open, entry_of};
+ghost use Rattle.report_lines.specs.Reading.{Gives, next, outcome_of, is_printable, is_note, note_of, head_of, answered_of, judged_of, marker_of, settlement_of, refusal_of, slot_row, slot_open, entry_of};
 
 use crate::charges::{read_open, read_row};
 use crate::fields::{next_address, next_message, next_number, next_octets, next_slot};
 use crate::packets::{next_fate, next_verdict, read_place};
 use crate::words::{read_outcome, read_refused};
 use crate::{
-    Answer, ChargeEntry, EffectEntry, Entry, Judgement, LineEntry, Marker, NoMemory, Note, Refusal,
-    Settlement,
+    Answer, ChargeEntry, EffectEntry, Entry, Judgement, LineEntry, NoMemory, Note, Refusal,
 };
 use charging_book::{ChargeRow, Open};
-use pc_base::{Octets, Outcome, Reply, Slot};
+use pc_base::{Effect, Octets, Outcome, Reply, Slot};
 use std::alloc::Global;
 use text_fields::{cut, next_piece};
 
@@ -56,12 +55,12 @@ fn read_entry(alloc: Global, line: &[u8]) -> Result<Option<Entry>, NoMemory>
         }
     } else if letter == b"M".as_slice() {
         match read_marker(alloc, left)? {
-            Some(marker) => Ok(Some(Entry::Effect(EffectEntry::M(marker)))),
+            Some(marker) => Ok(Some(Entry::Effect(marker))),
             None => Ok(None),
         }
     } else if letter == b"H".as_slice() {
         match read_settlement(alloc, left)? {
-            Some(settlement) => Ok(Some(Entry::Effect(EffectEntry::H(settlement)))),
+            Some(settlement) => Ok(Some(Entry::Effect(settlement))),
             None => Ok(None),
         }
     } else if letter == b"R".as_slice() {
@@ -112,7 +111,9 @@ fn next_head(left: Option<&[u8]>) -> Option<((u64, Slot, u64), Option<&[u8]>)>
     ensures { Gives result (head_of (pieces_left space left.entry)) }
 {
     let (line, left) = next_number(left, u64::MAX)?;
-    let (slot, left) = next_slot(left)?;
+    let Some((slot, left)) = next_slot(left) else {
+        return None;
+    };
     let (number, left) = next_number(left, u64::MAX)?;
     Some(((line, slot, number), left))
 }
@@ -179,7 +180,9 @@ fn read_refusal(left: Option<&[u8]>) -> Option<Refusal>
     ensures { result ≡ refusal_of (pieces_left space left.entry) }
 {
     let (line, left) = next_number(left, u64::MAX)?;
-    let (slot, left) = next_slot(left)?;
+    let Some((slot, left)) = next_slot(left) else {
+        return None;
+    };
     let (what, left) = next_piece(b' ', left)?;
     let packet = read_refused(what)?;
     let None = next_piece(b' ', left) else {
@@ -188,8 +191,8 @@ fn read_refusal(left: Option<&[u8]>) -> Option<Refusal>
     Some(Refusal { line, slot, packet })
 }
 
-fn read_marker(alloc: Global, left: Option<&[u8]>) -> Result<Option<Marker>, NoMemory>
-    ensures { IfOk result (λ read. read ≡ marked_of (pieces_left space left.entry)) }
+fn read_marker(alloc: Global, left: Option<&[u8]>) -> Result<Option<EffectEntry>, NoMemory>
+    ensures { IfOk result (λ read. read ≡ marker_of (pieces_left space left.entry)) }
 {
     let Some((slot, left)) = next_slot(left) else {
         return Ok(None);
@@ -209,17 +212,19 @@ fn read_marker(alloc: Global, left: Option<&[u8]>) -> Result<Option<Marker>, NoM
     let None = next_piece(b' ', left) else {
         return Ok(None);
     };
-    Ok(Some(Marker {
+    let effect = Effect::Marker { life, peer, octets };
+    Ok(Some(EffectEntry {
         slot,
-        life,
         command,
-        peer,
-        octets,
+        effect,
     }))
 }
 
-fn read_settlement(alloc: Global, left: Option<&[u8]>) -> Result<Option<Settlement>, NoMemory>
-    ensures { IfOk result (λ read. read ≡ settled_of (pieces_left space left.entry)) }
+fn read_settlement(
+    alloc: Global,
+    left: Option<&[u8]>,
+) -> Result<Option<EffectEntry>, NoMemory>
+    ensures { IfOk result (λ read. read ≡ settlement_of (pieces_left space left.entry)) }
 {
     let Some((slot, left)) = next_slot(left) else {
         return Ok(None);
@@ -236,18 +241,20 @@ fn read_settlement(alloc: Global, left: Option<&[u8]>) -> Result<Option<Settleme
     let None = next_piece(b' ', left) else {
         return Ok(None);
     };
-    Ok(Some(Settlement {
+    let effect = Effect::Fate { packet, fate };
+    Ok(Some(EffectEntry {
         slot,
-        packet,
         command,
-        fate,
+        effect,
     }))
 }
 
 fn read_charge_row(left: Option<&[u8]>) -> Option<(Slot, ChargeRow)>
     ensures { result ≡ slot_row (pieces_left space left.entry) }
 {
-    let (slot, left) = next_slot(left)?;
+    let Some((slot, left)) = next_slot(left) else {
+        return None;
+    };
     let row = read_row(left)?;
     Some((slot, row))
 }
@@ -255,7 +262,9 @@ fn read_charge_row(left: Option<&[u8]>) -> Option<(Slot, ChargeRow)>
 fn read_charge_open(left: Option<&[u8]>) -> Option<(Slot, Open)>
     ensures { result ≡ slot_open (pieces_left space left.entry) }
 {
-    let (slot, left) = next_slot(left)?;
+    let Some((slot, left)) = next_slot(left) else {
+        return None;
+    };
     let counters = read_open(left)?;
     Some((slot, counters))
 }

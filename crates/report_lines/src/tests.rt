@@ -17,25 +17,40 @@ fn stands(alloc: Global, line: &[u8]) -> Result<bool, Fail> {
 fn lines_of_outside_reports_are_entries(rt: HostRuntime) -> Result<(), Fail> {
     one_text_of_an_entry();
     let lines = fs::read(&rt, "entries.txt")?;
-    let mut count = 0;
+    let mut count = 0u64;
     for line in lines.as_slice().split(|octet| *octet == b'\n') {
         if !line.is_empty() {
             assert!(rt; stands(rt.alloc(), line)?);
-            if count < 1_000 {
-                count += 1;
-            }
+            count = count.saturating_add(1);
         }
     }
-    assert!(rt; count > 300);
+    assert!(rt; count == 7_816);
+    Ok(())
+}
+
+#[test]
+fn whole_trace_reads_back(rt: HostRuntime) -> Result<(), Fail> {
+    let lines = fs::read(&rt, "whole_trace.txt")?;
+    let mut count = 0u64;
+    for line in lines.as_slice().split(|octet| *octet == b'\n') {
+        if !line.is_empty() {
+            assert!(rt; stands(rt.alloc(), line)?);
+            count = count.saturating_add(1);
+        }
+    }
+    assert!(rt; count == 20);
     Ok(())
 }
 
 #[test]
 fn malformed_lines_are_none(rt: HostRuntime) -> Result<(), Fail> {
     let lines = fs::read(&rt, "malformed.txt")?;
+    let mut count = 0u64;
     for line in lines.as_slice().split(|octet| *octet == b'\n') {
         assert!(rt; read(rt.alloc(), line)?.is_none());
+        count = count.saturating_add(1);
     }
+    assert!(rt; count == 330);
     Ok(())
 }
 

@@ -2,16 +2,14 @@
 ghost use Rattle.std.specs.Prelude.{◌≡◌, ◌++◌, ◌∷◌, [], decimal, IfOk, OnOk};
 ghost use Rattle.text_fields.specs.Fields.{behind, joined};
 ghost use Rattle.report_lines.specs.declared.entry.LineEntry.TheVariants as line;
-ghost use Rattle.report_lines.specs.declared.entry.EffectEntry.TheVariants as effect;
+ghost use Rattle.pc_base.specs.declared.effect.Effect.TheVariants as effect;
 ghost use Rattle.report_lines.specs.Text.{entry_text, line_fields, effect_fields, charge_fields, verdict_fields, fate_fields, place_fields, counters_fields, row_fields, ending, shown, line_shown};
 ghost use Rattle.report_lines.specs.Words.{message_word, moment_word, place_word};
 
 use crate::words::{outcome_word, refused_word, why_word};
-use crate::{
-    Answer, ChargeEntry, EffectEntry, Entry, Judgement, LineEntry, Marker, NoMemory, Settlement,
-};
+use crate::{Answer, ChargeEntry, EffectEntry, Entry, Judgement, LineEntry, NoMemory};
 use charging_book::{ChargeRow, Open};
-use pc_base::{Fate, Moment, Octets, Place, Verdict};
+use pc_base::{Addr4, Effect, Fate, Moment, Octets, Place, Slot, Verdict};
 use std::alloc::Global;
 use text_fields::{push_address, push_field, push_number, push_octets};
 
@@ -31,8 +29,7 @@ pub fn push_text(out: &mut Vec<u8>, entry: &Entry, places: bool) -> Result<(), N
 {
     match entry {
         Entry::Line(entry) => push_line(out, entry, places),
-        Entry::Effect(EffectEntry::M(marker)) => push_marker(out, marker),
-        Entry::Effect(EffectEntry::H(settlement)) => push_settlement(out, settlement),
+        Entry::Effect(entry) => push_effect(out, entry),
         Entry::Charge(entry) => push_charge(out, entry),
     }
 }
@@ -158,25 +155,54 @@ fn push_place_word(out: &mut Vec<u8>, place: Place) -> Result<(), NoMemory>
     }
 }
 
-fn push_marker(out: &mut Vec<u8>, marker: &Marker) -> Result<(), NoMemory>
-    ensures { OnOk result (out.new.items ≡ out.old.items ++ joined (effect_fields (effect.M marker.now))) }
+fn push_effect(out: &mut Vec<u8>, entry: &EffectEntry) -> Result<(), NoMemory>
+    ensures { OnOk result (out.new.items
+        ≡ out.old.items ++ joined (effect_fields entry.now.slot entry.now.command entry.now.effect)) }
 {
-    out.push(b'M')?;
-    push_number(out, u64::from(marker.slot.0))?;
-    push_number(out, marker.life)?;
-    push_number(out, marker.command)?;
-    push_address(out, marker.peer.0)?;
-    push_octets(out, marker.octets.as_slice())
+    match &entry.effect {
+        Effect::Marker { life, peer, octets } => {
+            push_marker(out, entry.slot, entry.command, *life, *peer, octets)
+        }
+        Effect::Fate { packet, fate } => {
+            push_settlement(out, entry.slot, entry.command, *packet, fate)
+        }
+    }
 }
 
-fn push_settlement(out: &mut Vec<u8>, settlement: &Settlement) -> Result<(), NoMemory>
-    ensures { OnOk result (out.new.items ≡ out.old.items ++ joined (effect_fields (effect.H settlement.now))) }
+fn push_marker(
+    out: &mut Vec<u8>,
+    slot: Slot,
+    command: u64,
+    life: u64,
+    peer: Addr4,
+    octets: &Octets,
+) -> Result<(), NoMemory>
+    ensures { OnOk result (out.new.items
+        ≡ out.old.items ++ joined (effect_fields slot command (effect.Marker life peer octets.now))) }
+{
+    out.push(b'M')?;
+    push_number(out, u64::from(slot.0))?;
+    push_number(out, life)?;
+    push_number(out, command)?;
+    push_address(out, peer.0)?;
+    push_octets(out, octets.as_slice())
+}
+
+fn push_settlement(
+    out: &mut Vec<u8>,
+    slot: Slot,
+    command: u64,
+    packet: u64,
+    fate: &Fate,
+) -> Result<(), NoMemory>
+    ensures { OnOk result (out.new.items
+        ≡ out.old.items ++ joined (effect_fields slot command (effect.Fate packet fate.now))) }
 {
     out.push(b'H')?;
-    push_number(out, u64::from(settlement.slot.0))?;
-    push_number(out, settlement.packet)?;
-    push_number(out, settlement.command)?;
-    push_fate(out, &settlement.fate)
+    push_number(out, u64::from(slot.0))?;
+    push_number(out, packet)?;
+    push_number(out, command)?;
+    push_fate(out, fate)
 }
 
 fn push_fate(out: &mut Vec<u8>, fate: &Fate) -> Result<(), NoMemory>
