@@ -1,0 +1,16 @@
+pub mod Job
+pub mod Report
+pub mod LinesTold
+pub mod Answers
+pub mod Accepted
+pub mod Order
+pub mod Moves
+pub mod Bounds
+pub mod Refusals
+pub mod Parking
+pub mod Telling
+pub mod Outcomes
+pub mod Run
+pub mod AtOnce
+pub mod AnsweredRun
+pub mod Trace

@@ -1,0 +1,7 @@
+//! Which entries a trace may have: the lawful run, for one thread that answers each line at once and for
+//! slices that share the work.
+#![tactic(auto)]
+
+mod laws;
+
+pub use laws::every_trace_has_a_run;
