@@ -1,0 +1,7 @@
+mod SlotCases
+mod OrderLemmas
+mod Counting
+mod AtOnceSlots
+mod AnsweredLines
+mod Lawful
+mod EveryTrace

@@ -13,4 +13,3 @@ pub mod Outcomes
 pub mod Run
 pub mod AtOnce
 pub mod AnsweredRun
-pub mod Trace

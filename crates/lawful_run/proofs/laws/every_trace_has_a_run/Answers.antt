@@ -1,0 +1,9 @@
+-- proofs/laws/every_trace_has_a_run/Answers.antt
+use Rattle.lawful_run.proofs.EveryTrace.{answered_is_run, answered_run_at_once}
+use Rattle.lawful_run.proofs.laws.every_trace_has_a_run.Goals as goal
+
+pub returns-clause-lawful : goal.returns-clause-lawful
+returns-clause-lawful c = answered_is_run
+
+pub returns-clause-at_once : goal.returns-clause-at_once
+returns-clause-at_once c = answered_run_at_once
