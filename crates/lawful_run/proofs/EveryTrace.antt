@@ -14,8 +14,9 @@ use Rattle.lawful_run.specs.Order.{Histories, events_in, behind, numbered}
 use Rattle.lawful_run.specs.Outcomes as made_of
 use Rattle.lawful_run.specs.Run.{by_slot, told_in, IsEpochRun, AreEpochRuns, IsRun, behind_all, no_events}
 use Rattle.lawful_run.proofs.AnsweredLines.{answered_each, answered_at_once, answered_slot}
-use Rattle.lawful_run.proofs.AtOnceSlots.{at_once_slot, InLineOrder}
+use Rattle.lawful_run.proofs.AtOnceSlots.{met_slot, InLineOrder}
 use Rattle.lawful_run.proofs.Counting.{IsCounted}
+use Rattle.lawful_run.proofs.Meets.{at_once_meets}
 use Rattle.lawful_run.proofs.Lawful.{within, not_refused, not_parked}
 
 -- the events that a line brings stand behind those before it
@@ -49,7 +50,8 @@ module _ (slots first : ℕ) (before : Histories) (made : List Meaning) where
 
   in_order : (slot : ℕ) → InLineOrder slot (before slot) made (entries_from first before made)
   in_order slot =
-      at_once_slot slot first before [] (before slot) made (entries_from first before made) (answered_each first before made) at_once (counted_none before slot)
+      met_slot slot first before [] (before slot) made (entries_from first before made) (answered_each first before made)
+      (at_once_meets before [] (lines_told made (entries_from first before made)) at_once) (counted_none before slot)
 
   pub answered_epoch_lawful : (job : Job) → IsEpochRun job slots first before made (answered_epoch slots first before made)
   answered_epoch_lawful job = record {

@@ -1,6 +1,7 @@
 mod SlotCases
 mod OrderLemmas
 mod Counting
+mod Meets
 mod AtOnceSlots
 mod AnsweredLines
 mod Lawful
