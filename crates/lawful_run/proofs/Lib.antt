@@ -6,3 +6,5 @@ mod AtOnceSlots
 mod AnsweredLines
 mod Lawful
 mod EveryTrace
+mod OneList
+mod OneRun
