@@ -8,3 +8,4 @@ mod Lawful
 mod EveryTrace
 mod OneList
 mod OneRun
+mod OneText
