@@ -4,3 +4,4 @@ pub mod Parts
 pub mod Settling
 pub mod ReadSteps
 pub mod OneAnswerCases
+mod Rests

@@ -23,3 +23,8 @@ pub record Store : Type 0 where
   pub fail_at : List ℕ
   pub calls : ℕ
   pub faults : ℕ
+
+-- the first octets that were written, and how many may be kept
+pub record Keeper : Type 0 where
+  pub kept : List ℕ
+  pub room : ℕ

@@ -9,6 +9,7 @@ mod reading;
 mod sinks;
 mod sources;
 mod std_streams;
+mod sure;
 mod writing;
 
 pub use line_buffer::{INPUT_MAX, LINE_MAX, LineBuf, NEWLINE};
@@ -18,6 +19,7 @@ pub use sinks::Sink;
 pub use sources::{Failed, Source};
 pub use std::alloc::AllocError as NoMemory;
 pub use std_streams::{StdSink, StdSource};
+pub use sure::{SureSink, SureSource};
 pub use writing::{WriteFault, write_whole};
 
 #[cfg(test)]

@@ -156,3 +156,26 @@ fn streams_that_fail(rt: HostRuntime) -> Result<(), Fail> {
     assert_eq!(rt; write_whole(&mut full, b"abc"), Err(WriteFault));
     Ok(())
 }
+
+#[test]
+fn sure_source_gives_all(rt: HostRuntime) -> Result<(), Fail> {
+    let mut source = SureSource::new(Vec::from_slice(rt.alloc(), b"a\nbc")?)?;
+    let mut buf = LineBuf::new(rt.alloc())?;
+    assert_eq!(rt; read_line(&mut source, &mut buf), LineRead::Line);
+    assert_eq!(rt; buf.line(), b"a".as_slice());
+    assert_eq!(rt; read_line(&mut source, &mut buf), LineRead::Line);
+    assert_eq!(rt; buf.line(), b"bc".as_slice());
+    assert_eq!(rt; read_line(&mut source, &mut buf), LineRead::End);
+    Ok(())
+}
+
+#[test]
+fn sure_sink_keeps_the_first(rt: HostRuntime) -> Result<(), Fail> {
+    let mut sink = SureSink::new(rt.alloc(), 3)?;
+    assert!(rt; write_whole(&mut sink, b"ab").is_ok());
+    assert_eq!(rt; sink.written(), b"ab".as_slice());
+    assert!(rt; write_whole(&mut sink, b"cd").is_ok());
+    assert!(rt; write_whole(&mut sink, b"e").is_ok());
+    assert_eq!(rt; sink.written(), b"abc".as_slice());
+    Ok(())
+}

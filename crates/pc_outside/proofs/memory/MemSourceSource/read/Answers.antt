@@ -1,14 +1,7 @@
-use Rattle.std.proofs.Common.{◌≡◌, ℕ, ◌+◌, ◌-◌, ◌≤◌, List, ◌++◌, length, take, drop, min, ap, sym, ◌∙◌, arith, length-append, length-drop, length-take}
-use Rattle.std.proofs.lemmas.List.{take-append-drop, take_at, drop-drop, drop_all, take_rest}
+use Rattle.std.proofs.Common.{◌≡◌, ◌+◌, ◌-◌, ◌≤◌, length, take, drop, min, ap, ◌∙◌, arith, length-append, length-drop, length-take}
+use Rattle.std.proofs.lemmas.List.{drop_all, take_rest}
+use Rattle.pc_outside.proofs.Rests.{front_and_rest}
 use Rattle.pc_outside.proofs.memory.MemSourceSource.read.Goals as goal
-
--- what a read gave, and what is left then, is what was left
-front_and_rest : (octets front into : List ℕ) (from n : ℕ) → front ≡ take n (drop from octets)
-    → n ≤ length octets - from
-    → drop from octets ≡ take n (front ++ into) ++ drop (from + n) octets
-front_and_rest octets front into from n is within =
-    let count : length front ≡ n = omega (arith, ap length is, length-take n (drop from octets), length-drop from octets) in
-    rw (take_at front into n count, is, ← drop-drop n from octets) (sym (take-append-drop n (drop from octets)))
 
 pub returns-clause-octets : goal.returns-clause-octets
 returns-clause-octets c =
