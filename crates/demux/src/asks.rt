@@ -1,0 +1,62 @@
+//! The asks of a Modify Bearer Request.
+ghost use Rattle.std.specs.Prelude.{◌≡◌, ◌∷◌, ◌++◌, [], IfSome, IfOk, option_copied, option_and_then};
+ghost use Rattle.std.specs.List.{list_any};
+ghost use Rattle.gtpv2_ie.specs.Validity.{IsContext};
+ghost use Rattle.gtpv2_msg.specs.Lookup.{first_context};
+ghost use Rattle.bearer_state.specs.Ask.{IsAsk};
+ghost use Rattle.demux.specs.Requests.{ask_of, asks_in};
+
+use crate::requests::{assigned, enb_in};
+use bearer_state::{Ask, Asks};
+use gtpv2_ie::{Context, Ie, IeValue};
+use gtpv2_msg::Msg;
+use pc_base::NoMemory;
+use std::alloc::Global;
+
+// The Context that an element of instance 0 is.
+fn context_at(ie: &Ie) -> Option<&Context>
+    ensures value { option_copied result ≡ first_context ie.now }
+    ensures valid { IfSome result (λ context. IsContext context.now) }
+{
+    match &ie.value {
+        IeValue::Context(context) if ie.instance == 0 => Some(context),
+        _ => None,
+    }
+}
+
+// What an element asks, if it is such a Context with an EBI.
+fn ask_at(ie: &Ie) -> Option<Ask>
+    ensures value { result ≡ option_and_then ask_of (first_context ie.now) }
+    ensures valid { IfSome result IsAsk }
+{
+    let context = context_at(ie)?;
+    let ebi = assigned(context)?;
+    Some(Ask {
+        ebi,
+        enb: enb_in(&context.fteids),
+    })
+}
+
+fn has_ebi(asks: &[Ask], ebi: u8) -> bool
+    ensures { result ≡ list_any (λ ask. ask.ebi == ebi) asks.now }
+{
+    asks.iter().any(|ask| ask.ebi == ebi)
+}
+
+/// The asks of a message: one for each Context with an EBI, of those with one EBI the first.
+pub fn asks_in(alloc: Global, message: &Msg) -> Result<Asks, NoMemory>
+    ensures { IfOk result (λ asks. asks ≡ asks_in message.now.ies) }
+{
+    let mut asks = Vec::new(alloc);
+    for ie in message.ies.as_slice() {
+        if let Some(ask) = ask_at(ie) {
+            if !has_ebi(&asks, ask.ebi) {
+                asks.push(ask)?;
+            }
+        }
+    }
+    match Asks::of(asks) {
+        Some(asks) => Ok(asks),
+        None => unreachable!(),
+    }
+}
