@@ -2,5 +2,6 @@ pub mod WordLemmas
 pub mod FieldLemmas
 pub mod EntryLemmas
 pub mod TextLemmas
+pub mod KeepLemmas
 pub mod ReadLemmas
 pub mod WritingLemmas

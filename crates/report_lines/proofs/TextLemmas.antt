@@ -34,10 +34,10 @@ use Rattle.report_lines.specs.declared.entry.LineEntry.TheVariants as line
 use Rattle.report_lines.specs.declared.entry.Refusal.{Refusal}
 use Rattle.report_lines.specs.declared.entry.ChargeEntry.{ChargeEntry}
 use Rattle.report_lines.specs.declared.entry.ChargeEntry.TheVariants as charge
-use Rattle.report_lines.specs.Ranges.{IsNumber, IsSlot, IsAnswered, IsJudged, IsOctets, IsVerdict, IsFate, IsPlace, IsMoment, AreCounters, IsEffect, IsEffected, IsChargeEntry, IsEntry}
+use Rattle.report_lines.specs.Ranges.{IsNumber, IsSlot, IsAnswered, IsJudged, IsOctets, IsVerdict, IsFate, IsPlace, IsMoment, AreCounters, IsLineEntry, IsEffect, IsEffected, IsChargeEntry, IsEntry}
 use Rattle.report_lines.specs.Records.{Noted, Answered, Judged, Effected}
 use Rattle.report_lines.specs.Reading.{note_of, answered_of, judged_of, refusal_of, marker_of, settlement_of, slot_row, slot_open, entry_at, entry_of_fields, entry_of}
-use Rattle.report_lines.specs.Text.{verdict_fields, fate_fields, place_fields, counters_fields, counters_of, row_fields, ending, line_fields, effect_fields, charge_fields, entry_fields, entry_text}
+use Rattle.report_lines.specs.Text.{verdict_fields, fate_fields, place_fields, counters_fields, counters_of, row_fields, ending, line_fields, effect_fields, charge_fields, entry_fields, entry_text, line_shown, shown}
 use Rattle.report_lines.specs.Words.{outcome_word, why_word, message_word, moment_word, place_word, refused_word}
 use Rattle.report_lines.proofs.EntryLemmas.{answered_given, answered_taken, judged_given, judged_taken, refusal_given, refusal_taken, marker_given, marker_taken, settlement_given, settlement_taken, slot_row_given, slot_row_taken, slot_open_given, slot_open_taken, OfNote, note_given, note_taken}
 
@@ -227,29 +227,38 @@ refusal_lacks told is_line is_slot = (
 effect_read : (its_slot command : ℕ) (told : Effect) → IsSlot its_slot → IsNumber command → IsEffect told
     → entry_of (joined (effect_fields its_slot command told)) ≡ Some (entry.Effect (record { slot = its_slot; command = command; effect = told }))
 effect_read its_slot command (effect.Marker life peer octets) is_slot is_command is =
-    apart (codes "M") _ (effect_lacks its_slot command (effect.Marker life peer octets) is_slot is_command is)
+    apart (codes "M") (decimal its_slot ∷ decimal life ∷ decimal command ∷ dotted peer ∷ encode_lower octets ∷ [])
+        (effect_lacks its_slot command (effect.Marker life peer octets) is_slot is_command is)
     ∙ ap (λ read. option_map (λ (e : Effected). entry.Effect e) read)
         (marker_taken its_slot command life peer octets is_slot is_command is.0 is.1 is.2)
 effect_read its_slot command (effect.Fate packet its_fate) is_slot is_command is =
-    apart (codes "H") _ (effect_lacks its_slot command (effect.Fate packet its_fate) is_slot is_command is)
+    apart (codes "H") (decimal its_slot ∷ decimal packet ∷ decimal command ∷ fate_fields its_fate)
+        (effect_lacks its_slot command (effect.Fate packet its_fate) is_slot is_command is)
     ∙ ap (λ read. option_map (λ (e : Effected). entry.Effect e) read)
         (settlement_taken its_slot command packet its_fate is_slot is_command is.0 is.1)
 
 pub entry_read : (told : Entry) → IsEntry told → entry_of (entry_text told) ≡ Some told
 entry_read (entry.Line (line.N told)) is = note_read told is
 entry_read (entry.Line (line.C told)) is =
-    apart (codes "C") _ (answer_lacks told is) ∙ ap (λ answered. option_map (λ a. entry.Line (line.C a)) answered) (answered_taken told is)
+    apart (codes "C")
+        (decimal told.line ∷ decimal told.slot ∷ decimal told.number ∷ outcome_word told.reply.outcome ∷ message_word told.reply.message ∷ [])
+        (answer_lacks told is)
+    ∙ ap (λ answered. option_map (λ a. entry.Line (line.C a)) answered) (answered_taken told is)
 entry_read (entry.Line (line.P told)) is =
-    apart (codes "P") _ (judgement_lacks told is) ∙ ap (λ judged. option_map (λ j. entry.Line (line.P j)) judged) (judged_taken told is)
+    apart (codes "P")
+        (decimal told.line ∷ decimal told.slot ∷ decimal told.number ∷ decimal told.commands
+        ∷ verdict_fields told.verdict (place_fields told.place told.parked))
+        (judgement_lacks told is)
+    ∙ ap (λ judged. option_map (λ j. entry.Line (line.P j)) judged) (judged_taken told is)
 entry_read (entry.Line (line.F told)) is =
-    apart (codes "F") _ (refusal_lacks told is.0 is.1)
+    apart (codes "F") (decimal told.line ∷ decimal told.slot ∷ refused_word told.packet ∷ []) (refusal_lacks told is.0 is.1)
     ∙ ap (λ refused. option_map (λ r. entry.Line (line.F r)) refused) (refusal_taken told is.0 is.1)
 entry_read (entry.Effect told) is = effect_read told.slot told.command told.effect is.slot is.command is.effect
 entry_read (entry.Charge (charge.R slot row)) is =
-    apart (codes "R") _ (charge_lacks (charge.R slot row) is)
+    apart (codes "R") (decimal slot ∷ row_fields row) (charge_lacks (charge.R slot row) is)
     ∙ ap (λ both. option_map (λ r. entry.Charge (charge.R r.0 r.1)) both) (slot_row_taken slot row is)
 entry_read (entry.Charge (charge.O slot counters)) is =
-    apart (codes "O") _ (charge_lacks (charge.O slot counters) is)
+    apart (codes "O") (decimal slot ∷ counters_fields counters []) (charge_lacks (charge.O slot counters) is)
     ∙ ap (λ both. option_map (λ c. entry.Charge (charge.O c.0 c.1)) both) (slot_open_taken slot counters is)
 
 -- the other way round: a text that is read is the text of what was read
@@ -363,3 +372,24 @@ entry_given text told read =
 
 pub text_tells : (one other : Entry) → IsEntry one → IsEntry other → entry_text one ≡ entry_text other → one ≡ other
 text_tells one other is also same = same_entry one other (sym (entry_read one is) ∙ ap entry_of same ∙ entry_read other also)
+
+-- an entry without its place
+line_shown_is : (told : LineEntry) (places : Bool) → IsLineEntry told → IsLineEntry (line_shown places told)
+line_shown_is told true is = is
+line_shown_is (line.N told) false is = is
+line_shown_is (line.C told) false is = is
+line_shown_is (line.P told) false is = record {
+  line = is.line;
+  slot = is.slot;
+  number = is.number;
+  commands = is.commands;
+  verdict = is.verdict;
+  place = tt;
+  parked = tt;
+}
+line_shown_is (line.F told) false is = is
+
+pub shown_is : (told : Entry) (places : Bool) → IsEntry told → IsEntry (shown places told)
+shown_is (entry.Line told) places is = line_shown_is told places is
+shown_is (entry.Effect told) places is = is
+shown_is (entry.Charge told) places is = is

@@ -1,5 +1,6 @@
 pub mod Records
 pub mod Words
 pub mod Text
+pub mod Lent
 pub mod Ranges
 pub mod Reading

@@ -37,36 +37,36 @@ pub record Effected : Type 0 where
   pub command : ℕ
   pub effect : Effect
 
--- some octets
-abbrev pub IsSome : List ℕ → Type 0
-IsSome octets = 0 < length octets
+-- one octet or more
+abbrev pub HasOctets : List ℕ → Type 0
+HasOctets octets = 0 < length octets
 
 -- printable ASCII, and some
 abbrev pub IsPrintable : ℕ → Type 0
 IsPrintable octet = (0x20 ≤ octet) × (octet ≤ 0x7e)
 
 abbrev pub IsNote : List ℕ → Type 0
-IsNote note = IsSome note × All IsPrintable note
+IsNote note = HasOctets note × All IsPrintable note
 
 abbrev pub KeepsReply : Reply → Type 0
-KeepsReply reply = IfSome reply.message IsSome
+KeepsReply reply = IfSome reply.message HasOctets
 
 abbrev pub KeepsVerdict : Verdict → Type 0
-KeepsVerdict (verdict.Up life octets) = IsSome octets
-KeepsVerdict (verdict.Down life peer octets) = IsSome octets
+KeepsVerdict (verdict.Up life octets) = HasOctets octets
+KeepsVerdict (verdict.Down life peer octets) = HasOctets octets
 KeepsVerdict verdict.NoBearer = Unit {0}
 KeepsVerdict verdict.Spoof = Unit {0}
 KeepsVerdict (verdict.Idle life) = Unit {0}
-KeepsVerdict (verdict.Held life message) = IfSome message IsSome
+KeepsVerdict (verdict.Held life message) = IfSome message HasOctets
 KeepsVerdict (verdict.Policed life) = Unit {0}
 
 abbrev pub KeepsFate : Fate → Type 0
-KeepsFate (fate.Down life peer octets) = IsSome octets
+KeepsFate (fate.Down life peer octets) = HasOctets octets
 KeepsFate (fate.Policed life) = Unit {0}
 KeepsFate (fate.Gone life) = Unit {0}
 
 abbrev pub KeepsEffect : Effect → Type 0
-KeepsEffect (effect.Marker life peer octets) = IsSome octets
+KeepsEffect (effect.Marker life peer octets) = HasOctets octets
 KeepsEffect (effect.Fate packet its_fate) = KeepsFate its_fate
 
 -- parked only with a place

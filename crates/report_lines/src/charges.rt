@@ -1,13 +1,16 @@
-//! Charging records and open counters.
-ghost use Rattle.std.specs.Prelude.{◌≡◌};
-ghost use Rattle.text_fields.specs.Fields.{space, pieces_left};
+//! Charging records and open counters, both ways.
+ghost use Rattle.std.specs.Prelude.{◌≡◌, ◌++◌, ◌∷◌, [], decimal, OnOk};
+ghost use Rattle.text_fields.specs.Fields.{space, pieces_left, behind};
 ghost use Rattle.report_lines.specs.Reading.{Gives, counters_at, row_of, row_with, open_of};
+ghost use Rattle.report_lines.specs.Text.{counters_fields, row_fields, ending};
+ghost use Rattle.report_lines.specs.Words.{moment_word};
 
+use crate::NoMemory;
 use crate::fields::{next_count, next_moment, next_number, next_octet};
-use crate::words::read_why;
+use crate::words::{read_why, why_word};
 use charging_book::{ChargeRow, Open, Why};
 use pc_base::Moment;
-use text_fields::next_piece;
+use text_fields::{next_piece, push_field, push_number};
 
 fn next_counters(left: Option<&[u8]>) -> Option<(Open, Option<&[u8]>)>
     ensures { Gives result (counters_at (pieces_left space left.entry)) }
@@ -80,5 +83,78 @@ fn row(counters: Open, first: Option<Moment>, last: Option<Moment>, why: Why) ->
         first,
         last,
         why,
+    }
+}
+
+pub(crate) fn push_counters(out: &mut Vec<u8>, counters: &Open) -> Result<(), NoMemory>
+    ensures { OnOk result (out.new.items ≡ out.old.items ++ behind (counters_fields counters.now [])) }
+{
+    push_piece(out, counters.life, counters.ebi, counters.qci, counters.seq)?;
+    push_counts(
+        out,
+        counters.up_octets,
+        counters.down_octets,
+        counters.up_packets,
+        counters.down_packets,
+    )
+}
+
+// Which piece of which bearer's life.
+fn push_piece(out: &mut Vec<u8>, life: u64, ebi: u8, qci: u8, seq: u64) -> Result<(), NoMemory>
+    ensures { OnOk result (out.new.items
+        ≡ out.old.items ++ behind (decimal life ∷ decimal ebi ∷ decimal qci ∷ decimal seq ∷ [])) }
+{
+    push_number(out, life)?;
+    push_number(out, u64::from(ebi))?;
+    push_number(out, u64::from(qci))?;
+    push_number(out, seq)
+}
+
+// How many octets and packets it has, each up and down.
+fn push_counts(
+    out: &mut Vec<u8>,
+    up_octets: u64,
+    down_octets: u64,
+    up_packets: u64,
+    down_packets: u64,
+) -> Result<(), NoMemory>
+    ensures { OnOk result (out.new.items ≡ out.old.items
+        ++ behind (decimal up_octets ∷ decimal down_octets ∷ decimal up_packets ∷ decimal down_packets ∷ [])) }
+{
+    push_number(out, up_octets)?;
+    push_number(out, down_octets)?;
+    push_number(out, up_packets)?;
+    push_number(out, down_packets)
+}
+
+pub(crate) fn push_row_fields(out: &mut Vec<u8>, row: &ChargeRow) -> Result<(), NoMemory>
+    ensures { OnOk result (out.new.items ≡ out.old.items ++ behind (row_fields row.now)) }
+{
+    push_piece(out, row.life, row.ebi, row.qci, row.seq)?;
+    push_counts(
+        out,
+        row.up_octets,
+        row.down_octets,
+        row.up_packets,
+        row.down_packets,
+    )?;
+    push_ending(out, row)
+}
+
+// The moments of a piece, and why it was finished.
+fn push_ending(out: &mut Vec<u8>, row: &ChargeRow) -> Result<(), NoMemory>
+    ensures { OnOk result (out.new.items ≡ out.old.items ++ behind (ending row.now)) }
+{
+    push_moment(out, row.first)?;
+    push_moment(out, row.last)?;
+    push_field(out, why_word(row.why).as_bytes())
+}
+
+fn push_moment(out: &mut Vec<u8>, moment: Option<Moment>) -> Result<(), NoMemory>
+    ensures { OnOk result (out.new.items ≡ out.old.items ++ 32 ∷ moment_word moment) }
+{
+    match moment {
+        None => push_field(out, b"-"),
+        Some(moment) => push_number(out, moment.0),
     }
 }

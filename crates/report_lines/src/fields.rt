@@ -4,6 +4,7 @@ ghost use Rattle.text_fields.specs.Fields.{space, pieces_left};
 ghost use Rattle.text_fields.specs.Address.{address_of};
 ghost use Rattle.text_fields.specs.Hexadecimal.{lower_octets_of};
 ghost use Rattle.report_lines.specs.Reading.{Gives, next, number, counted, slot, message_of, moment_of};
+ghost use Rattle.report_lines.specs.Records.{HasOctets};
 
 use pc_base::{Addr4, Moment, Octets, Slot};
 use std::alloc::{AllocError as NoMemory, Global};
@@ -65,11 +66,13 @@ pub(crate) fn next_moment(left: Option<&[u8]>) -> Option<(Option<Moment>, Option
 }
 
 // Octets in hexadecimal.
+#[tactic(auto, using(crate::proofs::KeepLemmas::octets_are_some))]
 pub(crate) fn next_octets(
     alloc: Global,
     left: Option<&[u8]>,
 ) -> Result<Option<(Octets, Option<&[u8]>)>, NoMemory>
     ensures given { IfOk result (λ r. Gives r (next lower_octets_of (pieces_left space left.entry))) }
+    ensures some { IfOk result (λ r. IfSome r (λ given. HasOctets given.0)) }
 {
     let Some((text, rest)) = next_piece(b' ', left) else {
         return Ok(None);

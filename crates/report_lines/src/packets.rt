@@ -1,12 +1,18 @@
-//! Verdicts, fates and places.
-ghost use Rattle.std.specs.Prelude.{◌≡◌, IfOk};
-ghost use Rattle.text_fields.specs.Fields.{space, pieces_left};
-ghost use Rattle.report_lines.specs.Reading.{Gives, down_of, up_of, held_of, verdict_at, verdict_of, fate_at, fate_of, slice_at, place_at, place_of};
+//! Verdicts, fates and places, both ways.
+ghost use Rattle.std.specs.Prelude.{◌≡◌, ◌++◌, ◌∷◌, [], codes, decimal, IfOk, OnOk};
+ghost use Rattle.hex.specs.Hex.{encode_lower};
+ghost use Rattle.text_fields.specs.Address.{dotted};
+ghost use Rattle.text_fields.specs.Fields.{space, pieces_left, behind};
+ghost use Rattle.report_lines.specs.Lent.{verdict_of};
+ghost use Rattle.report_lines.specs.Text.{verdict_fields, fate_fields, place_fields};
+ghost use Rattle.report_lines.specs.Words.{message_word, place_word};
+ghost use Rattle.report_lines.specs.Reading.{Gives, down_of, up_of, held_of, verdict_at, verdict_of as verdict_of_fields, fate_at, fate_of, slice_at, place_at, place_of};
 
 use crate::fields::{next_address, next_message, next_number, next_octets};
+use crate::{LentVerdict, NoMemory};
 use pc_base::{Addr4, Fate, Octets, Place, SliceNo, Verdict};
-use std::alloc::{AllocError as NoMemory, Global};
-use text_fields::{next_piece, read_number};
+use std::alloc::Global;
+use text_fields::{next_piece, push_address, push_field, push_number, push_octets, read_number};
 
 // What goes to an eNodeB: the life, the address and the octets.
 fn next_down(
@@ -61,7 +67,7 @@ pub(crate) fn next_verdict(
     alloc: Global,
     left: Option<&[u8]>,
 ) -> Result<Option<(Verdict, Option<&[u8]>)>, NoMemory>
-    ensures { IfOk result (λ r. Gives r (verdict_of (pieces_left space left.entry))) }
+    ensures { IfOk result (λ r. Gives r (verdict_of_fields (pieces_left space left.entry))) }
 {
     match next_piece(b' ', left) {
         Some((word, left)) => verdict_of_word(alloc, word, left),
@@ -182,4 +188,125 @@ fn place_of_slice(text: &[u8]) -> Option<Place>
     }
     let slice = read_number(text, 0, 63)?;
     Some(Place::At(SliceNo(slice as u8)))
+}
+
+pub(crate) fn push_verdict(out: &mut Vec<u8>, verdict: &Verdict) -> Result<(), NoMemory>
+    ensures { OnOk result (out.new.items ≡ out.old.items ++ behind (verdict_fields verdict.now [])) }
+{
+    match verdict {
+        Verdict::Up { life, octets } => push_up(out, *life, octets.as_slice()),
+        Verdict::Down { life, peer, octets } => push_down(out, *life, *peer, octets.as_slice()),
+        Verdict::NoBearer => push_field(out, b"nobearer"),
+        Verdict::Spoof => push_field(out, b"spoof"),
+        Verdict::Idle { life } => push_idle(out, *life),
+        Verdict::Held { life, message } => push_held(out, *life, message),
+        Verdict::Policed { life } => push_policed(out, *life),
+    }
+}
+
+pub(crate) fn push_lent(out: &mut Vec<u8>, verdict: &LentVerdict<'_>) -> Result<(), NoMemory>
+    ensures { OnOk result (out.new.items ≡ out.old.items ++ behind (verdict_fields (verdict_of verdict.now) [])) }
+{
+    match verdict {
+        LentVerdict::Up { life, octets } => push_up(out, *life, octets),
+        LentVerdict::Down { life, peer, octets } => push_down(out, *life, *peer, octets),
+        LentVerdict::NoBearer => push_field(out, b"nobearer"),
+        LentVerdict::Spoof => push_field(out, b"spoof"),
+        LentVerdict::Idle { life } => push_idle(out, *life),
+        LentVerdict::Held { life, message } => push_held(out, *life, message),
+        LentVerdict::Policed { life } => push_policed(out, *life),
+    }
+}
+
+fn push_up(out: &mut Vec<u8>, life: u64, octets: &[u8]) -> Result<(), NoMemory>
+    ensures { OnOk result (out.new.items
+        ≡ out.old.items ++ behind (codes "up" ∷ decimal life ∷ encode_lower octets.now ∷ [])) }
+{
+    push_field(out, b"up")?;
+    push_number(out, life)?;
+    push_octets(out, octets)
+}
+
+fn push_idle(out: &mut Vec<u8>, life: u64) -> Result<(), NoMemory>
+    ensures { OnOk result (out.new.items ≡ out.old.items ++ behind (codes "idle" ∷ decimal life ∷ [])) }
+{
+    push_field(out, b"idle")?;
+    push_number(out, life)
+}
+
+fn push_held(out: &mut Vec<u8>, life: u64, message: &Option<Octets>) -> Result<(), NoMemory>
+    ensures { OnOk result (out.new.items
+        ≡ out.old.items ++ behind (codes "held" ∷ decimal life ∷ message_word message.now ∷ [])) }
+{
+    push_field(out, b"held")?;
+    push_number(out, life)?;
+    push_message(out, message)
+}
+
+fn push_down(out: &mut Vec<u8>, life: u64, peer: Addr4, octets: &[u8]) -> Result<(), NoMemory>
+    ensures { OnOk result (out.new.items ≡ out.old.items
+        ++ behind (codes "down" ∷ decimal life ∷ dotted peer ∷ encode_lower octets.now ∷ [])) }
+{
+    push_field(out, b"down")?;
+    push_number(out, life)?;
+    push_address(out, peer.0)?;
+    push_octets(out, octets)
+}
+
+fn push_policed(out: &mut Vec<u8>, life: u64) -> Result<(), NoMemory>
+    ensures { OnOk result (out.new.items ≡ out.old.items ++ behind (codes "policed" ∷ decimal life ∷ [])) }
+{
+    push_field(out, b"policed")?;
+    push_number(out, life)
+}
+
+// Octets in hexadecimal, or a dash for none.
+pub(crate) fn push_message(out: &mut Vec<u8>, message: &Option<Octets>) -> Result<(), NoMemory>
+    ensures { OnOk result (out.new.items ≡ out.old.items ++ 32 ∷ message_word message.now) }
+{
+    match message {
+        None => push_field(out, b"-"),
+        Some(octets) => push_octets(out, octets.as_slice()),
+    }
+}
+
+pub(crate) fn push_fate(out: &mut Vec<u8>, fate: &Fate) -> Result<(), NoMemory>
+    ensures { OnOk result (out.new.items ≡ out.old.items ++ behind (fate_fields fate.now)) }
+{
+    match fate {
+        Fate::Down { life, peer, octets } => push_down(out, *life, *peer, octets.as_slice()),
+        Fate::Policed { life } => push_policed(out, *life),
+        Fate::Gone { life } => {
+            push_field(out, b"gone")?;
+            push_number(out, *life)
+        }
+    }
+}
+
+pub(crate) fn push_place(out: &mut Vec<u8>, place: Option<Place>, parked: bool) -> Result<(), NoMemory>
+    ensures { OnOk result (out.new.items ≡ out.old.items ++ behind (place_fields place parked)) }
+{
+    let Some(place) = place else {
+        return Ok(());
+    };
+    push_place_word(out, place)?;
+    if parked {
+        push_field(out, b"p")
+    } else {
+        Ok(())
+    }
+}
+
+fn push_place_word(out: &mut Vec<u8>, place: Place) -> Result<(), NoMemory>
+    ensures { OnOk result (out.new.items ≡ out.old.items ++ 32 ∷ place_word place) }
+{
+    match place {
+        Place::At(slice) => {
+            let mut buffer = itoa::Buffer::new();
+            push_field(out, b"@")?;
+            out.extend_from_slice(buffer.format(slice.0).as_bytes())?;
+            Ok(())
+        }
+        Place::Closing => push_field(out, b"@-"),
+    }
 }

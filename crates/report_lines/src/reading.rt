@@ -90,8 +90,15 @@ fn read_note(alloc: Global, left: Option<&[u8]>) -> Result<Option<Note>, NoMemor
     if !is_note(text) {
         return Ok(None);
     }
-    let note = Octets::of(Vec::from_slice(alloc, text)?);
+    let note = copied(alloc, text)?;
     Ok(Some(Note { line, note }))
+}
+
+fn copied(alloc: Global, text: &[u8]) -> Result<Octets, NoMemory>
+    ensures { IfOk result (λ octets. octets ≡ text.now) }
+{
+    let octets = Vec::from_slice(alloc, text)?;
+    Ok(Octets::of(octets))
 }
 
 fn is_note(text: &[u8]) -> bool

@@ -1,15 +1,19 @@
 //! The text of an entry, appended to a caller's buffer or owned.
-ghost use Rattle.std.specs.Prelude.{◌≡◌, ◌++◌, ◌∷◌, [], decimal, IfOk, OnOk};
-ghost use Rattle.text_fields.specs.Fields.{behind, joined};
-ghost use Rattle.report_lines.specs.declared.entry.LineEntry.TheVariants as line;
+ghost use Rattle.std.specs.Prelude.{◌≡◌, ◌++◌, None, false, IfOk, OnOk};
+ghost use Rattle.text_fields.specs.Fields.{joined};
+ghost use Rattle.report_lines.specs.declared.entry.Entry.TheVariants as entry;
+ghost use Rattle.report_lines.specs.declared.entry.LineEntry.TheVariants as line_entry;
+ghost use Rattle.report_lines.specs.declared.entry.ChargeEntry.TheVariants as charge;
 ghost use Rattle.pc_base.specs.declared.effect.Effect.TheVariants as effect;
-ghost use Rattle.report_lines.specs.Text.{entry_text, line_fields, effect_fields, charge_fields, verdict_fields, fate_fields, place_fields, counters_fields, row_fields, ending, shown, line_shown};
-ghost use Rattle.report_lines.specs.Words.{message_word, moment_word, place_word};
+ghost use Rattle.report_lines.specs.Lent.{verdict_of};
+ghost use Rattle.report_lines.specs.Text.{entry_text, effect_fields, charge_fields, line_fields, line_shown, without_place, shown};
 
-use crate::words::{outcome_word, refused_word, why_word};
-use crate::{Answer, ChargeEntry, EffectEntry, Entry, Judgement, LineEntry, NoMemory};
+use crate::charges::{push_counters, push_row_fields};
+use crate::packets::{push_fate, push_lent, push_message, push_place, push_verdict};
+use crate::words::{outcome_word, refused_word};
+use crate::{ChargeEntry, Entry, Judgement, LentVerdict, LineEntry, NoMemory, Refusal};
 use charging_book::{ChargeRow, Open};
-use pc_base::{Addr4, Effect, Fate, Moment, Octets, Place, Slot, Verdict};
+use pc_base::{Addr4, Effect, Fate, Octets, Reply, Slot};
 use std::alloc::Global;
 use text_fields::{push_address, push_field, push_number, push_octets};
 
@@ -29,7 +33,7 @@ pub fn push_text(out: &mut Vec<u8>, entry: &Entry, places: bool) -> Result<(), N
 {
     match entry {
         Entry::Line(entry) => push_line(out, entry, places),
-        Entry::Effect(entry) => push_effect(out, entry),
+        Entry::Effect(entry) => push_effect(out, entry.slot, entry.command, &entry.effect),
         Entry::Charge(entry) => push_charge(out, entry),
     }
 }
@@ -38,55 +42,48 @@ fn push_line(out: &mut Vec<u8>, entry: &LineEntry, places: bool) -> Result<(), N
     ensures { OnOk result (out.new.items ≡ out.old.items ++ joined (line_fields (line_shown places entry.now))) }
 {
     match entry {
-        LineEntry::N(note) => {
-            out.push(b'N')?;
-            push_number(out, note.line)?;
-            push_field(out, note.note.as_slice())
+        LineEntry::N(note) => push_note(out, note.line, note.note.as_slice()),
+        LineEntry::C(answer) => {
+            push_answer(out, answer.line, answer.slot, answer.number, &answer.reply)
         }
-        LineEntry::C(answer) => push_answer(out, answer),
         LineEntry::P(judgement) => push_judgement(out, judgement, places),
-        LineEntry::F(refusal) => {
-            out.push(b'F')?;
-            push_number(out, refusal.line)?;
-            push_number(out, u64::from(refusal.slot.0))?;
-            push_field(out, refused_word(refusal.packet).as_bytes())
-        }
+        LineEntry::F(refusal) => push_refusal(out, refusal),
     }
 }
 
-fn push_answer(out: &mut Vec<u8>, answer: &Answer) -> Result<(), NoMemory>
-    ensures { OnOk result (out.new.items ≡ out.old.items ++ joined (line_fields (line.C answer.now))) }
+/// Appends the entry of a note: one octet or more of printable ASCII, which isn't looked at here.
+pub fn push_note(out: &mut Vec<u8>, line: u64, note: &[u8]) -> Result<(), NoMemory>
+    ensures { OnOk result (out.new.items ≡ out.old.items
+        ++ entry_text (entry.Line (line_entry.N (record { line = line; note = note.now })))) }
+{
+    out.push(b'N')?;
+    push_number(out, line)?;
+    push_field(out, note)
+}
+
+/// Appends the entry of a slot's command of this number, with its reply.
+pub fn push_answer(
+    out: &mut Vec<u8>,
+    line: u64,
+    slot: Slot,
+    number: u64,
+    reply: &Reply,
+) -> Result<(), NoMemory>
+    ensures { OnOk result (out.new.items ≡ out.old.items
+        ++ entry_text (entry.Line (line_entry.C (record { line = line; slot = slot; number = number; reply = reply.now })))) }
 {
     out.push(b'C')?;
-    push_number(out, answer.line)?;
-    push_number(out, u64::from(answer.slot.0))?;
-    push_number(out, answer.number)?;
-    push_field(out, outcome_word(answer.reply.outcome).as_bytes())?;
-    push_message(out, &answer.reply.message)
+    push_number(out, line)?;
+    push_number(out, u64::from(slot.0))?;
+    push_number(out, number)?;
+    push_field(out, outcome_word(reply.outcome).as_bytes())?;
+    push_message(out, &reply.message)
 }
 
-fn push_message(out: &mut Vec<u8>, message: &Option<Octets>) -> Result<(), NoMemory>
-    ensures { OnOk result (out.new.items ≡ out.old.items ++ 32 ∷ message_word message.now) }
+fn push_judgement(out: &mut Vec<u8>, judgement: &Judgement, places: bool) -> Result<(), NoMemory>
+    ensures { OnOk result (out.new.items ≡ out.old.items ++ joined (line_fields (line_shown places (line_entry.P judgement.now)))) }
 {
-    match message {
-        None => push_field(out, b"-"),
-        Some(octets) => push_octets(out, octets.as_slice()),
-    }
-}
-
-fn push_judgement(
-    out: &mut Vec<u8>,
-    judgement: &Judgement,
-    places: bool,
-) -> Result<(), NoMemory>
-    ensures { OnOk result (out.new.items ≡ out.old.items ++ joined (line_fields (line_shown places (line.P judgement.now)))) }
-{
-    out.push(b'P')?;
-    push_number(out, judgement.line)?;
-    push_number(out, u64::from(judgement.slot.0))?;
-    push_number(out, judgement.number)?;
-    push_number(out, judgement.commands)?;
-    push_verdict(out, &judgement.verdict)?;
+    push_unplaced(out, judgement)?;
     if places {
         push_place(out, judgement.place, judgement.parked)
     } else {
@@ -94,78 +91,71 @@ fn push_judgement(
     }
 }
 
-fn push_verdict(out: &mut Vec<u8>, verdict: &Verdict) -> Result<(), NoMemory>
-    ensures { OnOk result (out.new.items ≡ out.old.items ++ behind (verdict_fields verdict.now [])) }
-{
-    match verdict {
-        Verdict::Up { life, octets } => {
-            push_field(out, b"up")?;
-            push_number(out, *life)?;
-            push_octets(out, octets.as_slice())
-        }
-        Verdict::Down { life, peer, octets } => {
-            push_field(out, b"down")?;
-            push_number(out, *life)?;
-            push_address(out, peer.0)?;
-            push_octets(out, octets.as_slice())
-        }
-        Verdict::NoBearer => push_field(out, b"nobearer"),
-        Verdict::Spoof => push_field(out, b"spoof"),
-        Verdict::Idle { life } => {
-            push_field(out, b"idle")?;
-            push_number(out, *life)
-        }
-        Verdict::Held { life, message } => {
-            push_field(out, b"held")?;
-            push_number(out, *life)?;
-            push_message(out, message)
-        }
-        Verdict::Policed { life } => {
-            push_field(out, b"policed")?;
-            push_number(out, *life)
-        }
-    }
-}
-
-fn push_place(out: &mut Vec<u8>, place: Option<Place>, parked: bool) -> Result<(), NoMemory>
-    ensures { OnOk result (out.new.items ≡ out.old.items ++ behind (place_fields place parked)) }
-{
-    let Some(place) = place else {
-        return Ok(());
-    };
-    push_place_word(out, place)?;
-    if parked {
-        push_field(out, b"p")
-    } else {
-        Ok(())
-    }
-}
-
-fn push_place_word(out: &mut Vec<u8>, place: Place) -> Result<(), NoMemory>
-    ensures { OnOk result (out.new.items ≡ out.old.items ++ 32 ∷ place_word place) }
-{
-    match place {
-        Place::At(slice) => {
-            let mut buffer = itoa::Buffer::new();
-            push_field(out, b"@")?;
-            out.extend_from_slice(buffer.format(slice.0).as_bytes())?;
-            Ok(())
-        }
-        Place::Closing => push_field(out, b"@-"),
-    }
-}
-
-fn push_effect(out: &mut Vec<u8>, entry: &EffectEntry) -> Result<(), NoMemory>
+// All but the place.
+fn push_unplaced(out: &mut Vec<u8>, judgement: &Judgement) -> Result<(), NoMemory>
     ensures { OnOk result (out.new.items
-        ≡ out.old.items ++ joined (effect_fields entry.now.slot entry.now.command entry.now.effect)) }
+        ≡ out.old.items ++ joined (line_fields (line_entry.P (without_place judgement.now)))) }
 {
-    match &entry.effect {
+    out.push(b'P')?;
+    push_number(out, judgement.line)?;
+    push_number(out, u64::from(judgement.slot.0))?;
+    push_number(out, judgement.number)?;
+    push_number(out, judgement.commands)?;
+    push_verdict(out, &judgement.verdict)
+}
+
+/// Appends the entry, without a place, of a slot's packet of this number, judged behind so many of the
+/// slot's commands.
+pub fn push_packet(
+    out: &mut Vec<u8>,
+    line: u64,
+    slot: Slot,
+    number: u64,
+    commands: u64,
+    verdict: &LentVerdict<'_>,
+) -> Result<(), NoMemory>
+    ensures { OnOk result (out.new.items ≡ out.old.items ++ entry_text (entry.Line (line_entry.P (record {
+      line = line;
+      slot = slot;
+      number = number;
+      commands = commands;
+      verdict = verdict_of verdict.now;
+      place = None;
+      parked = false;
+    })))) }
+{
+    out.push(b'P')?;
+    push_number(out, line)?;
+    push_number(out, u64::from(slot.0))?;
+    push_number(out, number)?;
+    push_number(out, commands)?;
+    push_lent(out, verdict)
+}
+
+fn push_refusal(out: &mut Vec<u8>, refusal: &Refusal) -> Result<(), NoMemory>
+    ensures { OnOk result (out.new.items ≡ out.old.items ++ joined (line_fields (line_entry.F refusal.now))) }
+{
+    out.push(b'F')?;
+    push_number(out, refusal.line)?;
+    push_number(out, u64::from(refusal.slot.0))?;
+    push_field(out, refused_word(refusal.packet).as_bytes())
+}
+
+/// Appends the entry of an effect of a slot's command of this number.
+pub fn push_effect(
+    out: &mut Vec<u8>,
+    slot: Slot,
+    command: u64,
+    effect: &Effect,
+) -> Result<(), NoMemory>
+    ensures { OnOk result (out.new.items ≡ out.old.items
+        ++ entry_text (entry.Effect (record { slot = slot; command = command; effect = effect.now }))) }
+{
+    match effect {
         Effect::Marker { life, peer, octets } => {
-            push_marker(out, entry.slot, entry.command, *life, *peer, octets)
+            push_marker(out, slot, command, *life, *peer, octets)
         }
-        Effect::Fate { packet, fate } => {
-            push_settlement(out, entry.slot, entry.command, *packet, fate)
-        }
+        Effect::Fate { packet, fate } => push_settlement(out, slot, command, *packet, fate),
     }
 }
 
@@ -205,90 +195,29 @@ fn push_settlement(
     push_fate(out, fate)
 }
 
-fn push_fate(out: &mut Vec<u8>, fate: &Fate) -> Result<(), NoMemory>
-    ensures { OnOk result (out.new.items ≡ out.old.items ++ behind (fate_fields fate.now)) }
-{
-    match fate {
-        Fate::Down { life, peer, octets } => {
-            push_field(out, b"down")?;
-            push_number(out, *life)?;
-            push_address(out, peer.0)?;
-            push_octets(out, octets.as_slice())
-        }
-        Fate::Policed { life } => {
-            push_field(out, b"policed")?;
-            push_number(out, *life)
-        }
-        Fate::Gone { life } => {
-            push_field(out, b"gone")?;
-            push_number(out, *life)
-        }
-    }
-}
-
 fn push_charge(out: &mut Vec<u8>, entry: &ChargeEntry) -> Result<(), NoMemory>
     ensures { OnOk result (out.new.items ≡ out.old.items ++ joined (charge_fields entry.now)) }
 {
     match entry {
-        ChargeEntry::R { slot, row } => {
-            out.push(b'R')?;
-            push_number(out, u64::from(slot.0))?;
-            push_row(out, row)
-        }
-        ChargeEntry::O { slot, counters } => {
-            out.push(b'O')?;
-            push_number(out, u64::from(slot.0))?;
-            push_counters(out, counters)
-        }
+        ChargeEntry::R { slot, row } => push_row(out, *slot, row),
+        ChargeEntry::O { slot, counters } => push_open(out, *slot, counters),
     }
 }
 
-fn push_counters(out: &mut Vec<u8>, counters: &Open) -> Result<(), NoMemory>
-    ensures { OnOk result (out.new.items ≡ out.old.items ++ behind (counters_fields counters.now [])) }
+/// Appends the entry of a charging record of a slot.
+pub fn push_row(out: &mut Vec<u8>, slot: Slot, row: &ChargeRow) -> Result<(), NoMemory>
+    ensures { OnOk result (out.new.items ≡ out.old.items ++ entry_text (entry.Charge (charge.R slot row.now))) }
 {
-    push_piece(out, counters.life, counters.ebi, counters.qci, counters.seq)?;
-    push_number(out, counters.up_octets)?;
-    push_number(out, counters.down_octets)?;
-    push_number(out, counters.up_packets)?;
-    push_number(out, counters.down_packets)
+    out.push(b'R')?;
+    push_number(out, u64::from(slot.0))?;
+    push_row_fields(out, row)
 }
 
-// Which piece of which bearer's life.
-fn push_piece(out: &mut Vec<u8>, life: u64, ebi: u8, qci: u8, seq: u64) -> Result<(), NoMemory>
-    ensures { OnOk result (out.new.items
-        ≡ out.old.items ++ behind (decimal life ∷ decimal ebi ∷ decimal qci ∷ decimal seq ∷ [])) }
+/// Appends the entry of a slot's open counters.
+pub fn push_open(out: &mut Vec<u8>, slot: Slot, counters: &Open) -> Result<(), NoMemory>
+    ensures { OnOk result (out.new.items ≡ out.old.items ++ entry_text (entry.Charge (charge.O slot counters.now))) }
 {
-    push_number(out, life)?;
-    push_number(out, u64::from(ebi))?;
-    push_number(out, u64::from(qci))?;
-    push_number(out, seq)
-}
-
-fn push_row(out: &mut Vec<u8>, row: &ChargeRow) -> Result<(), NoMemory>
-    ensures { OnOk result (out.new.items ≡ out.old.items ++ behind (row_fields row.now)) }
-{
-    push_piece(out, row.life, row.ebi, row.qci, row.seq)?;
-    push_number(out, row.up_octets)?;
-    push_number(out, row.down_octets)?;
-    push_number(out, row.up_packets)?;
-    push_number(out, row.down_packets)?;
-    push_ending(out, row)
-}
-
-// The moments of a piece, and why it was finished.
-fn push_ending(out: &mut Vec<u8>, row: &ChargeRow) -> Result<(), NoMemory>
-    ensures { OnOk result (out.new.items ≡ out.old.items ++ behind (ending row.now)) }
-{
-    push_moment(out, row.first)?;
-    push_moment(out, row.last)?;
-    push_field(out, why_word(row.why).as_bytes())
-}
-
-fn push_moment(out: &mut Vec<u8>, moment: Option<Moment>) -> Result<(), NoMemory>
-    ensures { OnOk result (out.new.items ≡ out.old.items ++ 32 ∷ moment_word moment) }
-{
-    match moment {
-        None => push_field(out, b"-"),
-        Some(moment) => push_number(out, moment.0),
-    }
+    out.push(b'O')?;
+    push_number(out, u64::from(slot.0))?;
+    push_counters(out, counters)
 }
