@@ -19,7 +19,8 @@ use Rattle.lawful_run.specs.Answers.{AnswersAll}
 use Rattle.lawful_run.specs.AnsweredRun.{entry_after, entries_from, behind_line, with_line, brought}
 use Rattle.lawful_run.specs.AtOnce.{LineAtOnce}
 use Rattle.lawful_run.specs.LinesTold.{LineTold, lines_told, EachFrom}
-use Rattle.lawful_run.specs.Order.{Histories, numbered}
+use Rattle.demux.specs.Packets.{numbered}
+use Rattle.lawful_run.specs.Order.{Histories}
 use Rattle.lawful_run.specs.Outcomes.{replies, verdicts}
 use Rattle.lawful_run.specs.Telling.{command_number, packet_number, reply_told, verdict_told, counted}
 use Rattle.lawful_run.proofs.Counting.{commands-command, commands-packet, packets-packet, packets-command, IsCounted, counted_on}

@@ -17,7 +17,8 @@ use Rattle.lawful_run.specs.Answers.{AnswersAll}
 use Rattle.lawful_run.specs.AnsweredRun.{with_line, brought}
 use Rattle.lawful_run.specs.Bounds.{Rises, count_at_once}
 use Rattle.lawful_run.specs.LinesTold.{LineTold, lines_told, EachFrom}
-use Rattle.lawful_run.specs.Order.{Histories, ordered, numbered, events_in}
+use Rattle.demux.specs.Packets.{numbered}
+use Rattle.lawful_run.specs.Order.{Histories, ordered, events_in}
 use Rattle.lawful_run.specs.Telling.{commands_told}
 use Rattle.lawful_run.proofs.Meets.{LineMeets}
 use Rattle.lawful_run.proofs.Counting.{commands-command, commands-packet, packets-packet, packets-command, IsCounted, counted_on}

@@ -16,7 +16,8 @@ use Rattle.lawful_run.specs.Answers.{Answers}
 use Rattle.lawful_run.specs.AnsweredRun.{with_line}
 use Rattle.lawful_run.specs.Bounds.{count_at_once}
 use Rattle.lawful_run.specs.LinesTold.{LineTold}
-use Rattle.lawful_run.specs.Order.{Histories, numbered}
+use Rattle.demux.specs.Packets.{numbered}
+use Rattle.lawful_run.specs.Order.{Histories}
 
 -- one command, or packet, more
 pub commands-command : (before : List Event) (c : CommandKind)

@@ -10,7 +10,8 @@ use Rattle.lawful_run.specs.AnsweredRun.{answered_run, answered_from, answered_e
 use Rattle.lawful_run.specs.AtOnce.{LineAtOnce, EpochsAtOnce, AnswersAtOnce}
 use Rattle.lawful_run.specs.Job.{Job}
 use Rattle.lawful_run.specs.LinesTold.{LineTold, lines_told, EachFrom}
-use Rattle.lawful_run.specs.Order.{Histories, events_in, behind, numbered}
+use Rattle.demux.specs.Packets.{numbered}
+use Rattle.lawful_run.specs.Order.{Histories, events_in, behind}
 use Rattle.lawful_run.specs.Outcomes as made_of
 use Rattle.lawful_run.specs.Run.{by_slot, told_in, IsEpochRun, AreEpochRuns, IsRun, behind_all, no_events}
 use Rattle.lawful_run.proofs.AnsweredLines.{answered_each, answered_at_once, answered_slot}

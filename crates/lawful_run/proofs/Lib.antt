@@ -9,3 +9,6 @@ mod EveryTrace
 mod OneList
 mod OneRun
 mod OneText
+mod BySlot
+mod ChargesTold
+mod SentTold

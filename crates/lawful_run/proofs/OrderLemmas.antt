@@ -5,7 +5,8 @@ use Rattle.gate_model.specs.declared.event.Event.{Event}
 use Rattle.gate_model.specs.declared.event.Event.TheVariants as event
 use Rattle.lawful_run.specs.Accepted.{Placed}
 use Rattle.lawful_run.specs.Bounds.{Rises}
-use Rattle.lawful_run.specs.Order.{ordered, numbered}
+use Rattle.demux.specs.Packets.{numbered}
+use Rattle.lawful_run.specs.Order.{ordered}
 
 -- how many commands stand before each packet
 abbrev pub counts_of : List Placed → List ℕ

@@ -13,3 +13,5 @@ pub mod Outcomes
 pub mod Run
 pub mod AtOnce
 pub mod AnsweredRun
+pub mod Trace
+pub mod Ledger

@@ -1,17 +1,12 @@
 -- The order in which the events of a slot were handled.
 use Rattle.std.specs.Prelude.{ℕ, ◌+◌, ◌-◌, List, [], ◌∷◌, ◌++◌, length, map, take, drop}
 use Rattle.control_steps.specs.declared.command.CommandKind.{CommandKind}
-use Rattle.demux.specs.declared.packet.LentPacket.{LentPacket}
-use Rattle.pc_base.specs.declared.packet.Packet.{Packet}
+use Rattle.demux.specs.Packets.{numbered}
 use Rattle.gate_model.specs.Events.{commands_of, packets_of}
 use Rattle.gate_model.specs.declared.event.Event.{Event}
 use Rattle.gate_model.specs.declared.event.Event.TheVariants as event
 use Rattle.lawful_run.specs.Accepted.{Placed, commands_accepted, packets_accepted}
 use Rattle.lawful_run.specs.LinesTold.{LineTold}
-
--- a packet under its number among those of its slot
-abbrev pub numbered : ℕ → LentPacket → Packet
-numbered number lent = record { number = number; moment = lent.moment; way = lent.way; octets = lent.ip }
 
 -- A command stands before a packet exactly where its number is below the count of commands that the packet tells. The
 -- next command has the number `done`, the next packet the number `next`.
