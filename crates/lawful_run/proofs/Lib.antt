@@ -12,3 +12,4 @@ mod OneText
 mod BySlot
 mod ChargesTold
 mod SentTold
+mod LedgerLaws

@@ -4,6 +4,7 @@ ghost use Rattle.demux.specs.Trace.{Meaning};
 ghost use Rattle.lawful_run.specs.AnsweredRun.{answered_run};
 ghost use Rattle.lawful_run.specs.AtOnce.{AnswersAtOnce};
 ghost use Rattle.lawful_run.specs.Job.{Job, solo};
+ghost use Rattle.lawful_run.specs.Ledger.{ReportsArePartitions, EachOctetCharged, EachPacketCharged};
 ghost use Rattle.lawful_run.specs.Report.{Report, report_text};
 ghost use Rattle.lawful_run.specs.Run.{IsRun};
 
@@ -23,4 +24,13 @@ pub fn one_run_answers_at_once()
 pub fn one_text_of_one_thread()
     ensures { (slots : ℕ) (made : List (List Meaning)) (report : Report)
         → IsRun solo slots made report → report_text false report ≡ report_text false (answered_run slots made) }
+{}
+
+/// Billing is exact in every lawful run: the pieces that the charging records and the open counters of a
+/// bearer's life tell have just the packets that verdicts and fates forward for it, each in one piece. So
+/// they have its octets and its packets, each way.
+pub fn each_packet_is_charged()
+    ensures pieces { ReportsArePartitions }
+    ensures octets { EachOctetCharged }
+    ensures packets { EachPacketCharged }
 {}
