@@ -1,5 +1,5 @@
 -- The entries of a gateway that answers at once, for the lines of an epoch.
-use Rattle.std.proofs.Common.{◌≡◌, ℕ, ◌+◌, ◌==◌, Bool, true, false, Some, None, List, [], ◌∷◌, ◌++◌, length, cond, refl, sym, ap, subst, ◌∙◌, arith}
+use Rattle.std.proofs.Common.{◌≡◌, ℕ, ◌+◌, ◌==◌, Bool, true, false, Some, None, List, [], ◌∷◌, ◌++◌, length, cond, refl, sym, ap, ◌∙◌}
 use Rattle.std.specs.List.{filter_map, cons_option}
 use Rattle.std.specs.Option.{option_map}
 use Rattle.std.proofs.lemmas.Bool.{eqb-true}
@@ -38,18 +38,26 @@ pub answered_at_once : (n : ℕ) (start : Histories) (front : List LineTold) (be
     → ((slot : ℕ) → IsCounted start slot front (before slot))
     → EachFrom (LineAtOnce start) front (lines_told made (entries_from n before made))
 answered_at_once n start front before [] counts = tt
-answered_at_once n start front before (note text ∷ made) counts =
-    (tt, answered_at_once (n + 1) start _ (behind_line before (note text)) made
-    (λ slot. counted_on start slot front (before slot) (note text) (entry_after n before (note text)) refl (counts slot)))
-answered_at_once n start front before (move own slice text ∷ made) counts =
-    (tt, answered_at_once (n + 1) start _ (behind_line before (move own slice text)) made
-    (λ slot. counted_on start slot front (before slot) (move own slice text) (entry_after n before (move own slice text)) refl (counts slot)))
-answered_at_once n start front before (command own c ∷ made) counts =
-    (tt, answered_at_once (n + 1) start _ (behind_line before (command own c)) made
-    (λ slot. counted_on start slot front (before slot) (command own c) (entry_after n before (command own c)) refl (counts slot)))
-answered_at_once n start front before (packet own p ∷ made) counts =
-    (record { commands = counts own; place = refl; parked = refl }, answered_at_once (n + 1) start _ (behind_line before (packet own p)) made
-    (λ slot. counted_on start slot front (before slot) (packet own p) (entry_after n before (packet own p)) refl (counts slot)))
+answered_at_once n start front before (note text ∷ made) counts = (
+  tt,
+  answered_at_once (n + 1) start _ (behind_line before (note text)) made
+      (λ slot. counted_on start slot front (before slot) (note text) (entry_after n before (note text)) refl (counts slot)),
+)
+answered_at_once n start front before (move own slice text ∷ made) counts = (
+  tt,
+  answered_at_once (n + 1) start _ (behind_line before (move own slice text)) made
+      (λ slot. counted_on start slot front (before slot) (move own slice text) (entry_after n before (move own slice text)) refl (counts slot)),
+)
+answered_at_once n start front before (command own c ∷ made) counts = (
+  tt,
+  answered_at_once (n + 1) start _ (behind_line before (command own c)) made
+      (λ slot. counted_on start slot front (before slot) (command own c) (entry_after n before (command own c)) refl (counts slot)),
+)
+answered_at_once n start front before (packet own p ∷ made) counts = (
+  record { commands = counts own; place = refl; parked = refl },
+  answered_at_once (n + 1) start _ (behind_line before (packet own p)) made
+      (λ slot. counted_on start slot front (before slot) (packet own p) (entry_after n before (packet own p)) refl (counts slot)),
+)
 
 -- what the entries of a slot tell, where its events are those that the lines bring
 pub record SlotAnswered (slot : ℕ) (before : List Event) (made : List Meaning) (entries : List LineEntry) : Type 0 where

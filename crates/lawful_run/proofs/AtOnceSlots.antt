@@ -1,5 +1,5 @@
 -- The events of a slot where each line is answered at once: they stand in line order.
-use Rattle.std.proofs.Common.{◌≡◌, ℕ, suc, ◌+◌, ◌==◌, ◌≤◌, Bool, true, false, Option, Some, None, List, [], ◌∷◌, ◌++◌, length, cond, refl, sym, ap, subst, ◌∙◌, arith}
+use Rattle.std.proofs.Common.{◌≡◌, ℕ, suc, ◌+◌, ◌==◌, Bool, true, false, Some, None, List, [], ◌∷◌, ◌++◌, length, cond, refl, sym, ap, subst, ◌∙◌, arith}
 use Rattle.std.specs.List.{filter_map, cons_option}
 use Rattle.std.specs.Option.{option_map}
 use Rattle.std.proofs.lemmas.Bool.{eqb-true}
@@ -11,7 +11,6 @@ use Rattle.gate_model.specs.declared.event.Event.{Event}
 use Rattle.gate_model.specs.declared.event.Event.TheVariants as event
 use Rattle.report_lines.specs.declared.entry.LineEntry.{LineEntry}
 use Rattle.report_lines.specs.declared.entry.LineEntry.TheVariants as line
-use Rattle.report_lines.specs.Records.{Judged}
 use Rattle.lawful_run.specs.Accepted.{Placed, commands_accepted, packets_accepted, command_for, packet_for}
 use Rattle.lawful_run.specs.Answers.{AnswersAll}
 use Rattle.lawful_run.specs.AnsweredRun.{with_line, brought}
@@ -85,12 +84,13 @@ command_first : (test : Bool) (before : List Event) (c : CommandKind) (commands 
     ≡ cond test (event.Command c ∷ []) [] ++ events)
 command_first true before c commands packets events rises holds =
     let more = commands-command before c in
-    let here : Rises (length (commands_of before) + 1) (counts_of packets) = rw (sym more) rises in
-    (rises_lower (length (commands_of before)) (length (commands_of before) + 1) (counts_of packets) (omega arith) here,
-    ordered-command (length (commands_of before)) (length (packets_of before)) c commands packets here
-    ∙ ap (λ rest. event.Command c ∷ rest)
-    (subst (λ k. ordered k (length (packets_of before)) commands packets ≡ events) more
-    (subst (λ k. ordered (length (commands_of (before ++ event.Command c ∷ []))) k commands packets ≡ events) (packets-command before c) holds)))
+    let here : Rises (length (commands_of before) + 1) (counts_of packets) = rw (sym more) rises in (
+      rises_lower (length (commands_of before)) (length (commands_of before) + 1) (counts_of packets) (omega arith) here,
+      ordered-command (length (commands_of before)) (length (packets_of before)) c commands packets here
+          ∙ ap (λ rest. event.Command c ∷ rest)
+          (subst (λ k. ordered k (length (packets_of before)) commands packets ≡ events) more
+          (subst (λ k. ordered (length (commands_of (before ++ event.Command c ∷ []))) k commands packets ≡ events) (packets-command before c) holds)),
+    )
 command_first false before c commands packets events rises holds = (rises, holds)
 
 -- the first line brings a packet that meets the commands before it
@@ -107,12 +107,13 @@ packet_first : (test : Bool) (before : List Event) (count : ℕ) (p : LentPacket
 packet_first true before count p commands packets counts events meets rises holds =
     let here : count ≡ length (commands_of before) = meets refl in
     let none = commands-packet before (numbered (length (packets_of before)) p) in
-    let more = packets-packet before (numbered (length (packets_of before)) p) in
-    ((omega (arith, here), rises_lower count (length (commands_of before)) counts (omega (arith, here)) (rw (sym none) rises)),
-    ordered-packet (length (commands_of before)) (length (packets_of before)) commands (record { commands = count; packet = p }) packets here
-    ∙ ap (λ rest. event.Packet (numbered (length (packets_of before)) p) ∷ rest)
-    (subst (λ k. ordered (length (commands_of before)) k commands packets ≡ events) more
-    (subst (λ k. ordered k (length (packets_of (before ++ event.Packet (numbered (length (packets_of before)) p) ∷ []))) commands packets ≡ events) none holds)))
+    let more = packets-packet before (numbered (length (packets_of before)) p) in (
+      (omega (arith, here), rises_lower count (length (commands_of before)) counts (omega (arith, here)) (rw (sym none) rises)),
+      ordered-packet (length (commands_of before)) (length (packets_of before)) commands (record { commands = count; packet = p }) packets here
+          ∙ ap (λ rest. event.Packet (numbered (length (packets_of before)) p) ∷ rest)
+          (subst (λ k. ordered (length (commands_of before)) k commands packets ≡ events) more
+          (subst (λ k. ordered k (length (packets_of (before ++ event.Packet (numbered (length (packets_of before)) p) ∷ []))) commands packets ≡ events) none holds)),
+    )
 packet_first false before count p commands packets counts events meets rises holds = (rises, holds)
 
 count_first : (test : Bool) (count here : ℕ) (counts others : List ℕ) → (test ≡ true → count ≡ here) → counts ≡ others

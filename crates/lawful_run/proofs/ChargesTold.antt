@@ -1,6 +1,6 @@
 -- The charging records and open counters that a lawful report tells of a slot are those of its events.
-use Rattle.std.proofs.Common.{◌≡◌, ◌≢◌, ℕ, ◌+◌, ◌<◌, ◌≤◌, ◌==◌, Bool, true, false, Some, None, List, [], ◌∷◌, ◌++◌, length, map, cond, refl, sym, ap, subst, ◌∙◌, arith, append_assoc, append-nil}
-use Rattle.std.specs.List.{filter_map, flat_map, cons_option}
+use Rattle.std.proofs.Common.{◌≡◌, ◌≢◌, ℕ, ◌+◌, ◌<◌, List, [], ◌∷◌, ◌++◌, length, map, refl, sym, ap, ◌∙◌, arith, append_assoc, append-nil}
+use Rattle.std.specs.List.{filter_map, flat_map}
 use Rattle.std.proofs.lemmas.Bool.{ne_eqb}
 use Rattle.std.proofs.lemmas.List.Elements.{filter_map-append}
 use Rattle.charging_book.specs.Rows.{Charged, Counters}
@@ -8,14 +8,13 @@ use Rattle.demux.specs.Trace.{Meaning}
 use Rattle.gate_model.specs.SlotPast.{records_after, records_made, opens_after}
 use Rattle.gate_model.specs.declared.event.Event.{Event}
 use Rattle.gate_model.proofs.Charges.{records_added}
-use Rattle.report_lines.specs.declared.entry.ChargeEntry.{ChargeEntry}
 use Rattle.report_lines.specs.declared.entry.ChargeEntry.TheVariants.{R, O}
 use Rattle.lawful_run.specs.Job.{Job}
 use Rattle.lawful_run.specs.Ledger.{row_by, counters_by, rows_told, opens_told}
 use Rattle.lawful_run.specs.Order.{Histories, events_in, behind}
 use Rattle.lawful_run.specs.Outcomes as made_of
 use Rattle.lawful_run.specs.Report.{EpochReport, Report}
-use Rattle.lawful_run.specs.Run.{by_slot, told_in, IsEpochRun, AreEpochRuns, IsRun, behind_all, no_events}
+use Rattle.lawful_run.specs.Run.{told_in, IsEpochRun, AreEpochRuns, IsRun, behind_all, no_events}
 use Rattle.lawful_run.proofs.BySlot.{one_of}
 use Rattle.lawful_run.proofs.SlotCases.{eqb_same}
 

@@ -1,17 +1,15 @@
 -- The entries of a gateway that answers each line at once are a lawful run.
 use Rattle.std.proofs.Common.{◌≡◌, ℕ, ◌+◌, ◌==◌, Bool, true, false, List, [], ◌∷◌, ◌++◌, length, cond, refl, sym, ap, subst, ◌∙◌, arith, append_assoc, append-nil}
-use Rattle.control_steps.specs.declared.command.CommandKind.{CommandKind}
-use Rattle.pc_base.specs.declared.packet.Packet.{Packet}
 use Rattle.demux.specs.Trace.{Meaning, command, packet, move, note}
-use Rattle.gate_model.specs.Events.{commands_of, packets_of}
+use Rattle.gate_model.specs.Events.{packets_of}
 use Rattle.gate_model.specs.declared.event.Event.{Event}
 use Rattle.gate_model.specs.declared.event.Event.TheVariants as event
 use Rattle.lawful_run.specs.AnsweredRun.{answered_run, answered_from, answered_epoch, entries_from, behind_lines, behind_epochs, events_after, brought, brings, with_line}
 use Rattle.lawful_run.specs.AtOnce.{LineAtOnce, EpochsAtOnce, AnswersAtOnce}
 use Rattle.lawful_run.specs.Job.{Job}
-use Rattle.lawful_run.specs.LinesTold.{LineTold, lines_told, EachFrom}
+use Rattle.lawful_run.specs.LinesTold.{lines_told, EachFrom}
 use Rattle.demux.specs.Packets.{numbered}
-use Rattle.lawful_run.specs.Order.{Histories, events_in, behind}
+use Rattle.lawful_run.specs.Order.{Histories, behind}
 use Rattle.lawful_run.specs.Outcomes as made_of
 use Rattle.lawful_run.specs.Run.{by_slot, told_in, IsEpochRun, AreEpochRuns, IsRun, behind_all, no_events}
 use Rattle.lawful_run.proofs.AnsweredLines.{answered_each, answered_at_once, answered_slot}
@@ -79,18 +77,20 @@ module _ (slots first : ℕ) (before : Histories) (made : List Meaning) where
 pub answered_from_lawful : (job : Job) (slots first : ℕ) (before : Histories) (epochs : List (List Meaning))
     → AreEpochRuns job slots first before epochs (answered_from slots first before epochs)
 answered_from_lawful job slots first before [] = tt
-answered_from_lawful job slots first before (made ∷ epochs) =
-    (answered_epoch_lawful slots first before made job,
-    subst (λ h. AreEpochRuns job slots (first + length made) h epochs (answered_from slots (first + length made) (behind_lines before made) epochs))
-    (sym (behind_answered slots first before made)) (answered_from_lawful job slots (first + length made) (behind_lines before made) epochs))
+answered_from_lawful job slots first before (made ∷ epochs) = (
+  answered_epoch_lawful slots first before made job,
+  subst (λ h. AreEpochRuns job slots (first + length made) h epochs (answered_from slots (first + length made) (behind_lines before made) epochs))
+      (sym (behind_answered slots first before made)) (answered_from_lawful job slots (first + length made) (behind_lines before made) epochs),
+)
 
 pub answered_from_at_once : (slots first : ℕ) (before : Histories) (epochs : List (List Meaning))
     → EpochsAtOnce before epochs (answered_from slots first before epochs)
 answered_from_at_once slots first before [] = tt
-answered_from_at_once slots first before (made ∷ epochs) =
-    (answered_epoch_at_once slots first before made,
-    subst (λ h. EpochsAtOnce h epochs (answered_from slots (first + length made) (behind_lines before made) epochs))
-    (sym (behind_answered slots first before made)) (answered_from_at_once slots (first + length made) (behind_lines before made) epochs))
+answered_from_at_once slots first before (made ∷ epochs) = (
+  answered_epoch_at_once slots first before made,
+  subst (λ h. EpochsAtOnce h epochs (answered_from slots (first + length made) (behind_lines before made) epochs))
+      (sym (behind_answered slots first before made)) (answered_from_at_once slots (first + length made) (behind_lines before made) epochs),
+)
 
 pub behind_all_answered : (slots first : ℕ) (before : Histories) (epochs : List (List Meaning))
     → behind_all before epochs (answered_from slots first before epochs) ≡ behind_epochs before epochs

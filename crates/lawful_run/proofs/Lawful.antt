@@ -1,13 +1,11 @@
 -- What is answered at once is lawful under every job.
-use Rattle.std.proofs.Common.{◌≡◌, ℕ, ◌+◌, ◌≤◌, Bool, true, false, List, [], ◌∷◌, ◌++◌, length, cond, refl, sym, ap, subst, ◌∙◌, arith, length-append, append_assoc}
-use Rattle.std.specs.List.{filter_map}
+use Rattle.std.proofs.Common.{◌≡◌, ℕ, ◌+◌, ◌≤◌, Bool, true, false, List, [], ◌∷◌, ◌++◌, cond, sym, subst, arith, length-append}
 use Rattle.std.proofs.lemmas.List.Elements.{filter_map-append}
-use Rattle.demux.specs.Trace.{Meaning}
 use Rattle.report_lines.specs.declared.entry.LineEntry.{LineEntry}
 use Rattle.report_lines.specs.declared.entry.LineEntry.TheVariants as line
-use Rattle.lawful_run.specs.Accepted.{accepted_command, commands_accepted, command_count}
+use Rattle.lawful_run.specs.Accepted.{command_count}
 use Rattle.lawful_run.specs.AtOnce.{LineAtOnce, EntryAtOnce}
-use Rattle.lawful_run.specs.Bounds.{MeetsBounds, MeetsAs, MayMeet, least_count, most_count, count_at_once}
+use Rattle.lawful_run.specs.Bounds.{MeetsBounds, MeetsAs, MayMeet, count_at_once}
 use Rattle.lawful_run.specs.Job.{Job, solo, sliced}
 use Rattle.lawful_run.specs.LinesTold.{LineTold, EachFrom}
 use Rattle.lawful_run.specs.Moves.{is_moved, before_last_move, before_next_move}

@@ -1,11 +1,10 @@
 -- The charging records and open counters of a lawful report are exact.
-use Rattle.std.proofs.Common.{◌≡◌, ℕ, ◌+◌, ◌<◌, ◌==◌, Bool, true, false, not, List, [], ◌∷◌, ◌++◌, map, filter, cond, sum_by, count_by, refl, sym, ap, subst, ◌∙◌, arith, inl, inr}
-use Rattle.std.specs.List.{flat_map}
+use Rattle.std.proofs.Common.{◌≡◌, ℕ, ◌<◌, Bool, true, false, not, List, [], ◌∷◌, map, filter, cond, sum_by, refl, sym, ap, subst, ◌∙◌, arith, inl, inr}
 use Rattle.std.specs.List.Sorted.{IsPermutation}
 use Rattle.std.proofs.lemmas.Bool.{cases_eq, eq-eqb, ne_eqb}
 use Rattle.std.proofs.lemmas.List.Sorted.{sum_by-IsPermutation}
 use Rattle.std.proofs.lemmas.List.Sums.{sum_by-cons}
-use Rattle.charging_book.specs.Happenings.{Happening, rows_of, opens_of}
+use Rattle.charging_book.specs.Happenings.{Happening}
 use Rattle.charging_book.specs.Ledger.{packets_of, octets_in, packets_in}
 use Rattle.charging_book.specs.Pieces.{Forwarded}
 use Rattle.charging_book.proofs.LedgerSums.{each_octet_once, each_packet_once}
@@ -19,7 +18,7 @@ use Rattle.gate_model.proofs.Charges.{forwarded_told, in_one_piece}
 use Rattle.gate_model.proofs.Sound.{past_sound}
 use Rattle.packet_steps.specs.Rows.{ForwardedRow}
 use Rattle.lawful_run.specs.Job.{Job}
-use Rattle.lawful_run.specs.Ledger.{is_of_life, packets_told, rows_told, opens_told, sent_for, octets_sent, packets_sent, ReportsArePartitions, EachOctetCharged, EachPacketCharged}
+use Rattle.lawful_run.specs.Ledger.{is_of_life, packets_told, sent_for, octets_sent, packets_sent, ReportsArePartitions, EachOctetCharged, EachPacketCharged}
 use Rattle.lawful_run.specs.Report.{Report}
 use Rattle.lawful_run.specs.Run.{IsRun}
 use Rattle.lawful_run.proofs.ChargesTold.{all_events, rows_are, opens_are}

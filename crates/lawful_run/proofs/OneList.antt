@@ -1,8 +1,6 @@
 -- The entries of lines, by what those of each slot tell: places are left open.
-use Rattle.std.proofs.Common.{◌≡◌, ℕ, ◌+◌, ◌==◌, Bool, true, false, Some, None, List, [], ◌∷◌, map, cond, refl, sym, ap, subst, ◌∙◌}
+use Rattle.std.proofs.Common.{◌≡◌, ℕ, ◌+◌, ◌==◌, Bool, true, false, Some, None, List, [], ◌∷◌, map, cond, refl, sym, ap, ◌∙◌}
 use Rattle.std.specs.List.{filter_map, cons_option}
-use Rattle.pc_base.specs.declared.packet.Verdict.{Verdict}
-use Rattle.pc_base.specs.declared.reply.Reply.{Reply}
 use Rattle.demux.specs.Trace.{Meaning, command, packet, move, note}
 use Rattle.report_lines.specs.Records.{Noted, Answered, Judged}
 use Rattle.report_lines.specs.Text.{line_without_place}

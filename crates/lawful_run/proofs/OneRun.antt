@@ -1,13 +1,11 @@
 -- Where each packet meets just the commands before it, the report is one, but for places.
-use Rattle.std.proofs.Common.{◌≡◌, ℕ, ◌+◌, ◌==◌, Bool, true, false, Some, None, List, [], ◌∷◌, ◌++◌, length, map, cond, refl, sym, ap, subst, ◌∙◌}
-use Rattle.std.specs.List.{filter_map}
+use Rattle.std.proofs.Common.{◌≡◌, ℕ, ◌+◌, false, Some, List, [], ◌∷◌, ◌++◌, length, map, refl, sym, ap, subst, ◌∙◌}
 use Rattle.pc_base.specs.declared.packet.Place.TheVariants.{Closing}
-use Rattle.demux.specs.Trace.{Meaning, command, packet, move, note}
+use Rattle.demux.specs.Trace.{Meaning}
 use Rattle.gate_model.specs.Events.{commands_of, packets_of}
 use Rattle.report_lines.specs.Text.{line_without_place}
 use Rattle.report_lines.specs.declared.entry.LineEntry.{LineEntry}
 use Rattle.report_lines.specs.declared.entry.LineEntry.TheVariants as line
-use Rattle.lawful_run.specs.Accepted.{commands_accepted, packets_accepted}
 use Rattle.lawful_run.specs.Answers.{AnswersAll}
 use Rattle.lawful_run.specs.AnsweredRun.{answered_run, answered_from, answered_epoch, entries_from, behind_lines, behind_epochs, brought}
 use Rattle.lawful_run.specs.AtOnce.{LineAtOnce, EntryAtOnce, EpochsAtOnce, AnswersAtOnce}
@@ -17,7 +15,7 @@ use Rattle.lawful_run.specs.Order.{Histories, events_in, behind}
 use Rattle.lawful_run.specs.Outcomes as made_of
 use Rattle.lawful_run.specs.Report.{EpochReport, Report}
 use Rattle.lawful_run.specs.Run.{by_slot, told_in, IsEpochRun, AreEpochRuns, IsRun, behind_all, no_events}
-use Rattle.lawful_run.specs.Telling.{counted, command_number, packet_number}
+use Rattle.lawful_run.specs.Telling.{counted}
 use Rattle.lawful_run.proofs.AtOnceSlots.{met_slot, InLineOrder}
 use Rattle.lawful_run.proofs.EveryTrace.{counted_none, with_brought, answered_epoch_lawful, answered_epoch_at_once}
 use Rattle.lawful_run.proofs.Meets.{LineMeets, MeetsOnce, at_once_meets, solo_meets}
@@ -163,9 +161,10 @@ pub solo_epochs_meet : (slots first : ℕ) (before : Histories) (epochs : List (
     → AreEpochRuns solo slots first before epochs others → EpochsMeet before epochs others
 solo_epochs_meet slots first before [] others runs = tt
 solo_epochs_meet slots first before (made ∷ epochs) [] runs = tt
-solo_epochs_meet slots first before (made ∷ epochs) (told ∷ others) runs =
-    (solo_meets before [] (told_in made told) runs.0.bounds runs.0.refusals,
-    solo_epochs_meet slots (first + length made) (behind before (told_in made told)) epochs others runs.1)
+solo_epochs_meet slots first before (made ∷ epochs) (told ∷ others) runs = (
+  solo_meets before [] (told_in made told) runs.0.bounds runs.0.refusals,
+  solo_epochs_meet slots (first + length made) (behind before (told_in made told)) epochs others runs.1,
+)
 
 pub events_behind : (job : Job) (slots first : ℕ) (before : Histories) (epochs : List (List Meaning)) (others : List EpochReport)
     → AreEpochRuns job slots first before epochs others → EpochsMeet before epochs others

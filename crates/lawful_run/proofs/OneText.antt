@@ -9,10 +9,10 @@ use Rattle.report_lines.specs.declared.entry.Entry.TheVariants as entry
 use Rattle.report_lines.specs.declared.entry.LineEntry.{LineEntry}
 use Rattle.lawful_run.specs.AnsweredRun.{answered_run, answered_from, answered_epoch, behind_lines, behind_epochs}
 use Rattle.lawful_run.specs.Job.{solo}
-use Rattle.lawful_run.specs.Order.{Histories, behind}
+use Rattle.lawful_run.specs.Order.{Histories}
 use Rattle.lawful_run.specs.Outcomes as made_of
 use Rattle.lawful_run.specs.Report.{EpochReport, Report, epoch_entries, texts_of, report_text}
-use Rattle.lawful_run.specs.Run.{by_slot, told_in, IsEpochRun, AreEpochRuns, IsRun, behind_all, no_events}
+use Rattle.lawful_run.specs.Run.{by_slot, told_in, AreEpochRuns, IsRun, no_events}
 use Rattle.lawful_run.proofs.Meets.{solo_meets}
 use Rattle.lawful_run.proofs.OneRun.{lines_are_one, effects_are_one, rows_are_one, behind_is_one, events_behind, solo_epochs_meet}
 

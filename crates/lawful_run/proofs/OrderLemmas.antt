@@ -1,7 +1,6 @@
 -- The order of a slot's events where packets meet the commands before them.
-use Rattle.std.proofs.Common.{◌≡◌, ℕ, suc, ◌+◌, ◌-◌, ◌≤◌, List, [], ◌∷◌, ◌++◌, map, take, drop, refl, sym, ap, arith, append-nil}
+use Rattle.std.proofs.Common.{◌≡◌, ℕ, suc, ◌+◌, ◌-◌, ◌≤◌, List, [], ◌∷◌, map, take, refl, arith}
 use Rattle.control_steps.specs.declared.command.CommandKind.{CommandKind}
-use Rattle.gate_model.specs.declared.event.Event.{Event}
 use Rattle.gate_model.specs.declared.event.Event.TheVariants as event
 use Rattle.lawful_run.specs.Accepted.{Placed}
 use Rattle.lawful_run.specs.Bounds.{Rises}

@@ -1,5 +1,5 @@
 -- One thread that answers each line at once.
-use Rattle.std.specs.Prelude.{◌≡◌, ℕ, Bool, false, Option, Some, List, [], ◌∷◌}
+use Rattle.std.specs.Prelude.{◌≡◌, false, Some, List, [], ◌∷◌}
 use Rattle.pc_base.specs.declared.packet.Place.TheVariants.{Closing}
 use Rattle.demux.specs.Trace.{Meaning}
 use Rattle.report_lines.specs.Records.{Judged}

@@ -1,5 +1,5 @@
 -- Moves of a subscriber within an epoch.
-use Rattle.std.specs.Prelude.{ℕ, ◌==◌, Bool, true, false, not, if◌then◌else◌, List, [], ◌∷◌, take_while}
+use Rattle.std.specs.Prelude.{ℕ, ◌==◌, Bool, false, not, if◌then◌else◌, List, [], ◌∷◌, take_while}
 use Rattle.std.specs.List.{list_any}
 use Rattle.demux.specs.Trace.{Meaning, command, packet, move, note}
 use Rattle.lawful_run.specs.LinesTold.{LineTold}

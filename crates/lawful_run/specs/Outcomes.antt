@@ -1,10 +1,8 @@
 -- What the one-thread gateway makes of the events of a slot behind those before them.
 use Rattle.std.specs.Prelude.{ℕ, List, [], ◌∷◌, ◌++◌, length, map}
 use Rattle.pc_base.specs.declared.effect.Effect.{Effect}
-use Rattle.pc_base.specs.declared.packet.Packet.{Packet}
 use Rattle.pc_base.specs.declared.packet.Verdict.{Verdict}
 use Rattle.pc_base.specs.declared.reply.Reply.{Reply}
-use Rattle.control_steps.specs.declared.command.CommandKind.{CommandKind}
 use Rattle.gate_model.specs.Events.{commands_of}
 use Rattle.gate_model.specs.SlotPast.{reply_after, effects_after, verdict_after, records_made, opens_after}
 use Rattle.gate_model.specs.declared.event.Event.{Event}

@@ -1,10 +1,9 @@
 -- Which reports a trace may have: what its lines mean, epoch by epoch, and the bad line that it may stop at.
-use Rattle.std.specs.Prelude.{ℕ, ◌+◌, ◌==◌, Bool, false, if◌then◌else◌, List, [], ◌∷◌, ◌++◌, length, codes}
+use Rattle.std.specs.Prelude.{ℕ, ◌==◌, Bool, false, if◌then◌else◌, List, [], ◌∷◌, ◌++◌, length, codes}
 use Rattle.trace_lines.specs.Epochs.{ends_epoch, epochs_of}
 use Rattle.trace_lines.specs.Input.{Input, Stop, bad, long, big, ended}
 use Rattle.trace_lines.specs.Line.{Line}
 use Rattle.trace_lines.specs.Word.{word_of}
-use Rattle.trace_lines.specs.declared.bad.LineBad.{LineBad}
 use Rattle.demux.specs.Trace.{Meaning, command, packet, move, note, book_of, meaning, destination_after}
 use Rattle.lawful_run.specs.AnsweredRun.{answered_run}
 use Rattle.lawful_run.specs.Job.{Job, slices_of}
