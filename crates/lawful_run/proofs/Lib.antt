@@ -1,15 +1,16 @@
-mod SlotCases
-mod OrderLemmas
-mod Counting
-mod Meets
-mod AtOnceSlots
-mod AnsweredLines
-mod Lawful
-mod EveryTrace
-mod OneList
-mod OneRun
-mod OneText
-mod BySlot
-mod ChargesTold
-mod SentTold
-mod LedgerLaws
+pub mod SlotCases
+pub mod OrderLemmas
+pub mod Counting
+pub mod Meets
+pub mod AtOnceSlots
+pub mod AnsweredLines
+pub mod Lawful
+pub mod EveryTrace
+pub mod OneList
+pub mod OneRun
+pub mod OneText
+pub mod Growing
+pub mod BySlot
+pub mod ChargesTold
+pub mod SentTold
+pub mod LedgerLaws
