@@ -14,3 +14,5 @@ pub mod BySlot
 pub mod ChargesTold
 pub mod SentTold
 pub mod LedgerLaws
+pub mod CutEpochs
+pub mod AsTold

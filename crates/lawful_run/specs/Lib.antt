@@ -15,3 +15,4 @@ pub mod AtOnce
 pub mod AnsweredRun
 pub mod Trace
 pub mod Ledger
+pub mod Placing

@@ -1,5 +1,5 @@
 -- Moves of a subscriber within an epoch.
-use Rattle.std.specs.Prelude.{ℕ, ◌==◌, Bool, false, not, if◌then◌else◌, List, [], ◌∷◌, take_while}
+use Rattle.std.specs.Prelude.{ℕ, ◌==◌, Bool, false, if◌then◌else◌, List, [], ◌∷◌}
 use Rattle.std.specs.List.{list_any}
 use Rattle.demux.specs.Trace.{Meaning, command, packet, move, note}
 use Rattle.lawful_run.specs.LinesTold.{LineTold}
@@ -28,4 +28,5 @@ behind_last_move slot (now ∷ later) = if is_moved slot (now ∷ later) then be
 
 -- the lines before the first move of a slot, all where it isn't moved
 abbrev pub before_next_move : ℕ → List LineTold → List LineTold
-before_next_move slot lines = take_while (λ told. not (moves slot told)) lines
+before_next_move slot [] = []
+before_next_move slot (now ∷ later) = if moves slot now then [] else now ∷ before_next_move slot later

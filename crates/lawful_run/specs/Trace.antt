@@ -35,6 +35,11 @@ is_whole before [] = false
 is_whole before (line ∷ []) = ends_epoch before line
 is_whole before (line ∷ next ∷ lines) = is_whole (before ++ line ∷ []) (next ∷ lines)
 
+-- what whole epochs mean, behind these lines
+abbrev pub meant_epochs : ℕ → List Line → List (List Line) → List (List Meaning)
+meant_epochs slices before [] = []
+meant_epochs slices before (epoch ∷ epochs) = meant_from slices before epoch ∷ meant_epochs slices (before ++ epoch) epochs
+
 -- what epochs mean, behind these lines; a bad line stands in the last one, or in one of its own where that is whole
 abbrev pub own_epoch : List Meaning → List (List Meaning)
 own_epoch [] = []
@@ -51,6 +56,11 @@ epochs_from slices before (epoch ∷ next ∷ epochs) noted =
 
 abbrev pub epochs_told : ℕ → Input → List (List Meaning)
 epochs_told slices input = epochs_from slices [] (epochs_of input.lines) (stop_noted input.stop)
+
+-- lines that no line has ended are an epoch, if there are any
+abbrev pub open_epoch : List Line → List (List Line)
+open_epoch [] = []
+open_epoch (line ∷ lines) = (line ∷ lines) ∷ []
 
 -- how many slots the book has behind the lines
 abbrev pub slots_of : Input → ℕ

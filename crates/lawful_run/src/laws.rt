@@ -8,6 +8,7 @@ ghost use Rattle.lawful_run.specs.Job.{Job, solo};
 ghost use Rattle.lawful_run.specs.Ledger.{ReportsArePartitions, EachOctetCharged, EachPacketCharged};
 ghost use Rattle.lawful_run.specs.Order.{Histories};
 ghost use Rattle.lawful_run.specs.Outcomes.{opens};
+ghost use Rattle.lawful_run.specs.Placing.{EventsStandAsTold};
 ghost use Rattle.lawful_run.specs.Report.{Report, report_text};
 ghost use Rattle.lawful_run.specs.Run.{IsRun, by_slot};
 
@@ -57,6 +58,12 @@ pub fn runs_grow()
         → answered_epoch (slots + more) first before made ≡ answered_epoch slots first before made }
     ensures opens { (slots more : ℕ) (events : Histories) → ((slot : ℕ) → slots ≤ slot → events slot ≡ [])
         → by_slot (slots + more) (λ slot. opens slot (events slot)) ≡ by_slot slots (λ slot. opens slot (events slot)) }
+{}
+
+/// In every lawful run the events of a slot stand in the order that its packets' counts tell: its accepted
+/// commands and packets, each in line order, and before each packet just as many commands as it tells.
+pub fn events_stand_as_told()
+    ensures { EventsStandAsTold }
 {}
 
 /// Billing is exact in every lawful run: the pieces that the charging records and the open counters of a
