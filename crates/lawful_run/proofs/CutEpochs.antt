@@ -3,8 +3,8 @@ use Rattle.std.proofs.Common.{◌≡◌, ℕ, Bool, true, false, List, [], ◌�
 use Rattle.std.specs.List.{flat_map}
 use Rattle.std.proofs.lemmas.List.Elements.{All-head, All-tail}
 use Rattle.trace_lines.specs.Line.{Line}
-use Rattle.demux.specs.Trace.{Meaning}
-use Rattle.lawful_run.specs.Trace.{meant_from, meant_epochs, is_whole, own_epoch, with_noted, epochs_from, open_epoch}
+use Rattle.demux.specs.Trace.{Meaning, meaning}
+use Rattle.lawful_run.specs.Trace.{settled_by, meant_from, meant_epochs, is_whole, own_epoch, with_noted, epochs_from, open_epoch}
 
 -- whole epochs are whole
 abbrev pub AreWhole : List (List Line) → Type 0
@@ -37,3 +37,12 @@ cut_means slices before (epoch ∷ closed) open_ noted whole unfinished =
     (cut_means slices (before ++ epoch) closed open_ noted (All-tail (λ e. is_whole [] e ≡ true) epoch closed whole) unfinished
     ∙ ap (λ lines. meant_epochs slices (before ++ epoch) closed ++ own_epoch (meant_from slices lines open_ ++ noted))
     (append_assoc before epoch (flat_map (λ (e : List Line). e) closed)))
+
+-- what lines mean, some behind others
+pub meant_from-append : (slices : ℕ) (before lines more : List Line)
+    → meant_from slices before (lines ++ more) ≡ meant_from slices before lines ++ meant_from slices (before ++ lines) more
+meant_from-append slices before [] more = ap (λ done. meant_from slices done more) (sym (append-nil before))
+meant_from-append slices before (line ∷ lines) more =
+    ap (λ rest. settled_by slices before (meaning slices before line) ∷ rest)
+    (meant_from-append slices (before ++ line ∷ []) lines more
+    ∙ ap (λ done. meant_from slices (before ++ line ∷ []) lines ++ meant_from slices done more) (append_assoc before (line ∷ []) lines))
