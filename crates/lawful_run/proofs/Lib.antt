@@ -16,3 +16,4 @@ pub mod SentTold
 pub mod LedgerLaws
 pub mod CutEpochs
 pub mod AsTold
+pub mod WorkedRows

@@ -16,3 +16,4 @@ pub mod AnsweredRun
 pub mod Trace
 pub mod Ledger
 pub mod Placing
+pub mod Worked

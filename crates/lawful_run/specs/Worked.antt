@@ -1,0 +1,115 @@
+-- Small traces, and reports that they may and may not have.
+use Rattle.std.specs.Prelude.{ℕ, Bool, true, false, Option, Some, None, List, [], ◌∷◌}
+use Rattle.pc_base.specs.declared.packet.Place.TheVariants.{Closing}
+use Rattle.pc_base.specs.declared.packet.Verdict.TheVariants as verdict
+use Rattle.pc_base.specs.declared.packet.Way.TheVariants as way
+use Rattle.pc_base.specs.declared.reply.Outcome.TheVariants.{Done}
+use Rattle.charging_book.specs.declared.records.Why.TheVariants.{Gone}
+use Rattle.control_steps.specs.declared.command.CommandKind.TheVariants as order
+use Rattle.demux.specs.Trace.{Meaning, command, packet, move, note}
+use Rattle.demux.specs.declared.packet.LentPacket.{LentPacket}
+use Rattle.report_lines.specs.declared.entry.LineEntry.{LineEntry}
+use Rattle.report_lines.specs.declared.entry.LineEntry.TheVariants as line
+use Rattle.report_lines.specs.declared.entry.ChargeEntry.{ChargeEntry}
+use Rattle.report_lines.specs.declared.entry.ChargeEntry.TheVariants.{R, O}
+use Rattle.lawful_run.specs.Report.{EpochReport, Report}
+
+-- an order to attach, and 20 octets from 10.45.0.2 to 203.0.113.9
+abbrev pub attach : ℕ → Meaning
+attach slot = command slot (order.Attach (record { teid = 0xa01; addr = 0xc633_6407 }) 1000 1000)
+
+abbrev pub octets : List ℕ
+octets = 0x45 ∷ 0 ∷ 0 ∷ 20 ∷ 0 ∷ 0 ∷ 0 ∷ 0 ∷ 0x40 ∷ 0xfd ∷ 0 ∷ 0 ∷ 10 ∷ 45 ∷ 0 ∷ 2 ∷ 203 ∷ 0 ∷ 113 ∷ 9 ∷ []
+
+abbrev pub uplink : Meaning
+uplink = packet 0 (record { moment = 5; way = way.Up 0; ip = octets })
+
+abbrev pub moved : Meaning
+moved = move 0 1 (109 ∷ [])
+
+-- other rates
+abbrev pub rerate : Meaning
+rerate = command 0 (order.Ambr 1 500 500)
+
+-- the entry of an order that was done
+abbrev pub attached : ℕ → ℕ → ℕ → LineEntry
+attached n slot number = line.C (record { line = n; slot = slot; number = number; reply = record { outcome = Done; message = None } })
+
+-- of the packet of this number behind so many commands, parked or not
+abbrev pub judged : Bool → ℕ → ℕ → ℕ → LineEntry
+judged parked n number commands = line.P (record {
+  line = n;
+  slot = 0;
+  number = number;
+  commands = commands;
+  verdict = verdict.Up 0 octets;
+  place = Some Closing;
+  parked = parked;
+})
+
+abbrev pub forwarded : ℕ → ℕ → ℕ → LineEntry
+forwarded = judged false
+
+abbrev pub forwarded_parked : ℕ → ℕ → ℕ → LineEntry
+forwarded_parked = judged true
+
+-- of a move
+abbrev pub moved_entry : ℕ → LineEntry
+moved_entry n = line.N (record { line = n; note = 109 ∷ [] })
+
+-- of what was refused
+abbrev pub refused_command : ℕ → LineEntry
+refused_command n = line.F (record { line = n; slot = 0; packet = false })
+
+abbrev pub refused_packet : ℕ → LineEntry
+refused_packet n = line.F (record { line = n; slot = 0; packet = true })
+
+-- the open counters of a first life, and the record of one that is gone
+abbrev pub open_with : ℕ → ℕ → ChargeEntry
+open_with octets_up packets = O 0 (record {
+  life = 0;
+  ebi = 5;
+  qci = 9;
+  seq = 0;
+  up_octets = octets_up;
+  down_octets = 0;
+  up_packets = packets;
+  down_packets = 0;
+})
+
+abbrev pub open_again : ℕ → ChargeEntry
+open_again slot = O slot (record {
+  life = 1;
+  ebi = 5;
+  qci = 9;
+  seq = 0;
+  up_octets = 0;
+  down_octets = 0;
+  up_packets = 0;
+  down_packets = 0;
+})
+
+abbrev pub gone_row : ℕ → ChargeEntry
+gone_row slot = R slot (record {
+  life = 0;
+  ebi = 5;
+  qci = 9;
+  seq = 0;
+  up_octets = 0;
+  down_octets = 0;
+  up_packets = 0;
+  down_packets = 0;
+  first = None;
+  last = None;
+  why = Gone;
+})
+
+-- an epoch of these lines and records, and a report
+abbrev pub epoch_with : List LineEntry → List ChargeEntry → EpochReport
+epoch_with lines rows = record { lines = lines; effects = []; rows = rows }
+
+abbrev pub epoch_of : List LineEntry → EpochReport
+epoch_of lines = epoch_with lines []
+
+abbrev pub report_of : List EpochReport → List ChargeEntry → Report
+report_of epochs opens = record { epochs = epochs; opens = opens }
