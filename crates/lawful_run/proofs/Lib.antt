@@ -17,3 +17,4 @@ pub mod LedgerLaws
 pub mod CutEpochs
 pub mod AsTold
 pub mod WorkedRows
+pub mod ParkedRow
