@@ -1,6 +1,6 @@
 -- The events of a slot in a lawful epoch stand in the order that its packets' counts tell.
-use Rattle.std.proofs.Common.{◌≡◌, ℕ, zero, suc, ◌+◌, ◌-◌, ◌<◌, ◌≤◌, ◌==◌, Bool, true, false, not, Some, None, List, [], ◌∷◌, ◌++◌, length, map, take, drop, cond, refl, sym, ap, subst, ◌∙◌, arith, append_assoc, append-nil, length-append}
-use Rattle.std.specs.List.{filter_map, take_while, cons_option}
+use Rattle.std.proofs.Common.{◌≡◌, ℕ, zero, suc, ◌+◌, ◌-◌, ◌≤◌, ◌==◌, Bool, true, false, Some, None, List, [], ◌∷◌, ◌++◌, length, map, take, drop, cond, refl, sym, ap, subst, ◌∙◌, arith, append_assoc, length-append}
+use Rattle.std.specs.List.{filter_map, cons_option}
 use Rattle.std.proofs.lemmas.Bool.{eqb-true}
 use Rattle.std.proofs.lemmas.List.Elements.{filter_map-append}
 use Rattle.control_steps.specs.declared.command.CommandKind.{CommandKind}
@@ -13,11 +13,11 @@ use Rattle.report_lines.specs.declared.entry.LineEntry.{LineEntry}
 use Rattle.report_lines.specs.declared.entry.LineEntry.TheVariants as line
 use Rattle.lawful_run.specs.Accepted.{Placed, commands_accepted, packets_accepted, command_count}
 use Rattle.lawful_run.specs.Answers.{AnswersAll}
-use Rattle.lawful_run.specs.Bounds.{Rises, MeetsBounds, MeetsAs, MayMeet, most_count, count_before, count_at_once}
+use Rattle.lawful_run.specs.Bounds.{Rises, MeetsBounds, MeetsAs, MayMeet, count_before}
 use Rattle.lawful_run.specs.Job.{Job, solo, sliced}
 use Rattle.lawful_run.specs.LinesTold.{LineTold, lines_told, EachFrom}
 use Rattle.lawful_run.specs.Moves.{moves, before_next_move}
-use Rattle.lawful_run.specs.Order.{Histories, ordered, events_in}
+use Rattle.lawful_run.specs.Order.{Histories, ordered}
 use Rattle.lawful_run.specs.Placing.{places, numbered_from, EventsStandAsTold}
 use Rattle.lawful_run.specs.Report.{EpochReport}
 use Rattle.lawful_run.specs.Run.{told_in, IsEpochRun}

@@ -1,20 +1,17 @@
 -- A worked row of slices: an order, a move, two packets that wait for it, and a third that finds their queue full.
-use Rattle.std.proofs.Common.{◌≡◌, ℕ, ◌+◌, ◌≤◌, ◌==◌, Bool, true, false, IsTrue, List, [], ◌∷◌, length, refl, arith, inr, ap}
+use Rattle.std.proofs.Common.{◌≡◌, ℕ, Bool, true, IsTrue, List, [], ◌∷◌, length, refl, arith, inr}
 use Rattle.std.specs.List.{filter_map}
 use Rattle.demux.specs.Trace.{Meaning}
-use Rattle.gate_model.specs.Events.{commands_of, packets_of}
 use Rattle.gate_model.specs.SlotPast.{happens}
 use Rattle.rate_policer.specs.Conforming.{conforms}
-use Rattle.report_lines.specs.declared.entry.LineEntry.{LineEntry}
 use Rattle.std.proofs.lemmas.List.Elements.{All-nil, All-cons}
 use Rattle.lawful_run.specs.Accepted.{commands_accepted, packets_accepted}
 use Rattle.lawful_run.specs.Bounds.{Rises}
 use Rattle.lawful_run.specs.Job.{sliced}
-use Rattle.lawful_run.specs.LinesTold.{LineTold, lines_told}
 use Rattle.lawful_run.specs.Order.{events_in}
 use Rattle.lawful_run.specs.Outcomes as made_of
-use Rattle.lawful_run.specs.Report.{EpochReport, Report}
-use Rattle.lawful_run.specs.Run.{IsEpochRun, IsRun, no_events, told_in}
+use Rattle.lawful_run.specs.Report.{EpochReport}
+use Rattle.lawful_run.specs.Run.{IsRun, told_in}
 use Rattle.lawful_run.specs.Telling.{command_number, packet_number, commands_told, reply_told, verdict_told, counted}
 use Rattle.lawful_run.specs.Worked.{attach, uplink, moved, attached, forwarded_parked, refused_packet, moved_entry, open_with, epoch_of, report_of}
 use Rattle.lawful_run.proofs.SlotCases.{at_slot}
@@ -53,18 +50,21 @@ verdicts slot =
 parked_on_the_way : IsRun (sliced 2 2 1024) 1 (made ∷ []) (report_of (told ∷ []) (open_with 40 2 ∷ []))
 unfolding happens conforms
 parked_on_the_way = record {
-  epochs = (record {
-    one_each = ((refl, refl), (refl, ((refl, refl), ((refl, refl), (refl, tt)))));
-    command_numbers = command_numbers;
-    packet_numbers = packet_numbers;
-    counts_rise = counts_rise;
-    bounds = (tt, (tt, ((omega arith, omega arith), ((omega arith, omega arith), (tt, tt)))));
-    replies = replies;
-    verdicts = verdicts;
-    effects = refl;
-    rows = refl;
-    refusals = (tt, (tt, (tt, (tt, (inr (refl, omega arith), tt)))));
-    parking = (tt, (tt, ((refl, All-nil were_parked), ((refl, All-cons were_parked true [] refl (All-nil were_parked)), (tt, tt)))));
-  }, tt);
+  epochs = (
+    record {
+      one_each = ((refl, refl), (refl, ((refl, refl), ((refl, refl), (refl, tt)))));
+      command_numbers = command_numbers;
+      packet_numbers = packet_numbers;
+      counts_rise = counts_rise;
+      bounds = (tt, (tt, ((omega arith, omega arith), ((omega arith, omega arith), (tt, tt)))));
+      replies = replies;
+      verdicts = verdicts;
+      effects = refl;
+      rows = refl;
+      refusals = (tt, (tt, (tt, (tt, (inr (refl, omega arith), tt)))));
+      parking = (tt, (tt, ((refl, All-nil were_parked), ((refl, All-cons were_parked true [] refl (All-nil were_parked)), (tt, tt)))));
+    },
+    tt,
+  );
   opens = refl;
 }

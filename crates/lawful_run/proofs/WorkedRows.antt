@@ -1,13 +1,11 @@
 -- Worked rows of the definitions: small reports that are lawful, and such as aren't.
-use Rattle.std.proofs.Common.{◌≡◌, ℕ, ◌+◌, ◌≤◌, false, IsTrue, List, [], ◌∷◌, refl, sym, ap, subst, ◌∙◌, arith, inl, inr}
-use Rattle.demux.specs.Trace.{Meaning, note}
+use Rattle.std.proofs.Common.{◌≡◌, ℕ, false, IsTrue, List, [], ◌∷◌, refl, ap, subst, arith, inl, inr}
 use Rattle.gate_model.specs.SlotPast.{happens}
 use Rattle.rate_policer.specs.Conforming.{conforms}
 use Rattle.report_lines.specs.declared.entry.ChargeEntry.{ChargeEntry}
 use Rattle.report_lines.specs.declared.entry.ChargeEntry.TheVariants.{R, O}
 use Rattle.lawful_run.specs.AnsweredRun.{answered_run}
 use Rattle.lawful_run.specs.Job.{Job, solo, sliced}
-use Rattle.lawful_run.specs.Report.{EpochReport, Report}
 use Rattle.lawful_run.specs.Run.{IsRun}
 use Rattle.lawful_run.specs.Worked.{attach, rerate, uplink, moved, attached, forwarded, forwarded_parked, refused_command, refused_packet, moved_entry, open_with, open_again, gone_row, epoch_of, epoch_with, report_of}
 use Rattle.lawful_run.proofs.EveryTrace.{answered_is_run}

@@ -1,5 +1,5 @@
 -- What the order of a slot's events says: how many commands stand before each packet.
-use Rattle.std.specs.Prelude.{◌≡◌, ℕ, ◌+◌, List, [], ◌∷◌, ◌++◌, length, map, filter_map}
+use Rattle.std.specs.Prelude.{◌≡◌, ℕ, ◌+◌, List, [], ◌∷◌, length, filter_map}
 use Rattle.demux.specs.Packets.{numbered}
 use Rattle.demux.specs.Trace.{Meaning}
 use Rattle.gate_model.specs.Events.{commands_of, packets_of}

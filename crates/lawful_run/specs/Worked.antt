@@ -1,13 +1,12 @@
 -- Small traces, and reports that they may and may not have.
-use Rattle.std.specs.Prelude.{ℕ, Bool, true, false, Option, Some, None, List, [], ◌∷◌}
+use Rattle.std.specs.Prelude.{ℕ, Bool, true, false, Some, None, List, [], ◌∷◌}
 use Rattle.pc_base.specs.declared.packet.Place.TheVariants.{Closing}
 use Rattle.pc_base.specs.declared.packet.Verdict.TheVariants as verdict
 use Rattle.pc_base.specs.declared.packet.Way.TheVariants as way
 use Rattle.pc_base.specs.declared.reply.Outcome.TheVariants.{Done}
 use Rattle.charging_book.specs.declared.records.Why.TheVariants.{Gone}
 use Rattle.control_steps.specs.declared.command.CommandKind.TheVariants as order
-use Rattle.demux.specs.Trace.{Meaning, command, packet, move, note}
-use Rattle.demux.specs.declared.packet.LentPacket.{LentPacket}
+use Rattle.demux.specs.Trace.{Meaning, command, packet, move}
 use Rattle.report_lines.specs.declared.entry.LineEntry.{LineEntry}
 use Rattle.report_lines.specs.declared.entry.LineEntry.TheVariants as line
 use Rattle.report_lines.specs.declared.entry.ChargeEntry.{ChargeEntry}

@@ -11,11 +11,16 @@ ghost use Rattle.lawful_run.specs.Outcomes.{opens};
 ghost use Rattle.lawful_run.specs.Placing.{EventsStandAsTold};
 ghost use Rattle.lawful_run.specs.Report.{Report, report_text};
 ghost use Rattle.lawful_run.specs.Run.{IsRun, by_slot};
+ghost use Rattle.lawful_run.specs.Trace.{IsReport, answered_report};
+ghost use Rattle.trace_lines.specs.Input.{Input};
 
 /// Every trace has a lawful run that answers at once, whatever the job.
 pub fn every_trace_has_a_run()
     ensures lawful { (job : Job) (slots : ℕ) (made : List (List Meaning)) → IsRun job slots made (answered_run slots made) }
     ensures at_once { (slots : ℕ) (made : List (List Meaning)) → AnswersAtOnce made (answered_run slots made) }
+
+    // So has each input, whatever its octets say and wherever it stops.
+    ensures report { (job : Job) (input : Input) → IsReport job input (answered_report job input) }
 {}
 
 /// No other lawful run answers at once, whatever the job.
