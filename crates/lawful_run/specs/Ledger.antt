@@ -72,7 +72,8 @@ ReportsArePartitions = (job : Job) (slots : ℕ) (made : List (List Meaning)) (r
 
 -- the octets of packets one way · how many go one way
 abbrev pub octets_sent : Bool → List Sent → ℕ
-octets_sent up packets = sum_by (λ sent. if up then if sent.up then sent.octets else 0 else if sent.up then 0 else sent.octets) packets
+octets_sent up packets =
+    sum_by (λ sent. if up then if sent.up then sent.octets else 0 else if sent.up then 0 else sent.octets) packets
 
 abbrev pub packets_sent : Bool → List Sent → ℕ
 packets_sent up packets = count_by (λ sent. if up then sent.up else not sent.up) packets
@@ -81,10 +82,12 @@ packets_sent up packets = count_by (λ sent. if up then sent.up else not sent.up
 abbrev pub EachOctetCharged : Type 0
 EachOctetCharged = (job : Job) (slots : ℕ) (made : List (List Meaning)) (report : Report) (slot life : ℕ) (up : Bool)
     → IsRun job slots made report → slot < slots
-    → charged_octets up life (rows_told slot report) + open_octets up life (opens_told slot report) ≡ octets_sent up (packets_told slot life report)
+    → charged_octets up life (rows_told slot report) + open_octets up life (opens_told slot report)
+    ≡ octets_sent up (packets_told slot life report)
 
 -- and these packets themselves
 abbrev pub EachPacketCharged : Type 0
 EachPacketCharged = (job : Job) (slots : ℕ) (made : List (List Meaning)) (report : Report) (slot life : ℕ) (up : Bool)
     → IsRun job slots made report → slot < slots
-    → charged_packets up life (rows_told slot report) + open_packets up life (opens_told slot report) ≡ packets_sent up (packets_told slot life report)
+    → charged_packets up life (rows_told slot report) + open_packets up life (opens_told slot report)
+    ≡ packets_sent up (packets_told slot life report)

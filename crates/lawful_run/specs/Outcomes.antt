@@ -14,13 +14,15 @@ use Rattle.report_lines.specs.declared.entry.ChargeEntry.TheVariants.{R, O}
 -- the replies to its commands, and the verdicts on its packets
 abbrev pub replies : ℕ → List Event → List Event → List Reply
 replies slot before [] = []
-replies slot before (event.Command c ∷ events) = reply_after slot before c ∷ replies slot (before ++ event.Command c ∷ []) events
+replies slot before (event.Command c ∷ events) =
+    reply_after slot before c ∷ replies slot (before ++ event.Command c ∷ []) events
 replies slot before (event.Packet p ∷ events) = replies slot (before ++ event.Packet p ∷ []) events
 
 abbrev pub verdicts : ℕ → List Event → List Event → List Verdict
 verdicts slot before [] = []
 verdicts slot before (event.Command c ∷ events) = verdicts slot (before ++ event.Command c ∷ []) events
-verdicts slot before (event.Packet p ∷ events) = verdict_after slot before p ∷ verdicts slot (before ++ event.Packet p ∷ []) events
+verdicts slot before (event.Packet p ∷ events) =
+    verdict_after slot before p ∷ verdicts slot (before ++ event.Packet p ∷ []) events
 
 -- an effect of the command of this number, as an entry
 abbrev pub effect_entry : ℕ → ℕ → Effect → Effected

@@ -2,6 +2,7 @@
 use Rattle.std.specs.Prelude.{◌≡◌, ℕ, ◌+◌, List, [], ◌∷◌, length, filter_map, flat_map}
 use Rattle.demux.specs.Trace.{Meaning}
 use Rattle.gate_model.specs.Events.{commands_of, packets_of}
+use Rattle.gate_model.specs.declared.event.Event.{Event}
 use Rattle.lawful_run.specs.Accepted.{commands_accepted, packets_accepted}
 use Rattle.lawful_run.specs.Answers.{AnswersAll}
 use Rattle.lawful_run.specs.Bounds.{MeetsBounds, Rises, count_before}
@@ -22,6 +23,10 @@ by_slot slots has = flat_map has (counted 0 slots)
 abbrev pub told_in : List Meaning → EpochReport → List LineTold
 told_in made told = lines_told made told.lines
 
+-- the events of a slot in an epoch, behind those of each slot before it
+abbrev pub events_now : Histories → List Meaning → EpochReport → ℕ → List Event
+events_now before made told slot = events_in (before slot) (told_in made told) slot
+
 -- Which entries an epoch may have: by the job, the number of its first line, the events of each slot before it, and what
 -- its lines mean. Behind it as many slots are known.
 pub record IsEpochRun (job : Job) (slots first : ℕ) (before : Histories) (made : List Meaning) (told : EpochReport) : Type 0 where
@@ -39,14 +44,14 @@ pub record IsEpochRun (job : Job) (slots first : ℕ) (before : Histories) (made
   pub bounds : EachLine (MeetsBounds job before) (told_in made told)
   -- replies are those of the one-thread gateway on the slot's events, in the order that the prefixes tell
   pub replies : (slot : ℕ) → filter_map (reply_told slot) told.lines
-      ≡ made_of.replies slot (before slot) (events_in (before slot) (told_in made told) slot)
+      ≡ made_of.replies slot (before slot) (events_now before made told slot)
   -- and verdicts with their octets
   pub verdicts : (slot : ℕ) → filter_map (verdict_told slot) told.lines
-      ≡ made_of.verdicts slot (before slot) (events_in (before slot) (told_in made told) slot)
+      ≡ made_of.verdicts slot (before slot) (events_now before made told slot)
   -- effects are those of the epoch's commands, by slot, each with its command's number
-  pub effects : told.effects ≡ by_slot slots (λ slot. made_of.effects slot (before slot) (events_in (before slot) (told_in made told) slot))
+  pub effects : told.effects ≡ by_slot slots (λ slot. made_of.effects slot (before slot) (events_now before made told slot))
   -- charging records are those that the epoch's events make, by slot
-  pub rows : told.rows ≡ by_slot slots (λ slot. made_of.rows slot (before slot) (events_in (before slot) (told_in made told) slot))
+  pub rows : told.rows ≡ by_slot slots (λ slot. made_of.rows slot (before slot) (events_now before made told slot))
   -- a line is refused only where its queue or lane could be full
   pub refusals : EachLine (RefusedWhereFull job) (told_in made told)
   -- a packet is parked only behind a move of its slot, and before the packets that aren't

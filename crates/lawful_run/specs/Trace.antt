@@ -14,13 +14,15 @@ use Rattle.lawful_run.specs.Run.{IsRun}
 abbrev pub settled_by : ℕ → List Line → Meaning → Meaning
 settled_by slices before (command slot c) = command slot c
 settled_by slices before (packet slot p) = packet slot p
-settled_by slices before (move slot slice text) = if slice == destination_after slices slot before then note text else move slot slice text
+settled_by slices before (move slot slice text) =
+    if slice == destination_after slices slot before then note text else move slot slice text
 settled_by slices before (note text) = note text
 
 -- what lines mean, each behind those before it
 abbrev pub meant_from : ℕ → List Line → List Line → List Meaning
 meant_from slices before [] = []
-meant_from slices before (line ∷ lines) = settled_by slices before (meaning slices before line) ∷ meant_from slices (before ++ line ∷ []) lines
+meant_from slices before (line ∷ lines) =
+    settled_by slices before (meaning slices before line) ∷ meant_from slices (before ++ line ∷ []) lines
 
 -- a bad line is noted with the word of its fault; no other stop has an entry
 abbrev pub stop_noted : Stop → List Meaning

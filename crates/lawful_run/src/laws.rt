@@ -53,7 +53,8 @@ pub fn runs_grow()
     ensures epochs { (slots first : ℕ) (before : Histories) (epochs : List (List Meaning)) (made : List Meaning)
         → answered_from slots first before (epochs ++ made ∷ [])
         ≡ answered_from slots first before epochs
-        ++ answered_epoch slots (first + length (flat_map (λ (lines : List Meaning). lines) epochs)) (behind_epochs before epochs) made ∷ [] }
+        ++ answered_epoch slots (first + length (flat_map (λ (lines : List Meaning). lines) epochs))
+        (behind_epochs before epochs) made ∷ [] }
     ensures all { (before : Histories) (epochs : List (List Meaning)) (made : List Meaning)
         → behind_epochs before (epochs ++ made ∷ []) ≡ behind_lines (behind_epochs before epochs) made }
 
