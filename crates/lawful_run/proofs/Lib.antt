@@ -18,3 +18,4 @@ pub mod CutEpochs
 pub mod AsTold
 pub mod WorkedRows
 pub mod ParkedRow
+pub mod WholeRow

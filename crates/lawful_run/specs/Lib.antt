@@ -17,3 +17,4 @@ pub mod Trace
 pub mod Ledger
 pub mod Placing
 pub mod Worked
+pub mod WholeTrace
