@@ -1,0 +1,4 @@
+pub mod MessageLemmas
+pub mod AskLemmas
+pub mod TraceLemmas
+pub mod ResolvedLemmas
