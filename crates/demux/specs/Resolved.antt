@@ -1,6 +1,7 @@
 -- What a line means by the book behind the lines before it: which IMSI has which slot, in the order of admission.
-use Rattle.std.specs.Prelude.{◌≡◌, ℕ, ◌<◌, ◌≤◌, nat_lt, if◌then◌else◌, Option, Some, None, option_map, option_and_then, List, [], ◌∷◌, ◌++◌, length, codes, All}
+use Rattle.std.specs.Prelude.{◌≡◌, ℕ, ◌<◌, ◌≤◌, nat_lt, if◌then◌else◌, Option, Some, None, option_map, option_and_then, List, [], ◌∷◌, ◌++◌, length, codes, All, Result, Ok, Err}
 use Rattle.address_book.specs.Book.{slot_in, admitted}
+use Rattle.tft_codec.specs.declared.tft.Tft.{Tft}
 use Rattle.trace_lines.specs.Line.{Line}
 use Rattle.control_steps.specs.declared.command.CommandKind.{CommandKind}
 use Rattle.demux.specs.declared.decision.Decision.{Decision}
@@ -57,6 +58,11 @@ unfoldable pub resolved : ℕ → List (List ℕ) → Asked → Decision
 resolved slices book (note text) = Note text
 resolved slices book (admission digits asks full) = admitting (whose_in book digits) asks full
 resolved slices book (of whom wish missing) = wished_by slices (found_in book whom) wish missing
+
+-- an order with a template for a slot, or a note
+abbrev pub order_or_note : (Tft → CommandKind) → Result (ℕ × Tft) (List ℕ) → Decision
+order_or_note order (Ok (at, tft)) = Command (Known at) (order tft)
+order_or_note order (Err text) = Note text
 
 -- the book with an IMSI, where a slot is left for it
 abbrev pub with_imsi : List (List ℕ) → List ℕ → List (List ℕ)

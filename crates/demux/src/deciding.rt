@@ -17,6 +17,7 @@ use trace_lines::{LineKind, TraceLine};
 
 /// What a line means by the book of the subscribers before it, where the gateway has so many slices.
 /// A packet is lent from the line; what else a decision holds is made here.
+#[tactic(auto, unfolding(crate::specs::Line::asked))]
 pub fn decide<'a>(
     alloc: Global,
     book: &AddressBook,

@@ -24,6 +24,7 @@ use pc_base::{NoMemory, Octets, Slot, Teid};
 use std::alloc::Global;
 
 /// What octets of the MME mean.
+#[tactic(auto, unfolding(crate::specs::Resolved::resolved))]
 pub fn decide_mme<'a>(
     alloc: Global,
     book: &AddressBook,
@@ -38,6 +39,7 @@ pub fn decide_mme<'a>(
     }
 }
 
+#[tactic(auto, unfolding(crate::specs::Mme::message_asked, crate::specs::Resolved::resolved))]
 fn decide_message<'a>(
     alloc: Global,
     book: &AddressBook,
@@ -56,6 +58,7 @@ fn decide_message<'a>(
 }
 
 // A Create Session Request.
+#[tactic(auto, unfolding(crate::specs::Mme::create_or_unexpected, crate::specs::Resolved::resolved))]
 fn decide_creation<'a>(
     alloc: Global,
     book: &AddressBook,
@@ -75,6 +78,7 @@ fn decide_creation<'a>(
 }
 
 // A message to a session by the TEID in its header.
+#[tactic(auto, unfolding(crate::specs::Mme::session_or_unexpected, crate::specs::Resolved::resolved))]
 fn decide_session<'a>(
     alloc: Global,
     book: &AddressBook,

@@ -5,17 +5,18 @@ ghost use Rattle.tft_codec.specs.Reading.{tft_at};
 ghost use Rattle.tft_codec.specs.Refusal.{first_fault};
 ghost use Rattle.bearer_state.specs.Bearer.{IsEbi, IsSeq};
 ghost use Rattle.bearer_state.specs.Session.{IsAmbr};
+ghost use Rattle.control_steps.specs.declared.command.CommandKind.{CommandKind};
 ghost use Rattle.control_steps.specs.declared.command.CommandKind.TheVariants as order;
 ghost use Rattle.demux.specs.Asked as asked;
 ghost use Rattle.demux.specs.Orders.{seq_of_line, templated, ordered};
-ghost use Rattle.demux.specs.Resolved.{resolved};
+ghost use Rattle.demux.specs.Resolved.{resolved, order_or_note};
 
 use crate::booking::whose;
 use crate::texts::{template_note, words};
 use crate::{Decision, Whose};
 use address_book::AddressBook;
 use control_steps::{Command, CommandKind};
-use pc_base::{Imsi, Kbps, NoMemory, Peer, SliceNo, Slot};
+use pc_base::{Imsi, Kbps, NoMemory, Octets, Peer, SliceNo, Slot};
 use std::alloc::Global;
 use tft_codec::{TBad, Tft, read};
 
@@ -28,6 +29,7 @@ pub fn seq_of_line(number: u64) -> u32
 }
 
 /// An order that attaches the subscriber of an IMSI.
+#[tactic(auto, unfolding(crate::specs::Resolved::resolved))]
 pub fn decide_attach<'a>(
     alloc: Global,
     book: &AddressBook,
@@ -63,6 +65,7 @@ fn unknown_imsi<'a>(alloc: Global) -> Result<Decision<'a>, NoMemory>
 }
 
 /// An order for the subscriber of an IMSI.
+#[tactic(auto, unfolding(crate::specs::Resolved::resolved))]
 pub fn decide_order<'a>(
     alloc: Global,
     book: &AddressBook,
@@ -73,15 +76,13 @@ pub fn decide_order<'a>(
         ≡ resolved slices book.now (ordered imsi.now (asked.command command))) }
 {
     match book.slot_of_imsi(imsi) {
-        Some(slot) => Ok(Decision::Command {
-            whose: Whose::Known(slot),
-            command,
-        }),
+        Some(slot) => Ok(known(slot, command)),
         None => unknown_imsi(alloc),
     }
 }
 
 /// An order that the subscriber of an IMSI goes to a slice.
+#[tactic(auto, unfolding(crate::specs::Resolved::resolved))]
 pub fn decide_move<'a>(
     alloc: Global,
     book: &AddressBook,
@@ -111,6 +112,26 @@ fn read_template(alloc: Global, octets: &[u8]) -> Result<Result<Tft, TBad>, NoMe
     }
 }
 
+// The slot of an IMSI and the template that octets are, or the note on an order that lacks one.
+#[tactic(auto, unfolding(crate::specs::Orders::templated, crate::specs::Resolved::resolved))]
+fn slot_and_template(
+    alloc: Global,
+    book: &AddressBook,
+    imsi: &Imsi,
+    octets: &[u8],
+) -> Result<Result<(Slot, Tft), Octets>, NoMemory>
+    ensures { (slices : ℕ) (order_of : Tft → CommandKind) → IfOk result (λ answer.
+        resolved slices book.now (ordered imsi.now (templated order_of octets.now)) ≡ order_or_note order_of answer) }
+{
+    match book.slot_of_imsi(imsi) {
+        Some(slot) => match read_template(alloc, octets)? {
+            Ok(tft) => Ok(Ok((slot, tft))),
+            Err(bad) => Ok(Err(words(alloc, template_note(bad))?)),
+        },
+        None => Ok(Err(words(alloc, "noimsi")?)),
+    }
+}
+
 /// A bearer that an order asks for: its class (1 to 255) and its rates.
 #[derive(Clone, Copy, Debug)]
 pub struct NewBearer {
@@ -122,6 +143,7 @@ pub struct NewBearer {
 }
 
 /// An order for one bearer more of the subscriber of an IMSI.
+#[tactic(auto, unfolding(crate::specs::Resolved::resolved))]
 pub fn decide_bearer<'a>(
     alloc: Global,
     book: &AddressBook,
@@ -134,11 +156,8 @@ pub fn decide_bearer<'a>(
     ensures { (slices : ℕ) → IfOk result (λ decision. decision ≡ resolved slices book.now (ordered imsi.now
         (templated (λ tft. order.AddBearer seq bearer.qci bearer.mbr_up bearer.mbr_down bearer.gbr_up bearer.gbr_down tft) octets.now))) }
 {
-    let Some(slot) = book.slot_of_imsi(imsi) else {
-        return unknown_imsi(alloc);
-    };
-    match read_template(alloc, octets)? {
-        Ok(tft) => {
+    match slot_and_template(alloc, book, imsi, octets)? {
+        Ok((slot, tft)) => {
             let kind = CommandKind::AddBearer {
                 seq,
                 qci: bearer.qci,
@@ -150,11 +169,12 @@ pub fn decide_bearer<'a>(
             };
             Ok(known(slot, Command { kind }))
         }
-        Err(bad) => Ok(Decision::Note(words(alloc, template_note(bad))?)),
+        Err(note) => Ok(Decision::Note(note)),
     }
 }
 
 /// An order that changes the filters of a bearer of the subscriber of an IMSI.
+#[tactic(auto, unfolding(crate::specs::Resolved::resolved))]
 pub fn decide_filters<'a>(
     alloc: Global,
     book: &AddressBook,
@@ -168,15 +188,12 @@ pub fn decide_filters<'a>(
     ensures { (slices : ℕ) → IfOk result (λ decision. decision ≡ resolved slices book.now (ordered imsi.now
         (templated (λ tft. order.Filters seq ebi tft) octets.now))) }
 {
-    let Some(slot) = book.slot_of_imsi(imsi) else {
-        return unknown_imsi(alloc);
-    };
-    match read_template(alloc, octets)? {
-        Ok(tft) => {
+    match slot_and_template(alloc, book, imsi, octets)? {
+        Ok((slot, tft)) => {
             let kind = CommandKind::Filters { seq, ebi, tft };
             Ok(known(slot, Command { kind }))
         }
-        Err(bad) => Ok(Decision::Note(words(alloc, template_note(bad))?)),
+        Err(note) => Ok(Decision::Note(note)),
     }
 }
 

@@ -135,6 +135,7 @@ fn qos_of(qos: &QosIe) -> Qos
 }
 
 /// The session that a Create Session Request asks for; None where it lacks what that takes.
+#[tactic(auto, unfolding(crate::specs::Requests::creation))]
 pub fn creation(message: &Msg) -> Option<Command>
     ensures { result ≡ creation message.now }
 {
@@ -160,6 +161,7 @@ pub fn creation(message: &Msg) -> Option<Command>
 }
 
 // The answer of a Create Bearer Response; None where it lacks what one says.
+#[tactic(auto, unfolding(crate::specs::Requests::bearer_answer))]
 fn bearer_answer(message: &Msg) -> Option<Command>
     ensures { result ≡ bearer_answer message.now }
 {
@@ -192,6 +194,7 @@ fn modification(alloc: Global, message: &Msg) -> Result<Command, NoMemory>
 }
 
 /// The command that a message is to the session of its TEID; None of another type.
+#[tactic(auto, unfolding(crate::specs::Requests::session_command))]
 pub fn session_command(alloc: Global, message: &Msg) -> Result<Option<Command>, NoMemory>
     ensures { IfOk result (λ command. command ≡ session_command message.now) }
 {

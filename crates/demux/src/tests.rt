@@ -196,7 +196,7 @@ fn pool_used(rt: HostRuntime) -> Result<(), Fail> {
         b"0 ATTACH 001010000000001 198.51.100.7 00000a01 1000 1000",
     )?;
     match decide(alloc, &book, 64, &attach)? {
-        Decision::Note(note) => assert!(rt; note.as_slice() == b"pool"),
+        Decision::Note(note) => assert!(rt; note.as_slice() == b"pool".as_slice()),
         _ => return Err("a note".into()),
     }
     // The same request of IMSI 001010123456780.
@@ -206,7 +206,8 @@ fn pool_used(rt: HostRuntime) -> Result<(), Fail> {
     let create = line(alloc, 3, &text)?;
     match decide(alloc, &book, 64, &create)? {
         Decision::Note(note) => {
-            assert!(rt; note.as_slice() == b"s11 pool 4821000e0000100000000100020002005400");
+            let reply = b"s11 pool 4821000e0000100000000100020002005400";
+            assert!(rt; note.as_slice() == reply.as_slice());
         }
         _ => return Err("a note".into()),
     }
@@ -356,7 +357,7 @@ fn requests_of_a_session(rt: HostRuntime) -> Result<(), Fail> {
         return Err("a change of bearers".into());
     };
     assert_eq!(rt; (seq, mme), (2, None));
-    assert!(rt; asks.as_slice() == [Ask { ebi: 5, enb }]);
+    assert!(rt; asks.as_slice() == [Ask { ebi: 5, enb }].as_slice());
     let release = command(alloc, 1, b"0 S11 48aa00080000001000000300")?;
     assert!(rt; matches!(release, CommandKind::Release { seq: 3 }));
     let delete = command(alloc, 1, b"0 S11 4824000d00000010000003004900010005")?;
@@ -370,7 +371,7 @@ fn repeated_ebi(rt: HostRuntime) -> Result<(), Fail> {
     let CommandKind::Modify { asks, .. } = command(rt.alloc(), 1, twice)? else {
         return Err("a change of bearers".into());
     };
-    assert!(rt; asks.as_slice() == [Ask { ebi: 5, enb: None }]);
+    assert!(rt; asks.as_slice() == [Ask { ebi: 5, enb: None }].as_slice());
     Ok(())
 }
 
@@ -462,7 +463,7 @@ fn orders_of_the_operator(rt: HostRuntime) -> Result<(), Fail> {
     assert_eq!(rt; (seq, qci), (5, 255));
     assert_eq!(rt; (mbr_up, mbr_down), (Kbps(128), Kbps(256)));
     assert_eq!(rt; (gbr_up, gbr_down), (Kbps(64), Kbps(1_099_511_627_775)));
-    assert!(rt; tft_codec::write(alloc, &tft)?.as_slice() == b"\x21\x30\x09\x02\x30\x11");
+    assert!(rt; tft_codec::write(alloc, &tft)?.as_slice() == b"\x21\x30\x09\x02\x30\x11".as_slice());
     let filters = command(alloc, 7, b"0 FILTERS 001010123456789 5 40")?;
     assert!(rt; matches!(filters, CommandKind::Filters { seq: 7, ebi: 5, tft: Tft::Delete }));
     let drop = command(alloc, 0x7f_ffff, b"0 DROP 001010123456789 15")?;
@@ -482,9 +483,9 @@ fn a_move_of_a_slot(rt: HostRuntime) -> Result<(), Fail> {
         return Err("a move".into());
     };
     assert_eq!(rt; (slot, slice), (Slot(0), SliceNo(1)));
-    assert!(rt; move_note(alloc, SliceNo(0), slot, slice)?.as_slice() == b"move 0 1");
-    assert!(rt; move_note(alloc, SliceNo(1), slot, slice)?.as_slice() == b"stay 0 1");
-    assert!(rt; move_note(alloc, SliceNo(63), Slot(65_532), SliceNo(63))?.as_slice() == b"stay 65532 63");
+    assert!(rt; move_note(alloc, SliceNo(0), slot, slice)?.as_slice() == b"move 0 1".as_slice());
+    assert!(rt; move_note(alloc, SliceNo(1), slot, slice)?.as_slice() == b"stay 0 1".as_slice());
+    assert!(rt; move_note(alloc, SliceNo(63), Slot(65_532), SliceNo(63))?.as_slice() == b"stay 65532 63".as_slice());
     Ok(())
 }
 
@@ -526,10 +527,10 @@ fn packets_where_they_lie(rt: HostRuntime) -> Result<(), Fail> {
     let packet_up = packet(alloc, &up)?;
     assert_eq!(rt; (packet_up.moment, packet_up.way), (Moment(5), Way::Up(10)));
     let ip = b"\x45\x00\x00\x14\x00\x00\x00\x00\x40\xfd\x00\x00\x0a\x2d\x00\x02\xcb\x00\x71\x09";
-    assert!(rt; packet_up.ip.octets() == ip);
+    assert!(rt; packet_up.ip.octets() == ip.as_slice());
     let owned = packet_up.numbered(alloc, 9)?;
     assert_eq!(rt; (owned.number, owned.moment, owned.way), (9, Moment(5), Way::Up(10)));
-    assert!(rt; owned.octets.as_slice() == ip);
+    assert!(rt; owned.octets.as_slice() == ip.as_slice());
     let down = line(
         alloc,
         1,

@@ -17,6 +17,7 @@ use std::alloc::Global;
 const GATEWAY: Addr4 = Addr4(0xc000_0201);
 
 /// What octets of an eNodeB mean.
+#[tactic(auto, unfolding(crate::specs::Resolved::resolved))]
 pub fn decide_tunnel<'a>(
     alloc: Global,
     book: &AddressBook,
@@ -41,6 +42,7 @@ pub fn decide_tunnel<'a>(
 }
 
 // What came through the tunnel of a TEID.
+#[tactic(auto, unfolding(crate::specs::Tunnel::tunnelled, crate::specs::Resolved::resolved))]
 fn decide_tunnelled<'a>(
     alloc: Global,
     book: &AddressBook,
@@ -89,6 +91,7 @@ fn decide_carried<'a>(
 }
 
 /// What octets of the internet mean.
+#[tactic(auto, unfolding(crate::specs::Resolved::resolved))]
 pub fn decide_packet<'a>(
     alloc: Global,
     book: &AddressBook,
@@ -111,6 +114,7 @@ pub fn decide_packet<'a>(
 }
 
 // A packet for its destination.
+#[tactic(auto, unfolding(crate::specs::Resolved::resolved))]
 fn decide_delivered<'a>(
     alloc: Global,
     book: &AddressBook,
