@@ -25,27 +25,27 @@ abbrev IsOf : IeKind → IeValue → Type 0
 IsOf kind value = eqb (type_octet (kind_of value)) (type_octet kind) ≡ true
 
 imsi_is : (value : IeValue) → IsOf kinds.Imsi value → IsSome (imsi_value value)
-imsi_is (values.Imsi digits) is = tt
+imsi_is (values.Imsi digits) is = refl
 imsi_is value is = absurd cc
 
 cause_is : (value : IeValue) → IsOf kinds.Cause value → IsSome (cause_value value)
-cause_is (values.Cause cause) is = tt
+cause_is (values.Cause cause) is = refl
 cause_is value is = absurd cc
 
 rates_are : (value : IeValue) → IsOf kinds.Ambr value → IsSome (rates_value value)
-rates_are (values.Ambr up down) is = tt
+rates_are (values.Ambr up down) is = refl
 rates_are value is = absurd cc
 
 pdn_is : (value : IeValue) → IsOf kinds.Pdn value → IsSome (pdn_value value)
-pdn_is (values.Pdn pdn) is = tt
+pdn_is (values.Pdn pdn) is = refl
 pdn_is value is = absurd cc
 
 peer_is : (value : IeValue) → IsOf kinds.Fteid value → IsSome (peer_value value)
-peer_is (values.Fteid fteid) is = tt
+peer_is (values.Fteid fteid) is = refl
 peer_is value is = absurd cc
 
 context_is : (value : IeValue) → IsOf kinds.Context value → IsSome (context_value value)
-context_is (values.Context context) is = tt
+context_is (values.Context context) is = refl
 context_is value is = absurd cc
 
 -- what the first element of a kind holds
@@ -95,7 +95,7 @@ own_kind : (P : Context → Type 0) (instance : ℕ) (own : Context) (rest : Lis
     → (context_in rest ≡ Some context → AllByRecursion P (contexts_of rest) → P context)
     → option_and_then context_value (option_map (λ (ie : Element). ie.value) (if b then Some (record { instance = instance; value = values.Context own }) else find (is_of kinds.Context 0) rest)) ≡ Some context
     → AllByRecursion P (cons_option (if b then Some own else None) (contexts_of rest)) → P context
-own_kind P instance own rest context true later is all = subst P cc all.0
+own_kind P instance own rest context true later is all = let same : own ≡ context = cc in subst P same all.0
 own_kind P instance own rest context false later is all = later is all
 
 one_more : (P : Context → Type 0) (instance : ℕ) (value : IeValue) (rest : List Element) (context : Context)
@@ -114,10 +114,10 @@ counted_context P (ie ∷ ies) context is all =
 -- a step that has something to go on with
 then_some : {A B : Type 0} (o : Option A) (f : A → Option B) → IsSome o → ((a : A) → o ≡ Some a → IsSome (f a)) → IsSome (o >>= f)
 then_some (Some a) f some next = next a refl
-then_some None f some next = absurd some
+then_some None f some next = absurd cc
 
 assigned_some : (ebi : Option ℕ) → IsAssigned ebi → IsSome (assigned ebi)
-assigned_some (Some ebi) is = rw (ne_eqb ebi 0 (λ zero. absurd (omega (arith, is, zero)))) tt
+assigned_some (Some ebi) is = rw (ne_eqb ebi 0 (λ zero. absurd (omega (arith, is, zero)))) refl
 assigned_some None is = absurd is
 
 -- a Create Session Request (32), and a Create Bearer Response (96)
@@ -129,14 +129,14 @@ creation_of_row message meets =
     then_some (rates_in message.ies) _ (has_rates message.ies meets.before.1.1.1.0) (λ rates _.
     then_some (context_in message.ies) _ (has_context message.ies (meets.context refl)) (λ context is.
     then_some (assigned context.ebi) _ (assigned_some context.ebi (counted_context (HasPart parts.AssignedEbi) message.ies context is meets.inside.0)) (λ ebi _.
-    then_some context.qos _ (counted_context (HasPart (parts.Ie kinds.Qos)) message.ies context is meets.inside.1.0) (λ qos _. tt))))))
+    then_some context.qos _ (counted_context (HasPart (parts.Ie kinds.Qos)) message.ies context is meets.inside.1.0) (λ qos _. refl))))))
 
 create_of_row : (message : Message) → MeetsRow (required 32) message.ies → IsSome (create_asked message)
 unfolding required
 create_of_row message meets =
     then_some (imsi_in message.ies) _ (has_imsi message.ies meets.before.0) (λ imsi _.
     then_some (mme_in message.ies) _ (has_mme message.ies meets.before.1.0) (λ mme _.
-    then_some (creation message) _ (creation_of_row message meets) (λ create _. tt)))
+    then_some (creation message) _ (creation_of_row message meets) (λ create _. refl)))
 
 answer_of_row : (message : Message) → MeetsRow (required 96) message.ies → IsSome (bearer_answer message)
 unfolding bearer_answer required
@@ -144,7 +144,7 @@ answer_of_row message meets =
     then_some (cause_in message.ies) _ (has_cause message.ies meets.before.0) (λ cause _.
     then_some (context_in message.ies) _ (has_context message.ies (meets.context refl)) (λ context is.
     then_some context.ebi _ (counted_context (HasPart (parts.Ie kinds.Ebi)) message.ies context is meets.inside.0) (λ ebi _.
-    then_some context.cause _ (counted_context (HasPart (parts.Ie kinds.Cause)) message.ies context is meets.inside.1.0) (λ row_cause _. tt))))
+    then_some context.cause _ (counted_context (HasPart (parts.Ie kinds.Cause)) message.ies context is meets.inside.1.0) (λ row_cause _. refl))))
 
 pub create_whole : (message : Message) → HasRequired message → message.kind ≡ 32 → IsSome (create_asked message)
 create_whole message has is = create_of_row message (subst (λ kind. MeetsRow (required kind) message.ies) is has)

@@ -1,6 +1,6 @@
 -- What a decision keeps by its book, and the book behind it.
 use Rattle.std.proofs.Common.{◌≡◌, ℕ, ◌<◌, ◌≤◌, nat_lt, ltb, Bool, true, false, Option, Some, None, if◌then◌else◌, List, length, refl, sym, ap, subst, ◌∙◌}
-use Rattle.std.specs.Prelude.{IfSome}
+use Rattle.std.specs.Prelude.{IfSome, IfOk, Result, Ok, Err}
 use Rattle.std.proofs.lemmas.Bool.{ltb-true}
 use Rattle.std.proofs.lemmas.List.Quantifiers.{position-Some}
 use Rattle.std.specs.Str.{bytes_eq}
@@ -11,7 +11,8 @@ use Rattle.demux.specs.declared.decision.Decision.{Decision}
 use Rattle.demux.specs.declared.decision.Decision.TheVariants.{Move, Note}
 use Rattle.demux.specs.declared.decision.Whose.TheVariants.{Known, New}
 use Rattle.demux.specs.Asked.{Asked, Whom, Wish, imsi, slot, command, packet, move, noted, note, admission, of}
-use Rattle.demux.specs.Resolved.{found_in, granted, wished_by, whose_where, whose_in, admitting, resolved, with_imsi, booked, book_behind, IsDue, IsDecision}
+use Rattle.demux.specs.Resolved.{found_in, granted, wished_by, whose_where, whose_in, admitting, resolved, with_imsi, booked, book_behind, IsDue, IsDecision, decided, book_after}
+use Rattle.demux.specs.Line.{asked}
 
 -- a slot of the book is one of its places
 slot_below : (book : List (List ℕ)) (digits : List ℕ) (at : ℕ) → slot_in book digits ≡ Some at → at < length book
@@ -23,7 +24,7 @@ by_admission : (book : List (List ℕ)) (digits : List ℕ) (asks : CommandKind)
     → book_behind book (admitting (whose_in book digits) asks full) ≡ with_imsi book digits
 by_admission book digits asks full (Some at) true is left = rw (is, left) refl
 by_admission book digits asks full (Some at) false is left = rw (is, left) refl
-by_admission book digits asks full None true is left = rw (is, left, is) refl
+by_admission book digits asks full None true is left = rw (is, left) refl
 by_admission book digits asks full None false is left = rw (is, left) refl
 
 -- a wish leaves the book
@@ -65,13 +66,13 @@ found_below book (imsi digits) (Some at) is = slot_below book digits at is
 found_below book (slot number) (Some at) is = below (nat_lt number (length book)) refl is
   where
     below : (test : Bool) → nat_lt number (length book) ≡ test → (if test then Some number else None) ≡ Some at → at < length book
-    below true yes same = subst (λ n. n < length book) cc (ltb-true _ _ yes)
-    below false yes same = absurd cc
+    below true holds same = let own : number ≡ at = cc in subst (λ n. n < length book) own (ltb-true _ _ holds)
+    below false fails same = absurd cc
 
 move_is : (slices : ℕ) (book : List (List ℕ)) (at slice : ℕ) (text : List ℕ) (test : Bool) → nat_lt slice slices ≡ test → at < length book
     → IsDecision slices book (if test then Move at slice else Note text)
-move_is slices book at slice text true yes below = (below, ltb-true _ _ yes)
-move_is slices book at slice text false yes below = tt
+move_is slices book at slice text true holds below = (below, ltb-true _ _ holds)
+move_is slices book at slice text false fails below = tt
 
 of_wish : (slices : ℕ) (book : List (List ℕ)) (found : Option ℕ) (wish : Wish) (missing : List ℕ) → IfSome found (λ at. at < length book)
     → IsDecision slices book (wished_by slices found wish missing)
@@ -89,3 +90,14 @@ is_decision slices book (admission digits asks full) =
     (due book digits (slot_in book digits) (nat_lt (length book) 65533) refl refl)
 is_decision slices book (of whom wish missing) =
     of_wish slices book (found_in book whom) wish missing (found_below book whom (found_in book whom) refl)
+
+-- the same of an answer
+pub book_if_ok : {E : Type 0} (slices : ℕ) (book : List (List ℕ)) (line : Line) (answer : Result Decision E)
+    → IfOk answer (λ decision. decision ≡ decided slices book line) → IfOk answer (λ decision. book_behind book decision ≡ book_after book line)
+book_if_ok slices book line (Ok decision) is = ap (book_behind book) is ∙ book_resolved slices book (asked line)
+book_if_ok slices book line (Err e) is = tt
+
+pub valid_if_ok : {E : Type 0} (slices : ℕ) (book : List (List ℕ)) (line : Line) (answer : Result Decision E)
+    → IfOk answer (λ decision. decision ≡ decided slices book line) → IfOk answer (IsDecision slices book)
+valid_if_ok slices book line (Ok decision) is = subst (IsDecision slices book) (sym is) (is_decision slices book (asked line))
+valid_if_ok slices book line (Err e) is = tt

@@ -34,3 +34,10 @@ pub packet_refused : (moment : ℕ) (octets : List ℕ) (bad : IpBad) → ip_fau
     → packet_asked moment octets ≡ note (packet_note bad)
 unfolding packet_asked
 packet_refused moment octets bad is = ap (packet_where moment octets) is
+
+pub tunnel_noted : (moment : ℕ) (octets : List ℕ) (head : GtpUHead) (body : List ℕ) → message_of octets ≡ Some (head, body)
+    → (head.kind ≡ kind.EchoResponse) ⊎ (head.kind ≡ kind.ErrorIndication) ⊎ (head.kind ≡ kind.EndMarker)
+    → tunnel_asked moment octets ≡ note (codes "s1u noted")
+tunnel_noted moment octets head body spelled (inl is) = tunnel_read moment octets head body kind.EchoResponse spelled is
+tunnel_noted moment octets head body spelled (inr (inl is)) = tunnel_read moment octets head body kind.ErrorIndication spelled is
+tunnel_noted moment octets head body spelled (inr (inr is)) = tunnel_read moment octets head body kind.EndMarker spelled is

@@ -17,7 +17,6 @@ use trace_lines::{LineKind, TraceLine};
 
 /// What a line means by the book of the subscribers before it, where the gateway has so many slices.
 /// A packet is lent from the line; what else a decision holds is made here.
-#[tactic(auto, unfolding(crate::specs::Line::asked))]
 pub fn decide<'a>(
     alloc: Global,
     book: &AddressBook,
@@ -29,6 +28,19 @@ pub fn decide<'a>(
     // The book behind the line is the book with whom the decision is for.
     ensures book { IfOk result (λ decision. book_behind book.now decision ≡ book_after book.now line.now) }
     ensures valid { IfOk result (IsDecision slices book.now) }
+{
+    decide_kind(alloc, book, slices, line)
+}
+
+// The same, by the kind of the line.
+#[tactic(auto, unfolding(crate::specs::Line::asked))]
+fn decide_kind<'a>(
+    alloc: Global,
+    book: &AddressBook,
+    slices: u8,
+    line: &'a TraceLine,
+) -> Result<Decision<'a>, NoMemory>
+    ensures { IfOk result (λ decision. decision ≡ decided slices book.now line.now) }
 {
     let seq = seq_of_line(line.number);
     match &line.kind {

@@ -1,10 +1,10 @@
 //! What octets of the MME mean (S11, TS 29.274).
-ghost use Rattle.std.specs.Prelude.{◌≡◌, ℕ, true, IfOk, option_map};
+ghost use Rattle.std.specs.Prelude.{◌≡◌, ◌≢◌, ℕ, IfOk, MatchBool, option_map};
 ghost use Rattle.bearer_state.specs.Bearer.{IsSeq};
-ghost use Rattle.gtpv2_msg.specs.Kinds as kinds;
 ghost use Rattle.gtpv2_msg.specs.Spelling.{spelling};
+ghost use Rattle.control_steps.specs.Kinds.{IsAnswered};
 ghost use Rattle.control_steps.specs.Messages.{cause_alone};
-ghost use Rattle.demux.specs.Mme.{echo_note, pool_note, no_context_reply, no_context_note, create_or_unexpected, session_or_unexpected, message_asked, mme_asked};
+ghost use Rattle.demux.specs.Mme.{echo_response, echo_note, pool_note, no_context_reply, no_context_note, create_or_unexpected, session_or_unexpected, message_asked, mme_asked};
 ghost use Rattle.demux.specs.Resolved.{controller_in, resolved};
 
 use crate::booking::{in_book, whose};
@@ -18,7 +18,7 @@ use gtpv2_ie::cause_value::ALL_DYNAMIC_ADDRESSES_ARE_OCCUPIED;
 use gtpv2_ie::{CauseIe, Ie, IeValue};
 use gtpv2_msg::{
     CBad, CREATE_SESSION_REQUEST, DOWNLINK_DATA_NOTIFICATION_ACKNOWLEDGE, ECHO_REQUEST,
-    ECHO_RESPONSE, Ies, Msg, is_request, read, write,
+    ECHO_RESPONSE, Ies, Msg, faults_or_spells, is_request, read, write,
 };
 use pc_base::{NoMemory, Octets, Slot, Teid};
 use std::alloc::Global;
@@ -33,9 +33,22 @@ pub fn decide_mme<'a>(
     ensures { (slices : ℕ) → IfOk result (λ decision. decision ≡ resolved slices book.now (mme_asked octets.now)) }
 {
     match read(alloc, octets) {
-        Ok(message) => decide_message(alloc, book, &message),
-        Err(CBad::NoMemory) => Err(NoMemory),
+        Ok(message) => {
+            // Octets that spell a message have no fault.
+            faults_or_spells();
+            decide_message(alloc, book, &message)
+        }
+        Err(bad) if is_no_memory(&bad) => Err(NoMemory),
         Err(bad) => Ok(Decision::Note(message_note(alloc, octets, &bad)?)),
+    }
+}
+
+fn is_no_memory(bad: &CBad) -> bool
+    ensures { MatchBool result (bad.now ≡ CBad.NoMemory) (bad.now ≢ CBad.NoMemory) }
+{
+    match bad {
+        CBad::NoMemory => true,
+        _ => false,
     }
 }
 
@@ -106,32 +119,39 @@ fn session_slot(book: &AddressBook, teid: Option<u32>) -> Option<Slot>
     in_book(book, slot)
 }
 
-fn echo_note(alloc: Global, seq: u32) -> Result<Octets, NoMemory>
+fn echo_response(alloc: Global, seq: u32) -> Result<Msg, NoMemory>
     requires { IsSeq seq }
-    ensures { IfOk result (λ note. note ≡ echo_note seq) }
+    ensures { IfOk result (λ message. message ≡ echo_response seq) }
 {
     let recovery = Ie {
         instance: 0,
         value: IeValue::Recovery(0),
     };
-    let message = Msg {
+    Ok(Msg {
         kind: ECHO_RESPONSE,
         teid: None,
         seq,
         ies: Ies::of(vec![in alloc; recovery]?),
-    };
+    })
+}
+
+fn echo_note(alloc: Global, seq: u32) -> Result<Octets, NoMemory>
+    requires { IsSeq seq }
+    ensures { IfOk result (λ note. note ≡ echo_note seq) }
+{
+    let message = echo_response(alloc, seq)?;
     told(alloc, "s11 echo", &write(alloc, &message)?)
 }
 
 // The answer to a request that is a cause alone.
 fn cause_alone(
     alloc: Global,
-    teid: Teid,
+    teid: u32,
     request: u8,
     seq: u32,
     code: u8,
 ) -> Result<Vec<u8>, NoMemory>
-    requires request { kinds.is_request request ≡ true }
+    requires request { IsAnswered request }
     requires seq { IsSeq seq }
     ensures { IfOk result (λ reply. reply.items ≡ spelling (cause_alone teid request seq code)) }
 {
@@ -144,7 +164,7 @@ fn cause_alone(
     };
     let message = Msg {
         kind: request + 1,
-        teid: Some(teid.0),
+        teid: Some(teid),
         seq,
         ies: Ies::of(vec![in alloc; cause]?),
     };
@@ -157,7 +177,7 @@ fn pool_note(alloc: Global, teid: Teid, seq: u32) -> Result<Octets, NoMemory>
 {
     let reply = cause_alone(
         alloc,
-        teid,
+        teid.0,
         CREATE_SESSION_REQUEST,
         seq,
         ALL_DYNAMIC_ADDRESSES_ARE_OCCUPIED,
@@ -172,7 +192,7 @@ fn no_context_reply(alloc: Global, message: &Msg) -> Result<Option<Vec<u8>>, NoM
     if is_request(message.kind) {
         Ok(Some(cause_alone(
             alloc,
-            Teid(0),
+            0,
             message.kind,
             message.seq,
             CONTEXT_NOT_FOUND,

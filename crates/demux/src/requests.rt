@@ -4,7 +4,7 @@ ghost use Rattle.gtpv2_ie.specs.Validity.{IsValue, IsContext, IsEbi, IsQos};
 ghost use Rattle.gtpv2_msg.specs.Lookup.{is_of, first_value};
 ghost use Rattle.bearer_state.specs.Bearer as bearers;
 ghost use Rattle.bearer_state.specs.Qos as classes;
-ghost use Rattle.demux.specs.Requests.{imsi_in, cause_in, rates_in, pdn_in, mme_in, context_in, assigned, enb_in, qos_of, creation, bearer_answer, session_command};
+ghost use Rattle.demux.specs.Requests.{imsi_in, cause_in, rates_in, pdn_in, mme_in, context_in, assigned, peer_of, enb_in, qos_of, creation, modification, bearer_answer, session_command};
 
 use crate::asks::asks_in;
 use bearer_state::Qos;
@@ -72,7 +72,9 @@ fn pdn_in(message: &Msg) -> Option<u8>
     }
 }
 
-fn peer_of(fteid: &Fteid) -> Peer {
+fn peer_of(fteid: &Fteid) -> Peer
+    ensures { result ≡ peer_of fteid.now }
+{
     Peer {
         teid: Teid(fteid.teid),
         addr: Addr4(fteid.addr),

@@ -120,7 +120,7 @@ fn decide_delivered<'a>(
     book: &AddressBook,
     packet: LentPacket<'a>,
 ) -> Result<Decision<'a>, NoMemory>
-    ensures { (slices : ℕ) → IfOk result (λ decision. decision ≡ resolved slices book.now (delivered packet)) }
+    ensures { (slices : ℕ) → IfOk result (λ decision. decision ≡ resolved slices book.now (delivered packet.entry)) }
 {
     match addressee_in_book(book, Addr4(packet.ip.destination())) {
         Some(slot) => Ok(Decision::Packet { slot, packet }),
