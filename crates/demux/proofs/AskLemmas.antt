@@ -26,17 +26,17 @@ by_bool false if_true if_false = if_false refl
 has_without : (gone ebi : ℕ) (asks : List Ask) → eqb gone ebi ≡ false → has_ebi ebi (without_ebi gone asks) ≡ has_ebi ebi asks
 has_without gone ebi [] apart = refl
 has_without gone ebi (ask ∷ asks) apart = by_bool (eqb ask.ebi gone)
-  (λ same. rw (same, eqb-true ask.ebi gone same, apart) (has_without gone ebi asks apart))
-  (λ other. rw other (ap (λ rest. eqb ask.ebi ebi || rest) (has_without gone ebi asks apart)))
+    (λ same. rw (same, eqb-true ask.ebi gone same, apart) (has_without gone ebi asks apart))
+    (λ other. rw other (ap (λ rest. eqb ask.ebi ebi || rest) (has_without gone ebi asks apart)))
 
 -- one more ask behind those of another EBI
 push_behind : (first ask : Ask) (asks : List Ask)
     → first ∷ without_ebi first.ebi (with_ask asks (Some ask)) ≡ with_ask (first ∷ without_ebi first.ebi asks) (Some ask)
 push_behind first ask asks = by_bool (eqb first.ebi ask.ebi)
-  (λ same. by_bool (has_ebi ask.ebi asks)
+    (λ same. by_bool (has_ebi ask.ebi asks)
     (λ has. rw (same, has) refl)
     (λ lacks. rw (same, lacks, filter-append (λ (other : Ask). not (other.ebi == first.ebi)) asks (ask ∷ []), eq-eqb ask.ebi first.ebi (sym (eqb-true first.ebi ask.ebi same))) (ap (λ rest. first ∷ rest) (append-nil (without_ebi first.ebi asks)))))
-  (λ other. by_bool (has_ebi ask.ebi asks)
+    (λ other. by_bool (has_ebi ask.ebi asks)
     (λ has. rw (other, has_without first.ebi ask.ebi asks other, has) refl)
     (λ lacks. rw (other, has_without first.ebi ask.ebi asks other, lacks, filter-append (λ (an : Ask). not (an.ebi == first.ebi)) asks (ask ∷ []), eqb_no first.ebi ask.ebi other) refl))
 
@@ -49,21 +49,21 @@ first_asks-push (first ∷ asks) ask =
 each_without : (P : Ask → Type 0) (ebi : ℕ) (asks : List Ask) → AllByRecursion P asks → AllByRecursion P (without_ebi ebi asks)
 each_without P ebi [] each = tt
 each_without P ebi (ask ∷ asks) each = by_bool (eqb ask.ebi ebi)
-  (λ same. rw same (each_without P ebi asks each.1))
-  (λ other. rw other (each.0, each_without P ebi asks each.1))
+    (λ same. rw same (each_without P ebi asks each.1))
+    (λ other. rw other (each.0, each_without P ebi asks each.1))
 
 pairs_without : (ebi : ℕ) (asks : List Ask) → EachPair HaveTwoEbis asks → EachPair HaveTwoEbis (without_ebi ebi asks)
 pairs_without ebi [] pairs = tt
 pairs_without ebi (ask ∷ asks) pairs = by_bool (eqb ask.ebi ebi)
-  (λ same. rw same (pairs_without ebi asks pairs.1))
-  (λ other. rw other (each_without (HaveTwoEbis ask) ebi asks pairs.0, pairs_without ebi asks pairs.1))
+    (λ same. rw same (pairs_without ebi asks pairs.1))
+    (λ other. rw other (each_without (HaveTwoEbis ask) ebi asks pairs.0, pairs_without ebi asks pairs.1))
 
 -- those that are left have another EBI
 left_differ : (ask : Ask) (asks : List Ask) → AllByRecursion (HaveTwoEbis ask) (without_ebi ask.ebi asks)
 left_differ ask [] = tt
 left_differ ask (other ∷ asks) = by_bool (eqb other.ebi ask.ebi)
-  (λ same. rw same (left_differ ask asks))
-  (λ apart. rw apart ((λ same. false≢true (sym apart ∙ eq-eqb other.ebi ask.ebi (sym same))), left_differ ask asks))
+    (λ same. rw same (left_differ ask asks))
+    (λ apart. rw apart ((λ same. false≢true (sym apart ∙ eq-eqb other.ebi ask.ebi (sym same))), left_differ ask asks))
 
 each_first : (asks : List Ask) → AllByRecursion IsAsk asks → AllByRecursion IsAsk (first_asks asks)
 each_first [] each = tt
@@ -93,8 +93,8 @@ distinct_above (ask ∷ asks) each pairs = (apart_above ask asks each.0 each.1 p
 below_eleven : (asks : List Ask) → AllByRecursion IsAsk asks → (q : ℕ) → list_any (eqb q) (above_five asks) ≡ true → q < 11
 below_eleven [] each q is = absurd cc
 below_eleven (ask ∷ asks) each q is = by_bool (eqb q (ask.ebi - 5))
-  (λ here. let most = each.0.most in let same = eqb-true q (ask.ebi - 5) here in omega (arith, same))
-  (λ other. below_eleven asks each.1 q (rw other at is))
+    (λ here. let most = each.0.most in let same = eqb-true q (ask.ebi - 5) here in omega (arith, same))
+    (λ other. below_eleven asks each.1 q (rw other at is))
 
 few_first : (asks : List Ask) → AllByRecursion IsAsk asks → EachPair HaveTwoEbis asks → length asks ≤ 11
 few_first asks each pairs =

@@ -71,15 +71,15 @@ fn decide_kind<'a>(
             };
             decide_bearer(alloc, book, imsi, seq, bearer, tft.as_slice())
         }
-        LineKind::Filters {
+        LineKind::Filters { imsi, ebi, tft } => decide_filters(
+            alloc,
+            book,
             imsi,
-            ebi,
-            tft,
-        } => decide_filters(alloc, book, imsi, seq, *ebi, tft.as_slice()),
-        LineKind::Drop {
-            imsi,
-            ebi,
-        } => decide_order(
+            seq,
+            *ebi,
+            tft.as_slice(),
+        ),
+        LineKind::Drop { imsi, ebi } => decide_order(
             alloc,
             book,
             imsi,
@@ -87,11 +87,7 @@ fn decide_kind<'a>(
                 kind: CommandKind::Drop { seq, ebi: *ebi },
             },
         ),
-        LineKind::Ambr {
-            imsi,
-            up,
-            down,
-        } => decide_order(
+        LineKind::Ambr { imsi, up, down } => decide_order(
             alloc,
             book,
             imsi,
@@ -103,10 +99,7 @@ fn decide_kind<'a>(
                 },
             },
         ),
-        LineKind::Move {
-            imsi,
-            slice,
-        } => decide_move(alloc, book, slices, imsi, *slice),
+        LineKind::Move { imsi, slice } => decide_move(alloc, book, slices, imsi, *slice),
         LineKind::Fence => Ok(Decision::Note(words(alloc, "fence")?)),
     }
 }

@@ -1,6 +1,7 @@
 //! What octets of the MME mean (S11, TS 29.274).
-ghost use Rattle.std.specs.Prelude.{◌≡◌, ◌≢◌, ℕ, IfOk, MatchBool, option_map};
+ghost use Rattle.std.specs.Prelude.{◌≡◌, ◌≢◌, ℕ, List, IfOk, MatchBool, option_map};
 ghost use Rattle.bearer_state.specs.Bearer.{IsSeq};
+ghost use Rattle.gtpv2_msg.specs.Refusal.{IsRefusal};
 ghost use Rattle.gtpv2_msg.specs.Spelling.{spelling};
 ghost use Rattle.control_steps.specs.Kinds.{IsAnswered};
 ghost use Rattle.control_steps.specs.Messages.{cause_alone};
@@ -38,9 +39,20 @@ pub fn decide_mme<'a>(
             faults_or_spells();
             decide_message(alloc, book, &message)
         }
-        Err(bad) if is_no_memory(&bad) => Err(NoMemory),
-        Err(bad) => Ok(Decision::Note(message_note(alloc, octets, &bad)?)),
+        Err(bad) => decide_refused(alloc, octets, &bad),
     }
+}
+
+// Octets that are refused with a fault.
+#[tactic(auto, unfolding(crate::specs::Resolved::resolved))]
+fn decide_refused<'a>(alloc: Global, octets: &[u8], bad: &CBad) -> Result<Decision<'a>, NoMemory>
+    requires { IsRefusal octets.now bad.now }
+    ensures { (slices : ℕ) (book : List (List ℕ)) → IfOk result (λ decision. decision ≡ resolved slices book (mme_asked octets.now)) }
+{
+    if is_no_memory(bad) {
+        return Err(NoMemory);
+    }
+    Ok(Decision::Note(message_note(alloc, octets, bad)?))
 }
 
 fn is_no_memory(bad: &CBad) -> bool
@@ -79,9 +91,11 @@ fn decide_creation<'a>(
 ) -> Result<Decision<'a>, NoMemory>
     ensures { (slices : ℕ) → IfOk result (λ decision. decision ≡ resolved slices book.now (create_or_unexpected message.now)) }
 {
-    let (Some(imsi), Some(mme), Some(command)) =
-        (imsi_in(message), mme_in(message), creation(message))
-    else {
+    let (Some(imsi), Some(mme), Some(command)) = (
+        imsi_in(message),
+        mme_in(message),
+        creation(message),
+    ) else {
         return Ok(Decision::Note(words(alloc, "s11 unexpected")?));
     };
     match whose(book, imsi) {
@@ -190,13 +204,7 @@ fn no_context_reply(alloc: Global, message: &Msg) -> Result<Option<Vec<u8>>, NoM
     ensures { IfOk result (λ reply. option_map (λ v. v.items) reply ≡ no_context_reply message.now) }
 {
     if is_request(message.kind) {
-        Ok(Some(cause_alone(
-            alloc,
-            0,
-            message.kind,
-            message.seq,
-            CONTEXT_NOT_FOUND,
-        )?))
+        Ok(Some(cause_alone(alloc, 0, message.kind, message.seq, CONTEXT_NOT_FOUND)?))
     } else {
         Ok(None)
     }

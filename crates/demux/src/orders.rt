@@ -47,11 +47,7 @@ pub fn decide_attach<'a>(
         Some(whose) => Ok(Decision::Command {
             whose,
             command: Command {
-                kind: CommandKind::Attach {
-                    enb,
-                    up,
-                    down,
-                },
+                kind: CommandKind::Attach { enb, up, down },
             },
         }),
         None => Ok(Decision::Note(words(alloc, "pool")?)),

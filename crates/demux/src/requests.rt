@@ -117,7 +117,10 @@ pub fn assigned(context: &Context) -> Option<u8>
 pub fn enb_in(fteids: &Fteids) -> Option<Peer>
     ensures { result ≡ enb_in fteids.now }
 {
-    let (_, fteid) = fteids.as_slice().iter().find(|fteid| fteid.1.interface == S1_U_ENODEB)?;
+    let (_, fteid) = fteids
+        .as_slice()
+        .iter()
+        .find(|fteid| fteid.1.interface == S1_U_ENODEB)?;
     Some(peer_of(fteid))
 }
 

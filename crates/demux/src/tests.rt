@@ -11,7 +11,8 @@ use trace_lines::{TraceLine, read_line};
 
 // A Create Session Request (TS 29.274, 7.2.1) of IMSI 001010123456789, from TEID 0x1000 of an MME: PDN
 // type 3, 50,000 and 100,000 kbps, EBI 5, QCI 9.
-const CREATE: &[u8] = b"0 S11 4820006700000000000001000100080000010121436587f95200010006570009008a00001000c6336401\
+const CREATE: &[u8] =
+    b"0 S11 4820006700000000000001000100080000010121436587f95200010006570009008a00001000c6336401\
 4700090008696e7465726e65746300010003480008000000c350000186a05d001f004900010005500016002409\
 0000000000000000000000000000000000000000";
 
@@ -135,10 +136,7 @@ fn context_missing(rt: HostRuntime) -> Result<(), Fail> {
 4700090008696e7465726e65746300010003480008000000c350000186a0",
                 b"s11 missing 93 0 4821001200000000000002000200060046005d000000",
             ),
-            (
-                b"0 S11 486000080000001000000200",
-                b"s11 missing 2 0 -",
-            ),
+            (b"0 S11 486000080000001000000200", b"s11 missing 2 0 -"),
         ],
     )
 }
@@ -159,10 +157,7 @@ fn create_repeated(rt: HostRuntime) -> Result<(), Fail> {
         _ => return Err("a command of a new IMSI".into()),
     }
     match decide(alloc, &book, 64, &first)? {
-        Decision::Command {
-            whose,
-            ..
-        } => {
+        Decision::Command { whose, .. } => {
             assert_eq!(rt; whose, Whose::Known(Slot(0)));
             assert_eq!(rt; whose.admit(&mut book)?, Slot(0));
         }
@@ -231,11 +226,23 @@ fn octets_of_the_mme_that_are_noted(rt: HostRuntime) -> Result<(), Fail> {
             ),
             (b"0 S11 4002000400000100", b"s11 noted"),
             (b"0 S11 48b1000e0000001000000200020002001000", b"s11 noted"),
-            (b"0 S11 4821000e0000001000000200020002001000", b"s11 unexpected"),
-            (b"0 S11 4823000e0000001000000200020002001000", b"s11 unexpected"),
-            (b"0 S11 4825000e0000001000000200020002001000", b"s11 unexpected"),
+            (
+                b"0 S11 4821000e0000001000000200020002001000",
+                b"s11 unexpected",
+            ),
+            (
+                b"0 S11 4823000e0000001000000200020002001000",
+                b"s11 unexpected",
+            ),
+            (
+                b"0 S11 4825000e0000001000000200020002001000",
+                b"s11 unexpected",
+            ),
             (b"0 S11 486300080000001000000200", b"s11 unexpected"),
-            (b"0 S11 48ab000e0000001000000200020002001000", b"s11 unexpected"),
+            (
+                b"0 S11 48ab000e0000001000000200020002001000",
+                b"s11 unexpected",
+            ),
             (b"0 S11 48b000080000001000000200", b"s11 unexpected"),
         ],
     )
@@ -319,7 +326,10 @@ fn orders_that_are_noted(rt: HostRuntime) -> Result<(), Fail> {
             (b"0 DROP 001010 5", b"noimsi"),
             (b"0 AMBR 001010 1 1", b"noimsi"),
             (b"0 MOVE 001010 63", b"noimsi"),
-            (b"0 BEARER 001010123456789 1 0 0 0 0 2130090230", b"tft short"),
+            (
+                b"0 BEARER 001010123456789 1 0 0 0 0 2130090230",
+                b"tft short",
+            ),
             (b"0 FILTERS 001010123456789 5 31", b"tft parameters"),
             (b"0 BEARER 001010123456789 1 0 0 0 0 01", b"tft operation"),
             (
@@ -348,12 +358,7 @@ fn requests_of_a_session(rt: HostRuntime) -> Result<(), Fail> {
         addr: Addr4(0xc633_6407),
     });
     let modify = b"0 S11 4822001e00000010000002005d0012004900010005570009008000000a01c6336407";
-    let CommandKind::Modify {
-        seq,
-        mme,
-        asks,
-    } = command(alloc, 1, modify)?
-    else {
+    let CommandKind::Modify { seq, mme, asks } = command(alloc, 1, modify)? else {
         return Err("a change of bearers".into());
     };
     assert_eq!(rt; (seq, mme), (2, None));
@@ -378,7 +383,8 @@ fn repeated_ebi(rt: HostRuntime) -> Result<(), Fail> {
 #[test]
 fn answers_of_the_mme(rt: HostRuntime) -> Result<(), Fail> {
     let alloc = rt.alloc();
-    let created = b"0 S11 4860003700000010000005000200020010005d002500490001000602000200100057000900\
+    let created =
+        b"0 S11 4860003700000010000005000200020010005d002500490001000602000200100057000900\
 8000000a02c6336407570009018100000012c0000201";
     let CommandKind::CreateAns {
         seq,
@@ -425,7 +431,10 @@ fn what_a_create_session_request_asks(rt: HostRuntime) -> Result<(), Fail> {
     assert_eq!(rt; mme, peer);
     assert_eq!(rt; (seq, pdn, ebi, enb), (1, 3, 5, None));
     assert_eq!(rt; (up, down), (Kbps(50_000), Kbps(100_000)));
-    assert_eq!(rt; (qos.arp, qos.qci, qos.mbr_up, qos.gbr_down), (0x24, 9, Kbps(0), Kbps(0)));
+    assert_eq!(rt;
+        (qos.arp, qos.qci, qos.mbr_up, qos.gbr_down),
+        (0x24, 9, Kbps(0), Kbps(0))
+    );
     Ok(())
 }
 
@@ -441,7 +450,9 @@ fn orders_of_the_operator(rt: HostRuntime) -> Result<(), Fail> {
         teid: Teid(0x0a01),
         addr: Addr4(0xc633_6407),
     };
-    assert!(rt; matches!(attach, CommandKind::Attach { enb: at, up: Kbps(1000), down: Kbps(4_294_967_295) } if at == enb));
+    assert!(rt;
+        matches!(attach, CommandKind::Attach { enb: at, up: Kbps(1000), down: Kbps(4_294_967_295) } if at == enb)
+    );
     // The sequence number is that of the line, modulo 2^23.
     let bearer = command(
         alloc,
@@ -463,13 +474,41 @@ fn orders_of_the_operator(rt: HostRuntime) -> Result<(), Fail> {
     assert_eq!(rt; (seq, qci), (5, 255));
     assert_eq!(rt; (mbr_up, mbr_down), (Kbps(128), Kbps(256)));
     assert_eq!(rt; (gbr_up, gbr_down), (Kbps(64), Kbps(1_099_511_627_775)));
-    assert!(rt; tft_codec::write(alloc, &tft)?.as_slice() == b"\x21\x30\x09\x02\x30\x11".as_slice());
+    assert!(rt;
+        tft_codec::write(alloc, &tft)?.as_slice() == b"\x21\x30\x09\x02\x30\x11".as_slice()
+    );
     let filters = command(alloc, 7, b"0 FILTERS 001010123456789 5 40")?;
-    assert!(rt; matches!(filters, CommandKind::Filters { seq: 7, ebi: 5, tft: Tft::Delete }));
+    assert!(rt;
+        matches!(
+            filters,
+            CommandKind::Filters {
+                seq: 7,
+                ebi: 5,
+                tft: Tft::Delete
+            }
+        )
+    );
     let drop = command(alloc, 0x7f_ffff, b"0 DROP 001010123456789 15")?;
-    assert!(rt; matches!(drop, CommandKind::Drop { seq: 0x7f_ffff, ebi: 15 }));
+    assert!(rt;
+        matches!(
+            drop,
+            CommandKind::Drop {
+                seq: 0x7f_ffff,
+                ebi: 15
+            }
+        )
+    );
     let ambr = command(alloc, 0x80_0000, b"0 AMBR 001010123456789 0 7")?;
-    assert!(rt; matches!(ambr, CommandKind::Ambr { seq: 0, up: Kbps(0), down: Kbps(7) }));
+    assert!(rt;
+        matches!(
+            ambr,
+            CommandKind::Ambr {
+                seq: 0,
+                up: Kbps(0),
+                down: Kbps(7)
+            }
+        )
+    );
     Ok(())
 }
 
@@ -485,7 +524,10 @@ fn a_move_of_a_slot(rt: HostRuntime) -> Result<(), Fail> {
     assert_eq!(rt; (slot, slice), (Slot(0), SliceNo(1)));
     assert!(rt; move_note(alloc, SliceNo(0), slot, slice)?.as_slice() == b"move 0 1".as_slice());
     assert!(rt; move_note(alloc, SliceNo(1), slot, slice)?.as_slice() == b"stay 0 1".as_slice());
-    assert!(rt; move_note(alloc, SliceNo(63), Slot(65_532), SliceNo(63))?.as_slice() == b"stay 65532 63".as_slice());
+    assert!(rt;
+        move_note(alloc, SliceNo(63), Slot(65_532), SliceNo(63))?.as_slice()
+            == b"stay 65532 63".as_slice()
+    );
     Ok(())
 }
 
@@ -529,7 +571,10 @@ fn packets_where_they_lie(rt: HostRuntime) -> Result<(), Fail> {
     let ip = b"\x45\x00\x00\x14\x00\x00\x00\x00\x40\xfd\x00\x00\x0a\x2d\x00\x02\xcb\x00\x71\x09";
     assert!(rt; packet_up.ip.octets() == ip.as_slice());
     let owned = packet_up.numbered(alloc, 9)?;
-    assert_eq!(rt; (owned.number, owned.moment, owned.way), (9, Moment(5), Way::Up(10)));
+    assert_eq!(rt;
+        (owned.number, owned.moment, owned.way),
+        (9, Moment(5), Way::Up(10))
+    );
     assert!(rt; owned.octets.as_slice() == ip.as_slice());
     let down = line(
         alloc,
@@ -537,7 +582,10 @@ fn packets_where_they_lie(rt: HostRuntime) -> Result<(), Fail> {
         b"6 SGI 4500001c0000000040110000cb0071090a2d000213c4271000080000",
     )?;
     let packet_down = packet(alloc, &down)?;
-    assert_eq!(rt; (packet_down.moment, packet_down.way), (Moment(6), Way::Down));
+    assert_eq!(rt;
+        (packet_down.moment, packet_down.way),
+        (Moment(6), Way::Down)
+    );
     assert_eq!(rt; packet_down.ip.octets().len(), 28);
     Ok(())
 }
