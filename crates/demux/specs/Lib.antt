@@ -10,3 +10,4 @@ pub mod Line
 pub mod Resolved
 pub mod Destinations
 pub mod Trace
+pub mod Packets

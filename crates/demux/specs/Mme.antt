@@ -1,5 +1,5 @@
 -- What octets of the MME ask (S11, TS 29.274).
-use Rattle.std.specs.Prelude.{ℕ, ◌==◌, ◌||◌, if◌then◌else◌, Option, Some, None, option_map, option_and_then, unwrap_or, List, [], ◌∷◌, codes}
+use Rattle.std.specs.Prelude.{ℕ, ◌==◌, ◌||◌, if◌then◌else◌, Option, Some, None, option_map, option_and_then, List, [], ◌∷◌, codes}
 use Rattle.tft_codec.specs.Reading.{◌>>=◌}
 use Rattle.pc_base.specs.declared.packet.Peer.{Peer}
 use Rattle.gtpv2_ie.specs.declared.cause_value.TheConstants.{ALL_DYNAMIC_ADDRESSES_ARE_OCCUPIED}
@@ -39,7 +39,7 @@ abbrev pub no_context_note : Message → List ℕ
 no_context_note message = replied (codes "s11 nocontext") (no_context_reply message)
 
 -- A Create Session Request is for its own IMSI. One that is read has all that it takes.
-unfoldable pub create_asked : Message → Option Asked
+abbrev pub create_asked : Message → Option Asked
 create_asked message = do
   imsi ← imsi_in message.ies
   mme ← mme_in message.ies
@@ -56,12 +56,22 @@ session_asked message =
     option_map (λ asked. for_slot (option_and_then control_slot message.teid) asked (no_context_note message)) (session_command message)
 
 -- a type that an MME doesn't send is unexpected
+abbrev pub or_unexpected : Option Asked → Asked
+or_unexpected (Some asked) = asked
+or_unexpected None = note (codes "s11 unexpected")
+
+unfoldable pub create_or_unexpected : Message → Asked
+create_or_unexpected message = or_unexpected (create_asked message)
+
+unfoldable pub session_or_unexpected : Message → Asked
+session_or_unexpected message = or_unexpected (session_asked message)
+
 unfoldable pub message_asked : Message → Asked
 message_asked message =
     if message.kind == ECHO_REQUEST then note (echo_note message.seq)
     else if message.kind == ECHO_RESPONSE || message.kind == DOWNLINK_DATA_NOTIFICATION_ACKNOWLEDGE then note (codes "s11 noted")
-    else if message.kind == CREATE_SESSION_REQUEST then unwrap_or (create_asked message) (note (codes "s11 unexpected"))
-    else unwrap_or (session_asked message) (note (codes "s11 unexpected"))
+    else if message.kind == CREATE_SESSION_REQUEST then create_or_unexpected message
+    else session_or_unexpected message
 
 abbrev pub asked_where : List ℕ → Option CBad → Asked
 asked_where octets (Some bad) = note (message_note bad (refusal_of octets bad))

@@ -1,7 +1,7 @@
 -- What a message of the MME asks, by its elements (TS 29.274, 7.2). Of those that are repeated the first counts, and
 -- of a Bearer Context the first F-TEID of the eNodeB's interface.
-use Rattle.std.specs.Prelude.{ℕ, ◌==◌, not, if◌then◌else◌, Option, Some, None, option_map, option_and_then, List, [], ◌∷◌, filter, find}
-use Rattle.std.specs.List.{filter_map}
+use Rattle.std.specs.Prelude.{ℕ, ◌==◌, not, Bool, if◌then◌else◌, Option, Some, None, option_map, option_and_then, List, [], ◌∷◌, ◌++◌, filter, find}
+use Rattle.std.specs.List.{filter_map, list_any}
 use Rattle.tft_codec.specs.Reading.{◌>>=◌}
 use Rattle.pc_base.specs.declared.packet.Peer.{Peer}
 use Rattle.gtpv2_ie.specs.declared.cause.CauseIe.{CauseIe}
@@ -12,7 +12,7 @@ use Rattle.gtpv2_ie.specs.declared.qos.QosIe.{QosIe}
 use Rattle.gtpv2_ie.specs.declared.value.IeValue.{IeValue}
 use Rattle.gtpv2_ie.specs.declared.value.IeValue.TheVariants as values
 use Rattle.gtpv2_ie.specs.Element.{Element}
-use Rattle.gtpv2_msg.specs.Lookup.{first_value, context_value, contexts_of}
+use Rattle.gtpv2_msg.specs.Lookup.{first_value, context_value, first_context, contexts_of}
 use Rattle.gtpv2_msg.specs.Message.{Message}
 use Rattle.gtpv2_msg.specs.declared.kind.TheConstants.{MODIFY_BEARER_REQUEST, DELETE_SESSION_REQUEST, RELEASE_ACCESS_BEARERS_REQUEST, CREATE_BEARER_RESPONSE, UPDATE_BEARER_RESPONSE, DELETE_BEARER_RESPONSE}
 use Rattle.bearer_state.specs.declared.ask.Ask.{Ask}
@@ -103,8 +103,23 @@ abbrev pub first_asks : List Ask → List Ask
 first_asks [] = []
 first_asks (ask ∷ asks) = ask ∷ without_ebi ask.ebi (first_asks asks)
 
-unfoldable pub asks_in : List Element → List Ask
-asks_in ies = first_asks (filter_map ask_of (contexts_of ies))
+-- the asks of a message's Contexts
+unfoldable pub each_ask : List Element → List Ask
+each_ask ies = filter_map ask_of (contexts_of ies)
+
+abbrev pub asks_in : List Element → List Ask
+asks_in ies = first_asks (each_ask ies)
+
+-- the same, going along: one ask more counts where none before it has its EBI
+abbrev pub has_ebi : ℕ → List Ask → Bool
+has_ebi ebi asks = list_any (λ (ask : Ask). ask.ebi == ebi) asks
+
+abbrev pub with_ask : List Ask → Option Ask → List Ask
+with_ask asks None = asks
+with_ask asks (Some ask) = if has_ebi ask.ebi asks then asks else asks ++ ask ∷ []
+
+abbrev pub ask_at : Element → Option Ask
+ask_at ie = option_and_then ask_of (first_context ie)
 
 -- other ends of its bearers (7.2.7)
 abbrev pub modification : Message → CommandKind

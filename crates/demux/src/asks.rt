@@ -1,10 +1,9 @@
 //! The asks of a Modify Bearer Request.
-ghost use Rattle.std.specs.Prelude.{◌≡◌, ◌∷◌, ◌++◌, [], IfSome, IfOk, option_copied, option_and_then};
-ghost use Rattle.std.specs.List.{list_any};
+ghost use Rattle.std.specs.Prelude.{◌≡◌, IfSome, IfOk, OnOk, option_copied};
 ghost use Rattle.gtpv2_ie.specs.Validity.{IsContext};
 ghost use Rattle.gtpv2_msg.specs.Lookup.{first_context};
 ghost use Rattle.bearer_state.specs.Ask.{IsAsk};
-ghost use Rattle.demux.specs.Requests.{ask_of, asks_in};
+ghost use Rattle.demux.specs.Requests.{ask_at, has_ebi, with_ask, asks_in};
 
 use crate::requests::{assigned, enb_in};
 use bearer_state::{Ask, Asks};
@@ -26,7 +25,7 @@ fn context_at(ie: &Ie) -> Option<&Context>
 
 // What an element asks, if it is such a Context with an EBI.
 fn ask_at(ie: &Ie) -> Option<Ask>
-    ensures value { result ≡ option_and_then ask_of (first_context ie.now) }
+    ensures value { result ≡ ask_at ie.now }
     ensures valid { IfSome result IsAsk }
 {
     let context = context_at(ie)?;
@@ -38,22 +37,32 @@ fn ask_at(ie: &Ie) -> Option<Ask>
 }
 
 fn has_ebi(asks: &[Ask], ebi: u8) -> bool
-    ensures { result ≡ list_any (λ ask. ask.ebi == ebi) asks.now }
+    ensures { result ≡ has_ebi ebi asks.now }
 {
     asks.iter().any(|ask| ask.ebi == ebi)
+}
+
+// Takes one ask more, if it is the first of its EBI.
+fn put(asks: &mut Vec<Ask>, ask: Option<Ask>) -> Result<(), NoMemory>
+    ensures { OnOk result (asks.new.items ≡ with_ask asks.old.items ask) }
+{
+    match ask {
+        Some(ask) if !has_ebi(asks, ask.ebi) => {
+            asks.push(ask)?;
+            Ok(())
+        }
+        _ => Ok(()),
+    }
 }
 
 /// The asks of a message: one for each Context with an EBI, of those with one EBI the first.
 pub fn asks_in(alloc: Global, message: &Msg) -> Result<Asks, NoMemory>
     ensures { IfOk result (λ asks. asks ≡ asks_in message.now.ies) }
 {
+    let ies = message.ies.as_slice();
     let mut asks = Vec::new(alloc);
-    for ie in message.ies.as_slice() {
-        if let Some(ask) = ask_at(ie) {
-            if !has_ebi(&asks, ask.ebi) {
-                asks.push(ask)?;
-            }
-        }
+    for ie in ies {
+        put(&mut asks, ask_at(ie))?;
     }
     match Asks::of(asks) {
         Some(asks) => Ok(asks),

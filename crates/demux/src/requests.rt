@@ -4,7 +4,7 @@ ghost use Rattle.gtpv2_ie.specs.Validity.{IsValue, IsContext, IsEbi, IsQos};
 ghost use Rattle.gtpv2_msg.specs.Lookup.{is_of, first_value};
 ghost use Rattle.bearer_state.specs.Bearer as bearers;
 ghost use Rattle.bearer_state.specs.Qos as classes;
-ghost use Rattle.demux.specs.Requests.{imsi_in, cause_in, rates_in, pdn_in, mme_in, context_in, assigned, enb_in, qos_of, creation, bearer_answer, session_command};
+ghost use Rattle.demux.specs.Requests.{imsi_in, cause_in, rates_in, pdn_in, mme_in, context_in, assigned, peer_of, enb_in, qos_of, creation, modification, bearer_answer, session_command};
 
 use crate::asks::asks_in;
 use bearer_state::Qos;
@@ -72,7 +72,9 @@ fn pdn_in(message: &Msg) -> Option<u8>
     }
 }
 
-fn peer_of(fteid: &Fteid) -> Peer {
+fn peer_of(fteid: &Fteid) -> Peer
+    ensures { result ≡ peer_of fteid.now }
+{
     Peer {
         teid: Teid(fteid.teid),
         addr: Addr4(fteid.addr),
@@ -115,7 +117,10 @@ pub fn assigned(context: &Context) -> Option<u8>
 pub fn enb_in(fteids: &Fteids) -> Option<Peer>
     ensures { result ≡ enb_in fteids.now }
 {
-    let (_, fteid) = fteids.as_slice().iter().find(|fteid| fteid.1.interface == S1_U_ENODEB)?;
+    let (_, fteid) = fteids
+        .as_slice()
+        .iter()
+        .find(|fteid| fteid.1.interface == S1_U_ENODEB)?;
     Some(peer_of(fteid))
 }
 
@@ -135,6 +140,7 @@ fn qos_of(qos: &QosIe) -> Qos
 }
 
 /// The session that a Create Session Request asks for; None where it lacks what that takes.
+#[tactic(auto, unfolding(crate::specs::Requests::creation))]
 pub fn creation(message: &Msg) -> Option<Command>
     ensures { result ≡ creation message.now }
 {
@@ -160,6 +166,7 @@ pub fn creation(message: &Msg) -> Option<Command>
 }
 
 // The answer of a Create Bearer Response; None where it lacks what one says.
+#[tactic(auto, unfolding(crate::specs::Requests::bearer_answer))]
 fn bearer_answer(message: &Msg) -> Option<Command>
     ensures { result ≡ bearer_answer message.now }
 {
@@ -192,6 +199,7 @@ fn modification(alloc: Global, message: &Msg) -> Result<Command, NoMemory>
 }
 
 /// The command that a message is to the session of its TEID; None of another type.
+#[tactic(auto, unfolding(crate::specs::Requests::session_command))]
 pub fn session_command(alloc: Global, message: &Msg) -> Result<Option<Command>, NoMemory>
     ensures { IfOk result (λ command. command ≡ session_command message.now) }
 {

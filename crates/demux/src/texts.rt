@@ -149,11 +149,7 @@ pub fn template_note(bad: TBad) -> &'static str
 fn move_word(destination: SliceNo, slice: SliceNo) -> &'static str
     ensures { result.now ≡ move_word destination slice }
 {
-    if slice == destination {
-        "stay"
-    } else {
-        "move"
-    }
+    if slice == destination { "stay" } else { "move" }
 }
 
 /// The note on an order that moves a slot to a slice: `move`, or `stay` where the slice is its
