@@ -14,6 +14,24 @@ const DOWN: [u8; 28] = [
     0, 8, 0, 0,
 ];
 
+// The head of 1,500 octets from the subscriber.
+const UP_HEAD: [u8; 20] = [
+    0x45, 0, 5, 0xdc, 0, 0, 0, 0, 64, 0, 0, 0, 10, 45, 0, 2, 203, 0, 113, 9,
+];
+
+// The Downlink Data Notification of packet 0, and the Modify Bearer Response to request 2.
+const NOTIFICATION: [u8; 17] = [
+    0x48, 0xb0, 0, 0x0d, 0, 0, 0x10, 0, 0, 0, 0, 0, 0x49, 0, 1, 0, 5,
+];
+
+const ANSWER: [u8; 46] = [
+    0x48, 0x23, 0, 0x2a, 0, 0, 0x10, 0, 0, 0, 2, 0, 2, 0, 2, 0, 0x10, 0, 0x5d, 0, 0x18, 0, 0x49, 0,
+    1, 0, 5, 2, 0, 2, 0, 0x10, 0, 0x57, 0, 9, 0, 0x81, 0, 0, 0, 0x11, 0xc0, 0, 2, 1,
+];
+
+// The End Marker to the first eNodeB.
+const END_MARKER: [u8; 8] = [0x30, 0xfe, 0, 0, 0, 0, 0x0a, 1];
+
 const MME: Peer = Peer {
     teid: Teid(0x1000),
     addr: Addr4(0xc633_6401),
@@ -109,6 +127,51 @@ fn tunnelled(alloc: Global, teid: u8) -> Result<Octets, Fail> {
     Ok(Octets::of(text))
 }
 
+// What a verdict says, and its octets.
+fn told(verdict: &Verdict) -> (&'static str, Option<&[u8]>) {
+    match verdict {
+        Verdict::Up { life: 0, octets } => ("up", Some(octets.as_slice())),
+        Verdict::Down {
+            life: 0,
+            octets,
+            ..
+        } => ("down", Some(octets.as_slice())),
+        Verdict::Held { life: 0, message } => match message {
+            Some(octets) => ("told", Some(octets.as_slice())),
+            None => ("held", None),
+        },
+        Verdict::Idle { life: 0 } => ("idle", None),
+        Verdict::Policed { life: 0 } => ("policed", None),
+        _ => ("none", None),
+    }
+}
+
+// What an effect says, where it goes, and its octets.
+fn shown(effect: &Effect) -> (&'static str, Option<Addr4>, &[u8]) {
+    match effect {
+        Effect::Marker {
+            life: 0,
+            peer,
+            octets,
+        } => ("marker", Some(*peer), octets.as_slice()),
+        Effect::Fate {
+            packet: 0,
+            fate: Fate::Down {
+                life: 0,
+                peer,
+                octets,
+            },
+        } => ("down", Some(*peer), octets.as_slice()),
+        _ => ("none", None, &[]),
+    }
+}
+
+fn uplink(alloc: Global) -> Result<Vec<u8>, Fail> {
+    let mut octets = Vec::from_slice(alloc, &UP_HEAD)?;
+    octets.resize(1_500, 0)?;
+    Ok(octets)
+}
+
 #[test]
 fn policed_by_rate(rt: HostRuntime) -> Result<(), Fail> {
     let alloc = rt.alloc();
@@ -118,29 +181,17 @@ fn policed_by_rate(rt: HostRuntime) -> Result<(), Fail> {
         up: Kbps(8),
         down: Kbps(8),
     };
-    let (reply, effects) = replied(&mut gateway, attach)?;
+    let (reply, _) = replied(&mut gateway, attach)?;
     assert_eq!(rt; reply.outcome, Outcome::Done);
-    assert_eq!(rt; effects.as_slice().len(), 0);
-
-    // 1,500 octets from the subscriber.
-    let mut octets = Vec::from_slice(
-        alloc,
-        &[
-            0x45, 0, 5, 0xdc, 0, 0, 0, 0, 64, 0, 0, 0, 10, 45, 0, 2, 203, 0, 113, 9,
-        ],
-    )?;
-    octets.resize(1_500, 0)?;
-    for (at, passes) in [(0, true), (0, true), (1_000_000, false), (1_500_000, true)] {
+    let octets = uplink(alloc)?;
+    for (at, word) in [
+        (0, "up"),
+        (0, "up"),
+        (1_000_000, "policed"),
+        (1_500_000, "up"),
+    ] {
         let now = verdict(&mut gateway, packet(alloc, 0, at, Way::Up(0), &octets)?)?;
-        let due = if passes {
-            Verdict::Up {
-                life: 0,
-                octets: octets_of(alloc, &octets)?,
-            }
-        } else {
-            Verdict::Policed { life: 0 }
-        };
-        assert_eq!(rt; now, due, "at {at}");
+        assert_eq!(rt; told(&now).0, word, "at {at}");
     }
     Ok(())
 }
@@ -149,46 +200,34 @@ fn policed_by_rate(rt: HostRuntime) -> Result<(), Fail> {
 fn held_and_released(rt: HostRuntime) -> Result<(), Fail> {
     let alloc = rt.alloc();
     let mut gateway = idle(alloc)?;
-    let first = verdict(&mut gateway, packet(alloc, 0, 1, Way::Down, &DOWN)?)?;
-    let notification = &[
-        0x48, 0xb0, 0, 0x0d, 0, 0, 0x10, 0, 0, 0, 0, 0, 0x49, 0, 1, 0, 5,
-    ];
-    let due = Verdict::Held {
-        life: 0,
-        message: Some(octets_of(alloc, notification)?),
-    };
-    assert_eq!(rt; first, due);
-
-    // A service request, and then a path switch: the fate of the packet, and the End Marker.
+    let held = verdict(&mut gateway, packet(alloc, 0, 1, Way::Down, &DOWN)?)?;
+    assert_eq!(rt; told(&held), ("told", Some(NOTIFICATION.as_slice())));
     let (reply, effects) = replied(&mut gateway, modify(alloc, 2, FIRST_ENB)?)?;
-    let answer = &[
-        0x48, 0x23, 0, 0x2a, 0, 0, 0x10, 0, 0, 0, 2, 0, 2, 0, 2, 0, 0x10, 0, 0x5d, 0, 0x18, 0,
-        0x49, 0, 1, 0, 5, 2, 0, 2, 0, 0x10, 0, 0x57, 0, 9, 0, 0x81, 0, 0, 0, 0x11, 0xc0, 0, 2, 1,
-    ];
-    assert_eq!(rt; reply.message, Some(octets_of(alloc, answer)?));
-    let down = Effect::Fate {
-        packet: 0,
-        fate: Fate::Down {
-            life: 0,
-            peer: FIRST_ENB.addr,
-            octets: tunnelled(alloc, 1)?,
-        },
-    };
-    assert_eq!(rt; effects.as_slice(), [down].as_slice());
+    let message = reply.message.ok_or("an answer")?;
+    assert_eq!(rt; message.as_slice(), ANSWER.as_slice());
+    let effect = effects.as_slice().first().ok_or("a fate")?;
+    let text = tunnelled(alloc, 1)?;
+    assert_eq!(rt;
+        shown(effect),
+        ("down", Some(FIRST_ENB.addr), text.as_slice())
+    );
+    Ok(())
+}
+
+#[test]
+fn end_marker_after_switch(rt: HostRuntime) -> Result<(), Fail> {
+    let alloc = rt.alloc();
+    let mut gateway = idle(alloc)?;
+    let _ = replied(&mut gateway, modify(alloc, 2, FIRST_ENB)?)?;
     let (_, effects) = replied(&mut gateway, modify(alloc, 3, SECOND_ENB)?)?;
-    let marker = Effect::Marker {
-        life: 0,
-        peer: FIRST_ENB.addr,
-        octets: octets_of(alloc, &[0x30, 0xfe, 0, 0, 0, 0, 0x0a, 1])?,
-    };
-    assert_eq!(rt; effects.as_slice(), [marker].as_slice());
-    let now = verdict(&mut gateway, packet(alloc, 1, 2, Way::Down, &DOWN)?)?;
-    let due = Verdict::Down {
-        life: 0,
-        peer: SECOND_ENB.addr,
-        octets: tunnelled(alloc, 2)?,
-    };
-    assert_eq!(rt; now, due);
+    let effect = effects.as_slice().first().ok_or("a marker")?;
+    assert_eq!(rt;
+        shown(effect),
+        ("marker", Some(FIRST_ENB.addr), END_MARKER.as_slice())
+    );
+    let now = verdict(&mut gateway, packet(alloc, 0, 2, Way::Down, &DOWN)?)?;
+    let text = tunnelled(alloc, 2)?;
+    assert_eq!(rt; told(&now), ("down", Some(text.as_slice())));
     Ok(())
 }
 
@@ -198,17 +237,12 @@ fn sixteen_are_held(rt: HostRuntime) -> Result<(), Fail> {
     let mut gateway = idle(alloc)?;
     for number in 0..17 {
         let now = verdict(&mut gateway, packet(alloc, number, 1, Way::Down, &DOWN)?)?;
-        let told = match now {
-            Verdict::Held { life: 0, message } => (1, message.is_some()),
-            Verdict::Idle { life: 0 } => (2, false),
-            _ => (0, false),
+        let word = match number {
+            0 => "told",
+            16 => "idle",
+            _ => "held",
         };
-        let due = match number {
-            0 => (1, true),
-            16 => (2, false),
-            _ => (1, false),
-        };
-        assert_eq!(rt; told, due, "packet {number}");
+        assert_eq!(rt; told(&now).0, word, "packet {number}");
     }
     let (_, effects) = replied(&mut gateway, modify(alloc, 2, FIRST_ENB)?)?;
     assert_eq!(rt; effects.as_slice().len(), 16);
