@@ -1,17 +1,13 @@
 -- The fields of an entry, and the entry that fields are.
-use Rattle.std.proofs.Common.{◌≡◌, ◌≢◌, ℕ, ◌^◌, ◌-◌, ◌<◌, ◌≤◌, ◌&&◌, ◌==◌, Bool, true, false, List, [], ◌∷◌, ◌++◌, length, get_or, All, refl, sym, ap, ◌∙◌, arith, append-nil, Option, Some, None, if◌then◌else◌, nat_le, nat_lt}
+use Rattle.std.proofs.Common.{◌≡◌, ℕ, ◌^◌, ◌-◌, ◌<◌, ◌&&◌, Bool, true, false, List, [], ◌∷◌, ◌++◌, length, get_or, refl, ap, ◌∙◌, arith, append-nil, Option, Some, None, if◌then◌else◌, nat_le, nat_lt}
 use Rattle.std.specs.Prelude.{codes, decimal, IfSome}
 use Rattle.std.specs.List.{list_all}
-use Rattle.std.specs.Option.{option_map}
-use Rattle.std.specs.Str.{bytes_eq}
 use Rattle.std.proofs.lemmas.Bool.Decides.{nat_tests}
 use Rattle.std.proofs.lemmas.List.Sums.{list_all-from_AllPass, AllPass-from_list_all}
 use Rattle.charging_book.specs.Rows.{Charged, Counters}
 use Rattle.charging_book.specs.declared.records.Why.{Why}
-use Rattle.pc_base.specs.declared.effect.Effect.{Effect}
 use Rattle.pc_base.specs.declared.effect.Effect.TheVariants as effect
 use Rattle.pc_base.specs.declared.effect.Fate.{Fate}
-use Rattle.pc_base.specs.declared.reply.Reply.{Reply}
 use Rattle.text_fields.specs.Address.{address_of, dotted, ◌>>=◌}
 use Rattle.text_fields.specs.Fields.{joined}
 use Rattle.text_fields.specs.Hexadecimal.{lower_octets_of}
@@ -19,18 +15,17 @@ use Rattle.text_fields.proofs.AddressLemmas.{address_read}
 use Rattle.text_fields.proofs.DigitLemmas.{number_read}
 use Rattle.text_fields.proofs.LowerLemmas.{lower_octets_read}
 use Rattle.hex.specs.Hex.{encode_lower}
-use Rattle.report_lines.specs.declared.entry.Entry.{Entry}
 use Rattle.report_lines.specs.declared.entry.Entry.TheVariants as entry
 use Rattle.report_lines.specs.declared.entry.LineEntry.TheVariants as line
 use Rattle.report_lines.specs.declared.entry.ChargeEntry.TheVariants as charge
 use Rattle.report_lines.specs.declared.entry.Refusal.{Refusal}
 use Rattle.report_lines.specs.Ranges.{IsNumber, IsSlot, IsOctets, IsAnswered, IsJudged, IsMoment, AreCounters, IsFate, IsEffected, IsEntry}
-use Rattle.report_lines.specs.Reading.{next, at_end, any_number, slot, outcome_of, why_of, refused_of, message_of, moment_of, verdict_of, fate_of, place_of, head_of, counters_at, is_note, note_of, answered_of, judged_of, refusal_of, marker_of, settlement_of, row_with, row_of, open_of, slot_row, slot_open, entry_at, entry_of_fields}
+use Rattle.report_lines.specs.Reading.{next, at_end, any_number, slot, outcome_of, why_of, refused_of, message_of, moment_of, verdict_of, fate_of, place_of, head_of, counters_at, is_note, note_of, answered_of, judged_of, refusal_of, marker_of, settlement_of, row_with, row_of, open_of, slot_row, slot_open}
 use Rattle.report_lines.specs.Records.{Noted, Answered, Judged, Effected, IsNote, IsPrintable}
-use Rattle.report_lines.specs.Text.{entry_fields, line_fields, effect_fields, charge_fields, counters_fields, counters_of, row_fields, ending, verdict_fields, fate_fields, place_fields}
+use Rattle.report_lines.specs.Text.{line_fields, effect_fields, charge_fields, counters_fields, counters_of, row_fields, ending, verdict_fields, fate_fields, place_fields}
 use Rattle.report_lines.specs.Words.{outcome_word, why_word, refused_word, message_word, moment_word}
 use Rattle.report_lines.proofs.WordLemmas.{outcome_given, outcome_taken, why_given, why_taken, refused_given, refused_taken, message_taken, moment_given, moment_taken}
-use Rattle.report_lines.proofs.FieldLemmas.{Stands, Placed, bound, next_given, any_given, any_taken, slot_given, address_given, octets_given, messages_given, verdict_given, verdict_taken, fate_given, fate_taken, place_fields_given, place_fields_taken, head_given, head_taken, counters_given, counters_taken}
+use Rattle.report_lines.proofs.FieldLemmas.{bound, next_given, any_given, any_taken, slot_given, address_given, octets_given, messages_given, verdict_given, verdict_taken, fate_given, fate_taken, place_fields_given, place_fields_taken, head_given, head_taken, counters_given, counters_taken}
 
 ended : {A : Type 0} (x y : A) (texts : List (List ℕ)) → at_end x texts ≡ Some y → (x ≡ y) × (texts ≡ [])
 ended x y [] read = let same : x ≡ y = cc in (same, refl)
@@ -53,9 +48,9 @@ answered_given texts told read =
     let same = last.0 in
     rw (← same) (
       ap (λ t. codes "C" ∷ t) (is_head.are
-      ∙ ap (λ t. decimal head.0.0.0 ∷ decimal head.0.0.1 ∷ decimal head.0.0.2 ∷ t) is_outcome.are
-      ∙ ap (λ t. decimal head.0.0.0 ∷ decimal head.0.0.1 ∷ decimal head.0.0.2 ∷ outcome_word outcome.0.0 ∷ t) is_message.are
-      ∙ ap (λ t. decimal head.0.0.0 ∷ decimal head.0.0.1 ∷ decimal head.0.0.2 ∷ outcome_word outcome.0.0 ∷ message_word message.0.0 ∷ t) last.1),
+          ∙ ap (λ t. decimal head.0.0.0 ∷ decimal head.0.0.1 ∷ decimal head.0.0.2 ∷ t) is_outcome.are
+          ∙ ap (λ t. decimal head.0.0.0 ∷ decimal head.0.0.1 ∷ decimal head.0.0.2 ∷ outcome_word outcome.0.0 ∷ t) is_message.are
+          ∙ ap (λ t. decimal head.0.0.0 ∷ decimal head.0.0.1 ∷ decimal head.0.0.2 ∷ outcome_word outcome.0.0 ∷ message_word message.0.0 ∷ t) last.1),
       record { line = is_head.valid.0; slot = is_head.valid.1; number = is_head.valid.2; message = is_message.valid },
     )
 
@@ -83,9 +78,9 @@ judged_given texts told read =
     let same = same_some _ told place.2 in
     rw (← same) (
       ap (λ t. codes "P" ∷ t) (is_head.are
-      ∙ ap (λ t. decimal head.0.0.0 ∷ decimal head.0.0.1 ∷ decimal head.0.0.2 ∷ t) is_commands.are
-      ∙ ap (λ t. decimal head.0.0.0 ∷ decimal head.0.0.1 ∷ decimal head.0.0.2 ∷ decimal commands.0.0 ∷ t) is_verdict.are
-      ∙ ap (λ t. decimal head.0.0.0 ∷ decimal head.0.0.1 ∷ decimal head.0.0.2 ∷ decimal commands.0.0 ∷ verdict_fields its_verdict.0.0 t) is_place.are),
+          ∙ ap (λ t. decimal head.0.0.0 ∷ decimal head.0.0.1 ∷ decimal head.0.0.2 ∷ t) is_commands.are
+          ∙ ap (λ t. decimal head.0.0.0 ∷ decimal head.0.0.1 ∷ decimal head.0.0.2 ∷ decimal commands.0.0 ∷ t) is_verdict.are
+          ∙ ap (λ t. decimal head.0.0.0 ∷ decimal head.0.0.1 ∷ decimal head.0.0.2 ∷ decimal commands.0.0 ∷ verdict_fields its_verdict.0.0 t) is_place.are),
       record {
         line = is_head.valid.0;
         slot = is_head.valid.1;
@@ -122,8 +117,8 @@ refusal_given texts told read =
     let same = last.0 in
     rw (← same) (
       ap (λ t. codes "F" ∷ t) (is_at.are ∙ ap (λ t. decimal at.0.0 ∷ t) is_slot.are
-      ∙ ap (λ t. decimal at.0.0 ∷ decimal its_slot.0.0 ∷ t) is_what.are
-      ∙ ap (λ t. decimal at.0.0 ∷ decimal its_slot.0.0 ∷ refused_word what.0.0 ∷ t) last.1),
+          ∙ ap (λ t. decimal at.0.0 ∷ decimal its_slot.0.0 ∷ t) is_what.are
+          ∙ ap (λ t. decimal at.0.0 ∷ decimal its_slot.0.0 ∷ refused_word what.0.0 ∷ t) last.1),
       is_at.valid,
       is_slot.valid,
     )
@@ -154,10 +149,10 @@ marker_given texts told read =
     let same = last.0 in
     rw (← same) (
       ap (λ t. codes "M" ∷ t) (is_slot.are ∙ ap (λ t. decimal its_slot.0.0 ∷ t) is_life.are
-      ∙ ap (λ t. decimal its_slot.0.0 ∷ decimal life.0.0 ∷ t) is_command.are
-      ∙ ap (λ t. decimal its_slot.0.0 ∷ decimal life.0.0 ∷ decimal command.0.0 ∷ t) is_peer.are
-      ∙ ap (λ t. decimal its_slot.0.0 ∷ decimal life.0.0 ∷ decimal command.0.0 ∷ dotted peer.0.0 ∷ t) is_octets.are
-      ∙ ap (λ t. decimal its_slot.0.0 ∷ decimal life.0.0 ∷ decimal command.0.0 ∷ dotted peer.0.0 ∷ encode_lower octets.0.0 ∷ t) last.1),
+          ∙ ap (λ t. decimal its_slot.0.0 ∷ decimal life.0.0 ∷ t) is_command.are
+          ∙ ap (λ t. decimal its_slot.0.0 ∷ decimal life.0.0 ∷ decimal command.0.0 ∷ t) is_peer.are
+          ∙ ap (λ t. decimal its_slot.0.0 ∷ decimal life.0.0 ∷ decimal command.0.0 ∷ dotted peer.0.0 ∷ t) is_octets.are
+          ∙ ap (λ t. decimal its_slot.0.0 ∷ decimal life.0.0 ∷ decimal command.0.0 ∷ dotted peer.0.0 ∷ encode_lower octets.0.0 ∷ t) last.1),
       record { slot = is_slot.valid; command = is_command.valid; effect = (is_life.valid, is_peer.valid, is_octets.valid) },
     )
 
@@ -192,8 +187,8 @@ settlement_given texts told read =
     let same = last.0 in
     rw (← same) (
       ap (λ t. codes "H" ∷ t) (is_slot.are ∙ ap (λ t. decimal its_slot.0.0 ∷ t) is_packet.are
-      ∙ ap (λ t. decimal its_slot.0.0 ∷ decimal packet.0.0 ∷ t) is_command.are
-      ∙ ap (λ t. decimal its_slot.0.0 ∷ decimal packet.0.0 ∷ decimal command.0.0 ∷ t)
+          ∙ ap (λ t. decimal its_slot.0.0 ∷ decimal packet.0.0 ∷ t) is_command.are
+          ∙ ap (λ t. decimal its_slot.0.0 ∷ decimal packet.0.0 ∷ decimal command.0.0 ∷ t)
           (is_fate.are ∙ append_none (fate_fields its_fate.0.0) its_fate.0.1 last.1)),
       record { slot = is_slot.valid; command = is_command.valid; effect = (is_packet.valid, is_fate.valid) },
     )
@@ -227,9 +222,9 @@ row_given texts told read =
     let same = last.0 in
     rw (← same) (
       is_counters.are ∙ ap (λ t. counters_fields counters.0.0 t) (is_first.are
-      ∙ ap (λ t. moment_word first.0.0 ∷ t) is_second.are
-      ∙ ap (λ t. moment_word first.0.0 ∷ moment_word second.0.0 ∷ t) is_why.are
-      ∙ ap (λ t. moment_word first.0.0 ∷ moment_word second.0.0 ∷ why_word why.0.0 ∷ t) last.1),
+          ∙ ap (λ t. moment_word first.0.0 ∷ t) is_second.are
+          ∙ ap (λ t. moment_word first.0.0 ∷ moment_word second.0.0 ∷ t) is_why.are
+          ∙ ap (λ t. moment_word first.0.0 ∷ moment_word second.0.0 ∷ why_word why.0.0 ∷ t) last.1),
       is_counters.valid,
       is_first.valid,
       is_second.valid,

@@ -19,7 +19,7 @@ use Rattle.text_fields.proofs.AddressLemmas.{address_read, address_only}
 use Rattle.text_fields.proofs.LowerLemmas.{lower_octets_read, lower_octets_only}
 use Rattle.report_lines.specs.Ranges.{IsNumber, IsSlot, IsOctets, IsVerdict, IsFate, IsPlace, AreCounters}
 use Rattle.report_lines.specs.Records.{KeepsPlace}
-use Rattle.report_lines.specs.Reading.{Taken, with_rest, next, at_end, number, any_number, counted, slot, message_of, place_at, place_of, down_of, up_of, held_of, verdict_at, verdict_of, fate_at, fate_of, counters_at, head_of}
+use Rattle.report_lines.specs.Reading.{with_rest, next, number, any_number, counted, slot, message_of, place_at, place_of, down_of, up_of, held_of, verdict_of, fate_of, counters_at, head_of}
 use Rattle.report_lines.specs.Text.{verdict_fields, fate_fields, place_fields, counters_fields}
 use Rattle.report_lines.specs.Words.{message_word, place_word}
 use Rattle.report_lines.proofs.WordLemmas.{message_given, message_taken, place_given, place_taken}
@@ -65,7 +65,7 @@ pub number_given : (last : ℕ) (texts : List (List ℕ)) (taken : ℕ × List (
     → Stands (one decimal) (λ n. n ≤ last) texts taken
 number_given last texts taken fits read =
     next_given (number_in 0 last) decimal (λ n. n ≤ last)
-        (λ text x is. let only = number_only 0 last x text fits is in (only.0, only.2)) texts taken read
+    (λ text x is. let only = number_only 0 last x text fits is in (only.0, only.2)) texts taken read
 
 pub number_taken : (last n : ℕ) (rest : List (List ℕ)) → n < 2 ^ 64 → n ≤ last → number last (decimal n ∷ rest) ≡ Some (n, rest)
 number_taken last n rest fits high = next_taken (number_in 0 last) (decimal n) n rest (number_read 0 last n fits (omega arith) high)
@@ -104,7 +104,7 @@ pub octets_given : (texts : List (List ℕ)) (taken : List ℕ × List (List ℕ
     → Stands (one encode_lower) IsOctets texts taken
 octets_given texts taken read =
     next_given lower_octets_of encode_lower IsOctets
-        (λ text x is. let only = lower_octets_only text x is in (only.0, (only.1, only.2))) texts taken read
+    (λ text x is. let only = lower_octets_only text x is in (only.0, (only.1, only.2))) texts taken read
 
 pub messages_given : (texts : List (List ℕ)) (taken : Option (List ℕ) × List (List ℕ)) → next message_of texts ≡ Some taken
     → Stands (one message_word) (λ m. IfSome m IsOctets) texts taken
@@ -385,8 +385,10 @@ counters_given texts taken read =
     let is_down_packets = count_given up_packets.0.1 down_packets.0 down_packets.1 in
     let same = same_taken _ taken down_packets.2 in
     rw (← same) (record {
-      are = eight texts _ _ _ _ _ _ _ _ _ _ _ _ _ _ _ _ is_life.are is_ebi.are is_qci.are is_seq.are is_up_octets.are is_down_octets.are
-          is_up_packets.are is_down_packets.are;
+      are = eight texts life.0.1 ebi.0.1 qci.0.1 seq.0.1 up_octets.0.1 down_octets.0.1 up_packets.0.1 down_packets.0.1
+          (decimal life.0.0) (decimal ebi.0.0) (decimal qci.0.0) (decimal seq.0.0) (decimal up_octets.0.0) (decimal down_octets.0.0)
+          (decimal up_packets.0.0) (decimal down_packets.0.0) is_life.are is_ebi.are is_qci.are is_seq.are is_up_octets.are
+          is_down_octets.are is_up_packets.are is_down_packets.are;
       valid = record {
         life = is_life.valid;
         ebi = is_ebi.valid;

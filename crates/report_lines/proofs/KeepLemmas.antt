@@ -1,5 +1,5 @@
 -- What is read keeps what its type asks, and what a note is.
-use Rattle.std.proofs.Common.{◌≡◌, ℕ, Bool, true, false, List, [], ◌∷◌, sym, ap, ◌∙◌, Option, Some, None, if◌then◌else◌, Bor, subst}
+use Rattle.std.proofs.Common.{◌≡◌, ℕ, Bool, true, false, List, sym, ap, ◌∙◌, Option, Some, None, if◌then◌else◌, Bor, subst}
 use Rattle.std.specs.Prelude.{IfSome}
 use Rattle.pc_base.specs.declared.effect.Fate.{Fate}
 use Rattle.pc_base.specs.declared.effect.Fate.TheVariants as fate
@@ -12,7 +12,7 @@ use Rattle.text_fields.specs.Hexadecimal.{lower_octets_of}
 use Rattle.text_fields.proofs.LowerLemmas.{lower_octets_only}
 use Rattle.report_lines.specs.Ranges.{IsOctets, IsVerdict, IsFate}
 use Rattle.report_lines.specs.Reading.{Gives, next, message_of, any_number, verdict_of, fate_of, place_of, is_note, note_of}
-use Rattle.report_lines.specs.Records.{Noted, HasOctets, KeepsVerdict, KeepsFate, KeepsPlace}
+use Rattle.report_lines.specs.Records.{HasOctets, KeepsVerdict, KeepsFate, KeepsPlace}
 use Rattle.report_lines.proofs.FieldLemmas.{messages_given, verdict_given, fate_given, place_fields_given}
 
 message_kept : (message : Option (List ℕ)) → IfSome message IsOctets → IfSome message HasOctets
@@ -54,7 +54,7 @@ pub message_keeps : (texts : List (List ℕ)) (given : Option (Option (List ℕ)
     (left : Option (Bor (List ℕ))) → Gives given (next message_of texts) → given ≡ Some (message, left) → IfSome message HasOctets
 message_keeps texts given message left gives is =
     message_kept message
-        (messages_given texts (message, pieces_left space left) (given_is given (next message_of texts) message left gives is)).valid
+    (messages_given texts (message, pieces_left space left) (given_is given (next message_of texts) message left gives is)).valid
 
 pub verdict_keeps : (texts : List (List ℕ)) (given : Option (Verdict × Option (Bor (List ℕ)))) (told : Verdict) (left : Option (Bor (List ℕ)))
     → Gives given (verdict_of texts) → given ≡ Some (told, left) → KeepsVerdict told

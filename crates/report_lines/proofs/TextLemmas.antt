@@ -1,7 +1,7 @@
 -- The text of an entry, and the entry that a text is.
-use Rattle.std.proofs.Common.{◌≡◌, ◌≢◌, ℕ, ◌^◌, ◌<◌, ◌≤◌, ◌==◌, ◌⊎◌, inl, inr, Bool, true, false, List, [], ◌∷◌, ◌++◌, length, get_or, All, not, refl, sym, ap, ◌∙◌, arith, Option, Some, None, if◌then◌else◌}
-use Rattle.std.specs.Prelude.{codes, decimal, IfSome, IfOk, Result, Ok, Err}
-use Rattle.std.specs.List.{list_all, slice_split, join_with_byte}
+use Rattle.std.proofs.Common.{◌≡◌, ◌≢◌, ℕ, ◌^◌, ◌<◌, ◌==◌, Bool, true, false, List, [], ◌∷◌, ◌++◌, length, get_or, All, not, refl, sym, ap, ◌∙◌, arith, Option, Some, None, if◌then◌else◌}
+use Rattle.std.specs.Prelude.{codes, decimal, IfSome}
+use Rattle.std.specs.List.{list_all}
 use Rattle.std.specs.Option.{option_map}
 use Rattle.std.specs.Str.{bytes_eq}
 use Rattle.std.proofs.lemmas.Bool.Decides.{nat_tests}
@@ -9,7 +9,7 @@ use Rattle.std.proofs.lemmas.List.Elements.{All-cons}
 use Rattle.std.proofs.lemmas.List.Splits.{slice_split_at}
 use Rattle.std.proofs.lemmas.List.Sums.{AllPass-from_list_all}
 use Rattle.std.proofs.lemmas.Slice.Eq.{bytes_eq-Decides}
-use Rattle.charging_book.specs.Rows.{Charged, Counters}
+use Rattle.charging_book.specs.Rows.{Counters}
 use Rattle.charging_book.specs.declared.records.Why.{Why}
 use Rattle.charging_book.specs.declared.records.Why.TheVariants.{Volume, Qos, Gone}
 use Rattle.hex.specs.Hex.{encode_lower}
@@ -24,7 +24,7 @@ use Rattle.pc_base.specs.declared.packet.Verdict.TheVariants as verdict
 use Rattle.pc_base.specs.declared.reply.Outcome.{Outcome}
 use Rattle.pc_base.specs.declared.reply.Outcome.TheVariants.{Done, No, Again}
 use Rattle.text_fields.specs.Address.{dotted}
-use Rattle.text_fields.specs.Fields.{AllLack, space, pieces, joined, fields_of}
+use Rattle.text_fields.specs.Fields.{AllLack, space, joined, fields_of}
 use Rattle.text_fields.proofs.FieldLemmas.{pieces-joined, joined-pieces}
 use Rattle.text_fields.proofs.PlainLemmas.{IsField, field-decimal, field-dotted, field-encode_lower}
 use Rattle.report_lines.specs.declared.entry.Entry.{Entry}
@@ -34,12 +34,12 @@ use Rattle.report_lines.specs.declared.entry.LineEntry.TheVariants as line
 use Rattle.report_lines.specs.declared.entry.Refusal.{Refusal}
 use Rattle.report_lines.specs.declared.entry.ChargeEntry.{ChargeEntry}
 use Rattle.report_lines.specs.declared.entry.ChargeEntry.TheVariants as charge
-use Rattle.report_lines.specs.Ranges.{IsNumber, IsSlot, IsAnswered, IsJudged, IsOctets, IsVerdict, IsFate, IsPlace, IsMoment, AreCounters, IsLineEntry, IsEffect, IsEffected, IsChargeEntry, IsEntry}
+use Rattle.report_lines.specs.Ranges.{IsNumber, IsSlot, IsAnswered, IsJudged, IsOctets, IsVerdict, IsFate, IsPlace, IsMoment, AreCounters, IsLineEntry, IsEffect, IsChargeEntry, IsEntry}
 use Rattle.report_lines.specs.Records.{Noted, Answered, Judged, Effected}
-use Rattle.report_lines.specs.Reading.{note_of, answered_of, judged_of, refusal_of, marker_of, settlement_of, slot_row, slot_open, entry_at, entry_of_fields, entry_of}
-use Rattle.report_lines.specs.Text.{verdict_fields, fate_fields, place_fields, counters_fields, counters_of, row_fields, ending, line_fields, effect_fields, charge_fields, entry_fields, entry_text, line_shown, shown}
+use Rattle.report_lines.specs.Reading.{note_of, answered_of, judged_of, refusal_of, marker_of, settlement_of, slot_row, slot_open, entry_of_fields, entry_of}
+use Rattle.report_lines.specs.Text.{verdict_fields, fate_fields, place_fields, counters_fields, counters_of, row_fields, ending, line_fields, effect_fields, charge_fields, entry_text, line_shown, shown}
 use Rattle.report_lines.specs.Words.{outcome_word, why_word, message_word, moment_word, place_word, refused_word}
-use Rattle.report_lines.proofs.EntryLemmas.{answered_given, answered_taken, judged_given, judged_taken, refusal_given, refusal_taken, marker_given, marker_taken, settlement_given, settlement_taken, slot_row_given, slot_row_taken, slot_open_given, slot_open_taken, OfNote, note_given, note_taken}
+use Rattle.report_lines.proofs.EntryLemmas.{answered_given, answered_taken, judged_given, judged_taken, refusal_given, refusal_taken, marker_given, marker_taken, settlement_given, settlement_taken, slot_row_given, slot_row_taken, slot_open_given, slot_open_taken, note_given, note_taken}
 
 -- no field has a space
 abbrev Lacks : List ℕ → Type 0
@@ -228,27 +228,27 @@ effect_read : (its_slot command : ℕ) (told : Effect) → IsSlot its_slot → I
     → entry_of (joined (effect_fields its_slot command told)) ≡ Some (entry.Effect (record { slot = its_slot; command = command; effect = told }))
 effect_read its_slot command (effect.Marker life peer octets) is_slot is_command is =
     apart (codes "M") (decimal its_slot ∷ decimal life ∷ decimal command ∷ dotted peer ∷ encode_lower octets ∷ [])
-        (effect_lacks its_slot command (effect.Marker life peer octets) is_slot is_command is)
+    (effect_lacks its_slot command (effect.Marker life peer octets) is_slot is_command is)
     ∙ ap (λ read. option_map (λ (e : Effected). entry.Effect e) read)
-        (marker_taken its_slot command life peer octets is_slot is_command is.0 is.1 is.2)
+    (marker_taken its_slot command life peer octets is_slot is_command is.0 is.1 is.2)
 effect_read its_slot command (effect.Fate packet its_fate) is_slot is_command is =
     apart (codes "H") (decimal its_slot ∷ decimal packet ∷ decimal command ∷ fate_fields its_fate)
-        (effect_lacks its_slot command (effect.Fate packet its_fate) is_slot is_command is)
+    (effect_lacks its_slot command (effect.Fate packet its_fate) is_slot is_command is)
     ∙ ap (λ read. option_map (λ (e : Effected). entry.Effect e) read)
-        (settlement_taken its_slot command packet its_fate is_slot is_command is.0 is.1)
+    (settlement_taken its_slot command packet its_fate is_slot is_command is.0 is.1)
 
 pub entry_read : (told : Entry) → IsEntry told → entry_of (entry_text told) ≡ Some told
 entry_read (entry.Line (line.N told)) is = note_read told is
 entry_read (entry.Line (line.C told)) is =
     apart (codes "C")
-        (decimal told.line ∷ decimal told.slot ∷ decimal told.number ∷ outcome_word told.reply.outcome ∷ message_word told.reply.message ∷ [])
-        (answer_lacks told is)
+    (decimal told.line ∷ decimal told.slot ∷ decimal told.number ∷ outcome_word told.reply.outcome ∷ message_word told.reply.message ∷ [])
+    (answer_lacks told is)
     ∙ ap (λ answered. option_map (λ a. entry.Line (line.C a)) answered) (answered_taken told is)
 entry_read (entry.Line (line.P told)) is =
     apart (codes "P")
-        (decimal told.line ∷ decimal told.slot ∷ decimal told.number ∷ decimal told.commands
-        ∷ verdict_fields told.verdict (place_fields told.place told.parked))
-        (judgement_lacks told is)
+    (decimal told.line ∷ decimal told.slot ∷ decimal told.number ∷ decimal told.commands
+    ∷ verdict_fields told.verdict (place_fields told.place told.parked))
+    (judgement_lacks told is)
     ∙ ap (λ judged. option_map (λ j. entry.Line (line.P j)) judged) (judged_taken told is)
 entry_read (entry.Line (line.F told)) is =
     apart (codes "F") (decimal told.line ∷ decimal told.slot ∷ refused_word told.packet ∷ []) (refusal_lacks told is.0 is.1)

@@ -1,5 +1,5 @@
 -- Single fields: the word of a value, and the value of a word.
-use Rattle.std.proofs.Common.{◌≡◌, ◌≢◌, ℕ, ◌^◌, ◌-◌, ◌*◌, ◌<◌, ◌≤◌, ◌==◌, Bool, true, false, List, [], ◌∷◌, length, get_or, All, refl, sym, ap, ◌∙◌, arith, Option, Some, None, ◌⊎◌, inl, inr, if◌then◌else◌, cond, lit<}
+use Rattle.std.proofs.Common.{◌≡◌, ℕ, ◌^◌, ◌-◌, ◌<◌, ◌==◌, Bool, true, false, List, [], ◌∷◌, length, get_or, refl, sym, ap, ◌∙◌, arith, Option, Some, None, ◌⊎◌, inl, inr, if◌then◌else◌, lit<}
 use Rattle.std.specs.Prelude.{codes, decimal, IfSome}
 use Rattle.std.specs.Option.{option_map}
 use Rattle.std.specs.Str.{bytes_eq}
@@ -163,5 +163,5 @@ pub place_taken : (place : Place) → IsPlace place → place_at (place_word pla
 place_taken Closing is = refl
 place_taken (At slice) is =
     ap (λ b. if b then Some Closing else option_map (λ s. At s) (number_in 0 63 (decimal slice)))
-        (bytes_differ (decimal slice) (codes "-") (number_no_dash slice (omega (arith, is))))
+    (bytes_differ (decimal slice) (codes "-") (number_no_dash slice (omega (arith, is))))
     ∙ ap (λ v. option_map (λ s. At s) v) (number_read 0 63 slice (omega (arith, is)) (omega arith) is)

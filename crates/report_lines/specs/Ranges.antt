@@ -1,6 +1,6 @@
 -- The entries that a report can hold: what each keeps, and the ranges of its numbers.
-use Rattle.std.specs.Prelude.{ℕ, ◌<◌, ◌≤◌, ◌^◌, List, length, All, Option, IfSome, Bool}
-use Rattle.charging_book.specs.Rows.{Charged, Counters}
+use Rattle.std.specs.Prelude.{ℕ, ◌<◌, ◌≤◌, ◌^◌, List, length, All, IfSome}
+use Rattle.charging_book.specs.Rows.{Counters}
 use Rattle.pc_base.specs.declared.effect.Effect.{Effect}
 use Rattle.pc_base.specs.declared.effect.Effect.TheVariants as effect
 use Rattle.pc_base.specs.declared.effect.Fate.{Fate}
@@ -15,7 +15,7 @@ use Rattle.report_lines.specs.declared.entry.LineEntry.{LineEntry}
 use Rattle.report_lines.specs.declared.entry.LineEntry.TheVariants as line
 use Rattle.report_lines.specs.declared.entry.ChargeEntry.{ChargeEntry}
 use Rattle.report_lines.specs.declared.entry.ChargeEntry.TheVariants as charge
-use Rattle.report_lines.specs.Records.{Noted, Answered, Judged, Effected, IsNote, KeepsPlace}
+use Rattle.report_lines.specs.Records.{Answered, Judged, Effected, IsNote, KeepsPlace}
 use Rattle.report_lines.specs.Text.{counters_of}
 
 -- a number of 64 bits

@@ -163,16 +163,19 @@ counters_at texts = do
   down_octets ← any_number up_octets.1
   up_packets ← counted down_octets.1
   down_packets ← counted up_packets.1
-  Some (record {
-    life = life.0;
-    ebi = ebi.0;
-    qci = qci.0;
-    seq = seq.0;
-    up_octets = up_octets.0;
-    down_octets = down_octets.0;
-    up_packets = up_packets.0;
-    down_packets = down_packets.0;
-  }, down_packets.1)
+  Some (
+    record {
+      life = life.0;
+      ebi = ebi.0;
+      qci = qci.0;
+      seq = seq.0;
+      up_octets = up_octets.0;
+      down_octets = down_octets.0;
+      up_packets = up_packets.0;
+      down_packets = down_packets.0;
+    },
+    down_packets.1,
+  )
 
 -- a line, a slot, and a number there
 abbrev pub head_of : List (List ℕ) → Taken (ℕ × ℕ × ℕ)
@@ -198,8 +201,8 @@ answered_of texts = do
   outcome ← next outcome_of head.1
   message ← next message_of outcome.1
   at_end
-    (record { line = head.0.0; slot = head.0.1; number = head.0.2; reply = record { outcome = outcome.0; message = message.0 } })
-    message.1
+      (record { line = head.0.0; slot = head.0.1; number = head.0.2; reply = record { outcome = outcome.0; message = message.0 } })
+      message.1
 
 abbrev pub judged_of : List (List ℕ) → Option Judged
 judged_of texts = do

@@ -1,5 +1,5 @@
 -- The one text of an entry.
-use Rattle.std.specs.Prelude.{ℕ, Bool, true, false, List, [], ◌∷◌, ◌++◌, codes, decimal, Option, None, Some, if◌then◌else◌}
+use Rattle.std.specs.Prelude.{ℕ, Bool, true, false, List, [], ◌∷◌, codes, decimal, Option, None, Some, if◌then◌else◌}
 use Rattle.charging_book.specs.Rows.{Charged, Counters}
 use Rattle.hex.specs.Hex.{encode_lower}
 use Rattle.pc_base.specs.declared.effect.Effect.{Effect}

@@ -12,7 +12,9 @@ use text_fields::{next_piece, read_lower_octets, read_number};
 
 // Lives, sequence numbers and packets are counted up to this one.
 const LAST_COUNT: u64 = 1 << 61;
+
 const LAST_SLOT: u64 = 65_532;
+
 const LAST_MOMENT: u64 = (1 << 50) - 1;
 
 pub(crate) fn next_number(left: Option<&[u8]>, last: u64) -> Option<(u64, Option<&[u8]>)>

@@ -13,9 +13,7 @@ mod reading;
 mod words;
 mod writing;
 
-pub use entry::{
-    Answer, ChargeEntry, EffectEntry, Entry, Judgement, LineEntry, Note, Refusal,
-};
+pub use entry::{Answer, ChargeEntry, EffectEntry, Entry, Judgement, LineEntry, Note, Refusal};
 pub use laws::{one_text_of_an_entry, one_text_without_places, without_place_an_entry};
 pub use lent::LentVerdict;
 pub use reading::read;

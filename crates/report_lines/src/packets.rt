@@ -33,10 +33,7 @@ fn next_down(
     Ok(Some(((life, peer, octets), left)))
 }
 
-fn next_up(
-    alloc: Global,
-    left: Option<&[u8]>,
-) -> Result<Option<(Verdict, Option<&[u8]>)>, NoMemory>
+fn next_up(alloc: Global, left: Option<&[u8]>) -> Result<Option<(Verdict, Option<&[u8]>)>, NoMemory>
     ensures { IfOk result (λ r. Gives r (up_of (pieces_left space left.entry))) }
 {
     let Some((life, left)) = next_number(left, u64::MAX) else {
@@ -86,7 +83,10 @@ fn verdict_of_word<'a>(
         next_up(alloc, left)
     } else if word == b"down".as_slice() {
         match next_down(alloc, left)? {
-            Some(((life, peer, octets), left)) => Ok(Some((Verdict::Down { life, peer, octets }, left))),
+            Some(((life, peer, octets), left)) => Ok(Some((
+                Verdict::Down { life, peer, octets },
+                left,
+            ))),
             None => Ok(None),
         }
     } else if word == b"nobearer".as_slice() {
@@ -131,7 +131,10 @@ fn fate_of_word<'a>(
 {
     if word == b"down".as_slice() {
         match next_down(alloc, left)? {
-            Some(((life, peer, octets), left)) => Ok(Some((Fate::Down { life, peer, octets }, left))),
+            Some(((life, peer, octets), left)) => Ok(Some((
+                Fate::Down { life, peer, octets },
+                left,
+            ))),
             None => Ok(None),
         }
     } else if word == b"policed".as_slice() {
@@ -283,7 +286,11 @@ pub(crate) fn push_fate(out: &mut Vec<u8>, fate: &Fate) -> Result<(), NoMemory>
     }
 }
 
-pub(crate) fn push_place(out: &mut Vec<u8>, place: Option<Place>, parked: bool) -> Result<(), NoMemory>
+pub(crate) fn push_place(
+    out: &mut Vec<u8>,
+    place: Option<Place>,
+    parked: bool,
+) -> Result<(), NoMemory>
     ensures { OnOk result (out.new.items ≡ out.old.items ++ behind (place_fields place parked)) }
 {
     let Some(place) = place else {

@@ -227,10 +227,7 @@ fn read_marker(alloc: Global, left: Option<&[u8]>) -> Result<Option<EffectEntry>
     }))
 }
 
-fn read_settlement(
-    alloc: Global,
-    left: Option<&[u8]>,
-) -> Result<Option<EffectEntry>, NoMemory>
+fn read_settlement(alloc: Global, left: Option<&[u8]>) -> Result<Option<EffectEntry>, NoMemory>
     ensures { IfOk result (λ read. read ≡ settlement_of (pieces_left space left.entry)) }
 {
     let Some((slot, left)) = next_slot(left) else {
