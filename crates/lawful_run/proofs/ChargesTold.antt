@@ -5,7 +5,7 @@ use Rattle.std.proofs.lemmas.Bool.{ne_eqb}
 use Rattle.std.proofs.lemmas.List.Elements.{filter_map-append}
 use Rattle.charging_book.specs.Rows.{Charged, Counters}
 use Rattle.demux.specs.Trace.{Meaning}
-use Rattle.gate_model.specs.SlotPast.{records_after, records_made, opens_after}
+use Rattle.gate_model.specs.SlotPast.{records_after, records_made}
 use Rattle.gate_model.specs.declared.event.Event.{Event}
 use Rattle.gate_model.proofs.Charges.{records_added}
 use Rattle.report_lines.specs.declared.entry.ChargeEntry.TheVariants.{R, O}
@@ -71,10 +71,10 @@ pub rows_are : (job : Job) (slots : ℕ) (made : List (List Meaning)) (report : 
 rows_are job slots made report slot within run = rows_from job slots 1 no_events made report.epochs slot within run.epochs
 
 pub opens_are : (job : Job) (slots : ℕ) (made : List (List Meaning)) (report : Report) (slot : ℕ) → slot < slots → IsRun job slots made report
-    → opens_told slot report ≡ opens_after slot (all_events made report slot)
+    → opens_told slot report ≡ made_of.open_counters slot (all_events made report slot)
 opens_are job slots made report slot within run =
     ap (filter_map (counters_by slot)) run.opens
     ∙ one_of (filter_map (counters_by slot)) refl (filter_map-append (counters_by slot)) (λ s. made_of.opens s (all_events made report s))
     slot 0 slots (omega arith) (omega (arith, within))
-    (λ s other. other_opens slot s (opens_after s (all_events made report s)) other)
-    ∙ own_opens slot (opens_after slot (all_events made report slot))
+    (λ s other. other_opens slot s (made_of.open_counters s (all_events made report s)) other)
+    ∙ own_opens slot (made_of.open_counters slot (all_events made report slot))

@@ -4,8 +4,8 @@ use Rattle.std.specs.List.Sorted.{IsPermutation}
 use Rattle.std.proofs.lemmas.Bool.{cases_eq, eq-eqb, ne_eqb}
 use Rattle.std.proofs.lemmas.List.Sorted.{sum_by-IsPermutation}
 use Rattle.std.proofs.lemmas.List.Sums.{sum_by-cons}
-use Rattle.charging_book.specs.Happenings.{Happening}
-use Rattle.charging_book.specs.Ledger.{packets_of, octets_in, packets_in}
+use Rattle.charging_book.specs.Happenings.{Happening, opens_of}
+use Rattle.charging_book.specs.Ledger.{packets_of, octets_in, packets_in, opens_for, TellLast}
 use Rattle.charging_book.specs.Pieces.{Forwarded}
 use Rattle.charging_book.proofs.LedgerSums.{each_octet_once, each_packet_once}
 use Rattle.demux.specs.Trace.{Meaning}
@@ -19,9 +19,11 @@ use Rattle.gate_model.proofs.Sound.{past_sound}
 use Rattle.packet_steps.specs.Rows.{ForwardedRow}
 use Rattle.lawful_run.specs.Job.{Job}
 use Rattle.lawful_run.specs.Ledger.{is_of_life, packets_told, sent_for, octets_sent, packets_sent, ReportsArePartitions, EachOctetCharged, EachPacketCharged}
+use Rattle.lawful_run.specs.Outcomes.{open_counters}
 use Rattle.lawful_run.specs.Report.{Report}
 use Rattle.lawful_run.specs.Run.{IsRun}
 use Rattle.lawful_run.proofs.ChargesTold.{all_events, rows_are, opens_are}
+use Rattle.lawful_run.proofs.OpenCounters.{counters_of_life}
 use Rattle.lawful_run.proofs.SentTold.{run_parts}
 
 -- what was forwarded for a life, as entries tell it
@@ -57,6 +59,11 @@ module _ (job : Job) (slots : ℕ) (made : List (List Meaning)) (report : Report
       subst (λ xs. IsPermutation xs (packets_told slot life report)) (sym (pieces_told slot life (all_events made report slot)))
       (run_parts slot (is_of_life life) job slots made report within run)
 
+counters_are : (slot life : ℕ) (events : List Event)
+    → opens_for life (open_counters slot events) ≡ opens_for life (opens_of (past_of slot events).packets.charged)
+counters_are slot life events =
+    let parts = (in_one_piece slot events life).partition in counters_of_life slot life events parts.last parts.counters
+
 pub reports_are_partitions : ReportsArePartitions
 reports_are_partitions job slots made report slot life run within =
     let events : List Event = all_events made report slot in
@@ -65,7 +72,8 @@ reports_are_partitions job slots made report slot life run within =
       pieces = parts.pieces;
       last = parts.last;
       records = rw (rows_are job slots made report slot within run) parts.rows;
-      counters = rw (opens_are job slots made report slot within run) parts.counters;
+      counters = rw (opens_are job slots made report slot within run)
+          (subst (λ opens. TellLast opens parts.last) (sym (counters_of_life slot life events parts.last parts.counters)) parts.counters);
       packets = rw (parts.packets) (packets_are job slots made report slot life run within);
     }
 
@@ -88,7 +96,7 @@ pub each_octet_charged : EachOctetCharged
 each_octet_charged job slots made report slot life up run within =
     let events : List Event = all_events made report slot in
     let happened : List Happening = (past_of slot events).packets.charged in
-    rw (rows_are job slots made report slot within run, opens_are job slots made report slot within run)
+    rw (rows_are job slots made report slot within run, opens_are job slots made report slot within run, counters_are slot life events)
     (each_octet_once happened up life (past_sound slot events).packets.lawful
     ∙ octets_alike life up (packets_of life happened)
     ∙ sym (sum_by-IsPermutation (λ sent. cond up (cond sent.up sent.octets 0) (cond sent.up 0 sent.octets)) (map (sent_for life) (packets_of life happened))
@@ -98,7 +106,7 @@ pub each_packet_charged : EachPacketCharged
 each_packet_charged job slots made report slot life up run within =
     let events : List Event = all_events made report slot in
     let happened : List Happening = (past_of slot events).packets.charged in
-    rw (rows_are job slots made report slot within run, opens_are job slots made report slot within run)
+    rw (rows_are job slots made report slot within run, opens_are job slots made report slot within run, counters_are slot life events)
     (each_packet_once happened up life (past_sound slot events).packets.lawful
     ∙ packets_alike life up (packets_of life happened)
     ∙ sym (sum_by-IsPermutation (λ sent. cond (cond up sent.up (not sent.up)) 1 0) (map (sent_for life) (packets_of life happened))

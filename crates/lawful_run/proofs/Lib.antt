@@ -13,6 +13,7 @@ pub mod Growing
 pub mod BySlot
 pub mod ChargesTold
 pub mod SentTold
+pub mod OpenCounters
 pub mod LedgerLaws
 pub mod CutEpochs
 pub mod AsTold

@@ -3,8 +3,12 @@ use Rattle.std.specs.Prelude.{ℕ, List, [], ◌∷◌, ◌++◌, length, map}
 use Rattle.pc_base.specs.declared.effect.Effect.{Effect}
 use Rattle.pc_base.specs.declared.packet.Verdict.{Verdict}
 use Rattle.pc_base.specs.declared.reply.Reply.{Reply}
+use Rattle.bearer_state.specs.declared.version.ActiveBearer.{ActiveBearer}
+use Rattle.charging_book.specs.Happenings.{open_at}
+use Rattle.charging_book.specs.Rows.{Counters}
+use Rattle.control_steps.specs.declared.command.CommandKind.{CommandKind}
 use Rattle.gate_model.specs.Events.{commands_of}
-use Rattle.gate_model.specs.SlotPast.{reply_after, effects_after, verdict_after, records_made, opens_after}
+use Rattle.gate_model.specs.SlotPast.{reply_after, effects_after, verdict_after, records_made, past_of, version_after}
 use Rattle.gate_model.specs.declared.event.Event.{Event}
 use Rattle.gate_model.specs.declared.event.Event.TheVariants as event
 use Rattle.report_lines.specs.Records.{Effected}
@@ -36,9 +40,14 @@ effects slot before (event.Command c ∷ events) =
     ++ effects slot (before ++ event.Command c ∷ []) events
 effects slot before (event.Packet p ∷ events) = effects slot (before ++ event.Packet p ∷ []) events
 
--- the charging records that the events make, and the counters that are open behind all events
+-- the charging records that the events make
 abbrev pub rows : ℕ → List Event → List Event → List ChargeEntry
 rows slot before events = map (R slot) (records_made slot before events)
 
+-- the open counters of the bearers that are active behind all events, by index
+abbrev pub open_counters : ℕ → List Event → List Counters
+open_counters slot events =
+    map (λ (bearer : ActiveBearer). open_at (past_of slot events).packets.charged bearer.life) (version_after slot events).bearers
+
 abbrev pub opens : ℕ → List Event → List ChargeEntry
-opens slot events = map (O slot) (opens_after slot events)
+opens slot events = map (O slot) (open_counters slot events)
