@@ -1,5 +1,5 @@
 -- The open counters of the active bearers are those of the lives that are open.
-use Rattle.std.proofs.Common.{◌≡◌, ◌≢◌, ℕ, ◌==◌, Bool, true, false, List, [], ◌∷◌, map, cond, refl, sym, ap, subst, ◌∙◌, inl, inr, ◌⊎◌}
+use Rattle.std.proofs.Common.{◌≡◌, ℕ, List, [], ◌∷◌, map, refl, sym, ap, subst, ◌∙◌, inl, inr, ◌⊎◌}
 use Rattle.std.proofs.lemmas.Bool.{cases_eq, eq-eqb, ne_eqb}
 use Rattle.bearer_state.specs.declared.version.ActiveBearer.{ActiveBearer}
 use Rattle.charging_book.specs.Happenings.{Happening, lives_of, open_at, opens_of}
@@ -34,9 +34,10 @@ module _ (life : ℕ) (happened : List Happening) where
   first_there : (xs : List ℕ) → In life xs → (rest : List Counters) × (opens_for life (map (open_at happened) xs) ≡ open_at happened life ∷ rest)
   first_there [] there = absurd there
   first_there (x ∷ xs) there = elim (cases_eq x life) [
-    | inl same ↦
-        (opens_for life (map (open_at happened) xs),
-        rw (eq-eqb x life same) (ap (λ y. open_at happened y ∷ opens_for life (map (open_at happened) xs)) same))
+    | inl same ↦ (
+      opens_for life (map (open_at happened) xs),
+      rw (eq-eqb x life same) (ap (λ y. open_at happened y ∷ opens_for life (map (open_at happened) xs)) same),
+    )
     | inr other ↦
         let later = first_there xs (elim there [ inl here ↦ absurd (other here) | inr more ↦ more ]) in
         (later.0, rw (ne_eqb x life other) later.1)

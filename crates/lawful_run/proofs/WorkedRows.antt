@@ -7,7 +7,7 @@ use Rattle.report_lines.specs.declared.entry.ChargeEntry.TheVariants.{R, O}
 use Rattle.lawful_run.specs.AnsweredRun.{answered_run}
 use Rattle.lawful_run.specs.Job.{Job, solo, sliced}
 use Rattle.lawful_run.specs.Run.{IsRun}
-use Rattle.lawful_run.specs.Worked.{attach, rerate, uplink, moved, attached, forwarded, forwarded_parked, refused_command, refused_packet, moved_entry, open_with, open_again, gone_row, epoch_of, epoch_with, report_of}
+use Rattle.lawful_run.specs.Worked.{attach, rerate, uplink, moved, attached, forwarded, forwarded_parked, refused_command, refused_packet, moved_entry, open_with, open_again, gone_row, epoch_of, epoch_with, report_of, answered_late, nothing_counted}
 use Rattle.lawful_run.proofs.EveryTrace.{answered_is_run}
 
 -- the first number of a list, and the slot of its first record
@@ -97,3 +97,8 @@ records_out_of_order : (job : Job) (opens : List ChargeEntry)
     (epoch_with (attached 1 0 0 ∷ attached 2 1 0 ∷ attached 3 1 1 ∷ attached 4 0 1 ∷ []) (gone_row 1 ∷ gone_row 0 ∷ []) ∷ []) opens) → ⊥
 unfolding happens
 records_out_of_order job opens run = let is : 1 ≡ 0 = ap first_slot run.epochs.0.rows in absurd (omega (arith, is))
+
+-- The open counters of a slot stand by index, whichever bearer became active first.
+opens_by_index : (answered_run 1 (answered_late ∷ [])).opens ≡ nothing_counted 0 5 ∷ nothing_counted 1 6 ∷ nothing_counted 2 7 ∷ []
+unfolding happens
+opens_by_index = refl

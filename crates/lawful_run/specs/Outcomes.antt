@@ -6,7 +6,6 @@ use Rattle.pc_base.specs.declared.reply.Reply.{Reply}
 use Rattle.bearer_state.specs.declared.version.ActiveBearer.{ActiveBearer}
 use Rattle.charging_book.specs.Happenings.{open_at}
 use Rattle.charging_book.specs.Rows.{Counters}
-use Rattle.control_steps.specs.declared.command.CommandKind.{CommandKind}
 use Rattle.gate_model.specs.Events.{commands_of}
 use Rattle.gate_model.specs.SlotPast.{reply_after, effects_after, verdict_after, records_made, past_of, version_after}
 use Rattle.gate_model.specs.declared.event.Event.{Event}

@@ -1,6 +1,6 @@
 -- A whole trace: a session by signalling and one by order, a second bearer, packets both ways, moves, and the session's end
 -- over four epochs; and its report.
-use Rattle.std.specs.Prelude.{ℕ, Bool, true, false, Option, Some, None, List, [], ◌∷◌, ◌++◌, codes}
+use Rattle.std.specs.Prelude.{ℕ, false, Option, Some, None, List, [], ◌∷◌, ◌++◌, codes}
 use Rattle.pc_base.specs.declared.packet.Place.TheVariants.{Closing}
 use Rattle.pc_base.specs.declared.packet.Verdict.{Verdict}
 use Rattle.pc_base.specs.declared.packet.Verdict.TheVariants as verdict

@@ -5,6 +5,9 @@ use Rattle.pc_base.specs.declared.packet.Verdict.TheVariants as verdict
 use Rattle.pc_base.specs.declared.packet.Way.TheVariants as way
 use Rattle.pc_base.specs.declared.reply.Outcome.TheVariants.{Done}
 use Rattle.charging_book.specs.declared.records.Why.TheVariants.{Gone}
+use Rattle.tft_codec.specs.declared.component.Component.TheVariants.{Protocol}
+use Rattle.tft_codec.specs.declared.tft.Tft.{Tft}
+use Rattle.tft_codec.specs.declared.tft.Tft.TheVariants.{Create}
 use Rattle.control_steps.specs.declared.command.CommandKind.TheVariants as order
 use Rattle.demux.specs.Trace.{Meaning, command, packet, move}
 use Rattle.report_lines.specs.declared.entry.LineEntry.{LineEntry}
@@ -112,3 +115,29 @@ epoch_of lines = epoch_with lines []
 
 abbrev pub report_of : List EpochReport → List ChargeEntry → Report
 report_of epochs opens = record { epochs = epochs; opens = opens }
+
+-- Two bearers are asked for, and the second one's answer comes first: the open counters stand by index all the same.
+abbrev pub filter_of : ℕ → Tft
+filter_of precedence = Create (record { id = 0; direction = 3; precedence = precedence; components = Protocol 17 ∷ [] } ∷ [])
+
+abbrev pub answered_late : List Meaning
+answered_late =
+    command 0 (order.Create 1 (record { teid = 0x1000; addr = 0xc633_6401 }) 3 5
+    (record { arp = 0x24; qci = 9; mbr_up = 0; mbr_down = 0; gbr_up = 0; gbr_down = 0 }) None 1000 1000)
+    ∷ command 0 (order.AddBearer 2 9 0 0 0 0 (filter_of 1))
+    ∷ command 0 (order.AddBearer 3 9 0 0 0 0 (filter_of 2))
+    ∷ command 0 (order.CreateAns 3 16 7 16 (Some (record { teid = 0xa03; addr = 0xc633_6407 })))
+    ∷ command 0 (order.CreateAns 2 16 6 16 (Some (record { teid = 0xa02; addr = 0xc633_6407 })))
+    ∷ []
+
+abbrev pub nothing_counted : ℕ → ℕ → ChargeEntry
+nothing_counted life ebi = O 0 (record {
+  life = life;
+  ebi = ebi;
+  qci = 9;
+  seq = 0;
+  up_octets = 0;
+  down_octets = 0;
+  up_packets = 0;
+  down_packets = 0;
+})
