@@ -1,0 +1,9 @@
+pub mod MessageLemmas
+pub mod AskLemmas
+pub mod MmeLemmas
+pub mod TunnelLemmas
+pub mod RequestLemmas
+pub mod LineLemmas
+pub mod AnswerLemmas
+pub mod TraceLemmas
+pub mod ResolvedLemmas

@@ -1,0 +1,19 @@
+-- Where a subscriber is bound for.
+use Rattle.std.specs.Prelude.{ℕ, ◌%◌, ◌==◌, if◌then◌else◌, List, fold}
+use Rattle.demux.specs.declared.decision.Decision.{Decision}
+use Rattle.demux.specs.declared.decision.Decision.TheVariants.{Command, Packet, Move, Note}
+
+-- a slot's home slice, of so many
+abbrev pub home_slice : ℕ → ℕ → ℕ
+home_slice slices slot = slot % slices
+
+-- the destination of a slot behind a decision: a move of it changes that, and nothing else does
+abbrev pub bound_for : ℕ → ℕ → Decision → ℕ
+bound_for slot before (Move at slice) = if at == slot then slice else before
+bound_for slot before (Command whose command) = before
+bound_for slot before (Packet at packet) = before
+bound_for slot before (Note text) = before
+
+-- the destination of a slot behind decisions: that of its last move, or its home slice
+abbrev pub destination : ℕ → ℕ → List Decision → ℕ
+destination slices slot before = fold (bound_for slot) (home_slice slices slot) before

@@ -1,0 +1,13 @@
+pub mod Message
+pub mod Ends
+pub mod Texts
+pub mod Requests
+pub mod Asked
+pub mod Mme
+pub mod Tunnel
+pub mod Orders
+pub mod Line
+pub mod Resolved
+pub mod Destinations
+pub mod Trace
+pub mod Packets

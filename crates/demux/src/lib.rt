@@ -1,0 +1,29 @@
+//! What a line of a trace means to the gateway: a command of a subscriber, a packet of one, a move to a
+//! slice, or a note with the reply that an echo, a refused request or an unknown tunnel gets.
+//! The book of subscribers is looked at; what is done about a decision is left to the layers above.
+#![tactic(auto)]
+
+mod asks;
+mod booking;
+mod deciding;
+mod decision;
+mod destinations;
+mod ends;
+mod laws;
+mod mme;
+mod orders;
+mod packet;
+mod requests;
+mod texts;
+mod tunnel;
+
+pub use deciding::decide;
+pub use decision::{Decision, Whose};
+pub use destinations::home_slice;
+pub use laws::{line_by_line, read_requests_are_whole};
+pub use packet::LentPacket;
+pub use pc_base::NoMemory;
+pub use texts::move_note;
+
+#[cfg(test)]
+mod tests;

@@ -1,0 +1,15 @@
+pub mod Members
+pub mod SessionSteps
+pub mod BookSteps
+pub mod PolicedRows
+pub mod ActiveSteps
+pub mod PastSteps
+pub mod Sound
+pub mod Following
+pub mod LifeRates
+pub mod Outcomes
+pub mod HeldOnce
+pub mod Charges
+pub mod RoomLemmas
+pub mod FewBearers
+pub mod FewCharges
