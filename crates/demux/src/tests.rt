@@ -178,7 +178,8 @@ fn pool_used(rt: HostRuntime) -> Result<(), Fail> {
             *digit = b'0' + (rest % 10) as u8;
             rest /= 10;
         }
-        book.admit(imsi(&digits)?)?;
+        let new = imsi(&digits)?;
+        book.admit(new)?;
     }
     let known = line(alloc, 1, CREATE)?;
     match decide(alloc, &book, 64, &known)? {
@@ -446,13 +447,14 @@ fn orders_of_the_operator(rt: HostRuntime) -> Result<(), Fail> {
         1,
         b"0 ATTACH 001010123456789 198.51.100.7 00000a01 1000 4294967295",
     )?;
-    let enb = Peer {
+    let CommandKind::Attach { enb, up, down } = attach else {
+        return Err("an attach".into());
+    };
+    let peer = Peer {
         teid: Teid(0x0a01),
         addr: Addr4(0xc633_6407),
     };
-    assert!(rt;
-        matches!(attach, CommandKind::Attach { enb: at, up: Kbps(1000), down: Kbps(4_294_967_295) } if at == enb)
-    );
+    assert_eq!(rt; (enb, up, down), (peer, Kbps(1000), Kbps(4_294_967_295)));
     // The sequence number is that of the line, modulo 2^23.
     let bearer = command(
         alloc,
