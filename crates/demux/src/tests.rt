@@ -143,10 +143,11 @@ fn context_missing(rt: HostRuntime) -> Result<(), Fail> {
 
 // Whose command a line is.
 fn whose(alloc: Global, book: &AddressBook, line: &TraceLine) -> Result<Whose, Fail> {
-    match decide(alloc, book, 64, line)? {
-        Decision::Command { whose, .. } => Ok(whose),
-        _ => Err("a command".into()),
-    }
+    let decision = decide(alloc, book, 64, line)?;
+    let Decision::Command { whose, .. } = &decision else {
+        return Err("a command".into());
+    };
+    Ok(*whose)
 }
 
 // The note on a line.
