@@ -2,7 +2,7 @@ use crate::{Decision, LentPacket, Whose, decide, home_slice, move_note};
 use address_book::AddressBook;
 use bearer_state::Ask;
 use control_steps::{Command, CommandKind};
-use pc_base::{Addr4, Imsi, Kbps, Moment, Peer, SliceNo, Slot, Teid, Way};
+use pc_base::{Addr4, Imsi, Kbps, Moment, Octets, Peer, SliceNo, Slot, Teid, Way};
 use std::alloc::Global;
 use std::process::Abort;
 use std::test::Fail;
@@ -141,35 +141,40 @@ fn context_missing(rt: HostRuntime) -> Result<(), Fail> {
     )
 }
 
+// Whose command a line is.
+fn whose(alloc: Global, book: &AddressBook, line: &TraceLine) -> Result<Whose, Fail> {
+    let decision = decide(alloc, book, 64, line)?;
+    let Decision::Command { whose, .. } = &decision else {
+        return Err("a command".into());
+    };
+    Ok(*whose)
+}
+
+// The note on a line.
+fn note(alloc: Global, book: &AddressBook, line: &TraceLine) -> Result<Octets, Fail> {
+    match decide(alloc, book, 64, line)? {
+        Decision::Note(note) => Ok(note),
+        _ => Err("a note".into()),
+    }
+}
+
 #[test]
 fn create_repeated(rt: HostRuntime) -> Result<(), Fail> {
     let alloc = rt.alloc();
     let mut book = AddressBook::new(alloc);
-    let first = line(alloc, 1, CREATE)?;
-    match decide(alloc, &book, 64, &first)? {
-        Decision::Command {
-            whose: Whose::New(asked),
-            ..
-        } => {
-            assert_eq!(rt; asked, imsi(IMSI)?);
-            assert_eq!(rt; Whose::New(asked).admit(&mut book)?, Slot(0));
-        }
-        _ => return Err("a command of a new IMSI".into()),
-    }
-    match decide(alloc, &book, 64, &first)? {
-        Decision::Command { whose, .. } => {
-            assert_eq!(rt; whose, Whose::Known(Slot(0)));
-            assert_eq!(rt; whose.admit(&mut book)?, Slot(0));
-        }
-        _ => return Err("a command".into()),
-    }
+    let create = line(alloc, 1, CREATE)?;
+    let first = whose(alloc, &book, &create)?;
+    assert_eq!(rt; first, Whose::New(imsi(IMSI)?));
+    assert_eq!(rt; first.admit(&mut book)?, Slot(0));
+    let again = whose(alloc, &book, &create)?;
+    assert_eq!(rt; again, Whose::Known(Slot(0)));
+    assert_eq!(rt; again.admit(&mut book)?, Slot(0));
     assert_eq!(rt; book.len(), 1);
     Ok(())
 }
 
-#[test]
-fn pool_used(rt: HostRuntime) -> Result<(), Fail> {
-    let alloc = rt.alloc();
+// A book of all 65,533 slots, of which IMSI 001010123456789 has slot 0.
+fn full_book(alloc: Global) -> Result<AddressBook, Fail> {
     let mut book = book_of_one(alloc)?;
     for number in 1..65_533u32 {
         let mut digits = *b"001020000000000";
@@ -178,34 +183,31 @@ fn pool_used(rt: HostRuntime) -> Result<(), Fail> {
             *digit = b'0' + (rest % 10) as u8;
             rest /= 10;
         }
-        book.admit(imsi(&digits)?)?;
+        let new = imsi(&digits)?;
+        book.admit(new)?;
     }
+    Ok(book)
+}
+
+#[test]
+fn pool_used(rt: HostRuntime) -> Result<(), Fail> {
+    let alloc = rt.alloc();
+    let book = full_book(alloc)?;
     let known = line(alloc, 1, CREATE)?;
-    match decide(alloc, &book, 64, &known)? {
-        Decision::Command { whose, .. } => assert_eq!(rt; whose, Whose::Known(Slot(0))),
-        _ => return Err("a command".into()),
-    }
+    assert_eq!(rt; whose(alloc, &book, &known)?, Whose::Known(Slot(0)));
     let attach = line(
         alloc,
         2,
         b"0 ATTACH 001010000000001 198.51.100.7 00000a01 1000 1000",
     )?;
-    match decide(alloc, &book, 64, &attach)? {
-        Decision::Note(note) => assert!(rt; note.as_slice() == b"pool".as_slice()),
-        _ => return Err("a note".into()),
-    }
+    assert!(rt; note(alloc, &book, &attach)?.as_slice() == b"pool".as_slice());
     // The same request of IMSI 001010123456780.
     let mut text = [0; CREATE.len()];
     text.copy_from_slice(CREATE);
     text[53] = b'0';
     let create = line(alloc, 3, &text)?;
-    match decide(alloc, &book, 64, &create)? {
-        Decision::Note(note) => {
-            let reply = b"s11 pool 4821000e0000100000000100020002005400";
-            assert!(rt; note.as_slice() == reply.as_slice());
-        }
-        _ => return Err("a note".into()),
-    }
+    let pool = b"s11 pool 4821000e0000100000000100020002005400";
+    assert!(rt; note(alloc, &book, &create)?.as_slice() == pool.as_slice());
     Ok(())
 }
 
@@ -446,13 +448,14 @@ fn orders_of_the_operator(rt: HostRuntime) -> Result<(), Fail> {
         1,
         b"0 ATTACH 001010123456789 198.51.100.7 00000a01 1000 4294967295",
     )?;
-    let enb = Peer {
+    let CommandKind::Attach { enb, up, down } = attach else {
+        return Err("an attach".into());
+    };
+    let peer = Peer {
         teid: Teid(0x0a01),
         addr: Addr4(0xc633_6407),
     };
-    assert!(rt;
-        matches!(attach, CommandKind::Attach { enb: at, up: Kbps(1000), down: Kbps(4_294_967_295) } if at == enb)
-    );
+    assert_eq!(rt; (enb, up, down), (peer, Kbps(1000), Kbps(4_294_967_295)));
     // The sequence number is that of the line, modulo 2^23.
     let bearer = command(
         alloc,
