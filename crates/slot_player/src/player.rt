@@ -2,6 +2,7 @@
 use crate::fields::Stop;
 use crate::texts::{push_effects, push_open, push_reply, push_row, push_verdict};
 use bearer_state::{Session, Version};
+use charging_book::Open;
 use control_steps::step;
 use gate_model::{Command, Event, Gateway, Happened, Packet, Slot, Verdict};
 use packet_steps::{Counters, advance, handle};
@@ -93,18 +94,25 @@ impl Player {
 
     /// Appends the charging records that weren't taken, and the open counters by index.
     pub fn finish(&mut self, text: &mut Vec<u8>) -> Result<(), Stop> {
-        for row in &self.counters.take_closed() {
+        let rows = self.counters.take_closed();
+        for row in &rows {
             push_row(text, row)?;
         }
+        let opens = self.counters.book().still_open();
         for bearer in self.version.bearers() {
-            for counted in self.counters.book().still_open() {
-                if counted.life == bearer.life {
-                    push_open(text, counted)?;
-                }
-            }
+            push_life(text, opens, bearer.life)?;
         }
         Ok(())
     }
+}
+
+fn push_life(text: &mut Vec<u8>, opens: &[Open], life: u64) -> Result<(), NoMemory> {
+    for counted in opens {
+        if counted.life == life {
+            push_open(text, counted)?;
+        }
+    }
+    Ok(())
 }
 
 fn push_happened(text: &mut Vec<u8>, happened: &Happened) -> Result<(), NoMemory> {

@@ -119,36 +119,52 @@ fn push_moment(text: &mut Vec<u8>, moment: Option<Moment>) -> Result<(), NoMemor
     Ok(())
 }
 
-pub fn push_row(text: &mut Vec<u8>, row: &ChargeRow) -> Result<(), NoMemory> {
-    text.extend_from_slice(b"row")?;
-    push_number(text, row.life)?;
-    push_number(text, u64::from(row.ebi))?;
-    push_number(text, u64::from(row.qci))?;
-    push_number(text, row.seq)?;
-    push_number(text, row.up_octets)?;
-    push_number(text, row.down_octets)?;
-    push_number(text, row.up_packets)?;
-    push_number(text, row.down_packets)?;
-    push_moment(text, row.first)?;
-    push_moment(text, row.last)?;
-    let why: &[u8] = match row.why {
+fn push_numbers(text: &mut Vec<u8>, numbers: &[u64]) -> Result<(), NoMemory> {
+    for number in numbers {
+        push_number(text, *number)?;
+    }
+    Ok(())
+}
+
+fn why_word(why: Why) -> &'static [u8] {
+    match why {
         Why::Volume => b"volume",
         Why::Qos => b"qos",
         Why::Gone => b"gone",
-    };
-    push_alone(text, why)
+    }
+}
+
+pub fn push_row(text: &mut Vec<u8>, row: &ChargeRow) -> Result<(), NoMemory> {
+    let numbers = [
+        row.life,
+        u64::from(row.ebi),
+        u64::from(row.qci),
+        row.seq,
+        row.up_octets,
+        row.down_octets,
+        row.up_packets,
+        row.down_packets,
+    ];
+    text.extend_from_slice(b"row")?;
+    push_numbers(text, &numbers)?;
+    push_moment(text, row.first)?;
+    push_moment(text, row.last)?;
+    push_alone(text, why_word(row.why))
 }
 
 pub fn push_open(text: &mut Vec<u8>, counted: &Open) -> Result<(), NoMemory> {
+    let numbers = [
+        counted.life,
+        u64::from(counted.ebi),
+        u64::from(counted.qci),
+        counted.seq,
+        counted.up_octets,
+        counted.down_octets,
+        counted.up_packets,
+        counted.down_packets,
+    ];
     text.extend_from_slice(b"open")?;
-    push_number(text, counted.life)?;
-    push_number(text, u64::from(counted.ebi))?;
-    push_number(text, u64::from(counted.qci))?;
-    push_number(text, counted.seq)?;
-    push_number(text, counted.up_octets)?;
-    push_number(text, counted.down_octets)?;
-    push_number(text, counted.up_packets)?;
-    push_number(text, counted.down_packets)?;
+    push_numbers(text, &numbers)?;
     text.push(b'\n')?;
     Ok(())
 }
