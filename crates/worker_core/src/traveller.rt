@@ -26,6 +26,9 @@ pub trait Traveller: Carried {
 
     ghost works: { Self → ℕ };
 
+    /// What a half knows of the slice at which it had its last turn; most know nothing of it.
+    ghost turned_at: { Self → ℕ → Type 0 } = { λ half place. Unit {0} };
+
     fn slot(&self) -> Slot
         ensures { result ≡ slot_of (name self.now) };
 
@@ -36,14 +39,18 @@ pub trait Traveller: Carried {
     fn arrive(&mut self, hop: u64)
         requires { hop ≤ 2 ^ 61 }
         ensures name { name self.new ≡ name self.old }
-        ensures hop { hop_of self.new ≡ hop };
+        ensures hop { hop_of self.new ≡ hop }
+        ensures done { done_of self.new ≡ done_of self.old }
+        ensures counts { (turns self.new ≡ turns self.old) × (works self.new ≡ works self.old) };
 
     /// Does a part of its work, at most `grain` items. After want of memory what was done stays done.
     fn turn<R: Wait>(&mut self, rt: &R, place: SliceNo, grain: u32) -> Result<Did, NoMemory>
         requires { 1 ≤ grain }
         ensures name { name self.new ≡ name self.old }
+        ensures hop { hop_of self.new ≡ hop_of self.old }
         ensures turns { turns self.new ≡ raised (turns self.old) }
-        ensures works { works self.new ≡ works_after result (works self.old) };
+        ensures works { works self.new ≡ works_after result (works self.old) }
+        ensures place { turned_at self.new place };
 
     /// Any half may be sent after any others.
     ghost free: { (before : List Self) (half : Self) → Self.follows before half };
