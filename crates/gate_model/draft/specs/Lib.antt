@@ -1,9 +1,0 @@
-pub mod Events
-pub mod SlotPast
-pub mod Stories
-pub mod Versions
-pub mod Rates
-pub mod Holding
-pub mod Ledger
-pub mod Room
-pub mod Memory
