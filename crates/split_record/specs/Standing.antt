@@ -1,5 +1,5 @@
 -- A subscriber at rest as contracts see it, and the events that it stands for.
-use Rattle.std.specs.Prelude.{◌≡◌, ℕ, ◌<◌, ◌^◌, List, length, Option}
+use Rattle.std.specs.Prelude.{◌≡◌, ℕ, ◌<◌, ◌≤◌, ◌^◌, List, ◌++◌, length, Option}
 use Rattle.pc_base.specs.declared.packet.Packet.{Packet}
 use Rattle.pc_base.specs.declared.packet.Way.{Way}
 use Rattle.bearer_state.specs.Session.{SessionState}
@@ -42,3 +42,10 @@ HasRoom subscriber =
 -- a packet of these fields
 abbrev pub packet_of : ℕ → ℕ → Way → List ℕ → Packet
 packet_of number moment way octets = record { number = number; moment = moment; way = way; octets = octets }
+
+-- it stands for at most one event more
+pub record GoesOn (subscriber : SubscriberState) (slot : ℕ) (events : List Event) : Type 0 where
+  pub later : List Event
+  pub taken : ℕ
+  pub stands : StandsFor subscriber slot (events ++ later) taken
+  pub few : length later ≤ 1

@@ -9,3 +9,6 @@ mod subscriber;
 pub use handled::Handled;
 pub use std::alloc::AllocError as NoMemory;
 pub use subscriber::Subscriber;
+
+#[cfg(test)]
+mod tests;

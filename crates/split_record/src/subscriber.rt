@@ -83,8 +83,9 @@ impl Subscriber {
     {
         few_events_leave_room();
         each_version_follows();
+        let number = self.version.number;
         let reply = step(alloc, &mut self.session, command)?;
-        let next = self.session.version(self.version.number + 1)?;
+        let next = self.session.version(number + 1)?;
         let effects = advance(&mut self.counters, &self.version, &next)?;
         self.version = next;
         Ok((reply, effects))
@@ -137,13 +138,18 @@ impl Subscriber {
         few_events_leave_room();
         each_version_follows();
         let number = self.packets;
-        let judged = judge(&mut self.counters, &self.version, number, moment, way, ip)?;
-        self.packets += 1;
-        Ok(Handled {
-            number,
-            commands: self.version.number,
-            judged,
-        })
+        let commands = self.version.number;
+        match judge(&mut self.counters, &self.version, number, moment, way, ip) {
+            Ok(judged) => {
+                self.packets = number + 1;
+                Ok(Handled {
+                    number,
+                    commands,
+                    judged,
+                })
+            }
+            Err(failed) => Err(failed),
+        }
     }
 
     /// Takes the charging records out that weren't taken yet, in the order in which they were made.
