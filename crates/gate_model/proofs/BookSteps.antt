@@ -90,7 +90,7 @@ end_each lives [] apart opened = record { may = tt; were = λ life there. there;
 end_each lives (b ∷ bs) apart opened =
     let left : List ℕ = filter (is_not b.life) lives in
     let still : (life : ℕ) → In life (active_lives bs) → In life left = λ life there.
-        in_filter (is_not b.life) life lives (opened life (inr there)) (not_itself b.life life (λ same. other_at b.life life (active_lives bs) apart.0 there (sym same))) in
+    in_filter (is_not b.life) life lives (opened life (inr there)) (not_itself b.life life (λ same. other_at b.life life (active_lives bs) apart.0 there (sym same))) in
     let rest = end_each left bs apart.1 still in
     record {
       may = (opened b.life (inl refl), rest.may);
@@ -168,34 +168,32 @@ marks_may lives before after are apart next_apart =
     let new : List ActiveBearer = lacking_in before.bearers after.bearers in
     let sharing : List ActiveBearer = filter shares_ambr (shared_with after.bearers before.bearers) in
     let in_over : (life : ℕ) → In life (active_lives over) → In life (active_lives before.bearers) × (In life (active_lives after.bearers) → ⊥) = λ life there.
-        let found = of_map life_in life over there in
-        let kept = of_filter (λ (b : ActiveBearer). not (has_life after.bearers b.life)) found.0 before.bearers found.1 in
-        (
-          subst (λ n. In n (active_lives before.bearers)) found.2 (in_map life_in found.0 before.bearers kept.0),
-          λ after_there. lacks after.bearers found.0 kept.1 (subst (λ n. In n (active_lives after.bearers)) (sym found.2) after_there),
-        ) in
+    let found = of_map life_in life over there in
+    let kept = of_filter (λ (b : ActiveBearer). not (has_life after.bearers b.life)) found.0 before.bearers found.1 in (
+      subst (λ n. In n (active_lives before.bearers)) found.2 (in_map life_in found.0 before.bearers kept.0),
+      λ after_there. lacks after.bearers found.0 kept.1 (subst (λ n. In n (active_lives after.bearers)) (sym found.2) after_there),
+    ) in
     let ends = end_each lives over (distinct_filter life_in (λ (b : ActiveBearer). not (has_life after.bearers b.life)) before.bearers apart)
-        (λ life there. are.opened life (in_over life there).0) in
+    (λ life there. are.opened life (in_over life there).0) in
     let left : List ℕ = lives_behind lives (gone over) in
     let shared_left : (b : ActiveBearer) → In b sharing → In b.life left = λ b there.
-        let one = of_filter shares_ambr b (shared_with after.bearers before.bearers) there in
-        let two = of_filter (λ (c : ActiveBearer). has_life after.bearers c.life) b before.bearers one.0 in
-        ends.stay b.life (are.opened b.life (in_map life_in b before.bearers two.0)) (λ among. (in_over b.life among).1 (of_has after.bearers b.life two.1)) in
+    let one = of_filter shares_ambr b (shared_with after.bearers before.bearers) there in
+    let two = of_filter (λ (c : ActiveBearer). has_life after.bearers c.life) b before.bearers one.0 in
+    ends.stay b.life (are.opened b.life (in_map life_in b before.bearers two.0)) (λ among. (in_over b.life among).1 (of_has after.bearers b.life two.1)) in
     let cuts = may_cut_if (nat_lt before.rates after.rates) left sharing shared_left in
     let in_new : (life : ℕ) → In life (active_lives new) → In life (active_lives after.bearers) × (In life (active_lives before.bearers) → ⊥) = λ life there.
-        let found = of_map life_in life new there in
-        let kept = of_filter (λ (b : ActiveBearer). not (has_life before.bearers b.life)) found.0 after.bearers found.1 in
-        (
-          subst (λ n. In n (active_lives after.bearers)) found.2 (in_map life_in found.0 after.bearers kept.0),
-          λ before_there. lacks before.bearers found.0 kept.1 (subst (λ n. In n (active_lives before.bearers)) (sym found.2) before_there),
-        ) in
+    let found = of_map life_in life new there in
+    let kept = of_filter (λ (b : ActiveBearer). not (has_life before.bearers b.life)) found.0 after.bearers found.1 in (
+      subst (λ n. In n (active_lives after.bearers)) found.2 (in_map life_in found.0 after.bearers kept.0),
+      λ before_there. lacks before.bearers found.0 kept.1 (subst (λ n. In n (active_lives before.bearers)) (sym found.2) before_there),
+    ) in
     let begins = begin_all left new (distinct_filter life_in (λ (b : ActiveBearer). not (has_life before.bearers b.life)) after.bearers next_apart)
-        (λ life there old. (in_new life there).1 (are.active life (ends.were life old))) in
+    (λ life there old. (in_new life there).1 (are.active life (ends.were life old))) in
     let cut_behind : lives_behind lives (ended before.bearers after.bearers ++ cut (nat_lt before.rates after.rates) before.bearers after.bearers) ≡ left =
-        behind_append lives (ended before.bearers after.bearers) (cut (nat_lt before.rates after.rates) before.bearers after.bearers) ∙ cuts.1 in
+    behind_append lives (ended before.bearers after.bearers) (cut (nat_lt before.rates after.rates) before.bearers after.bearers) ∙ cuts.1 in
     let all_behind : lives_behind lives (marks before after) ≡ left ++ active_lives new =
-        behind_append lives (ended before.bearers after.bearers ++ cut (nat_lt before.rates after.rates) before.bearers after.bearers) (begun before.bearers after.bearers)
-        ∙ ap (λ open_lives. lives_behind open_lives (begun before.bearers after.bearers)) cut_behind ∙ begins.behind in
+    behind_append lives (ended before.bearers after.bearers ++ cut (nat_lt before.rates after.rates) before.bearers after.bearers) (begun before.bearers after.bearers)
+    ∙ ap (λ open_lives. lives_behind open_lives (begun before.bearers after.bearers)) cut_behind ∙ begins.behind in
     record {
       may = all_append lives (ended before.bearers after.bearers ++ cut (nat_lt before.rates after.rates) before.bearers after.bearers) (begun before.bearers after.bearers)
           (all_append lives (ended before.bearers after.bearers) (cut (nat_lt before.rates after.rates) before.bearers after.bearers) ends.may cuts.0)
@@ -209,7 +207,7 @@ marks_may lives before after are apart next_apart =
                 let found = of_map life_in life before.bearers was in
                 let none_of : has_life after.bearers found.0.life ≡ false = ap (has_life after.bearers) found.2 ∙ none in
                 let lacking = in_filter (λ (b : ActiveBearer). not (has_life after.bearers b.life)) found.0 before.bearers found.1
-                    (not_from_false (has_life after.bearers found.0.life) none_of) in
+                (not_from_false (has_life after.bearers found.0.life) none_of) in
                 absurd (ends.over life old (subst (λ n. In n (active_lives over)) found.2 (in_map life_in found.0 over lacking)))
           ]
           | inr begins_now ↦ (in_new life begins_now).0
@@ -221,7 +219,7 @@ marks_may lives before after are apart next_apart =
               let found = of_map life_in life after.bearers there in
               let none_of : has_life before.bearers found.0.life ≡ false = ap (has_life before.bearers) found.2 ∙ none in
               let begins_now = in_filter (λ (b : ActiveBearer). not (has_life before.bearers b.life)) found.0 after.bearers found.1
-                  (not_from_false (has_life before.bearers found.0.life) none_of) in
+              (not_from_false (has_life before.bearers found.0.life) none_of) in
               in_right life left (active_lives new) (subst (λ n. In n (active_lives new)) found.2 (in_map life_in found.0 new begins_now))
         ]);
       };

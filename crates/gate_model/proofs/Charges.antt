@@ -107,7 +107,7 @@ told_from_sent past (event.Packet packet ∷ later) =
     let now = (judged past.packets packet).1 in
     told_from_sent (met past packet) later
     ∙ ap (λ some. some ++ sent_in (told_from (met past packet) later))
-        (one_judged (at_moment past.packets packet.moment) packet (judged past.packets packet) (judged_as past.packets packet))
+    (one_judged (at_moment past.packets packet.moment) packet (judged past.packets packet) (judged_as past.packets packet))
     ∙ append_assoc (sent_of past.packets) (sent_by_verdict now) (sent_in (told_from (met past packet) later))
 
 pub forwarded_told : ForwardedIsTold
@@ -137,7 +137,7 @@ heard_keeps life = record {
       ∙ ap (λ some. some ++ packets_of life (happening_for row ∷ [])) is
       ∙ ap (λ more. map charged_as (rows_of_life life past.forwarded) ++ more) (heard_one life row (row.life == life) refl)
       ∙ sym (ap (map charged_as) (filter-append (λ (r : ForwardedRow). r.life == life) past.forwarded (row ∷ []))
-          ∙ map_both (rows_of_life life past.forwarded) (rows_of_life life (row ∷ [])));
+      ∙ map_both (rows_of_life life past.forwarded) (rows_of_life life (row ∷ [])));
   waiting = λ past row is known. is;
   moment = λ past at is. is;
   active = λ past b is there. tt;
@@ -160,16 +160,16 @@ none_marked : (life : ℕ) (before after : VersionState) → packets_of life (ma
 none_marked life before after =
     filter_map-append (packet_by life) (ended before.bearers after.bearers ++ cut (nat_lt before.rates after.rates) before.bearers after.bearers) (begun before.bearers after.bearers)
     ∙ ap (λ some. some ++ packets_of life (begun before.bearers after.bearers))
-        (filter_map-append (packet_by life) (ended before.bearers after.bearers) (cut (nat_lt before.rates after.rates) before.bearers after.bearers)
-        ∙ ap (λ some. some ++ packets_of life (cut (nat_lt before.rates after.rates) before.bearers after.bearers)) (none_closed life Gone (lacking_in after.bearers before.bearers))
-        ∙ none_cut life (nat_lt before.rates after.rates) (filter shares_ambr (shared_with after.bearers before.bearers)))
+    (filter_map-append (packet_by life) (ended before.bearers after.bearers) (cut (nat_lt before.rates after.rates) before.bearers after.bearers)
+    ∙ ap (λ some. some ++ packets_of life (cut (nat_lt before.rates after.rates) before.bearers after.bearers)) (none_closed life Gone (lacking_in after.bearers before.bearers))
+    ∙ none_cut life (nat_lt before.rates after.rates) (filter shares_ambr (shared_with after.bearers before.bearers)))
     ∙ none_begun life (lacking_in before.bearers after.bearers)
 
 heard_learnt : (life : ℕ) (past : Past) (after : VersionState) → heard life past → heard life (learnt past after).0
 heard_learnt life past after is =
     let at_marks : heard life (marked past after) =
-        filter_map-append (packet_by life) past.charged (marks past.version after)
-        ∙ ap (λ more. packets_of life past.charged ++ more) (none_marked life past.version after) ∙ append-nil (packets_of life past.charged) ∙ is in
+    filter_map-append (packet_by life) past.charged (marks past.version after)
+    ∙ ap (λ more. packets_of life past.charged ++ more) (none_marked life past.version after) ∙ append-nil (packets_of life past.charged) ∙ is in
     all_released (heard life) (λ n. Unit {0}) (heard_keeps life) (marked past after, markers past.version after) past.held at_marks (λ row there. tt)
 
 heard_from : (life : ℕ) (past : SlotPast) (events : List Event) → heard life past.packets → heard life (fold behind past events).packets
@@ -223,7 +223,7 @@ records_added slot before now =
     let base : List Happening = (past_of slot before).packets.charged in
     let on = on_from base (past_of slot before) now (record { more = []; is = sym (append-nil base) }) in
     let split : records_after slot (before ++ now) ≡ rows_of base ++ rows_from base on.more =
-        ap (λ (past : SlotPast). rows_of past.packets.charged) (past-append slot before now) ∙ ap rows_of on.is ∙ rows_from-append [] base on.more in
+    ap (λ (past : SlotPast). rows_of past.packets.charged) (past-append slot before now) ∙ ap rows_of on.is ∙ rows_from-append [] base on.more in
     let made : records_made slot before now ≡ rows_from base on.more =
-        ap (drop (length (rows_of base))) split ∙ drop_front (rows_of base) (rows_from base on.more) in
+    ap (drop (length (rows_of base))) split ∙ drop_front (rows_of base) (rows_from base on.more) in
     split ∙ ap (λ rows. rows_of base ++ rows) (sym made)

@@ -52,7 +52,7 @@ pub commands_learnt : CommandsAreLearnt
 unfolding happens
 commands_learnt slot events command = past-append slot events (event.Command command ∷ [])
 
-follows : (past : SlotPast) (command : CommandKind) → IsSound past → AreFew (learnt past.packets (next_version past command)).0.charged
+pub follows : (past : SlotPast) (command : CommandKind) → IsSound past → AreFew (learnt past.packets (next_version past command)).0.charged
     → Follows past.packets (next_version past command)
 follows past command sound few =
     let goes = session_goes past.session command sound.lived in
@@ -73,7 +73,7 @@ follows past command sound few =
           let begins : has_life (actives past.session.bearers) c.life ≡ false = subst (λ bs. has_life bs c.life ≡ false) bearers has_not in
           All-from_recursion (λ (row : ForwardedRow). row.life ≢ c.life) past.packets.forwarded
           (each_at (λ (row : ForwardedRow). row.life ≢ c.life) past.packets.forwarded (λ row there same.
-              begins_fresh past.session (next_session past command) goes c is begins (subst (IsOld past.session) same (sound.packets.rows row there))));
+          begins_fresh past.session (next_session past command) goes c is begins (subst (IsOld past.session) same (sound.packets.rows row there))));
       few = few;
     }
 
@@ -84,8 +84,7 @@ pub open_are_active : OpenLivesAreActive
 open_are_active slot events life =
     let opened = (past_sound slot events).packets.opened in
     let bearers = (past_of slot events).packets.version.bearers in
-    let lives = lives_of (past_of slot events).packets.charged in
-    (
+    let lives = lives_of (past_of slot events).packets.charged in (
       λ there. has_of bearers life (opened.active life (in_contains life lives there)),
       λ has. contains_in life lives (opened.opened life (of_has bearers life has)),
     )

@@ -50,8 +50,12 @@ markers_none number life (Some old) (Some new) = by_peer (same_peer old new)
 no_fates : (number : ℕ) (after : VersionState) (bearers : List ActiveBearer) → fates_in number (flat_map (marker_for after) bearers) ≡ 0
 no_fates number after [] = refl
 no_fates number after (b ∷ bs) =
-    omega (arith, sum_by-append (λ (e : Effect). cond (is_fate_of number e) 1 0) (marker_for after b) (flat_map (marker_for after) bs),
-        markers_none number b.life b.enb (enb_of after.bearers b.life), no_fates number after bs)
+    omega (
+      arith,
+      sum_by-append (λ (e : Effect). cond (is_fate_of number e) 1 0) (marker_for after b) (flat_map (marker_for after) bs),
+      markers_none number b.life b.enb (enb_of after.bearers b.life),
+      no_fates number after bs,
+    )
 
 -- a held packet that is looked at
 one_released : (number : ℕ) (so_far : Past × List Effect) (row : HeldRow) (outcome : Past × List Effect) → ReleasedAs so_far row outcome
@@ -111,7 +115,7 @@ one_judged number past packet outcome (JudgedAs.passed b way there fits same not
     omega (arith, none)
 one_judged number past packet outcome (JudgedAs.waits b there few same is_held_ shown) =
     let held : waiting number outcome.0.held ≡ waiting number past.held + counts number (record { packet = packet; life = b.life }) =
-        ap (λ (p : Past). waiting number p.held) same ∙ waiting-push number past.held (record { packet = packet; life = b.life }) in
+    ap (λ (p : Past). waiting number p.held) same ∙ waiting-push number past.held (record { packet = packet; life = b.life }) in
     let once = held_if (packet.number == number) (is_held outcome.1) true is_held_ ∙ only_same (packet.number == number) in
     omega (arith, once)
 
@@ -132,14 +136,22 @@ unfolding happens
 counted_from number past [] = omega arith
 counted_from number past (event.Command command ∷ later) =
     let told : Told = record { event = event.Command command; happened = (happens past (event.Command command)).1 } in
-    omega (arith, counted_from number (commanded past command) later, learnt_counted number past.packets (next_version past command),
-        sum_by-cons (λ (t : Told). cond (holds number t) 1 0) told (told_from (commanded past command) later),
-        sum_by-cons (λ (t : Told). fates_at number t.happened) told (told_from (commanded past command) later))
+    omega (
+      arith,
+      counted_from number (commanded past command) later,
+      learnt_counted number past.packets (next_version past command),
+      sum_by-cons (λ (t : Told). cond (holds number t) 1 0) told (told_from (commanded past command) later),
+      sum_by-cons (λ (t : Told). fates_at number t.happened) told (told_from (commanded past command) later),
+    )
 counted_from number past (event.Packet packet ∷ later) =
     let told : Told = record { event = event.Packet packet; happened = (happens past (event.Packet packet)).1 } in
-    omega (arith, counted_from number (met past packet) later, judged_counted number past.packets packet,
-        sum_by-cons (λ (t : Told). cond (holds number t) 1 0) told (told_from (met past packet) later),
-        sum_by-cons (λ (t : Told). fates_at number t.happened) told (told_from (met past packet) later))
+    omega (
+      arith,
+      counted_from number (met past packet) later,
+      judged_counted number past.packets packet,
+      sum_by-cons (λ (t : Told). cond (holds number t) 1 0) told (told_from (met past packet) later),
+      sum_by-cons (λ (t : Told). fates_at number t.happened) told (told_from (met past packet) later),
+    )
 
 pub held_once : EachHeldPacketOnce
 held_once slot events number = omega (arith, counted_from number (new_slot slot) events)

@@ -11,3 +11,5 @@ pub mod Outcomes
 pub mod HeldOnce
 pub mod Charges
 pub mod RoomLemmas
+pub mod FewBearers
+pub mod FewCharges

@@ -104,13 +104,13 @@ pub data ReleasedAs (so_far : Past × List Effect) (row : HeldRow) (outcome : Pa
 released_if_as : (so_far : Past × List Effect) (row : HeldRow) (b : ActiveBearer) (peer : Peer) → In b so_far.0.version.bearers → b.life ≡ row.life
     → (fits : Bool) → passes so_far.0 b false (length row.packet.octets) ≡ fits
     → ReleasedAs so_far row (either fits
-        (fated (with_row so_far.0 (row_for so_far.0 b false (length row.packet.octets)), so_far.1) row (fate.Down row.life peer.addr (gpdu peer row.packet.octets)))
-        (fated so_far row (fate.Policed row.life)))
+    (fated (with_row so_far.0 (row_for so_far.0 b false (length row.packet.octets)), so_far.1) row (fate.Down row.life peer.addr (gpdu peer row.packet.octets)))
+    (fated so_far row (fate.Policed row.life)))
 released_if_as so_far row b peer there lives true fits =
     let same : length (gpdu peer row.packet.octets) - 8 ≡ length row.packet.octets = omega (arith, length-gpdu peer row.packet.octets) in
     let shown : sent_by_fate (fate.Down row.life peer.addr (gpdu peer row.packet.octets)) ≡ sent_as (row_for so_far.0 b false (length row.packet.octets)) ∷ [] =
-        ap (λ n. record { life = row.life; up = false; octets = n } ∷ []) same
-        ∙ ap (λ n. record { life = n; up = false; octets = length row.packet.octets } ∷ []) (sym lives) in
+    ap (λ n. record { life = row.life; up = false; octets = n } ∷ []) same
+    ∙ ap (λ n. record { life = n; up = false; octets = length row.packet.octets } ∷ []) (sym lives) in
     passed b (fate.Down row.life peer.addr (gpdu peer row.packet.octets)) there fits refl refl shown
 released_if_as so_far row b peer there lives false fits = ends (fate.Policed row.life) refl refl refl
 

@@ -100,8 +100,8 @@ judged_kept P old keeps past packet is =
 released_if : (P : Past → Type 0) (old : ℕ → Type 0) (keeps : Keeps P old) (so_far : Past × List Effect) (row : HeldRow) (b : ActiveBearer) (peer : Peer) → P so_far.0
     → In b so_far.0.version.bearers → (fits : Bool) → passes so_far.0 b false (length row.packet.octets) ≡ fits
     → P (either fits
-        (fated (with_row so_far.0 (row_for so_far.0 b false (length row.packet.octets)), so_far.1) row (fate.Down row.life peer.addr (gpdu peer row.packet.octets)))
-        (fated so_far row (fate.Policed row.life))).0
+    (fated (with_row so_far.0 (row_for so_far.0 b false (length row.packet.octets)), so_far.1) row (fate.Down row.life peer.addr (gpdu peer row.packet.octets)))
+    (fated so_far row (fate.Policed row.life))).0
 released_if P old keeps so_far row b peer is there true fits = keeps.row so_far.0 b false (length row.packet.octets) is there fits
 released_if P old keeps so_far row b peer is there false fits = is
 

@@ -38,7 +38,7 @@ pub left_out : (rate : ℕ) (test : ForwardedRow → Bool) (rows : List Forwarde
     → PolicedBy rate test rows → PolicedBy rate test (rows ++ row ∷ [])
 left_out rate test rows row out policed =
     let same : filter test (rows ++ row ∷ []) ≡ filter test rows =
-        filter-append test rows (row ∷ []) ∙ ap (λ more. filter test rows ++ more) (filter_one test false row out) ∙ append-nil (filter test rows) in
+    filter-append test rows (row ∷ []) ∙ ap (λ more. filter test rows ++ more) (filter_one test false row out) ∙ append-nil (filter test rows) in
     subst (λ (rs : List ForwardedRow). ArePoliced rate (costs rs)) (sym same) policed
 
 pub let_in : (rate : ℕ) (test : ForwardedRow → Bool) (rows : List ForwardedRow) (row : ForwardedRow) → test row ≡ true
@@ -46,7 +46,7 @@ pub let_in : (rate : ℕ) (test : ForwardedRow → Bool) (rows : List ForwardedR
     → PolicedBy rate test rows → PolicedBy rate test (rows ++ row ∷ [])
 let_in rate test rows row in_ fits policed =
     let same : costs (filter test (rows ++ row ∷ [])) ≡ costs (filter test rows) ++ cost_for row ∷ [] =
-        ap costs (filter-append test rows (row ∷ []) ∙ ap (λ more. filter test rows ++ more) (filter_one test true row in_)) ∙ costs-push (filter test rows) row in
+    ap costs (filter-append test rows (row ∷ []) ∙ ap (λ more. filter test rows ++ more) (filter_one test true row in_)) ∙ costs-push (filter test rows) row in
     let conforming : Conforms rate (costs (filter test rows)) (cost_for row) = (conforming_tested rate (costs (filter test rows)) (cost_for row)).0 fits in
     subst (ArePoliced rate) (sym same) (policed_grow rate (costs (filter test rows)) (cost_for row) policed conforming)
 

@@ -203,10 +203,10 @@ distinct_placed new (b ∷ bs) other apart =
 one_more : (new : Bearer) (lives : ℕ) (bearers : List Bearer) → new.life ≡ lives → AreLived lives bearers → Become lives (lives + 1) bearers (placed new bearers)
 one_more new lives bearers is lived =
     let other : IsOther new.life (lives_in bearers) = other_if new.life (lives_in bearers) (λ m there same.
-        let found = of_map life_of m bearers there in
-        let lower : found.0.life < lives = lived.below found.0 found.1 in
-        let equal : found.0.life ≡ m = found.2 in
-        omega arith) in
+    let found = of_map life_of m bearers there in
+    let lower : found.0.life < lives = lived.below found.0 found.1 in
+    let equal : found.0.life ≡ m = found.2 in
+    omega arith) in
     record {
       from = λ b there. elim (of_placed b new bearers there) [
         | inl here ↦ let new_life : new.life ≡ b.life = ap life_of here in let above : lives ≤ b.life = omega arith in inr above

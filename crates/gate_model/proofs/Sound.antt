@@ -90,9 +90,9 @@ policed_next before after n m rows lived goes olds rates policed = record {
     | inr rise ↦
         let differs : after.rates ≡ before.rates → ⊥ = eqb-false after.rates before.rates rise in
         none_left (ambr up (version_of after m)) (is_of_rates after.rates up) rows (λ row in_rows. no_row_of_rates after.rates up row (λ same.
-            let bound : row.rates ≤ before.rates = rates row in_rows in
-            let rose : before.rates ≤ after.rates = goes.rates in
-            differs (omega arith)))
+        let bound : row.rates ≤ before.rates = rates row in_rows in
+        let rose : before.rates ≤ after.rates = goes.rates in
+        differs (omega arith)))
   ];
 }
 

@@ -6,3 +6,4 @@ pub mod Rates
 pub mod Holding
 pub mod Ledger
 pub mod Room
+pub mod Few

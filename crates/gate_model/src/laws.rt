@@ -4,6 +4,7 @@ ghost use Rattle.gate_model.specs.Rates.{LivesArePoliced, SharesArePoliced};
 ghost use Rattle.gate_model.specs.Holding.{EachHeldPacketOnce};
 ghost use Rattle.gate_model.specs.Ledger.{ForwardedIsTold, EachPacketInOnePiece, RecordsAreAdded};
 ghost use Rattle.gate_model.specs.Room.{FewEventsLeaveRoom};
+ghost use Rattle.gate_model.specs.Few.{FewEventsAreFew, FewCommandsFollow, AtMostSixteenAreHeld};
 
 /// A session depends on the commands alone, and packets go by its version under their number.
 pub fn sessions_are_of_commands()
@@ -43,4 +44,12 @@ pub fn each_packet_in_one_piece()
 /// Where fewer than 2^61 - 20 events came, the counts may rise.
 pub fn few_events_leave_room()
     ensures { FewEventsLeaveRoom }
+{}
+
+/// Behind fewer than 2^40 events every count of what is charged may rise, and the version that one command
+/// more leaves follows on the past. At most sixteen packets are held.
+pub fn few_events_are_few()
+    ensures charged { FewEventsAreFew }
+    ensures follows { FewCommandsFollow }
+    ensures held { AtMostSixteenAreHeld }
 {}

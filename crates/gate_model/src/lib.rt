@@ -9,8 +9,8 @@ mod laws;
 pub use control_steps::{Command, CommandKind};
 pub use event::{Event, Happened};
 pub use laws::{
-    each_held_packet_once, each_packet_in_one_piece, each_version_follows, few_events_leave_room,
-    rates_are_kept, sessions_are_of_commands,
+    each_held_packet_once, each_packet_in_one_piece, each_version_follows, few_events_are_few,
+    few_events_leave_room, rates_are_kept, sessions_are_of_commands,
 };
 pub use packet_steps::Effects;
 pub use pc_base::{Packet, Reply, Slot, Verdict};
