@@ -37,7 +37,7 @@ pub record StandsFor (subscriber : SubscriberState) (slot : ℕ) (events : List 
 -- it stands for so few events that each count may rise
 abbrev pub HasRoom : SubscriberState → Type 0
 HasRoom subscriber =
-    (slot : ℕ) × (events : List Event) × (taken : ℕ) × StandsFor subscriber slot events taken × (length events < 2 ^ 50)
+    (slot : ℕ) × (events : List Event) × (taken : ℕ) × StandsFor subscriber slot events taken × (length events < 2 ^ 40)
 
 -- a packet of these fields
 abbrev pub packet_of : ℕ → ℕ → Way → List ℕ → Packet

@@ -3,7 +3,7 @@ use crate::{Handled, NoMemory};
 use bearer_state::{Session, Version};
 use charging_book::{ChargeRow, Open};
 use control_steps::{Command, step};
-use gate_model::{each_version_follows, few_events_leave_room};
+use gate_model::{each_version_follows, few_events_are_few, few_events_leave_room};
 use ipv4_packet::Ip4;
 use packet_steps::{Counters, Effects, advance, handle, judge};
 use pc_base::{Moment, Packet, Reply, SliceNo, Slot, Verdict, Way};
@@ -82,6 +82,7 @@ impl Subscriber {
         ensures kept { OnErr result (self.new ≡ record self.old { session = self.new.session }) }
     {
         few_events_leave_room();
+        few_events_are_few();
         each_version_follows();
         let number = self.version.number;
         let reply = step(alloc, &mut self.session, command)?;
@@ -108,6 +109,7 @@ impl Subscriber {
         ensures unchanged { OnErr result (self.new ≡ self.old) }
     {
         few_events_leave_room();
+        few_events_are_few();
         each_version_follows();
         let verdict = handle(&mut self.counters, &self.version, packet)?;
         self.packets += 1;
@@ -136,6 +138,7 @@ impl Subscriber {
         ensures unchanged { OnErr result (self.new ≡ self.old) }
     {
         few_events_leave_room();
+        few_events_are_few();
         each_version_follows();
         let number = self.packets;
         let commands = self.version.number;
