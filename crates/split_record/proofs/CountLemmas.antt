@@ -1,10 +1,12 @@
 -- How many events there are, and how many of each kind.
-use Rattle.std.proofs.Common.{◌≡◌, ℕ, ◌+◌, List, [], ◌∷◌, ◌++◌, length, refl, arith}
+use Rattle.std.proofs.Common.{◌≡◌, ℕ, ◌+◌, ◌<◌, ◌^◌, List, [], ◌∷◌, ◌++◌, fold, length, refl, ap, arith}
 use Rattle.pc_base.specs.declared.packet.Packet.{Packet}
 use Rattle.control_steps.specs.declared.command.CommandKind.{CommandKind}
 use Rattle.gate_model.specs.declared.event.Event.{Event}
 use Rattle.gate_model.specs.declared.event.Event.TheVariants as event
 use Rattle.gate_model.specs.Events.{commands_of, packets_of}
+use Rattle.gate_model.specs.SlotPast.{SlotPast, new_slot, commanded, met, happens, behind, past_of}
+use Rattle.split_record.specs.Standing.{SubscriberState, StandsFor, HasRoom, commands_met}
 
 -- each is a command or a packet
 pub all_counted : (events : List Event) → length events ≡ length (commands_of events) + length (packets_of events)
@@ -35,8 +37,28 @@ packets_more [] packet = refl
 packets_more (event.Command command ∷ later) packet = packets_more later packet
 packets_more (event.Packet first ∷ later) packet = omega (arith, packets_more later packet)
 
-pub commands_stay : (events : List Event) (packet : Packet)
-    → length (commands_of (events ++ event.Packet packet ∷ [])) ≡ length (commands_of events)
-commands_stay [] packet = refl
-commands_stay (event.Command command ∷ later) packet = omega (arith, commands_stay later packet)
-commands_stay (event.Packet first ∷ later) packet = commands_stay later packet
+-- a packet is no command
+pub commands_same : (events : List Event) (packet : Packet) → commands_of (events ++ event.Packet packet ∷ []) ≡ commands_of events
+commands_same [] packet = refl
+commands_same (event.Command command ∷ later) packet = ap (λ (rest : List CommandKind). command ∷ rest) (commands_same later packet)
+commands_same (event.Packet first ∷ later) packet = commands_same later packet
+
+-- a past counts its commands
+counts_from : (past : SlotPast) (events : List Event) → (fold behind past events).commands ≡ past.commands + length (commands_of events)
+unfolding happens
+counts_from past [] = omega arith
+counts_from past (event.Command command ∷ later) = omega (arith, counts_from (commanded past command) later)
+counts_from past (event.Packet packet ∷ later) = counts_from (met past packet) later
+
+pub past_counts : (slot : ℕ) (events : List Event) → (past_of slot events).commands ≡ length (commands_of events)
+past_counts slot events = omega (arith, counts_from (new_slot slot) events)
+
+-- so few events that the counts may rise
+pub counts_are_few : (subscriber : SubscriberState) → HasRoom subscriber → commands_met subscriber + subscriber.packets < 2 ^ 40
+counts_are_few subscriber room = omega (arith, all_counted room.1, room.3.commands, room.3.packets, room.4)
+
+pub events_are_few : (subscriber : SubscriberState) (slot : ℕ) (events : List Event) (taken : ℕ) → HasRoom subscriber → StandsFor subscriber slot events taken
+    → length events < 2 ^ 40
+events_are_few subscriber slot events taken room stands =
+    let few = counts_are_few subscriber room in
+    omega (arith, few, all_counted events, stands.commands, stands.packets)

@@ -4,6 +4,7 @@
 #![tactic(auto)]
 
 mod handled;
+mod laws;
 mod subscriber;
 
 pub use handled::Handled;

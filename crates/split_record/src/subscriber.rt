@@ -1,9 +1,9 @@
 //! A subscriber at rest.
+use crate::laws::known_pasts;
 use crate::{Handled, NoMemory};
 use bearer_state::{Session, Version};
 use charging_book::{ChargeRow, Open};
 use control_steps::{Command, step};
-use gate_model::{each_version_follows, few_events_are_few, few_events_leave_room};
 use ipv4_packet::Ip4;
 use packet_steps::{Counters, Effects, advance, handle, judge};
 use pc_base::{Moment, Packet, Reply, SliceNo, Slot, Verdict, Way};
@@ -81,14 +81,13 @@ impl Subscriber {
         ensures destination { self.new.destination ≡ self.old.destination }
         ensures kept { OnErr result (self.new ≡ record self.old { session = self.new.session }) }
     {
-        few_events_leave_room();
-        few_events_are_few();
-        each_version_follows();
-        let number = self.version.number;
+        known_pasts();
+        let before = &self.version;
+        let number = before.number + 1;
         let reply = step(alloc, &mut self.session, command)?;
-        let next = self.session.version(number + 1)?;
-        let effects = advance(&mut self.counters, &self.version, &next)?;
-        self.version = next;
+        let after = self.session.version(number)?;
+        let effects = advance(&mut self.counters, before, &after)?;
+        self.version = after;
         Ok((reply, effects))
     }
 
@@ -108,9 +107,7 @@ impl Subscriber {
         ensures destination { self.new.destination ≡ self.old.destination }
         ensures unchanged { OnErr result (self.new ≡ self.old) }
     {
-        few_events_leave_room();
-        few_events_are_few();
-        each_version_follows();
+        known_pasts();
         let verdict = handle(&mut self.counters, &self.version, packet)?;
         self.packets += 1;
         Ok(verdict)
@@ -137,12 +134,11 @@ impl Subscriber {
         ensures destination { self.new.destination ≡ self.old.destination }
         ensures unchanged { OnErr result (self.new ≡ self.old) }
     {
-        few_events_leave_room();
-        few_events_are_few();
-        each_version_follows();
+        known_pasts();
         let number = self.packets;
-        let commands = self.version.number;
-        match judge(&mut self.counters, &self.version, number, moment, way, ip) {
+        let version = &self.version;
+        let commands = version.number;
+        match judge(&mut self.counters, version, number, moment, way, ip) {
             Ok(judged) => {
                 self.packets = number + 1;
                 Ok(Handled {
@@ -161,7 +157,8 @@ impl Subscriber {
             → result.items ≡ drop taken (records_after slot events) }
         ensures stands { (slot : ℕ) (events : List Event) (taken : ℕ) → StandsFor self.old slot events taken
             → StandsFor self.new slot events (length (records_after slot events)) }
-        ensures last { last_of self.new ≡ last_of self.old }
+        ensures last { (slot : ℕ) (events : List Event) (taken : ℕ) → StandsFor self.old slot events taken
+            → last_of self.new ≡ last_of self.old }
         ensures destination { self.new.destination ≡ self.old.destination }
     {
         self.counters.take_closed()
