@@ -7,3 +7,4 @@ pub mod Holding
 pub mod Ledger
 pub mod Room
 pub mod Few
+pub mod Memory

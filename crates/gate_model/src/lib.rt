@@ -3,11 +3,19 @@
 //! which event of which slot is left to the layers above.
 #![tactic(auto)]
 
+mod copying;
 mod event;
+mod gateway;
+mod judging;
 mod laws;
+mod learning;
+mod marks;
+mod memory;
+mod messages;
 
 pub use control_steps::{Command, CommandKind};
 pub use event::{Event, Happened};
+pub use gateway::Gateway;
 pub use laws::{
     each_held_packet_once, each_packet_in_one_piece, each_version_follows, few_events_are_few,
     few_events_leave_room, rates_are_kept, sessions_are_of_commands,
@@ -15,3 +23,6 @@ pub use laws::{
 pub use packet_steps::Effects;
 pub use pc_base::{Packet, Reply, Slot, Verdict};
 pub use std::alloc::AllocError as NoMemory;
+
+#[cfg(test)]
+mod tests;
