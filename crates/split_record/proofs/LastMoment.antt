@@ -13,7 +13,7 @@ use Rattle.packet_steps.specs.Past.{Past, row_for, with_row, with_held}
 use Rattle.packet_steps.specs.Policing.{passes}
 use Rattle.packet_steps.specs.Verdicts.{tried, judged_up, notice, judged_waiting, judged_to, judged_down, bearer_for, judged_by_way, judged_now, at_moment, judged}
 
-last_in : Past × Verdict → Option ℕ
+abbrev last_in : Past × Verdict → Option ℕ
 last_in outcome = outcome.0.last
 
 of_either : (b : Bool) (one other : Past × Verdict) (last : Option ℕ) → last_in one ≡ last → last_in other ≡ last → last_in (if b then one else other) ≡ last

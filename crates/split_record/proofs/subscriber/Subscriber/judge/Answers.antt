@@ -1,4 +1,4 @@
-use Rattle.std.proofs.Common.{◌≡◌, ℕ, ◌+◌, List, Some, ap, ◌∙◌, sym, subst, refl, arith}
+use Rattle.std.proofs.Common.{◌≡◌, ℕ, ◌+◌, ◌<◌, ◌^◌, List, Some, ap, ◌∙◌, sym, subst, refl, arith}
 use Rattle.pc_base.specs.declared.packet.Packet.{Packet}
 use Rattle.packet_steps.specs.Standing as counters
 use Rattle.gate_model.specs.declared.event.Event.{Event}
@@ -30,7 +30,7 @@ judges c slot events taken stands = record {
 }
 
 -- the packet, under its number
-judged_packet : (c : goal.After-self-1) → Packet
+abbrev judged_packet : (c : goal.After-self-1) → Packet
 judged_packet c = packet_of c.args.self.now.packets c.args.moment c.args.way c.args.ip.now
 
 numbered : (c : goal.After-self-1) → judged_packet c ≡ packet_of c.self.inside.packets c.args.moment c.args.way c.args.ip.now
