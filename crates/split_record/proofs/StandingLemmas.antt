@@ -42,7 +42,7 @@ command_stands sessions versions learns old new slot events taken command stands
     let more = events ++ event.Command command ∷ [] in
     let behind = learns slot events command in
     let session : new.session ≡ session_after slot more =
-        stepped ∙ ap (λ (s : SessionState). (controlled s command).0) stands.session ∙ sym (ap (λ (p : SlotPast). p.session) behind) in
+    stepped ∙ ap (λ (s : SessionState). (controlled s command).0) stands.session ∙ sym (ap (λ (p : SlotPast). p.session) behind) in
     let count : old.version.number + 1 ≡ length (commands_of more) = omega (arith, stands.commands, commands_more events command) in
     let next = version_is old slot events taken command new.session new.version (old.version.number + 1) stands stepped refl versioned in
     record {

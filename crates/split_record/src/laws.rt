@@ -1,5 +1,6 @@
 //! What the one-thread gateway says of every past.
-ghost use Rattle.gate_model.specs.Versions.{SessionsAreOfCommands, VersionsAreOfCommands, CommandsAreLearnt, PacketsAreJudged};
+ghost use Rattle.gate_model.specs.Versions.{SessionsAreOfCommands, VersionsAreOfCommands};
+ghost use Rattle.gate_model.specs.Versions.{CommandsAreLearnt, PacketsAreJudged};
 ghost use Rattle.gate_model.specs.Room.{FewEventsLeaveRoom};
 ghost use Rattle.gate_model.specs.Few.{FewEventsAreFew, FewCommandsFollow};
 

@@ -127,9 +127,11 @@ impl Subscriber {
         ensures number { IfOk result (λ handled. handled.number ≡ self.old.packets) }
         ensures commands { IfOk result (λ handled. handled.commands ≡ commands_met self.old) }
         ensures verdict { (slot : ℕ) (events : List Event) (taken : ℕ) → StandsFor self.old slot events taken
-            → IfOk result (λ handled. verdict_of handled.judged ≡ verdict_after slot events (packet_of self.old.packets moment way ip.now)) }
+            → IfOk result (λ handled. verdict_of handled.judged
+            ≡ verdict_after slot events (packet_of self.old.packets moment way ip.now)) }
         ensures stands { (slot : ℕ) (events : List Event) (taken : ℕ) → StandsFor self.old slot events taken
-            → OnOk result (StandsFor self.new slot (events ++ event.Packet (packet_of self.old.packets moment way ip.now) ∷ []) taken) }
+            → OnOk result (StandsFor self.new slot
+            (events ++ event.Packet (packet_of self.old.packets moment way ip.now) ∷ []) taken) }
         ensures last { OnOk result (last_of self.new ≡ Some moment) }
         ensures destination { self.new.destination ≡ self.old.destination }
         ensures unchanged { OnErr result (self.new ≡ self.old) }

@@ -1,5 +1,5 @@
 //! Events of one subscriber, told one a line, with lines from outside.
-ghost use Rattle.std.specs.Prelude.{◌≡◌, ◌≤◌, ℕ, List, IsTrue, IfSome, OnOk};
+ghost use Rattle.std.specs.Prelude.{◌≤◌, ℕ, List, length, IsTrue, IfSome, OnOk};
 ghost use Rattle.gate_model.specs.declared.event.Event.{Event};
 ghost use Rattle.split_record.specs.Standing.{StandsFor, HasRoom, GoesOn, last_of};
 
@@ -201,6 +201,99 @@ fn is_late(subscriber: &Subscriber, moment: Moment) -> bool
     }
 }
 
+fn rows_text(alloc: Global, rows: &[ChargeRow]) -> Result<String, Fail> {
+    let mut text = String::new(alloc);
+    for row in rows {
+        text.push_str(row_text(alloc, row)?.as_str())?;
+    }
+    Ok(text)
+}
+
+fn opens_text(alloc: Global, opens: &[Open]) -> Result<String, Fail> {
+    let mut text = String::new(alloc);
+    for open in opens {
+        text.push_str(open_text(alloc, open)?.as_str())?;
+    }
+    Ok(text)
+}
+
+fn answer_text(
+    alloc: Global,
+    number: u64,
+    reply: &Reply,
+    effects: &[Effect],
+) -> Result<String, Fail> {
+    let mut text = reply_text(alloc, number, reply)?;
+    for effect in effects {
+        text.push_str(effect_text(alloc, effect)?.as_str())?;
+    }
+    Ok(text)
+}
+
+// A command is done.
+fn command_told(alloc: Global, subscriber: &mut Subscriber, step: &Step) -> Result<String, Fail>
+    requires { HasRoom subscriber.old }
+    ensures { (slot : ℕ) (events : List Event) (taken : ℕ) → StandsFor subscriber.old slot events taken
+        → OnOk result (GoesOn subscriber.new slot events) }
+{
+    let command = Command::of(kind_of(alloc, step)?).ok_or("a command")?;
+    let number = subscriber.commands();
+    let (reply, effects) = subscriber.command(alloc, &command)?;
+    answer_text(alloc, number, &reply, effects.as_slice())
+}
+
+// A packet is judged that owns its octets.
+fn packet_told(
+    alloc: Global,
+    subscriber: &mut Subscriber,
+    at: u32,
+    way: Way,
+    octets: &[u8],
+) -> Result<String, Fail>
+    requires { HasRoom subscriber.old }
+    ensures { (slot : ℕ) (events : List Event) (taken : ℕ) → StandsFor subscriber.old slot events taken
+        → OnOk result (GoesOn subscriber.new slot events) }
+{
+    let number = subscriber.packets();
+    let commands = subscriber.commands();
+    let packet = Packet {
+        number,
+        moment: Moment(u64::from(at)),
+        way,
+        octets: Octets::of(Vec::from_slice(alloc, octets)?),
+    };
+    if !is_late(subscriber, packet.moment) {
+        return Err("a later moment".into());
+    }
+    let verdict = subscriber.packet(&packet)?;
+    let text = verdict_text(alloc, &verdict)?;
+    Ok(format!(in alloc; "P {number} {commands} {text}")?)
+}
+
+// A packet is judged whose octets are lent.
+fn lent_told(
+    alloc: Global,
+    subscriber: &mut Subscriber,
+    at: u32,
+    way: Way,
+    octets: &[u8],
+) -> Result<String, Fail>
+    requires { HasRoom subscriber.old }
+    ensures { (slot : ℕ) (events : List Event) (taken : ℕ) → StandsFor subscriber.old slot events taken
+        → OnOk result (GoesOn subscriber.new slot events) }
+{
+    let moment = Moment(u64::from(at));
+    if !is_late(subscriber, moment) {
+        return Err("a later moment".into());
+    }
+    let ip = Ip4::read(octets)?;
+    let handled = subscriber.judge(moment, way, &ip)?;
+    let text = judged_text(alloc, &handled.judged)?;
+    let number = handled.number;
+    let commands = handled.commands;
+    Ok(format!(in alloc; "P {number} {commands} {text}")?)
+}
+
 // Takes one step, and tells what came of it.
 fn told(alloc: Global, subscriber: &mut Subscriber, step: &Step) -> Result<String, Fail>
     requires { HasRoom subscriber.old }
@@ -208,63 +301,18 @@ fn told(alloc: Global, subscriber: &mut Subscriber, step: &Step) -> Result<Strin
         → OnOk result (GoesOn subscriber.new slot events) }
 {
     match step {
-        Step::Packet(at, way, octets) => {
-            let number = subscriber.packets();
-            let commands = subscriber.commands();
-            let packet = Packet {
-                number,
-                moment: Moment(u64::from(*at)),
-                way: *way,
-                octets: Octets::of(Vec::from_slice(alloc, octets)?),
-            };
-            if !is_late(subscriber, packet.moment) {
-                return Err("a later moment".into());
-            }
-            let verdict = subscriber.packet(&packet)?;
-            let text = verdict_text(alloc, &verdict)?;
-            Ok(format!(in alloc; "P {number} {commands} {text}")?)
-        }
-        Step::Lent(at, way, octets) => {
-            let moment = Moment(u64::from(*at));
-            if !is_late(subscriber, moment) {
-                return Err("a later moment".into());
-            }
-            let ip = Ip4::read(octets)?;
-            let handled = subscriber.judge(moment, *way, &ip)?;
-            let text = judged_text(alloc, &handled.judged)?;
-            let number = handled.number;
-            let commands = handled.commands;
-            Ok(format!(in alloc; "P {number} {commands} {text}")?)
-        }
-        Step::Take => {
-            let mut text = String::new(alloc);
-            for row in &subscriber.take_closed() {
-                text.push_str(row_text(alloc, row)?.as_str())?;
-            }
-            Ok(text)
-        }
-        Step::Opens => {
-            let mut text = String::new(alloc);
-            for open in subscriber.still_open() {
-                text.push_str(open_text(alloc, open)?.as_str())?;
-            }
-            Ok(text)
-        }
-        _ => {
-            let command = Command::of(kind_of(alloc, step)?).ok_or("a command")?;
-            let number = subscriber.commands();
-            let (reply, effects) = subscriber.command(alloc, &command)?;
-            let mut text = reply_text(alloc, number, &reply)?;
-            for effect in effects.as_slice() {
-                text.push_str(effect_text(alloc, effect)?.as_str())?;
-            }
-            Ok(text)
-        }
+        Step::Packet(at, way, octets) => packet_told(alloc, subscriber, *at, *way, octets),
+        Step::Lent(at, way, octets) => lent_told(alloc, subscriber, *at, *way, octets),
+        Step::Take => rows_text(alloc, &subscriber.take_closed()),
+        Step::Opens => opens_text(alloc, subscriber.still_open()),
+        _ => command_told(alloc, subscriber, step),
     }
 }
 
 // What came of all steps of slot 0, a line each.
-fn replayed(alloc: Global, steps: &[Step]) -> Result<String, Fail> {
+fn replayed(alloc: Global, steps: &[Step]) -> Result<String, Fail>
+    requires { length steps.now ≤ 1000 }
+{
     let mut subscriber = Subscriber::new(alloc, Slot(0), SliceNo(0))?;
     let mut text = String::new(alloc);
     for step in steps {

@@ -7,5 +7,5 @@ use Rattle.split_record.proofs.subscriber.Subscriber.take_closed.Goals as goal
 pub returns-clause-last : goal.returns-clause-last
 returns-clause-last c = λ slot events taken stands.
     let before = subst (λ (s : counters.CountersState). counters.StandsFor s (past_of slot events).packets taken)
-        (sym (ap (λ (s : SubscriberState). s.counters) c.self.view_is)) stands.counters in
+    (sym (ap (λ (s : SubscriberState). s.counters) c.self.view_is)) stands.counters in
     (c.take_closed.ensures.stands (past_of slot events).packets taken before).last ∙ sym stands.counters.last
