@@ -14,8 +14,9 @@ use Rattle.gate_model.specs.declared.event.Event.TheVariants as event
 use Rattle.gate_model.specs.Events.{commands_of, packets_of}
 use Rattle.gate_model.specs.SlotPast.{SlotPast, past_of, session_after, version_after, next_session, next_version}
 use Rattle.gate_model.specs.Versions.{controlled_by, SessionsAreOfCommands, VersionsAreOfCommands, CommandsAreLearnt, PacketsAreJudged}
-use Rattle.split_record.specs.Standing.{SubscriberState, StandsFor}
-use Rattle.split_record.proofs.CountLemmas.{past_counts, commands_more, packets_stay, packets_more, commands_same}
+use Rattle.gate_model.specs.Few.{FewCommandsFollow}
+use Rattle.split_record.specs.Standing.{SubscriberState, StandsFor, HasRoom}
+use Rattle.split_record.proofs.CountLemmas.{events_are_few, past_counts, commands_more, packets_stay, packets_more, commands_same}
 
 -- the version that a command leaves
 pub version_is : (old : SubscriberState) (slot : ℕ) (events : List Event) (taken : ℕ) (command : CommandKind) (session : SessionState) (after : VersionState) (number : ℕ)
@@ -69,4 +70,25 @@ packet_stands versions judges old new slot events taken packet stands session ve
       counters = subst (λ (p : Past). counters.StandsFor new.counters p taken) (sym (ap (λ (p : SlotPast). p.packets) behind)) counts;
       commands = ap (λ (v : VersionState). v.number) version ∙ stands.commands ∙ sym (ap (λ (commands : List CommandKind). length commands) same);
       packets = omega (arith, packets, stands.packets, packets_more events packet);
+    }
+
+-- what counters learn of a command, behind the events that they stood for
+pub record Learns (stood : counters.CountersState) (before after : VersionState) (slot : ℕ) (events : List Event) (taken : ℕ) (command : CommandKind) : Type 0 where
+  pub stands : counters.StandsFor stood (past_of slot events).packets taken
+  pub same : (past_of slot events).packets.version ≡ before
+  pub next : after ≡ next_version (past_of slot events) command
+  pub follows : counters.Follows (past_of slot events).packets after
+
+pub learns : FewCommandsFollow → (old : SubscriberState) (slot : ℕ) (events : List Event) (taken : ℕ) (command : CommandKind) (stood : counters.CountersState)
+    (before after : VersionState) (session : SessionState) → HasRoom old → StandsFor old slot events taken → stood ≡ old.counters → before ≡ old.version
+    → session ≡ (controlled old.session command).0 → after ≡ version_of session (old.version.number + 1) → Learns stood before after slot events taken command
+learns follow old slot events taken command stood before after session room stands counted versioned stepped made =
+    let packets = (past_of slot events).packets in
+    let few = events_are_few old slot events taken room stands in
+    let next = version_is old slot events taken command session after (old.version.number + 1) stands stepped refl made in
+    record {
+      stands = subst (λ (s : counters.CountersState). counters.StandsFor s packets taken) (sym counted) stands.counters;
+      same = sym stands.version ∙ sym versioned;
+      next = next;
+      follows = subst (λ (v : VersionState). counters.Follows packets v) (sym next) (follow slot events command few);
     }
