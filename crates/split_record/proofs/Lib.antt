@@ -1,0 +1,4 @@
+pub mod CountLemmas
+pub mod LastMoment
+pub mod SlotLemmas
+pub mod StandingLemmas
