@@ -1,5 +1,5 @@
 -- Of the asks for one EBI the first counts: one more ask, and the ranges that they keep.
-use Rattle.std.proofs.Common.{◌≡◌, ◌≢◌, ℕ, ◌+◌, ◌-◌, ◌<◌, ◌≤◌, ◌==◌, ◌||◌, Bool, true, false, Option, Some, None, not, cond, List, [], ◌∷◌, ◌++◌, length, take, get_or, add-one, map, filter, append-nil, eqb, refl, sym, ap, subst, ◌∙◌, arith, eq-eqb}
+use Rattle.std.proofs.Common.{◌≡◌, ℕ, ◌+◌, ◌-◌, ◌<◌, ◌≤◌, ◌==◌, ◌||◌, Bool, true, false, Option, Some, None, not, List, [], ◌∷◌, ◌++◌, length, take, get_or, add-one, map, append-nil, eqb, refl, sym, ap, subst, ◌∙◌, arith, eq-eqb}
 use Rattle.std.specs.Prelude.{IfSome, option_and_then}
 use Rattle.std.specs.List.{list_any, filter_map, cons_option, AllByRecursion, IsDistinct}
 use Rattle.std.proofs.lemmas.Bool.{ne_eqb, eqb-true, false≢true}
@@ -12,7 +12,7 @@ use Rattle.gtpv2_ie.specs.Element.{Element}
 use Rattle.gtpv2_msg.specs.Lookup.{first_context, contexts_of}
 use Rattle.bearer_state.specs.declared.ask.Ask.{Ask}
 use Rattle.bearer_state.specs.Ask.{IsAsk, HaveTwoEbis, AreAsks}
-use Rattle.bearer_state.specs.Bearer.{IsEbi, EachPair}
+use Rattle.bearer_state.specs.Bearer.{EachPair}
 use Rattle.demux.specs.Requests.{ask_of, without_ebi, first_asks, each_ask, has_ebi, with_ask, ask_at}
 
 eqb_no : (a b : ℕ) → eqb a b ≡ false → eqb b a ≡ false

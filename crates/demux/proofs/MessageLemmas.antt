@@ -1,8 +1,8 @@
 -- What octets spell is the message that they are.
-use Rattle.std.proofs.Common.{◌≡◌, ℕ, List, Option, sym, ap, ◌∙◌}
+use Rattle.std.proofs.Common.{◌≡◌, ℕ, List, Option, ap, ◌∙◌}
 use Rattle.gtpv2_ie.proofs.StandLemmas.{ies_of-Stand}
 use Rattle.gtpv2_ie.specs.Element.{Element}
-use Rattle.gtpv2_msg.specs.Header.{kind_of, teid_of, seq_of, body_of}
+use Rattle.gtpv2_msg.specs.Header.{teid_of, seq_of, body_of}
 use Rattle.gtpv2_msg.specs.Message.{Message}
 use Rattle.gtpv2_msg.specs.Reading.{IsBody, Spells}
 use Rattle.demux.specs.Message.{elements_where, elements_in, message_in}

@@ -1,7 +1,7 @@
 -- A message that has what its type asks for has what its command takes.
-use Rattle.std.proofs.Common.{◌≡◌, ℕ, ◌<◌, eqb, Bool, true, false, ◌&&◌, Option, Some, None, if◌then◌else◌, option_map, option_and_then, List, [], ◌∷◌, refl, sym, ap, subst, ◌∙◌, arith}
-use Rattle.std.specs.Prelude.{IsSome, IfSome, find}
-use Rattle.std.specs.List.{list_any, AllByRecursion, cons_option}
+use Rattle.std.proofs.Common.{◌≡◌, ℕ, eqb, Bool, true, false, ◌&&◌, Option, Some, None, if◌then◌else◌, option_map, option_and_then, List, [], ◌∷◌, refl, subst, arith}
+use Rattle.std.specs.Prelude.{IsSome, find}
+use Rattle.std.specs.List.{AllByRecursion, cons_option}
 use Rattle.tft_codec.specs.Reading.{◌>>=◌}
 use Rattle.std.proofs.lemmas.Bool.{ne_eqb}
 use Rattle.gtpv2_ie.specs.declared.context.Context.{Context}
@@ -14,7 +14,7 @@ use Rattle.gtpv2_ie.specs.Kind.{type_octet}
 use Rattle.gtpv2_ie.specs.Spelling.{kind_of}
 use Rattle.gtpv2_msg.specs.declared.table.Part.TheVariants as parts
 use Rattle.gtpv2_msg.specs.HasRequired.{Has, HasPart, IsAssigned, MeetsRow, HasRequired}
-use Rattle.gtpv2_msg.specs.Lookup.{is_of, first_value, context_value, first_context, contexts_of}
+use Rattle.gtpv2_msg.specs.Lookup.{is_of, first_value, context_value, contexts_of}
 use Rattle.gtpv2_msg.specs.Message.{Message}
 use Rattle.gtpv2_msg.specs.Required.{required}
 use Rattle.demux.specs.Mme.{create_asked}

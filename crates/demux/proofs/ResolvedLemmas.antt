@@ -1,5 +1,5 @@
 -- What a decision keeps by its book, and the book behind it.
-use Rattle.std.proofs.Common.{◌≡◌, ℕ, ◌<◌, ◌≤◌, nat_lt, ltb, Bool, true, false, Option, Some, None, if◌then◌else◌, List, length, refl, sym, ap, subst, ◌∙◌}
+use Rattle.std.proofs.Common.{◌≡◌, ℕ, ◌<◌, nat_lt, Bool, true, false, Option, Some, None, if◌then◌else◌, List, length, refl, sym, ap, subst, ◌∙◌}
 use Rattle.std.specs.Prelude.{IfSome, IfOk, Result, Ok, Err}
 use Rattle.std.proofs.lemmas.Bool.{ltb-true}
 use Rattle.std.proofs.lemmas.List.Quantifiers.{position-Some}
@@ -9,9 +9,8 @@ use Rattle.trace_lines.specs.Line.{Line}
 use Rattle.control_steps.specs.declared.command.CommandKind.{CommandKind}
 use Rattle.demux.specs.declared.decision.Decision.{Decision}
 use Rattle.demux.specs.declared.decision.Decision.TheVariants.{Move, Note}
-use Rattle.demux.specs.declared.decision.Whose.TheVariants.{Known, New}
 use Rattle.demux.specs.Asked.{Asked, Whom, Wish, imsi, slot, command, packet, move, noted, note, admission, of}
-use Rattle.demux.specs.Resolved.{found_in, granted, wished_by, whose_where, whose_in, admitting, resolved, with_imsi, booked, book_behind, IsDue, IsDecision, decided, book_after}
+use Rattle.demux.specs.Resolved.{found_in, wished_by, whose_where, whose_in, admitting, resolved, with_imsi, booked, book_behind, IsDue, IsDecision, decided, book_after}
 use Rattle.demux.specs.Line.{asked}
 
 -- a slot of the book is one of its places

@@ -2,7 +2,6 @@
 use Rattle.std.proofs.Common.{◌≡◌, ℕ, List, [], ◌∷◌, ◌++◌, append_assoc, append-nil, refl, sym, ap, ◌∙◌}
 use Rattle.std.specs.Prelude.{fold}
 use Rattle.trace_lines.specs.Line.{Line}
-use Rattle.demux.specs.declared.decision.Decision.{Decision}
 use Rattle.demux.specs.Destinations.{bound_for, home_slice, destination}
 use Rattle.demux.specs.Resolved.{decided, book_after}
 use Rattle.demux.specs.Trace.{book_of, decisions_from, decisions, destination_after, meaning, meanings_from}

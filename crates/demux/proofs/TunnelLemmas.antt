@@ -1,5 +1,5 @@
 -- What octets ask that spell a message of GTP-U, and those with a fault.
-use Rattle.std.proofs.Common.{◌≡◌, ℕ, ◌⊎◌, inl, inr, unwrap_or, Some, None, List, codes, sym, ap, ◌∙◌}
+use Rattle.std.proofs.Common.{◌≡◌, ℕ, ◌⊎◌, inl, inr, Some, None, List, codes, ap, ◌∙◌}
 use Rattle.gtpu_codec.specs.declared.fault.UBad.{UBad}
 use Rattle.gtpu_codec.specs.declared.head.GtpUHead.{GtpUHead}
 use Rattle.gtpu_codec.specs.declared.kind.GtpUKind.{GtpUKind}

@@ -1,5 +1,5 @@
 -- What a line asks, by its kind.
-use Rattle.std.specs.Prelude.{ℕ, List, codes}
+use Rattle.std.specs.Prelude.{ℕ, codes}
 use Rattle.trace_lines.specs.declared.line.LineKind.{LineKind}
 use Rattle.trace_lines.specs.declared.line.LineKind.TheVariants as kind
 use Rattle.trace_lines.specs.Line.{Line}

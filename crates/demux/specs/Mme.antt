@@ -1,7 +1,6 @@
 -- What octets of the MME ask (S11, TS 29.274).
 use Rattle.std.specs.Prelude.{ℕ, ◌==◌, ◌||◌, if◌then◌else◌, Option, Some, None, option_map, option_and_then, List, [], ◌∷◌, codes}
 use Rattle.tft_codec.specs.Reading.{◌>>=◌}
-use Rattle.pc_base.specs.declared.packet.Peer.{Peer}
 use Rattle.gtpv2_ie.specs.declared.cause_value.TheConstants.{ALL_DYNAMIC_ADDRESSES_ARE_OCCUPIED}
 use Rattle.gtpv2_ie.specs.declared.value.IeValue.TheVariants as values
 use Rattle.gtpv2_msg.specs.declared.fault.CBad.{CBad}

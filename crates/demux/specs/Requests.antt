@@ -4,7 +4,6 @@ use Rattle.std.specs.Prelude.{ℕ, ◌==◌, not, Bool, if◌then◌else◌, Opt
 use Rattle.std.specs.List.{filter_map, list_any}
 use Rattle.tft_codec.specs.Reading.{◌>>=◌}
 use Rattle.pc_base.specs.declared.packet.Peer.{Peer}
-use Rattle.gtpv2_ie.specs.declared.cause.CauseIe.{CauseIe}
 use Rattle.gtpv2_ie.specs.declared.context.Context.{Context}
 use Rattle.gtpv2_ie.specs.declared.fteid.Fteid.{Fteid}
 use Rattle.gtpv2_ie.specs.declared.kind.IeKind.TheVariants as kinds
