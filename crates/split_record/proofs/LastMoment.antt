@@ -1,6 +1,5 @@
 -- A packet's moment is that of the last packet, whatever its verdict.
-use Rattle.std.proofs.Common.{◌≡◌, ℕ, ◌==◌, ◌&&◌, nat_le, Bool, true, false, if◌then◌else◌, List, length, Option, Some, None, refl}
-use Rattle.pc_base.specs.Addresses.{addr_of}
+use Rattle.std.proofs.Common.{◌≡◌, ℕ, nat_le, Bool, true, false, if◌then◌else◌, List, length, Option, Some, None, refl}
 use Rattle.pc_base.specs.declared.packet.Packet.{Packet}
 use Rattle.pc_base.specs.declared.packet.Peer.{Peer}
 use Rattle.pc_base.specs.declared.packet.Way.{Way}

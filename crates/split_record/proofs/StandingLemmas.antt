@@ -11,7 +11,7 @@ use Rattle.packet_steps.specs.Verdicts.{judged}
 use Rattle.packet_steps.specs.Standing as counters
 use Rattle.gate_model.specs.declared.event.Event.{Event}
 use Rattle.gate_model.specs.declared.event.Event.TheVariants as event
-use Rattle.gate_model.specs.Events.{commands_of, packets_of}
+use Rattle.gate_model.specs.Events.{commands_of}
 use Rattle.gate_model.specs.SlotPast.{SlotPast, past_of, session_after, version_after, next_session, next_version}
 use Rattle.gate_model.specs.Versions.{controlled_by, SessionsAreOfCommands, VersionsAreOfCommands, CommandsAreLearnt, PacketsAreJudged}
 use Rattle.gate_model.specs.Few.{FewCommandsFollow}

@@ -1,6 +1,4 @@
-use Rattle.std.proofs.Common.{ℕ, ◌≤◌, ◌+◌, List, ◌++◌, length, length-append, arith}
-use Rattle.gate_model.specs.declared.event.Event.{Event}
-use Rattle.split_record.specs.Standing.{StandsFor}
+use Rattle.std.proofs.Common.{◌++◌, length-append, arith}
 use Rattle.split_record.proofs.tests.replayed.Goals as goal
 
 pub loop-step-preserved : goal.loop-step-preserved

@@ -1,4 +1,4 @@
-use Rattle.std.proofs.Common.{◌≡◌, ℕ, List, [], ◌++◌, length, Result, Ok, Err, OnOk, sym, subst, append-nil, arith}
+use Rattle.std.proofs.Common.{ℕ, List, [], length, Result, Ok, Err, OnOk, sym, subst, append-nil, arith}
 use Rattle.gate_model.specs.declared.event.Event.{Event}
 use Rattle.gate_model.specs.SlotPast.{records_after}
 use Rattle.split_record.specs.Standing.{SubscriberState, StandsFor, GoesOn}

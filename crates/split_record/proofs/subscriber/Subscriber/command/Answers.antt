@@ -1,4 +1,4 @@
-use Rattle.std.proofs.Common.{◌≡◌, ℕ, ◌+◌, List, ap, ◌∙◌, arith}
+use Rattle.std.proofs.Common.{◌≡◌, ◌+◌, ap, ◌∙◌, arith}
 use Rattle.bearer_state.specs.Version.{VersionState, version_of}
 use Rattle.control_steps.specs.Table.{controlled}
 use Rattle.packet_steps.specs.Change.{learnt}

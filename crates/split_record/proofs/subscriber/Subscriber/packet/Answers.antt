@@ -1,9 +1,8 @@
-use Rattle.std.proofs.Common.{◌≡◌, ℕ, ◌+◌, ◌<◌, ◌^◌, List, Some, ap, ◌∙◌, sym, subst, refl, arith}
-use Rattle.pc_base.specs.declared.packet.Packet.{Packet}
+use Rattle.std.proofs.Common.{◌≡◌, ℕ, ◌+◌, ◌<◌, ◌^◌, List, ap, ◌∙◌, sym, subst, arith}
 use Rattle.packet_steps.specs.Standing as counters
 use Rattle.gate_model.specs.declared.event.Event.{Event}
 use Rattle.gate_model.specs.SlotPast.{past_of}
-use Rattle.split_record.specs.Standing.{SubscriberState, StandsFor, packet_of}
+use Rattle.split_record.specs.Standing.{SubscriberState, StandsFor}
 use Rattle.split_record.proofs.CountLemmas.{counts_are_few, events_are_few}
 use Rattle.split_record.proofs.LastMoment.{judged_last}
 use Rattle.split_record.proofs.StandingLemmas.{packet_stands}
