@@ -23,6 +23,3 @@ pub use laws::{
 pub use packet_steps::Effects;
 pub use pc_base::{Packet, Reply, Slot, Verdict};
 pub use std::alloc::AllocError as NoMemory;
-
-#[cfg(test)]
-mod tests;
