@@ -1,7 +1,7 @@
 //! A subscriber at rest.
 use crate::laws::known_pasts;
 use crate::{Handled, NoMemory};
-use bearer_state::{Session, Version};
+use bearer_state::{ActiveBearer, Session, Version};
 use charging_book::{ChargeRow, Open};
 use control_steps::{Command, step};
 use ipv4_packet::Ip4;
@@ -39,7 +39,7 @@ impl Subscriber {
     ghost use Rattle.std.specs.Prelude.{◌≡◌, ℕ, ◌≤◌, List, [], ◌∷◌, ◌++◌, length, drop, IfOk, IfSome, OnOk, OnErr, None, Some};
     ghost use Rattle.gate_model.specs.declared.event.Event.{Event};
     ghost use Rattle.gate_model.specs.declared.event.Event.TheVariants as event;
-    ghost use Rattle.gate_model.specs.SlotPast.{reply_after, effects_after, verdict_after, records_after, opens_after};
+    ghost use Rattle.gate_model.specs.SlotPast.{reply_after, effects_after, verdict_after, records_after, opens_after, version_after};
     ghost use Rattle.packet_steps.specs.Plans.{verdict_of};
     ghost use Rattle.split_record.specs.Standing.{StandsFor, HasRoom, commands_met, last_of, packet_of};
 
@@ -172,6 +172,14 @@ impl Subscriber {
             → result.now ≡ opens_after slot events }
     {
         self.counters.book().still_open()
+    }
+
+    /// The bearers that its packets go by, by index.
+    pub fn bearers(&self) -> &[ActiveBearer]
+        ensures { (slot : ℕ) (events : List Event) (taken : ℕ) → StandsFor self.now slot events taken
+            → result.now ≡ (version_after slot events).bearers }
+    {
+        self.version.bearers()
     }
 
     /// The subscriber's slot.
