@@ -23,3 +23,6 @@ pub use laws::{
 pub use packet_steps::Effects;
 pub use pc_base::{Packet, Reply, Slot, Verdict};
 pub use std::alloc::AllocError as NoMemory;
+
+#[cfg(test)]
+mod tests;
