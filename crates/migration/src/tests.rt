@@ -1,0 +1,123 @@
+//! A side and its workers on one thread, with a half that counts.
+use crate::Side;
+use lane_core::{Carried, Did, NoMemory};
+use pc_base::{SliceNo, Slot};
+use std::alloc::Global;
+use std::process::Abort;
+use std::sync::Wait;
+use std::test::Fail;
+use worker_core::{Traveller, Worker, pair};
+
+/// A half that has so much to do, one item in a turn.
+#[derive(Debug, Drop, PartialEq, Eq)]
+struct Pupil {
+    slot: Slot,
+    due: u64,
+    done: u64,
+    hop: u64,
+    turns: u64,
+    works: u64,
+}
+
+fn pupil(slot: Slot, due: u64) -> Pupil {
+    Pupil {
+        slot,
+        due,
+        done: 0,
+        hop: 0,
+        turns: 0,
+        works: 0,
+    }
+}
+
+impl Carried for Pupil {}
+
+impl Traveller for Pupil {
+    type Name = Slot;
+
+    ghost name = { λ pupil. pupil.slot };
+
+    ghost slot_of = { λ slot. slot };
+
+    ghost done_of = { λ pupil. pupil.done };
+
+    ghost hop_of = { λ pupil. pupil.hop };
+
+    ghost turns = { λ pupil. pupil.turns };
+
+    ghost works = { λ pupil. pupil.works };
+
+    fn slot(&self) -> Slot {
+        self.slot
+    }
+
+    fn done(&self) -> u64 {
+        self.done
+    }
+
+    fn arrive(&mut self, hop: u64) {
+        self.hop = hop;
+    }
+
+    fn turn<R: Wait>(&mut self, _rt: &R, _place: SliceNo, _grain: u32) -> Result<Did, NoMemory> {
+        self.turns = self.turns.saturating_add(1);
+        if self.done >= self.due {
+            return Ok(Did::Idle);
+        }
+        self.done += 1;
+        self.works = self.works.saturating_add(1);
+        Ok(Did::Worked)
+    }
+
+    ghost free = { λ before half. tt };
+}
+
+// A side of so many slices, and their workers.
+fn side_of(alloc: Global, slices: u8) -> Result<(Side<Pupil>, Vec<Worker<Pupil>>), Fail> {
+    let mut desks = Vec::new(alloc);
+    let mut workers = Vec::new(alloc);
+    for slice in 0..slices.min(64) {
+        let (desk, worker) = pair(alloc, SliceNo(slice))?;
+        desks.push(desk)?;
+        workers.push(worker)?;
+    }
+    Ok((Side::new(alloc, desks), workers))
+}
+
+#[test]
+fn moved_before_its_arrival_is_taken(rt: HostRuntime) -> Result<(), Fail> {
+    let (mut side, mut workers) = side_of(rt.alloc(), 2)?;
+    let Ok(()) = side.admit(&rt, pupil(Slot(5), 0), SliceNo(0), 0) else {
+        return Err("memory".into());
+    };
+    assert!(rt; side.settled(Slot(5)));
+    side.go(&rt, Slot(5), SliceNo(1), 0);
+    assert!(rt; !side.settled(Slot(5)));
+    for _ in 0..3 {
+        assert_eq!(rt; workers[0].turn(&rt), Ok(Did::Worked));
+    }
+    assert_eq!(rt; workers[0].turn(&rt), Ok(Did::Idle));
+    side.pump(&rt);
+    assert!(rt; side.settled(Slot(5)));
+    assert_eq!(rt; workers[1].turn(&rt), Ok(Did::Worked));
+    assert_eq!(rt; side.asked(), 2);
+    Ok(())
+}
+
+#[test]
+fn two_moves_in_a_row(rt: HostRuntime) -> Result<(), Fail> {
+    let (mut side, mut workers) = side_of(rt.alloc(), 3)?;
+    let Ok(()) = side.admit(&rt, pupil(Slot(0), 2), SliceNo(0), 0) else {
+        return Err("memory".into());
+    };
+    side.go(&rt, Slot(0), SliceNo(1), 1);
+    side.go(&rt, Slot(0), SliceNo(2), 1);
+    for _ in 0..4 {
+        assert_eq!(rt; workers[0].turn(&rt), Ok(Did::Worked));
+    }
+    side.pump(&rt);
+    assert!(rt; side.settled(Slot(0)));
+    assert_eq!(rt; workers[1].turn(&rt), Ok(Did::Idle));
+    assert_eq!(rt; workers[2].turn(&rt), Ok(Did::Worked));
+    Ok(())
+}
