@@ -1,7 +1,7 @@
 -- What is noted of halves that are to leave stood in orders that were taken.
-use Rattle.std.proofs.Common.{◌≡◌, ℕ, zero, suc, ◌+◌, ◌<◌, ◌≤◌, Bool, true, false, true≢false, cond, List, [], ◌∷◌, ◌++◌, length, get_or, Option, Some, None, refl, sym, ap, ◌∙◌, subst, arith}
-use Rattle.std.specs.Prelude.{◌==◌, ◌&&◌, nat_le, nat_eq, count_by}
-use Rattle.std.specs.List.{All, sum_by, list_any, position, items_where_true}
+use Rattle.std.proofs.Common.{◌≡◌, ◌≢◌, ℕ, zero, suc, ◌+◌, ◌<◌, ◌≤◌, Bool, true, false, true≢false, cond, List, [], ◌∷◌, ◌++◌, length, get_or, set, Option, Some, None, refl, sym, ap, ◌∙◌, subst, arith}
+use Rattle.std.specs.Prelude.{◌==◌, ◌&&◌, ◌||◌, not, nat_le, nat_eq, count_by}
+use Rattle.std.specs.List.{All, sum_by, list_any, position, filter}
 use Rattle.std.specs.Option.{is_some}
 use Rattle.std.specs.Prelude.{IsSome}
 use Rattle.worker_core.specs.Workers.{GoesHome}
@@ -9,12 +9,12 @@ use Rattle.std.proofs.lemmas.List.Quantifiers.{position-Some}
 use Rattle.std.proofs.lemmas.List.Sums.{sum_by-append, sum_by_push}
 use Rattle.std.proofs.lemmas.List.Elements.{All-weaker, All-nil, All-cons, All-head, All-tail}
 use Rattle.std.proofs.lemmas.List.Folds.{Any-from_list_any}
-use Rattle.std.proofs.lemmas.Bool.{eq-eqb}
+use Rattle.std.proofs.lemmas.Bool.{eq-eqb, le-leb, ne_eqb}
 use borrow.Author.Tests.{eqb-true, leb-true}
 use Rattle.worker_core.specs.declared.order.Order.{Order}
 use Rattle.worker_core.specs.declared.order.Order.TheVariants.{Leave}
 use Rattle.worker_core.specs.declared.worker.Leaving.{Leaving}
-use Rattle.worker_core.specs.Leaves.{is_leave, IsOrdered, IsTold, is_met, is_due}
+use Rattle.worker_core.specs.Leaves.{is_leave, IsOrdered, IsTold, is_met, is_due, is_held, IsNoted, SameElsewhere}
 
 module _ {H : Type 0} where
   pub ordered_more : (came : List (Order H)) (order : Order H) (slot until : ℕ) → IsOrdered came slot until
@@ -57,12 +57,107 @@ module _ {H : Type 0} where
         leb-true x.until done met.1,
       )
 
+or_true : (a : Bool) → (a || true) ≡ true
+or_true true = refl
+or_true false = refl
+
+or_false : (a : Bool) → a ≡ (a || false)
+or_false true = refl
+or_false false = refl
+
+or_assoc : (a b c : Bool) → ((a || b) || c) ≡ (a || (b || c))
+or_assoc true b c = refl
+or_assoc false b c = refl
+
+not_false_true : (a : Bool) → not a ≡ false → a ≡ true
+not_false_true true e = refl
+not_false_true false e = absurd (true≢false e)
+
+other_fails_at : (slot other done : ℕ) (x : Leaving) → other ≢ slot → nat_eq x.slot slot ≡ true → is_met other done x ≡ false
+other_fails_at slot other done x apart is =
+    ap (λ b. b && nat_le x.until done) (ne_eqb x.slot other (λ e. apart (sym e ∙ eqb-true x.slot slot is)))
+
 -- what holds of a whole list holds of some of it
-pub picked_all : {X : Type 0} (P : X → Type 0) (bs : List Bool) (xs : List X) → All P xs → All P (items_where_true bs xs)
-picked_all P [] xs all = All-nil P
-picked_all P (b ∷ bs) [] all = All-nil P
-picked_all P (true ∷ bs) (x ∷ xs) all = All-cons P x (items_where_true bs xs) (All-head P x xs all) (picked_all P bs xs (All-tail P x xs all))
-picked_all P (false ∷ bs) (x ∷ xs) all = picked_all P bs xs (All-tail P x xs all)
+pub picked_all : {X : Type 0} (P : X → Type 0) (test : X → Bool) (xs : List X) → All P xs → All P (filter test xs)
+picked_all P test [] all = All-nil P
+picked_all P test (x ∷ xs) all = elim (test x) as (λ b. test x ≡ b → All P (cond b (x ∷ filter test xs) (filter test xs))) [
+  | true ↦ λ e. All-cons P x (filter test xs) (All-head P x xs all) (picked_all P test xs (All-tail P x xs all))
+  | false ↦ λ e. picked_all P test xs (All-tail P x xs all)
+] refl
+
+-- a test of a list that a write meets
+any_set : {X : Type 0} (p : X → Bool) (xs : List X) (k : ℕ) (y : X) → k < length xs → p y ≡ true → list_any p (set xs k y) ≡ true
+any_set p [] k y within met = absurd (omega arith)
+any_set p (x ∷ xs) zero y within met = ap (λ b. b || list_any p xs) met
+any_set p (x ∷ xs) (suc k) y within met = ap (λ b. p x || b) (any_set p xs k y (omega arith) met) ∙ or_true (p x)
+
+-- a write of what fails a test, in place of what fails it, leaves the test
+any_set_same : {X : Type 0} (p : X → Bool) (xs : List X) (k : ℕ) (y : X) → p y ≡ false → ((none : X) → k < length xs → p (get_or xs k none) ≡ false)
+    → list_any p (set xs k y) ≡ list_any p xs
+any_set_same p [] k y fails here = refl
+any_set_same p (x ∷ xs) zero y fails here = ap (λ b. b || list_any p xs) (fails ∙ sym (here y (omega arith)))
+any_set_same p (x ∷ xs) (suc k) y fails here = ap (λ b. p x || b) (any_set_same p xs k y fails (λ none within. here none (omega arith)))
+
+any_push : {X : Type 0} (p : X → Bool) (xs : List X) (y : X) → list_any p (xs ++ y ∷ []) ≡ (list_any p xs || p y)
+any_push p [] y = sym (or_false (p y))
+any_push p (x ∷ xs) y = ap (λ b. p x || b) (any_push p xs y) ∙ sym (or_assoc (p x) (list_any p xs) (p y))
+
+-- what a filter drops fails a test
+any_filter : {X : Type 0} (p test : X → Bool) (xs : List X) → ((x : X) → test x ≡ false → p x ≡ false)
+    → list_any p (filter test xs) ≡ list_any p xs
+any_filter p test [] drops = refl
+any_filter p test (x ∷ xs) drops = elim (test x) as (λ b. test x ≡ b → list_any p (cond b (x ∷ filter test xs) (filter test xs)) ≡ (p x || list_any p xs)) [
+  | true ↦ λ e. ap (λ b. p x || b) (any_filter p test xs drops)
+  | false ↦ λ e. any_filter p test xs drops ∙ sym (ap (λ b. b || list_any p xs) (drops x e))
+] refl
+
+other_fails : (slot until other done : ℕ) → other ≢ slot → is_met other done (record { slot = slot; until = until }) ≡ false
+other_fails slot until other done apart = ap (λ b. b && nat_le until done) (ne_eqb slot other (λ e. apart (sym e)))
+
+own_meets : (slot until : ℕ) → is_met slot until (record { slot = slot; until = until }) ≡ true
+own_meets slot until = ap (λ b. b && nat_le until until) (eq-eqb slot slot refl) ∙ le-leb until until (omega arith)
+
+module _ {H : Type 0} (slot_at : H → ℕ) (held : List H) (slot until : ℕ) where
+  abbrev pub note : Leaving
+  note = record { slot = slot; until = until }
+
+  -- the half of the slot isn't held
+  pub noted_none : (leaving : List Leaving) → is_held slot_at slot held ≡ false → IsNoted slot_at held (Leave slot until) leaving leaving
+  noted_none leaving none = ((λ some. absurd (true≢false (sym some ∙ none))), λ other done apart. refl)
+
+  -- it was noted before
+  pub noted_set : (leaving looked : List Leaving) (k : ℕ) → looked ≡ leaving → Some k ≡ position (λ x. nat_eq x.slot slot) looked
+      → IsNoted slot_at held (Leave slot until) leaving (set leaving k note)
+  noted_set leaving looked k same found =
+      let found : position (λ (x : Leaving). nat_eq x.slot slot) leaving ≡ Some k =
+      sym (found ∙ ap (position (λ (x : Leaving). nat_eq x.slot slot)) same) in
+      let at = position-Some (λ (x : Leaving). nat_eq x.slot slot) leaving k note found in
+      let is_slot : (none : Leaving) → k < length leaving → nat_eq (get_or leaving k none).slot slot ≡ true =
+      λ none within. (position-Some (λ (x : Leaving). nat_eq x.slot slot) leaving k none found).1 in (
+        (λ _. any_set (is_met slot until) leaving k note at.0 (own_meets slot until)),
+        λ other done apart. any_set_same (is_met other done) leaving k note (other_fails slot until other done apart)
+            (λ none within. other_fails_at slot other done (get_or leaving k none) apart (is_slot none within)),
+      )
+
+  -- it wasn't
+  pub noted_push : (leaving : List Leaving) → IsNoted slot_at held (Leave slot until) leaving (leaving ++ note ∷ [])
+  noted_push leaving = (
+    (λ _. any_push (is_met slot until) leaving note ∙ ap (λ b. list_any (is_met slot until) leaving || b) (own_meets slot until)
+        ∙ or_true (list_any (is_met slot until) leaving)),
+    λ other done apart. any_push (is_met other done) leaving note
+        ∙ ap (λ b. list_any (is_met other done) leaving || b) (other_fails slot until other done apart)
+        ∙ sym (or_false (list_any (is_met other done) leaving)),
+  )
+
+  pub noted_same : (leaving new made : List Leaving) → new ≡ made → IsNoted slot_at held (Leave slot until) leaving made
+      → IsNoted slot_at held (Leave slot until) leaving new
+  noted_same leaving new made same noted = subst (IsNoted slot_at held (Leave slot until) leaving) (sym same) noted
+
+-- the notes of one slot go
+pub forgotten : (slot : ℕ) (leaving : List Leaving) → SameElsewhere slot leaving (filter (λ x. not (nat_eq x.slot slot)) leaving)
+forgotten slot leaving other done apart =
+    any_filter (is_met other done) (λ (x : Leaving). not (nat_eq x.slot slot)) leaving
+    (λ x dropped. other_fails_at slot other done x apart (not_false_true (nat_eq x.slot slot) dropped))
 
 module _ {H N : Type 0} (name : H → N) (slot_of : N → ℕ) (done : H → ℕ) where
   abbrev pub due_at : List H → List Leaving → Option ℕ
@@ -75,21 +170,22 @@ module _ {H N : Type 0} (name : H → N) (slot_of : N → ℕ) (done : H → ℕ
       subst (λ (p : List H × List Leaving). None ≡ due_at p.0 p.1) (λ i. (same i, alike i)) none in
       true≢false (sym (ap is_some found ∙ some))
 
-  pub due_within : (held seen : List H) (leaving looked : List Leaving) (at : ℕ) (half : H) → seen ≡ held → looked ≡ leaving
-      → Some at ≡ due_at seen looked → at < length held
-  due_within held seen leaving looked at half same alike found =
-      let found : Some at ≡ due_at held leaving =
-      subst (λ (p : List H × List Leaving). Some at ≡ due_at p.0 p.1) (λ i. (same i, alike i)) found in
-      (position-Some (λ half. is_due leaving (slot_of (name half)) (done half)) held at half (sym found)).0
+  -- the half that is found due
+  pub due_here : (held seen : List H) (leaving looked : List Leaving) (at : ℕ) → seen ≡ held → looked ≡ leaving
+      → Some at ≡ due_at seen looked → due_at held leaving ≡ Some at
+  due_here held seen leaving looked at same alike found =
+      sym (subst (λ (p : List H × List Leaving). Some at ≡ due_at p.0 p.1) (λ i. (same i, alike i)) found)
 
-  -- the half that is found due goes home
-  pub goes_home : (came : List (Order H)) (held seen : List H) (leaving looked : List Leaving) (at : ℕ) (half : H) (old new : List H)
-      → seen ≡ held → looked ≡ leaving → Some at ≡ due_at seen looked → half ≡ get_or held at half → All (IsTold came) leaving
-      → new ≡ old ++ half ∷ [] → GoesHome name slot_of done came old new
-  goes_home came held seen leaving looked at half old new same alike found is told more =
-      let found : Some at ≡ due_at held leaving =
-      subst (λ (p : List H × List Leaving). Some at ≡ due_at p.0 p.1) (λ i. (same i, alike i)) found in
-      let due = (position-Some (λ half. is_due leaving (slot_of (name half)) (done half)) held at half (sym found)).1 in
+  pub due_within : (held : List H) (leaving : List Leaving) (at : ℕ) (half : H) → due_at held leaving ≡ Some at → at < length held
+  due_within held leaving at half found =
+      (position-Some (λ half. is_due leaving (slot_of (name half)) (done half)) held at half found).0
+
+  -- it goes home
+  pub goes_home : (came : List (Order H)) (held : List H) (leaving : List Leaving) (at : ℕ) (half : H) (old new : List H)
+      → due_at held leaving ≡ Some at → half ≡ get_or held at half → All (IsTold came) leaving → new ≡ old ++ half ∷ []
+      → GoesHome name slot_of done came old new
+  goes_home came held leaving at half old new found is told more =
+      let due = (position-Some (λ half. is_due leaving (slot_of (name half)) (done half)) held at half found).1 in
       let here : is_due leaving (slot_of (name half)) (done half) ≡ true =
       ap (λ x. is_due leaving (slot_of (name x)) (done x)) is ∙ due in
       let why = told_due came leaving (slot_of (name half)) (done half) told here in

@@ -1,3 +1,4 @@
 pub mod Arrivals
 pub mod Leavings
 pub mod Rounds
+pub mod Views

@@ -1,14 +1,16 @@
 -- Which halves were turned, step by step.
-use Rattle.std.proofs.Common.{◌≡◌, ◌≢◌, ℕ, ◌+◌, ◌<◌, ◌≤◌, Bool, true, false, List, length, map, set, get_or, refl, sym, ap, ◌∙◌, subst, arith}
-use Rattle.std.specs.Prelude.{nat_eq, nat_lt}
-use Rattle.std.proofs.lemmas.List.{length-map, map-set, get_or-map, get_or-set_same, get_or-set_other}
+use Rattle.std.proofs.Common.{◌≡◌, ◌≢◌, ℕ, zero, suc, ◌+◌, ◌-◌, ◌<◌, ◌≤◌, ◌⊎◌, inl, inr, Bool, true, false, List, [], ◌∷◌, length, map, set, get_or, refl, sym, ap, ◌∙◌, subst, arith}
+use Rattle.std.specs.Prelude.{nat_eq, nat_lt, nat_le, if◌then◌else◌, Result, Ok, Option, IsNone, IfOk, IfSome}
+use Rattle.std.proofs.lemmas.Result.{IfOk-weaker}
+use Rattle.std.proofs.lemmas.Option.{IfSome_then}
+use Rattle.std.proofs.lemmas.List.{length-map, length-set, map-set, get_or-map, get_or-set_same, get_or-set_other}
 use Rattle.std.proofs.Math.Seq.{map-set_same}
+use Rattle.std.proofs.lemmas.Bool.{le-leb, lt-leb}
 use borrow.Author.Tests.{eqb-true, eqb-false, ltb-true, ltb-false}
 use Rattle.lane_core.specs.Ends.{raised}
-use Rattle.std.specs.Prelude.{Ok}
 use Rattle.lane_core.specs.declared.did.Did.{Did}
 use Rattle.lane_core.specs.declared.did.Did.TheVariants.{Idle, Held, Worked}
-use Rattle.worker_core.specs.Turns.{count_at, AreTurned, AllTurned, OneWorkedAt, works_after}
+use Rattle.worker_core.specs.Turns.{count_at, AreTurned, AllTurned, NoneWorked, WorkedAlone, WorkedRound, steps_to, works_after}
 
 module _ {H : Type 0} (count : H → ℕ) where
   -- a write elsewhere leaves a count
@@ -25,62 +27,191 @@ module _ {H : Type 0} (count : H → ℕ) where
   count_here : (held : List H) (i : ℕ) (half : H) → i < length held → half ≡ get_or held i half → count_at count held i ≡ count half
   count_here held i half within is = get_or-map count held i half 0 within ∙ ap count (sym is)
 
-module _ {H : Type 0} (turns works : H → ℕ) where
-  pub turned_none : (from : ℕ) (held : List H) → AreTurned turns works from from held held
+  -- lists with one half at an index have one count there
+  count_same : (old new : List H) (k : ℕ) → length new ≡ length old → ((none : H) → get_or new k none ≡ get_or old k none)
+      → count_at count new k ≡ count_at count old k
+  count_same [] [] k long same = refl
+  count_same [] (y ∷ ys) k long same = absurd (omega arith)
+  count_same (x ∷ xs) [] k long same = absurd (omega arith)
+  count_same (x ∷ xs) (y ∷ ys) zero long same = ap count (same x)
+  count_same (x ∷ xs) (y ∷ ys) (suc k) long same = count_same xs ys k (omega arith) same
+
+module _ {H : Type 0} (turns : H → ℕ) (turned_at : H → ℕ → Type 0) (place : ℕ) where
+  pub turned_none : (from : ℕ) (held : List H) → AreTurned turns turned_at place from from held held
   turned_none from held = record {
     turned = λ k after before. absurd (omega arith);
-    below = λ k before. refl;
-    above = λ k after. refl;
-    idle = λ k. refl;
+    placed = λ k none after before. absurd (omega arith);
+    others = λ k none outside. refl;
   }
 
-  -- the half at i is turned, and doesn't work
-  pub turned_more : (from i : ℕ) (first old : List H) (half turned : H) → AreTurned turns works from i first old → from ≤ i → i < length old
-      → half ≡ get_or old i half → turns turned ≡ raised (turns half) → works turned ≡ works half
-      → AreTurned turns works from (i + 1) first (set old i turned)
-  turned_more from i first old half turned so_far after within is turn idle =
+  -- the half at i is turned
+  pub turned_more : (from i : ℕ) (first old : List H) (half turned : H) → AreTurned turns turned_at place from i first old → from ≤ i
+      → length old ≡ length first → i < length old → half ≡ get_or old i half → turns turned ≡ raised (turns half) → turned_at turned place
+      → AreTurned turns turned_at place from (i + 1) first (set old i turned)
+  turned_more from i first old half turned so_far after long within is turn at_place =
       let new : List H = set old i turned in
       let here : count_at turns new i ≡ raised (count_at turns first i) =
       count-set_same turns old i turned within ∙ turn
-      ∙ ap raised (sym (count_here turns old i half within is) ∙ so_far.above i (omega arith)) in
-      let idle_here : count_at works new i ≡ count_at works first i =
-      count-set_same works old i turned within ∙ idle ∙ sym (count_here works old i half within is) ∙ so_far.idle i in
+      ∙ ap raised (sym (count_here turns old i half within is)
+      ∙ count_same turns first old i long (λ none. so_far.others i none (inr (omega arith)))) in
+      let placed_here : (none : H) → turned_at (get_or new i none) place =
+      λ none. subst (λ (x : H). turned_at x place) (sym (get_or-set_same old i turned none within)) at_place in
       record {
         turned = λ k low high. elim (nat_eq k i) as (λ b. nat_eq k i ≡ b → count_at turns new k ≡ raised (count_at turns first k)) [
           | true ↦ λ e. subst (λ (n : ℕ). count_at turns new n ≡ raised (count_at turns first n)) (sym (eqb-true k i e)) here
           | false ↦ λ e. let apart : k ≢ i = eqb-false k i e in count-set_other turns old i k turned apart ∙ so_far.turned k low (omega arith)
         ] refl;
-        below = λ k low. count-set_other turns old i k turned (λ e. absurd (omega arith)) ∙ so_far.below k low;
-        above = λ k high. count-set_other turns old i k turned (λ e. absurd (omega arith)) ∙ so_far.above k (omega arith);
-        idle = λ k. elim (nat_eq k i) as (λ b. nat_eq k i ≡ b → count_at works new k ≡ count_at works first k) [
-          | true ↦ λ e. subst (λ (n : ℕ). count_at works new n ≡ count_at works first n) (sym (eqb-true k i e)) idle_here
-          | false ↦ λ e. count-set_other works old i k turned (eqb-false k i e) ∙ so_far.idle k
+        placed = λ k none low high. elim (nat_eq k i) as (λ b. nat_eq k i ≡ b → turned_at (get_or new k none) place) [
+          | true ↦ λ e. subst (λ (n : ℕ). turned_at (get_or new n none) place) (sym (eqb-true k i e)) (placed_here none)
+          | false ↦ λ e. let apart : k ≢ i = eqb-false k i e in
+              subst (λ (x : H). turned_at x place) (sym (get_or-set_other old i k turned none apart)) (so_far.placed k none low (omega arith))
+        ] refl;
+        others = λ k none outside. elim outside [
+          | inl low ↦ get_or-set_other old i k turned none (λ e. absurd (omega arith)) ∙ so_far.others k none (inl low)
+          | inr high ↦ get_or-set_other old i k turned none (λ e. absurd (omega arith)) ∙ so_far.others k none (inr (omega arith))
+        ];
+      }
+
+  -- from the cursor to the last, and from the first to the cursor
+  pub turned_round : (cursor : ℕ) (first mid new : List H) → length mid ≡ length first → length new ≡ length first → cursor ≤ length first
+      → AreTurned turns turned_at place cursor (length first) first mid → AreTurned turns turned_at place 0 cursor mid new
+      → AreTurned turns turned_at place 0 (length first) first new
+  turned_round cursor first mid new long longer within before after = record {
+    turned = λ k low high. elim (nat_lt k cursor) as (λ b. nat_lt k cursor ≡ b → count_at turns new k ≡ raised (count_at turns first k)) [
+      | true ↦ λ e. let below : k < cursor = ltb-true k cursor e in
+          after.turned k low below ∙ ap raised (count_same turns first mid k long (λ none. before.others k none (inl below)))
+      | false ↦ λ e. let above : cursor ≤ k = ltb-false k cursor e in
+          count_same turns mid new k (omega arith) (λ none. after.others k none (inr above)) ∙ before.turned k above high
+    ] refl;
+    placed = λ k none low high. elim (nat_lt k cursor) as (λ b. nat_lt k cursor ≡ b → turned_at (get_or new k none) place) [
+      | true ↦ λ e. after.placed k none low (ltb-true k cursor e)
+      | false ↦ λ e. let above : cursor ≤ k = ltb-false k cursor e in
+          subst (λ (x : H). turned_at x place) (sym (after.others k none (inr above))) (before.placed k none above high)
+    ] refl;
+    others = λ k none outside. elim outside [
+      | inl low ↦ absurd (omega arith)
+      | inr high ↦ after.others k none (inr (omega arith)) ∙ before.others k none (inr high)
+    ];
+  }
+
+module _ {H : Type 0} (works : H → ℕ) where
+  -- the half at i doesn't work
+  pub idle_more : (i : ℕ) (first old : List H) (half turned : H) → NoneWorked works first old → i < length old → half ≡ get_or old i half
+      → works turned ≡ works half → NoneWorked works first (set old i turned)
+  idle_more i first old half turned so_far within is idle =
+      let new : List H = set old i turned in
+      let idle_here : count_at works new i ≡ count_at works first i =
+      count-set_same works old i turned within ∙ idle ∙ sym (count_here works old i half within is) ∙ so_far i in
+      λ k. elim (nat_eq k i) as (λ b. nat_eq k i ≡ b → count_at works new k ≡ count_at works first k) [
+        | true ↦ λ e. subst (λ (n : ℕ). count_at works new n ≡ count_at works first n) (sym (eqb-true k i e)) idle_here
+        | false ↦ λ e. count-set_other works old i k turned (eqb-false k i e) ∙ so_far k
+      ] refl
+
+  -- the half at i works
+  pub worked_alone : (i : ℕ) (first old : List H) (half turned : H) → NoneWorked works first old → length old ≡ length first
+      → i < length old → half ≡ get_or old i half → works turned ≡ raised (works half) → WorkedAlone works i first (set old i turned)
+  worked_alone i first old half turned so_far long within is work = record {
+    within = omega arith;
+    here = count-set_same works old i turned within ∙ work ∙ ap raised (sym (count_here works old i half within is) ∙ so_far i);
+    others = λ k apart. count-set_other works old i k turned apart ∙ so_far k;
+  }
+
+  -- a half works after others that didn't
+  pub worked_later : (at : ℕ) (first mid new : List H) → NoneWorked works first mid → length mid ≡ length first → WorkedAlone works at mid new
+      → WorkedAlone works at first new
+  worked_later at first mid new idle long worked = record {
+    within = let w = worked.within in omega arith;
+    here = worked.here ∙ ap raised (idle at);
+    others = λ k apart. worked.others k apart ∙ idle k;
+  }
+
+  pub idle_both : (first mid new : List H) → NoneWorked works first mid → NoneWorked works mid new → NoneWorked works first new
+  idle_both first mid new before after k = after k ∙ before k
+
+steps_high : (cursor len k : ℕ) → cursor ≤ k → steps_to cursor len k ≡ k - cursor
+steps_high cursor len k high = ap (λ b. if b then k - cursor else k + (len - cursor)) (le-leb cursor k high)
+
+steps_low : (cursor len k : ℕ) → k < cursor → steps_to cursor len k ≡ k + (len - cursor)
+steps_low cursor len k low = ap (λ b. if b then k - cursor else k + (len - cursor)) (lt-leb cursor k low)
+
+module _ {H : Type 0} (turns works : H → ℕ) (turned_at : H → ℕ → Type 0) (place : ℕ) where
+  -- a half worked before the last was turned
+  pub round_first : (cursor at : ℕ) (first new : List H) → cursor ≤ at → at < length first
+      → AreTurned turns turned_at place cursor (at + 1) first new → WorkedAlone works at first new
+      → WorkedRound turns works turned_at place cursor at first new
+  round_first cursor at first new after within turned worked =
+      let len : ℕ = length first in
+      let there = steps_high cursor len at after in
+      record {
+        worked = worked;
+        turned = λ k low near. elim (nat_lt k cursor) as (λ b. nat_lt k cursor ≡ b → count_at turns new k ≡ raised (count_at turns first k)) [
+          | true ↦ λ e. let below : k < cursor = ltb-true k cursor e in let s = steps_low cursor len k below in absurd (omega arith)
+          | false ↦ λ e. let above : cursor ≤ k = ltb-false k cursor e in let s = steps_high cursor len k above in
+              turned.turned k above (omega arith)
+        ] refl;
+        placed = λ k none low near. elim (nat_lt k cursor) as (λ b. nat_lt k cursor ≡ b → turned_at (get_or new k none) place) [
+          | true ↦ λ e. let below : k < cursor = ltb-true k cursor e in let s = steps_low cursor len k below in absurd (omega arith)
+          | false ↦ λ e. let above : cursor ≤ k = ltb-false k cursor e in let s = steps_high cursor len k above in
+              turned.placed k none above (omega arith)
+        ] refl;
+        behind = λ k none low far. elim (nat_lt k cursor) as (λ b. nat_lt k cursor ≡ b → get_or new k none ≡ get_or first k none) [
+          | true ↦ λ e. turned.others k none (inl (ltb-true k cursor e))
+          | false ↦ λ e. let above : cursor ≤ k = ltb-false k cursor e in let s = steps_high cursor len k above in
+              turned.others k none (inr (omega arith))
         ] refl;
       }
 
-  -- the half at i works
-  pub worked_here : (from i : ℕ) (first old : List H) (half turned : H) → AreTurned turns works from i first old → length old ≡ length first
-      → i < length old → half ≡ get_or old i half → works turned ≡ raised (works half) → OneWorkedAt works i first (set old i turned)
-  worked_here from i first old half turned so_far long within is work = (
-    (omega arith),
-    count-set_same works old i turned within ∙ work ∙ ap raised (sym (count_here works old i half within is) ∙ so_far.idle i),
-  )
+  -- a half before the cursor worked
+  pub round_second : (cursor at : ℕ) (first mid new : List H) → at < cursor → cursor ≤ length first → length mid ≡ length first
+      → length new ≡ length first → AreTurned turns turned_at place cursor (length first) first mid → NoneWorked works first mid
+      → AreTurned turns turned_at place 0 (at + 1) mid new → WorkedAlone works at mid new
+      → WorkedRound turns works turned_at place cursor at first new
+  round_second cursor at first mid new before within long longer turned idle turned_again worked =
+      let len : ℕ = length first in
+      let there = steps_low cursor len at before in
+      record {
+        worked = worked_later works at first mid new idle long worked;
+        turned = λ k low near. elim (nat_lt k cursor) as (λ b. nat_lt k cursor ≡ b → count_at turns new k ≡ raised (count_at turns first k)) [
+          | true ↦ λ e. let below : k < cursor = ltb-true k cursor e in let s = steps_low cursor len k below in
+              turned_again.turned k (omega arith) (omega arith)
+              ∙ ap raised (count_same turns first mid k long (λ none. turned.others k none (inl below)))
+          | false ↦ λ e. let above : cursor ≤ k = ltb-false k cursor e in
+              count_same turns mid new k (omega arith) (λ none. turned_again.others k none (inr (omega arith)))
+              ∙ turned.turned k above low
+        ] refl;
+        placed = λ k none low near. elim (nat_lt k cursor) as (λ b. nat_lt k cursor ≡ b → turned_at (get_or new k none) place) [
+          | true ↦ λ e. let below : k < cursor = ltb-true k cursor e in let s = steps_low cursor len k below in
+              turned_again.placed k none (omega arith) (omega arith)
+          | false ↦ λ e. let above : cursor ≤ k = ltb-false k cursor e in
+              subst (λ (x : H). turned_at x place) (sym (turned_again.others k none (inr (omega arith)))) (turned.placed k none above low)
+        ] refl;
+        behind = λ k none low far. elim (nat_lt k cursor) as (λ b. nat_lt k cursor ≡ b → get_or new k none ≡ get_or first k none) [
+          | true ↦ λ e. let below : k < cursor = ltb-true k cursor e in let s = steps_low cursor len k below in
+              turned_again.others k none (inr (omega arith)) ∙ turned.others k none (inl below)
+          | false ↦ λ e. let above : cursor ≤ k = ltb-false k cursor e in let s = steps_high cursor len k above in absurd (omega arith)
+        ] refl;
+      }
 
-  -- a half works after others that didn't
-  pub worked_later : (from to k : ℕ) (first old new : List H) → AreTurned turns works from to first old → length old ≡ length first
-      → OneWorkedAt works k old new → OneWorkedAt works k first new
-  worked_later from to k first old new before long worked = ((let w = worked.0 in omega arith), worked.1 ∙ ap raised (before.idle k))
+-- the second part of a round, whatever it came to
+module _ {H : Type 0} (turns works : H → ℕ) (turned_at : H → ℕ → Type 0) (place cursor end : ℕ) (first mid new : List H) (ends : end ≡ length first)
+    (within : cursor ≤ length first) (long : length mid ≡ length first) (longer : length new ≡ length first)
+    (before : AreTurned turns turned_at place cursor end first mid × NoneWorked works first mid) where
+  all_before : AreTurned turns turned_at place cursor (length first) first mid
+  all_before = subst (λ (n : ℕ). AreTurned turns turned_at place cursor n first mid) ends before.0
 
-  -- from the cursor to the last, and from the first to the cursor
-  pub turned_round : (cursor : ℕ) (first old new : List H) → AreTurned turns works cursor (length first) first old
-      → AreTurned turns works 0 cursor old new → AllTurned turns works first new
-  turned_round cursor first old new before after = record {
-    turned = λ k within. elim (nat_lt k cursor) as (λ b. nat_lt k cursor ≡ b → count_at turns new k ≡ raised (count_at turns first k)) [
-      | true ↦ λ e. let low : k < cursor = ltb-true k cursor e in after.turned k (omega arith) low ∙ ap raised (before.below k low)
-      | false ↦ λ e. let high : cursor ≤ k = ltb-false k cursor e in after.above k high ∙ before.turned k high within
-    ] refl;
-    idle = λ k. after.idle k ∙ before.idle k;
-  }
+  pub then_idle : {E : Type 0} (result : Result (Option ℕ) E)
+      → IfOk result (λ at. IsNone at → AreTurned turns turned_at place 0 cursor mid new × NoneWorked works mid new)
+      → IfOk result (λ at. IsNone at → AllTurned turns works turned_at place first new)
+  then_idle result idle = IfOk-weaker result _ _ (λ at after none. let more = after none in record {
+    turned = turned_round turns turned_at place cursor first mid new long longer within all_before more.0;
+    idle = idle_both works first mid new before.1 more.1;
+  }) idle
+
+  pub then_worked : {E : Type 0} (result : Result (Option ℕ) E)
+      → IfOk result (λ at. IfSome at (λ k. (0 ≤ k) × (k < cursor) × AreTurned turns turned_at place 0 (k + 1) mid new × WorkedAlone works k mid new))
+      → IfOk result (λ at. IfSome at (λ k. WorkedRound turns works turned_at place cursor k first new))
+  then_worked result worked = IfOk-weaker result _ _ (λ at some. IfSome_then at some (λ k more.
+      round_second turns works turned_at place cursor k first mid new more.1 within long longer all_before before.1 more.2 more.3)) worked
 
 pub idle_after : (E : Type 0) (did : Did) (n : ℕ) → (did ≡ Worked → ⊥) → works_after {E = E} (Ok did) n ≡ n
 idle_after E Idle n other = refl

@@ -1,5 +1,5 @@
 -- Orders to leave: which were taken, and when a half is due home.
-use Rattle.std.specs.Prelude.{◌≡◌, ℕ, ◌<◌, ◌≤◌, Bool, true, false, ◌==◌, ◌&&◌, nat_le, List, count_by}
+use Rattle.std.specs.Prelude.{◌≡◌, ◌≢◌, ℕ, ◌<◌, ◌≤◌, Bool, true, false, ◌==◌, ◌&&◌, nat_le, List, count_by}
 use Rattle.std.specs.List.{list_any, position}
 use Rattle.worker_core.specs.declared.order.Order.{Order}
 use Rattle.worker_core.specs.declared.order.Order.TheVariants.{Arrive, Leave}
@@ -25,3 +25,17 @@ is_met slot done leaving = (leaving.slot == slot) && nat_le leaving.until done
 -- whether a half of this slot, which has done so much, is due home
 abbrev pub is_due : List Leaving → ℕ → ℕ → Bool
 is_due leaving slot done = list_any (is_met slot done) leaving
+
+-- whether a half of this slot is among these
+abbrev pub is_held : {H : Type 0} → (H → ℕ) → ℕ → List H → Bool
+is_held slot_at slot held = list_any (λ half. slot_at half == slot) held
+
+-- for slots other than this one the notes say the same
+abbrev pub SameElsewhere : ℕ → List Leaving → List Leaving → Type 0
+SameElsewhere slot old new = (other done : ℕ) → other ≢ slot → is_due new other done ≡ is_due old other done
+
+-- after an order to leave the half of its slot, if it is held, is due once it has done so much
+abbrev pub IsNoted : {H : Type 0} → (H → ℕ) → List H → Order H → List Leaving → List Leaving → Type 0
+IsNoted slot_at held (Arrive _) old new = new ≡ old
+IsNoted slot_at held (Leave slot until) old new =
+    (is_held slot_at slot held ≡ true → is_due new slot until ≡ true) × SameElsewhere slot old new

@@ -1,4 +1,5 @@
 pub mod Leaves
 pub mod Names
+pub mod Steps
 pub mod Turns
 pub mod Workers

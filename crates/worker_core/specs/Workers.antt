@@ -1,15 +1,15 @@
 -- What a clause says of a worker and of its end.
 use Rattle.std.specs.Prelude.{◌≡◌, ℕ, ◌≤◌, ◌+◌, Option, List, [], ◌∷◌, ◌++◌, map}
-use Rattle.std.specs.List.{position}
 use Rattle.lane_core.specs.declared.ends.Sender.{Sender}
 use Rattle.lane_core.specs.declared.ends.Receiver.{Receiver}
-use Rattle.lane_core.specs.Ends.{Lane, sender_lane, receiver_lane, sent, taken, empty_answers, raised}
+use Rattle.lane_core.specs.Ends.{Lane, sender_lane, receiver_lane, sent, taken}
 use Rattle.worker_core.specs.declared.order.Order.{Order}
 use Rattle.worker_core.specs.declared.pairing.Desk.{Desk}
 use Rattle.worker_core.specs.declared.traveller.Traveller.{Ghosts}
 use Rattle.worker_core.specs.declared.worker.Worker.{Worker}
 use Rattle.worker_core.specs.declared.worker.WorkerEnd.{WorkerEnd}
-use Rattle.worker_core.specs.Leaves.{IsOrdered, is_due}
+use Rattle.worker_core.specs.Leaves.{IsOrdered}
+use Rattle.worker_core.specs.Steps.{View}
 
 -- the lane of orders and the lane home
 abbrev pub Lanes : Type 0
@@ -43,25 +43,15 @@ module _ {H N : Type 0} {g : Ghosts H N} where
   abbrev pub end_lanes : WorkerEnd H N g → Lanes
   end_lanes end = (receiver_lane end.orders, sender_lane end.home)
 
-  -- no order was taken, as none was there, and the halves are as they were
-  abbrev pub NoOrder : Worker H N g → Worker H N g → Type 0
-  NoOrder old new =
-      (taken (orders_of new) ≡ taken (orders_of old))
-      × (empty_answers (orders_of new) ≡ raised (empty_answers (orders_of old)))
-      × (held_of new ≡ held_of old)
-      × (new.leaving.items ≡ old.leaving.items)
-
-  -- the first of its halves that was told to leave and has done enough
-  abbrev pub first_due : (H → N) → (N → ℕ) → (H → ℕ) → Worker H N g → Option ℕ
-  first_due name slot_of done worker =
-      position (λ half. is_due worker.leaving.items (slot_of (name half)) (done half)) worker.held.items
-
-  -- no half came or went
-  abbrev pub SameButHalves : (H → N) → Worker H N g → Worker H N g → Type 0
-  SameButHalves name old new =
-      (taken (orders_of new) ≡ taken (orders_of old))
-      × (sent (home_of new) ≡ sent (home_of old))
-      × (map name (held_of new) ≡ map name (held_of old))
+  -- what it has
+  abbrev pub view_of : Worker H N g → View H
+  view_of worker = record {
+    took = taken worker.orders;
+    gone = sent worker.home;
+    held = worker.held.items;
+    leaving = worker.leaving.items;
+    cursor = worker.cursor;
+  }
 
 -- one half more was sent home, an order told it to leave at a count, and it has reached that
 pub record GoesHome {H N : Type 0} (name : H → N) (slot_of : N → ℕ) (done : H → ℕ) (came : List (Order H)) (old new : List H) : Type 0 where

@@ -81,7 +81,7 @@ const PLACE: SliceNo = SliceNo(3);
 fn order<R: Wait>(rt: &R, desk: &mut Desk<Pupil>, order: Order<Pupil>) -> Result<(), Fail>
     ensures { desk_lanes desk.new ≡ desk_lanes desk.old }
 {
-    if desk.orders.offers() >= 64 {
+    if desk.orders.offers() >= 1000 {
         return Err("few orders".into());
     }
     match desk.orders.offer(rt, order) {
@@ -140,5 +140,34 @@ fn halves_take_turns(rt: HostRuntime) -> Result<(), Fail> {
     let end = worker.into_end();
     let done = end.held.iter().map(|pupil| pupil.done);
     assert!(rt; done.eq([2, 1, 1]));
+    Ok(())
+}
+
+#[test]
+fn full_home_lane_keeps_the_half(rt: HostRuntime) -> Result<(), Fail> {
+    let (mut desk, mut worker) = pair(rt.alloc(), PLACE)?;
+    for slot in 0..65 {
+        order(&rt, &mut desk, Order::Arrive(Pupil::new(Slot(slot), 0)))?;
+        assert_eq!(rt; worker.turn(&rt), Ok(Did::Worked), "takes the half");
+        let leave = Order::Leave {
+            slot: Slot(slot),
+            until: 0,
+        };
+        order(&rt, &mut desk, leave)?;
+        assert_eq!(rt; worker.turn(&rt), Ok(Did::Worked), "takes the order");
+    }
+    for _ in 0..64 {
+        assert_eq!(rt; worker.turn(&rt), Ok(Did::Worked), "a half goes home");
+    }
+    assert_eq!(rt; worker.turn(&rt), Ok(Did::Idle), "the lane home is full");
+
+    for slot in 0..64 {
+        let home = desk.home.take(&rt).map(|pupil| pupil.slot);
+        assert_eq!(rt; home, Some(Slot(slot)));
+    }
+    assert_eq!(rt; desk.home.take(&rt), None);
+    assert_eq!(rt; worker.turn(&rt), Ok(Did::Worked), "the last goes home");
+    let home = desk.home.take(&rt).map(|pupil| pupil.slot);
+    assert_eq!(rt; home, Some(Slot(64)));
     Ok(())
 }

@@ -26,6 +26,9 @@ pub trait Traveller: Carried {
 
     ghost works: { Self → ℕ };
 
+    /// What a half knows of the slice at which it had its last turn; most know nothing of it.
+    ghost turned_at: { Self → ℕ → Type 0 } = { λ half place. Unit {0} };
+
     fn slot(&self) -> Slot
         ensures { result ≡ slot_of (name self.now) };
 
@@ -43,7 +46,8 @@ pub trait Traveller: Carried {
         requires { 1 ≤ grain }
         ensures name { name self.new ≡ name self.old }
         ensures turns { turns self.new ≡ raised (turns self.old) }
-        ensures works { works self.new ≡ works_after result (works self.old) };
+        ensures works { works self.new ≡ works_after result (works self.old) }
+        ensures place { turned_at self.new place };
 
     /// Any half may be sent after any others.
     ghost free: { (before : List Self) (half : Self) → Self.follows before half };

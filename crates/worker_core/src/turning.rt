@@ -1,9 +1,10 @@
 //! The halves that a worker holds: which are told to leave, which is due, and a turn of each.
-ghost use Rattle.std.specs.Prelude.{◌≡◌, ◌≤◌, ◌<◌, ◌+◌, All, List, length, map, vec_len, vec_capacity, IsNone, IsSome, IfSome, IfOk};
-ghost use Rattle.std.specs.List.{insert, position};
+ghost use Rattle.std.specs.Prelude.{◌≡◌, ◌≤◌, ◌<◌, ◌+◌, ◌==◌, not, All, List, length, map, vec_len, vec_capacity, IsNone, IsSome, IfSome, IfOk};
+ghost use Rattle.std.specs.List.{insert, position, filter};
 ghost use Rattle.worker_core.specs.declared.order.Order.{Order};
-ghost use Rattle.worker_core.specs.Leaves.{IsOrdered, IsTold, is_due};
-ghost use Rattle.worker_core.specs.Turns.{AreTurned, AllTurned, OneWorked, OneWorkedAt};
+ghost use Rattle.worker_core.specs.Leaves.{IsOrdered, IsTold, IsNoted, is_held, is_due};
+ghost use Rattle.worker_core.specs.declared.order.Order.TheVariants.{Leave};
+ghost use Rattle.worker_core.specs.Turns.{AreTurned, AllTurned, NoneWorked, WorkedAlone, WorkedRound};
 
 use crate::Traveller;
 use crate::worker::Leaving;
@@ -17,16 +18,38 @@ const GRAIN: u32 = 8;
 // The half of this slot, if it is held, is to leave at this count.
 pub fn mark<H: Traveller>(held: &[H], leaving: &mut Vec<Leaving>, slot: Slot, until: u64)
     requires { vec_len leaving.old < vec_capacity leaving.old }
-    ensures { (came : List (Order H)) → All (IsTold came) leaving.old.items → IsOrdered came slot until
+    ensures told { (came : List (Order H)) → All (IsTold came) leaving.old.items → IsOrdered came slot until
         → All (IsTold came) leaving.new.items }
+    ensures noted { IsNoted (λ half. H.slot_of (H.name half)) held.now (Leave slot until) leaving.old.items leaving.new.items }
 {
-    if !held.iter().any(|half| half.slot() == slot) {
+    if !is_among(held, slot) {
         return;
     }
-    match leaving.iter().position(|leaving| leaving.slot == slot) {
+    match find_note(leaving, slot) {
         Some(k) => leaving[k] = Leaving { slot, until },
         None => leaving.push_reserved(Leaving { slot, until }),
     }
+}
+
+// Whether a half of this slot is held.
+fn is_among<H: Traveller>(held: &[H], slot: Slot) -> bool
+    ensures { result ≡ is_held (λ half. H.slot_of (H.name half)) slot held.now }
+{
+    held.iter().any(|half| half.slot() == slot)
+}
+
+// Where it is noted that the half of this slot is to leave.
+fn find_note(leaving: &[Leaving], slot: Slot) -> Option<usize>
+    ensures { result ≡ position (λ leaving. leaving.slot == slot) leaving.now }
+{
+    leaving.iter().position(|leaving| leaving.slot == slot)
+}
+
+// The half of this slot left.
+pub fn forget(leaving: &mut Vec<Leaving>, slot: Slot)
+    ensures { leaving.new.items ≡ filter (λ leaving. not (leaving.slot == slot)) leaving.old.items }
+{
+    leaving.retain(|leaving| leaving.slot != slot)
 }
 
 // Whether a half of this slot, which has done so much, is due.
@@ -69,14 +92,15 @@ pub fn turn_round<H: Traveller, R: Wait>(
     requires { cursor ≤ vec_len held.old }
     ensures names { map H.name held.new.items ≡ map H.name held.old.items }
     ensures len { vec_len held.new ≡ vec_len held.old }
-    ensures idle { IfOk result (λ at. IsNone at → AllTurned H.turns H.works held.old.items held.new.items) }
-    ensures worked { IfOk result (λ at. IfSome at (λ k. OneWorkedAt H.works k held.old.items held.new.items)) }
+    ensures idle { IfOk result (λ at. IsNone at → AllTurned H.turns H.works H.turned_at place held.old.items held.new.items) }
+    ensures worked { IfOk result (λ at. IfSome at (λ k.
+        WorkedRound H.turns H.works H.turned_at place cursor k held.old.items held.new.items)) }
 {
     let end = held.len();
-    if let Some(at) = turn_some(rt, held, place, cursor, end)? {
-        return Ok(Some(at));
+    match turn_some(rt, held, place, cursor, end)? {
+        Some(at) => Ok(Some(at)),
+        None => turn_some(rt, held, place, 0, cursor),
     }
-    turn_some(rt, held, place, 0, cursor)
 }
 
 // Turns the halves from one index up to another, until one has worked, and tells which.
@@ -90,8 +114,11 @@ fn turn_some<H: Traveller, R: Wait>(
     requires { (from ≤ to) × (to ≤ vec_len held.old) }
     ensures names { map H.name held.new.items ≡ map H.name held.old.items }
     ensures len { vec_len held.new ≡ vec_len held.old }
-    ensures idle { IfOk result (λ at. IsNone at → AreTurned H.turns H.works from to held.old.items held.new.items) }
-    ensures worked { IfOk result (λ at. IfSome at (λ k. OneWorkedAt H.works k held.old.items held.new.items)) }
+    ensures idle { IfOk result (λ at. IsNone at
+        → AreTurned H.turns H.turned_at place from to held.old.items held.new.items × NoneWorked H.works held.old.items held.new.items) }
+    ensures worked { IfOk result (λ at. IfSome at (λ k. (from ≤ k) × (k < to)
+        × AreTurned H.turns H.turned_at place from (k + 1) held.old.items held.new.items
+        × WorkedAlone H.works k held.old.items held.new.items)) }
 {
     for i in from..to {
         if let Did::Worked = held[i].turn(rt, place, GRAIN)? {

@@ -1,11 +1,12 @@
 //! A worker: the halves that it holds, and the ends of its two lanes.
-ghost use Rattle.std.specs.Prelude.{◌≡◌, ◌≤◌, ◌<◌, ◌+◌, ◌⊎◌, [], All, length, map, vec_len, vec_capacity, IsTrue, IsFalse, IsSome, OnErr};
+ghost use Rattle.std.specs.Prelude.{◌≡◌, ◌≤◌, ◌<◌, ◌+◌, ◌⊎◌, [], All, length, vec_len, vec_capacity, IsTrue, IsFalse, IsSome, OnErr};
 ghost use Rattle.lane_core.specs.Ends.{sender_lane, receiver_lane, sent, taken, full_answers, empty_answers, raised};
 ghost use Rattle.worker_core.specs.Names.{Kept};
 ghost use Rattle.worker_core.specs.Leaves.{IsTold};
-ghost use Rattle.worker_core.specs.Turns.{AllTurned, OneWorked};
+ghost use Rattle.worker_core.specs.Turns.{AllTurned};
+ghost use Rattle.worker_core.specs.Steps.{TookOrder, WentHome, Turned, SameButHalves, first_due, wrapped, cursor_without};
 
-use crate::turning::{find_due, mark, put_back, turn_round};
+use crate::turning::{find_due, forget, mark, put_back, turn_round};
 use crate::{Order, Traveller};
 use lane_core::{Did, Full, NoMemory, Receiver, Sender};
 use pc_base::{SliceNo, Slot};
@@ -47,7 +48,7 @@ pub struct WorkerEnd<H: Traveller> {
 }
 
 impl<H: Traveller> Worker<H> {
-    ghost use Rattle.worker_core.specs.Workers.{worker_lanes, orders_of, home_of, held_of, place_of, end_lanes, GoesHome, NoOrder, first_due, SameButHalves};
+    ghost use Rattle.worker_core.specs.Workers.{worker_lanes, orders_of, home_of, held_of, place_of, end_lanes, view_of, GoesHome};
 
     pub(crate) fn new(
         alloc: Global,
@@ -81,27 +82,33 @@ impl<H: Traveller> Worker<H> {
         ensures home { (sent (home_of self.new) ≡ sent (home_of self.old))
             ⊎ GoesHome H.name H.slot_of H.done_of (taken (orders_of self.new)) (sent (home_of self.old)) (sent (home_of self.new)) }
 
-        // Worked comes only where an order was taken, a half went home, or a half worked.
+        // Worked comes only where an order was taken, the first half that was due went home, or halves
+        // were turned from the cursor round until one worked.
         ensures worked { result ≡ Ok Did.Worked
-            → (length (taken (orders_of self.new)) ≡ length (taken (orders_of self.old)) + 1)
-            ⊎ (length (sent (home_of self.new)) ≡ length (sent (home_of self.old)) + 1)
-            ⊎ OneWorked H.works (held_of self.old) (held_of self.new) }
+            → TookOrder (λ half. H.slot_of (H.name half)) (view_of self.old) (view_of self.new)
+            ⊎ WentHome (λ half. H.slot_of (H.name half)) H.done_of (view_of self.old) (view_of self.new)
+            ⊎ Turned H.name H.turns H.works H.turned_at (place_of self.old) (view_of self.old) (view_of self.new) }
 
         // Idle comes only where no order was there, each half was turned and none worked, and, if one
         // was due home, the lane home was full.
         ensures idle_orders { result ≡ Ok Did.Idle
             → empty_answers (orders_of self.new) ≡ raised (empty_answers (orders_of self.old)) }
-        ensures idle_turned { result ≡ Ok Did.Idle → AllTurned H.turns H.works (held_of self.old) (held_of self.new) }
-        ensures idle_home { result ≡ Ok Did.Idle → IsSome (first_due H.name H.slot_of H.done_of self.old)
+        ensures idle_turned { result ≡ Ok Did.Idle
+            → AllTurned H.turns H.works H.turned_at (place_of self.old) (held_of self.old) (held_of self.new) }
+        ensures idle_home { result ≡ Ok Did.Idle → IsSome (first_due (λ half. H.slot_of (H.name half)) H.done_of (view_of self.old))
             → full_answers (home_of self.new) ≡ raised (full_answers (home_of self.old)) }
+        ensures idle { result ≡ Ok Did.Idle → SameButHalves H.name (view_of self.old) (view_of self.new) }
         ensures held_never { result ≡ Ok Did.Held → ⊥ }
 
         // For want of memory nothing changes but what a half did.
-        ensures err { OnErr result (SameButHalves H.name self.old self.new) }
+        ensures err { OnErr result (SameButHalves H.name (view_of self.old) (view_of self.new)) }
     {
         self.held.reserve(1)?;
         self.leaving.reserve(1)?;
-        if self.take_order(rt) || self.send_home(rt) {
+        if self.take_order(rt) {
+            return Ok(Did::Worked);
+        }
+        if self.send_home(rt) {
             return Ok(Did::Worked);
         }
         self.turn_halves(rt)
@@ -114,8 +121,9 @@ impl<H: Traveller> Worker<H> {
         ensures lanes { worker_lanes self.new ≡ worker_lanes self.old }
         ensures place { place_of self.new ≡ place_of self.old }
         ensures home { home_of self.new ≡ home_of self.old }
-        ensures order { IsTrue result → length (taken (orders_of self.new)) ≡ length (taken (orders_of self.old)) + 1 }
-        ensures none { IsFalse result → NoOrder self.old self.new }
+        ensures order { IsTrue result → TookOrder (λ half. H.slot_of (H.name half)) (view_of self.old) (view_of self.new) }
+        ensures none { IsFalse result → view_of self.new ≡ view_of self.old }
+        ensures empty { IsFalse result → empty_answers (orders_of self.new) ≡ raised (empty_answers (orders_of self.old)) }
     {
         let Some(order) = self.orders.take(rt) else {
             return false;
@@ -139,8 +147,10 @@ impl<H: Traveller> Worker<H> {
         ensures orders { orders_of self.new ≡ orders_of self.old }
         ensures gone { IsTrue result
             → GoesHome H.name H.slot_of H.done_of (taken (orders_of self.old)) (sent (home_of self.old)) (sent (home_of self.new)) }
-        ensures none { IsFalse result → (sent (home_of self.new) ≡ sent (home_of self.old)) × (held_of self.new ≡ held_of self.old) }
-        ensures full { IsFalse result → IsSome (first_due H.name H.slot_of H.done_of self.old)
+        ensures went { IsTrue result
+            → WentHome (λ half. H.slot_of (H.name half)) H.done_of (view_of self.old) (view_of self.new) }
+        ensures none { IsFalse result → view_of self.new ≡ view_of self.old }
+        ensures full { IsFalse result → IsSome (first_due (λ half. H.slot_of (H.name half)) H.done_of (view_of self.old))
             → full_answers (home_of self.new) ≡ raised (full_answers (home_of self.old)) }
     {
         let Some(at) = find_due(&self.held, &self.leaving) else {
@@ -150,8 +160,8 @@ impl<H: Traveller> Worker<H> {
         let slot = half.slot();
         match self.home.offer(rt, half) {
             Ok(()) => {
-                self.leaving.retain(|leaving| leaving.slot != slot);
-                self.cursor = cursor_without(self.cursor, at, self.held.len());
+                forget(&mut self.leaving, slot);
+                self.cursor = cursor_left(self.cursor, at, self.held.len());
                 true
             }
             Err(Full(half)) => {
@@ -167,15 +177,18 @@ impl<H: Traveller> Worker<H> {
         ensures place { place_of self.new ≡ place_of self.old }
         ensures orders { orders_of self.new ≡ orders_of self.old }
         ensures home { home_of self.new ≡ home_of self.old }
-        ensures names { map H.name (held_of self.new) ≡ map H.name (held_of self.old) }
-        ensures worked { result ≡ Ok Did.Worked → OneWorked H.works (held_of self.old) (held_of self.new) }
-        ensures idle { result ≡ Ok Did.Idle → AllTurned H.turns H.works (held_of self.old) (held_of self.new) }
+        ensures worked { result ≡ Ok Did.Worked
+            → Turned H.name H.turns H.works H.turned_at (place_of self.old) (view_of self.old) (view_of self.new) }
+        ensures idle { result ≡ Ok Did.Idle
+            → AllTurned H.turns H.works H.turned_at (place_of self.old) (held_of self.old) (held_of self.new) }
+        ensures idle_rest { result ≡ Ok Did.Idle → SameButHalves H.name (view_of self.old) (view_of self.new) }
         ensures held_never { result ≡ Ok Did.Held → ⊥ }
+        ensures err { OnErr result (SameButHalves H.name (view_of self.old) (view_of self.new)) }
     {
         let Some(at) = turn_round(rt, &mut self.held, self.place, self.cursor)? else {
             return Ok(Did::Idle);
         };
-        self.cursor = wrapped(at + 1, self.held.len());
+        self.cursor = wrap(at + 1, self.held.len());
         Ok(Did::Worked)
     }
 
@@ -205,15 +218,15 @@ impl<H: Traveller> Worker<H> {
 }
 
 // Where the cursor stands once the half at an index left, and so many are held.
-fn cursor_without(cursor: usize, at: usize, held: usize) -> usize
-    ensures { result ≤ held }
+fn cursor_left(cursor: usize, at: usize, held: usize) -> usize
+    ensures { result ≡ cursor_without cursor at held }
 {
-    wrapped(if at < cursor { cursor - 1 } else { cursor }, held)
+    wrap(if at < cursor { cursor - 1 } else { cursor }, held)
 }
 
 // The cursor in a list of this length: past its end it is at its front.
-fn wrapped(cursor: usize, held: usize) -> usize
-    ensures { result ≤ held }
+fn wrap(cursor: usize, held: usize) -> usize
+    ensures { result ≡ wrapped cursor held }
 {
     if cursor < held { cursor } else { 0 }
 }

@@ -40,7 +40,7 @@ invariant_of-self-in-Leave g c =
     record {
       kept = subst (λ (l : List (Order g.row.H.Denot)). Kept g.H.Traveller.name l c.args.self.now.held.items (sent c.args.self.now.home)) (sym came)
           (kept_leave g.H.Traveller.name old c.args.self.now.held.items (sent c.args.self.now.home) c.in-Leave.slot c.in-Leave.until c.args.self.now.kept);
-      told = c.mark.ensures (taken c.take.new.self)
+      told = c.mark.ensures.told (taken c.take.new.self)
           (subst (λ (l : List (Order g.row.H.Denot)). All (IsTold l) c.args.self.now.leaving.items) (sym came)
           (told_more old (Leave c.in-Leave.slot c.in-Leave.until) c.args.self.now.leaving.items c.args.self.now.told))
           (subst (λ (l : List (Order g.row.H.Denot)). IsOrdered l c.in-Leave.slot c.in-Leave.until) (sym came) (ordered_last old c.in-Leave.slot c.in-Leave.until));

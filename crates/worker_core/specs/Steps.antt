@@ -1,0 +1,72 @@
+-- What a turn of a worker does: it takes an order, sends a half home, or turns halves until one has worked.
+use Rattle.std.specs.Prelude.{◌≡◌, ℕ, ◌+◌, ◌-◌, if◌then◌else◌, nat_lt, Option, Some, List, [], ◌∷◌, ◌++◌, length, map, slice_get}
+use Rattle.std.specs.List.{position, remove}
+use Rattle.worker_core.specs.declared.order.Order.{Order}
+use Rattle.worker_core.specs.declared.order.Order.TheVariants.{Arrive, Leave}
+use Rattle.worker_core.specs.declared.worker.Leaving.{Leaving}
+use Rattle.worker_core.specs.Leaves.{is_due, IsNoted, SameElsewhere}
+use Rattle.worker_core.specs.Turns.{WorkedRound}
+
+-- what a worker has: the orders that it took and the halves that it sent home; those that it holds, in the order in which they came; which are to leave; and where its next turn begins
+pub record View (H : Type 0) : Type 0 where
+  pub took : List (Order H)
+  pub gone : List H
+  pub held : List H
+  pub leaving : List Leaving
+  pub cursor : ℕ
+
+-- a cursor in a list of this length: past its end it is at its front
+abbrev pub wrapped : ℕ → ℕ → ℕ
+wrapped cursor len = if nat_lt cursor len then cursor else 0
+
+-- where a cursor stands once the half at an index left, and so many are held
+abbrev pub cursor_without : ℕ → ℕ → ℕ → ℕ
+cursor_without cursor at len = wrapped (if nat_lt at cursor then cursor - 1 else cursor) len
+
+-- a half that came stands last
+abbrev pub held_after : {H : Type 0} → Order H → List H → List H
+held_after (Arrive half) held = held ++ half ∷ []
+held_after (Leave _ _) held = held
+
+-- one order more was taken
+pub record TookOrder {H : Type 0} (slot_at : H → ℕ) (old new : View H) : Type 0 where
+  pub order : Order H
+  pub took : new.took ≡ old.took ++ order ∷ []
+  pub gone : new.gone ≡ old.gone
+  pub held : new.held ≡ held_after order old.held
+  pub noted : IsNoted slot_at old.held order old.leaving new.leaving
+  pub cursor : new.cursor ≡ old.cursor
+
+-- the first half that was told to leave and has done enough
+abbrev pub first_due : {H : Type 0} → (H → ℕ) → (H → ℕ) → View H → Option ℕ
+first_due slot_at done view = position (λ half. is_due view.leaving (slot_at half) (done half)) view.held
+
+-- the first half that was due went home
+pub record WentHome {H : Type 0} (slot_at done : H → ℕ) (old new : View H) : Type 0 where
+  pub at : ℕ
+  pub half : H
+  pub first : first_due slot_at done old ≡ Some at
+  pub there : slice_get old.held at ≡ Some half
+  pub took : new.took ≡ old.took
+  pub gone : new.gone ≡ old.gone ++ half ∷ []
+  pub held : new.held ≡ remove old.held at
+  pub noted : SameElsewhere (slot_at half) old.leaving new.leaving
+  pub cursor : new.cursor ≡ cursor_without old.cursor at (length new.held)
+
+-- from the cursor round halves were turned until one worked, and the cursor stands behind that one
+pub record Turned {H N : Type 0} (name : H → N) (turns works : H → ℕ) (turned_at : H → ℕ → Type 0) (place : ℕ) (old new : View H) : Type 0 where
+  pub at : ℕ
+  pub took : new.took ≡ old.took
+  pub gone : new.gone ≡ old.gone
+  pub leaving : new.leaving ≡ old.leaving
+  pub names : map name new.held ≡ map name old.held
+  pub round : WorkedRound turns works turned_at place old.cursor at old.held new.held
+  pub cursor : new.cursor ≡ wrapped (at + 1) (length old.held)
+
+-- nothing was taken, sent or noted, the cursor stands where it stood, and the halves have their names
+pub record SameButHalves {H N : Type 0} (name : H → N) (old new : View H) : Type 0 where
+  pub took : new.took ≡ old.took
+  pub gone : new.gone ≡ old.gone
+  pub leaving : new.leaving ≡ old.leaving
+  pub cursor : new.cursor ≡ old.cursor
+  pub names : map name new.held ≡ map name old.held
