@@ -1,3 +1,5 @@
-pub mod Orders
+pub mod Desks
 pub mod Places
 pub mod Sides
+pub mod Steps
+pub mod Words

@@ -1,9 +1,80 @@
--- What a side knows of each slot, and what its places say together. Places lie by slot.
-use Rattle.std.specs.Prelude.{◌≡◌, ℕ, ◌+◌, ◌*◌, ◌<◌, ◌≤◌, Bool, true, false, ◌==◌, List, [], ◌∷◌, map, slice_index_or, length, Option, Some, None}
-use Rattle.std.specs.List.{sum_by, All}
+-- What a side knows of each slot. Places lie by slot.
+use Rattle.std.specs.Prelude.{◌≡◌, ℕ, ◌+◌, ◌^◌, ◌<◌, ◌≤◌, Bool, true, false, cond, List, map, slice_index_or, Option, Some, None}
 use Rattle.migration.specs.declared.place.Place.{Place}
 use Rattle.migration.specs.declared.place.State.{State}
 use Rattle.migration.specs.declared.place.State.TheVariants.{Front, Placed, Recall, Leaving}
+
+module _ {H : Type 0} where
+  abbrev pub place_at : List (Option (Place H)) → ℕ → Option (Place H)
+  place_at places slot = slice_index_or places slot None
+
+  -- how many orders a state has still to give before its half rests at a slice
+  abbrev pub pending : State H → ℕ
+  pending (Front _ _) = 1
+  pending (Placed _) = 0
+  pending (Recall _ _ _) = 2
+  pending (Leaving _ _) = 1
+
+  abbrev pub pending_at : Option (Place H) → ℕ
+  pending_at None = 0
+  pending_at (Some place) = pending place.state
+
+  -- the half was sent to a slice, and nothing else is asked of it
+  abbrev pub is_placed : State H → Bool
+  is_placed (Front _ _) = false
+  is_placed (Placed _) = true
+  is_placed (Recall _ _ _) = false
+  is_placed (Leaving _ _) = false
+
+  abbrev pub is_placed_at : Option (Place H) → Bool
+  is_placed_at None = false
+  is_placed_at (Some place) = is_placed place.state
+
+  -- the slice whose lane of orders the next order waits for
+  abbrev pub waits_for : State H → Option ℕ
+  waits_for (Front _ to) = Some to
+  waits_for (Placed _) = None
+  waits_for (Recall at _ _) = Some at
+  waits_for (Leaving _ _) = None
+
+  abbrev pub waits_at : Option (Place H) → Option ℕ
+  waits_at None = None
+  waits_at (Some place) = waits_for place.state
+
+  -- whether it has an order to give
+  abbrev pub is_waiting : State H → Bool
+  is_waiting (Front _ _) = true
+  is_waiting (Placed _) = false
+  is_waiting (Recall _ _ _) = true
+  is_waiting (Leaving _ _) = false
+
+  abbrev pub is_waiting_at : Option (Place H) → Bool
+  is_waiting_at None = false
+  is_waiting_at (Some place) = is_waiting place.state
+
+  -- the slices of a state are below this number
+  abbrev pub slices_fit : ℕ → State H → Type 0
+  slices_fit slices (Front _ to) = to < slices
+  slices_fit slices (Placed at) = at < slices
+  slices_fit slices (Recall at _ to) = (at < slices) × (to < slices)
+  slices_fit slices (Leaving from to) = (from < slices) × (to < slices)
+
+  -- so, and the slot moved less than so often
+  abbrev pub PlaceFits : ℕ → ℕ → Option (Place H) → Type 0
+  PlaceFits slices asked None = Unit {0}
+  PlaceFits slices asked (Some place) = slices_fit slices place.state × (place.hop ≤ 2 ^ 60 + asked)
+
+  abbrev pub is_admitted : Option (Place H) → Bool
+  is_admitted None = false
+  is_admitted (Some place) = true
+
+  -- how often the slot moved
+  abbrev pub hop_at : Option (Place H) → ℕ
+  hop_at None = 0
+  hop_at (Some place) = place.hop
+
+  abbrev pub hops_of : List (Option (Place H)) → List ℕ
+  hops_of places = map hop_at places
 
 module _ {H N : Type 0} (name : H → N) where
   -- the name of the half that was admitted
@@ -29,48 +100,13 @@ module _ {H N : Type 0} (name : H → N) where
   front_at h None = 0
   front_at h (Some place) = front_weight h place.state
 
-  -- what the admitted half weighs
-  abbrev pub admitted_at : (N → ℕ) → Option (Place H) → ℕ
-  admitted_at h None = 0
-  admitted_at h (Some place) = h (name place.admitted.value)
+-- what a name weighs, and 0 where there is none
+abbrev pub weight_at : {N : Type 0} → (N → ℕ) → Option N → ℕ
+weight_at h None = 0
+weight_at h (Some name) = h name
 
-module _ {H : Type 0} where
-  -- how many orders a state has still to give before its half rests at a slice
-  abbrev pub pending : State H → ℕ
-  pending (Front _ _) = 1
-  pending (Placed _) = 0
-  pending (Recall _ _ _) = 2
-  pending (Leaving _ _) = 1
-
-  abbrev pub pending_at : Option (Place H) → ℕ
-  pending_at None = 0
-  pending_at (Some place) = pending place.state
-
-  -- the half was sent to a slice, and nothing else is asked of it
-  abbrev pub is_placed : State H → Bool
-  is_placed (Front _ _) = false
-  is_placed (Placed _) = true
-  is_placed (Recall _ _ _) = false
-  is_placed (Leaving _ _) = false
-
-  abbrev pub is_placed_at : Option (Place H) → Bool
-  is_placed_at None = false
-  is_placed_at (Some place) = is_placed place.state
-
-  -- the lane of orders that the state's next order waits for
-  abbrev pub waits_for : State H → Option ℕ
-  waits_for (Front _ to) = Some to
-  waits_for (Placed _) = None
-  waits_for (Recall at _ _) = Some at
-  waits_for (Leaving _ _) = None
-
-  abbrev pub waits_at : Option (Place H) → Option ℕ
-  waits_at None = None
-  waits_at (Some place) = waits_for place.state
-
-  -- the slices of a state are below this number
-  abbrev pub slices_fit : ℕ → State H → Type 0
-  slices_fit slices (Front _ to) = to < slices
-  slices_fit slices (Placed at) = at < slices
-  slices_fit slices (Recall at _ to) = (at < slices) × (to < slices)
-  slices_fit slices (Leaving from to) = (from < slices) × (to < slices)
+module _ {H N : Type 0} (name : H → N) (slot_of : N → ℕ) where
+  -- what the slot of a place weighs that has an order to give
+  abbrev pub wait_weight : (ℕ → ℕ) → Option (Place H) → ℕ
+  wait_weight w None = 0
+  wait_weight w (Some place) = cond (is_waiting place.state) (w (slot_of (name place.admitted.value))) 0

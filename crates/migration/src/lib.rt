@@ -5,6 +5,7 @@
 
 mod place;
 mod side;
+mod steps;
 #[cfg(test)]
 mod tests;
 

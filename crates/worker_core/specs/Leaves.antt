@@ -1,6 +1,6 @@
 -- Orders to leave: which were taken, and when a half is due home.
-use Rattle.std.specs.Prelude.{◌≡◌, ◌≢◌, ℕ, ◌<◌, ◌≤◌, Bool, true, false, ◌==◌, ◌&&◌, nat_le, List, count_by}
-use Rattle.std.specs.List.{list_any, position}
+use Rattle.std.specs.Prelude.{◌≡◌, ◌≢◌, ℕ, ◌<◌, Bool, true, false, ◌==◌, ◌&&◌, nat_le, List, count_by}
+use Rattle.std.specs.List.{list_any}
 use Rattle.worker_core.specs.declared.order.Order.{Order}
 use Rattle.worker_core.specs.declared.order.Order.TheVariants.{Arrive, Leave}
 use Rattle.worker_core.specs.declared.worker.Leaving.{Leaving}

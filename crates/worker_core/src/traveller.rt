@@ -39,12 +39,15 @@ pub trait Traveller: Carried {
     fn arrive(&mut self, hop: u64)
         requires { hop ≤ 2 ^ 61 }
         ensures name { name self.new ≡ name self.old }
-        ensures hop { hop_of self.new ≡ hop };
+        ensures hop { hop_of self.new ≡ hop }
+        ensures done { done_of self.new ≡ done_of self.old }
+        ensures counts { (turns self.new ≡ turns self.old) × (works self.new ≡ works self.old) };
 
     /// Does a part of its work, at most `grain` items. After want of memory what was done stays done.
     fn turn<R: Wait>(&mut self, rt: &R, place: SliceNo, grain: u32) -> Result<Did, NoMemory>
         requires { 1 ≤ grain }
         ensures name { name self.new ≡ name self.old }
+        ensures hop { hop_of self.new ≡ hop_of self.old }
         ensures turns { turns self.new ≡ raised (turns self.old) }
         ensures works { works self.new ≡ works_after result (works self.old) }
         ensures place { turned_at self.new place };

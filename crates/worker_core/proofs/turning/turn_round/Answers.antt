@@ -1,4 +1,4 @@
-use Rattle.std.proofs.Common.{rules, arith, ◌≡◌, length}
+use Rattle.std.proofs.Common.{rules, arith}
 use Rattle.worker_core.proofs.Rounds.{then_idle, then_worked}
 use Rattle.worker_core.proofs.turning.turn_round.Goals as goal
 

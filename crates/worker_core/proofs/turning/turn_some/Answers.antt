@@ -1,4 +1,4 @@
-use Rattle.std.proofs.Common.{rules, ◌∙◌, ap, arith, ◌≡◌, ◌<◌, length}
+use Rattle.std.proofs.Common.{◌∙◌, ap, arith, ◌≡◌, ◌<◌, length}
 use Rattle.std.specs.Prelude.{Ok}
 use Rattle.std.specs.declared.alloc.AllocError.{AllocError}
 use Rattle.worker_core.specs.Turns.{works_after}

@@ -1,4 +1,4 @@
-use Rattle.std.proofs.Common.{◌≡◌, ◌≤◌, map, vec_len, length}
+use Rattle.std.proofs.Common.{◌≡◌, map, vec_len}
 use Rattle.worker_core.specs.Turns.{AreTurned, NoneWorked}
 use Rattle.worker_core.proofs.turning.turn_some.Given as goal
 

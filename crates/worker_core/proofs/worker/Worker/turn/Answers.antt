@@ -1,8 +1,7 @@
-use Rattle.std.proofs.Common.{rules, ◌≡◌, inl, inr, List, subst, sym, ap, ◌∙◌}
+use Rattle.std.proofs.Common.{rules, inl, inr, List, subst, sym, ap, ◌∙◌}
 use Rattle.std.specs.Prelude.{IsSome}
 use Rattle.std.specs.List.{All}
 use Rattle.lane_core.specs.Ends.{sent, taken, full_answers, raised}
-use Rattle.worker_core.specs.declared.worker.Leaving.{Leaving}
 use Rattle.worker_core.specs.Names.{Kept}
 use Rattle.worker_core.specs.Leaves.{IsTold}
 use Rattle.worker_core.specs.Steps.{View, TookOrder, WentHome, first_due}

@@ -1,4 +1,4 @@
-use Rattle.std.proofs.Common.{rules, refl}
+use Rattle.std.proofs.Common.{rules}
 use Rattle.lane_core.specs.Ends.{sent, taken}
 use Rattle.worker_core.proofs.Arrivals.{kept_names}
 use Rattle.worker_core.proofs.worker.Worker.turn_halves.Goals as goal
