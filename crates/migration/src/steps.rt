@@ -206,7 +206,7 @@ pub fn go<H: Traveller, R: Wait>(
 }
 
 // A half that came home goes to the place of its slot.
-pub fn welcome<H>(places: &mut Vec<Option<Place<H>>>, half: H, slot: Slot) -> Option<H>
+pub fn welcome<H: Drop>(places: &mut Vec<Option<Place<H>>>, half: H, slot: Slot) -> Option<H>
     ensures { WelcomesAt half slot places.old.items places.new.items result }
 {
     if slot.0 as usize >= places.len() {
@@ -216,7 +216,7 @@ pub fn welcome<H>(places: &mut Vec<Option<Place<H>>>, half: H, slot: Slot) -> Op
 }
 
 // A half that came home stands at the front where its slot is leaving, and else it is handed back.
-fn received<H>(place: &mut Option<Place<H>>, half: H) -> Option<H>
+fn received<H: Drop>(place: &mut Option<Place<H>>, half: H) -> Option<H>
     ensures { Welcomes half place.old place.new result }
 {
     let Some(place_was) = place.take() else {
@@ -254,7 +254,7 @@ pub fn take_home<H: Traveller, R: Wait>(
 }
 
 // Makes free places until there are so many.
-pub fn grow<H>(places: &mut Vec<Option<Place<H>>>, len: usize) -> Result<(), NoMemory>
+pub fn grow<H: Drop>(places: &mut Vec<Option<Place<H>>>, len: usize) -> Result<(), NoMemory>
     ensures grown { Grown places.old.items places.new.items }
     ensures enough { OnOk result (len ≤ vec_len places.new) }
 {
