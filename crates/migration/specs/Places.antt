@@ -52,26 +52,44 @@ module _ {H : Type 0} where
   is_waiting_at None = false
   is_waiting_at (Some place) = is_waiting place.state
 
+  -- one more than the slice where the half is, was or is told to leave, and 0 where there is none
+  abbrev pub at_end : State H → ℕ
+  at_end (Front _ _) = 0
+  at_end (Placed at) = at + 1
+  at_end (Recall at _ _) = at + 1
+  at_end (Leaving from _) = from + 1
+
+  -- one more than the slice that it is bound for
+  abbrev pub to_end : State H → ℕ
+  to_end (Front _ to) = to + 1
+  to_end (Placed _) = 0
+  to_end (Recall _ _ to) = to + 1
+  to_end (Leaving _ to) = to + 1
+
   -- the slices of a state are below this number
   abbrev pub slices_fit : ℕ → State H → Type 0
-  slices_fit slices (Front _ to) = to < slices
-  slices_fit slices (Placed at) = at < slices
-  slices_fit slices (Recall at _ to) = (at < slices) × (to < slices)
-  slices_fit slices (Leaving from to) = (from < slices) × (to < slices)
+  slices_fit slices state = (at_end state ≤ slices) × (to_end state ≤ slices)
 
-  -- so, and the slot moved less than so often
-  abbrev pub PlaceFits : ℕ → ℕ → Option (Place H) → Type 0
-  PlaceFits slices asked None = Unit {0}
-  PlaceFits slices asked (Some place) = slices_fit slices place.state × (place.hop ≤ 2 ^ 60 + asked)
+  abbrev pub at_end_at : Option (Place H) → ℕ
+  at_end_at None = 0
+  at_end_at (Some place) = at_end place.state
 
-  abbrev pub is_admitted : Option (Place H) → Bool
-  is_admitted None = false
-  is_admitted (Some place) = true
+  abbrev pub to_end_at : Option (Place H) → ℕ
+  to_end_at None = 0
+  to_end_at (Some place) = to_end place.state
 
   -- how often the slot moved
   abbrev pub hop_at : Option (Place H) → ℕ
   hop_at None = 0
   hop_at (Some place) = place.hop
+
+  -- the slices of a place are below this number, and its slot moved less than so often
+  abbrev pub PlaceFits : ℕ → ℕ → Option (Place H) → Type 0
+  PlaceFits slices asked place = (at_end_at place ≤ slices) × (to_end_at place ≤ slices) × (hop_at place ≤ 2 ^ 60 + asked)
+
+  abbrev pub is_admitted : Option (Place H) → Bool
+  is_admitted None = false
+  is_admitted (Some place) = true
 
   abbrev pub hops_of : List (Option (Place H)) → List ℕ
   hops_of places = map hop_at places

@@ -12,7 +12,7 @@ use Rattle.migration.specs.Places.{place_at}
 pub record Sends {H N : Type 0} (name : H → N) (hop_of : H → ℕ) (hop to : ℕ) (half : H) (state : State H) (old new : List (Desk H)) : Type 0 where
   pub told : H
   pub named : name told ≡ name half
-  pub hop : hop_of told ≡ hop
+  pub hopped : hop_of told ≡ hop
   pub outcome : ((state ≡ Placed to) × Given to (Arrive told) old new) ⊎ ((state ≡ Front told to) × Refused to old new)
 
 -- a slice was told that the half of a slot is to leave, or will be, since that lane was full
@@ -52,12 +52,17 @@ pub record Moves {H : Type 0} (slot slice until : ℕ) (place new_place : Option
   pub admitted : now.admitted ≡ before.admitted
   pub goes : Goes slot slice until before.state now.state old new
 
+-- what a state becomes as a half comes home, which is handed back where it isn't expected
+abbrev pub Homes : {H : Type 0} → H → State H → State H → Option H → Type 0
+Homes half old new (Some back) = (back ≡ half) × (new ≡ old)
+Homes half old new None = (from : ℕ) × (to : ℕ) × (old ≡ Leaving from to) × (new ≡ Front half to)
+
 -- a half that came home stands at the front where its slot is leaving, and else it is handed back
 abbrev pub Welcomes : {H : Type 0} → H → Option (Place H) → Option (Place H) → Option H → Type 0
 Welcomes half place new_place (Some back) = (back ≡ half) × (new_place ≡ place)
 Welcomes {H} half place new_place None =
-    (before : Place H) × (now : Place H) × (from : ℕ) × (to : ℕ) × (place ≡ Some before) × (new_place ≡ Some now)
-    × (before.state ≡ Leaving from to) × (now.state ≡ Front half to) × (now.hop ≡ before.hop) × (now.admitted ≡ before.admitted)
+    (before : Place H) × (now : Place H) × (place ≡ Some before) × (new_place ≡ Some now)
+    × (now.hop ≡ before.hop) × (now.admitted ≡ before.admitted) × Homes half before.state now.state None
 
 -- the same of the place of a slot
 abbrev pub WelcomesAt : {H : Type 0} → H → ℕ → List (Option (Place H)) → List (Option (Place H)) → Option H → Type 0
@@ -82,6 +87,6 @@ pub record Admits {H N : Type 0} (name : H → N) (hop_of : H → ℕ) (slot sli
   pub more : ℕ
   pub within : slot < length (places ++ replicate more None)
   pub is : new_places ≡ slice_set (places ++ replicate more None) slot (Some now)
-  pub hop : now.hop ≡ hop
+  pub hopped : now.hop ≡ hop
   pub admitted : now.admitted.value ≡ half
   pub sends : Sends name hop_of hop slice half now.state old new

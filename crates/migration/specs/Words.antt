@@ -55,14 +55,14 @@ pub record TookOne {H : Type 0} (went : Bool) (slice admitted : ℕ) (aside new_
   pub others : (other : ℕ) → other ≢ slice → (home_count new other ≡ home_count old other) × (empties_at new other ≡ empties_at old other)
   pub more : went ≡ true → (home_count new slice ≡ home_count old slice + 1) × (empties_at new slice ≡ empties_at old slice)
   pub ended : went ≡ false → Rose (empties_at old slice) (empties_at new slice) ⊎ (length new_aside ≡ admitted)
-  pub aside : length aside ≤ length new_aside
+  pub aside_grows : length aside ≤ length new_aside
   pub fulls : (other : ℕ) → fulls_at new other ≡ fulls_at old other
 
 -- the lane home of a slice was emptied as far as it may be at once
 pub record TookFrom {H : Type 0} (slice admitted : ℕ) (aside new_aside : List H) (old new : List (Desk H)) : Type 0 where
   pub others : (other : ℕ) → other ≢ slice → (home_count new other ≡ home_count old other) × (empties_at new other ≡ empties_at old other)
   pub ended : HomeEnded (length new_aside) admitted slice old new
-  pub aside : length aside ≤ length new_aside
+  pub aside_grows : length aside ≤ length new_aside
   pub fulls : (other : ℕ) → fulls_at new other ≡ fulls_at old other
 
 -- the order of the slot that is served next was offered

@@ -1,5 +1,5 @@
 //! A side: the desks of its workers, and the state of each slot.
-ghost use Rattle.std.specs.Prelude.{◌≡◌, ◌≤◌, ◌<◌, ◌+◌, ◌*◌, ◌^◌, ◌⊎◌, ℕ, All, Some, None, [], length, vec_len, vec_capacity, IsTrue, IsFalse, OnOk, OnErr, IfErr};
+ghost use Rattle.std.specs.Prelude.{◌≡◌, ◌≤◌, ◌<◌, ◌+◌, ◌*◌, ◌^◌, ◌⊎◌, ℕ, All, Some, None, true, [], length, vec_len, vec_capacity, IsTrue, IsFalse, OnOk, OnErr, IfErr};
 ghost use Rattle.worker_core.specs.Workers.{IsNewDesk};
 ghost use Rattle.migration.specs.Sides.{IsSide};
 

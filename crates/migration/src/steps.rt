@@ -3,7 +3,7 @@ ghost use Rattle.std.specs.Prelude.{◌≡◌, ◌≤◌, ◌<◌, ◌+◌, ◌^
 ghost use Rattle.std.specs.List.{sum_by};
 ghost use Rattle.migration.specs.Desks.{Given, Refused, Taken, Empty, order_count};
 ghost use Rattle.migration.specs.Places.{PlaceFits, slices_fit, is_admitted, is_placed, is_waiting, is_waiting_at};
-ghost use Rattle.migration.specs.Steps.{Sends, Recalls, Serves, PlaceServed, Goes, Moves, Welcomes, WelcomesAt, Grown};
+ghost use Rattle.migration.specs.Steps.{Sends, Recalls, Serves, PlaceServed, Goes, Moves, Homes, Welcomes, WelcomesAt, Grown};
 
 use crate::place::{Place, State};
 use lane_core::{Full, NoMemory};
@@ -227,16 +227,25 @@ fn received<H: Drop>(place: &mut Option<Place<H>>, half: H) -> Option<H>
         state,
         admitted,
     } = place_was;
-    let (state, back) = match state {
-        State::Leaving { to, .. } => (State::Front { half, to }, None),
-        state => (state, Some(half)),
-    };
+    let (state, back) = homed(state, half);
     *place = Some(Place {
         hop,
         state,
         admitted,
     });
     back
+}
+
+// What a state becomes as a half comes home, which is handed back where it isn't expected.
+fn homed<H: Drop>(state: State<H>, half: H) -> (State<H>, Option<H>)
+    ensures { Homes half state result.0 result.1 }
+{
+    match state {
+        State::Front { half: own, to } => (State::Front { half: own, to }, Some(half)),
+        State::Placed { at } => (State::Placed { at }, Some(half)),
+        State::Recall { at, until, to } => (State::Recall { at, until, to }, Some(half)),
+        State::Leaving { to, .. } => (State::Front { half, to }, None),
+    }
 }
 
 // Takes a half from the lane home of a slice.
@@ -258,7 +267,7 @@ pub fn grow<H: Drop>(places: &mut Vec<Option<Place<H>>>, len: usize) -> Result<(
     ensures grown { Grown places.old.items places.new.items }
     ensures enough { OnOk result (len ≤ vec_len places.new) }
 {
-    for _ in places.len()..len {
+    while places.len() < len {
         places.push(None)?;
     }
     Ok(())
