@@ -18,11 +18,15 @@ use Rattle.migration.specs.declared.place.State.{State}
 use Rattle.migration.specs.declared.place.State.TheVariants.{Front, Placed, Recall, Leaving}
 use Rattle.migration.specs.Desks.{sent_weight, home_weight, lanes_of, homes_of, order_count, fulls_at, Taken, Empty}
 use Rattle.migration.specs.Places.{place_at, pending_at, is_admitted, is_waiting, is_waiting_at, waits_at, PlaceFits, slices_fit, at_end, to_end, hop_at, hops_of, name_at, names_of, name_of, front_at, front_weight, pending, weight_at, wait_weight}
-use Rattle.migration.specs.Steps.{Sends, Serves, PlaceServed, Goes, Moves, Homes, Welcomes, Admits}
+use Rattle.migration.specs.Steps.{Sends, Serves, PlaceServed, ServedAt, Goes, Moves, MovesAt, NewlyWaits, Homes, Welcomes, Admits}
 use Rattle.migration.specs.Sides.{Balanced, slot_at, BySlot, IsSide, Rose}
+use Rattle.migration.specs.Words.{ServedNext}
 use Rattle.migration.proofs.Desks.{changed_sum, changed_len, homes_sum}
 use Rattle.migration.proofs.StateSteps.{StateStep, Again, sends_step, serves_step, goes_step, sends_fit, serves_fit, goes_fit}
 use Rattle.migration.proofs.SideSteps.{index_map, at_slot, by_slot, AtSlot, wait_weight_is, Change, set_side, same_places, grown_side, place_grown}
+
+mul_zero : (n : ℕ) → ◌≡◌ {A = ℕ} (n * 0) 0
+mul_zero n = omega arith
 
 -- each counted as one
 sum_by-one : {X : Type 0} (xs : List X) → sum_by (λ _. 1) xs ≡ length xs
@@ -144,8 +148,10 @@ module _ {H N : Type 0} (name : H → N) (slot_of : N → ℕ) where
                    let d = cond_zero (is_waiting_at (place_at places k)) in omega arith)
             ] refl) in
             let none = sum_by-le f 0 places all in
-            absurd (omega arith)
+            absurd (sum_zero (length places) (sum_by f places) none some)
       ] refl where
+    sum_zero : (n total : ℕ) → total ≤ n * 0 → 0 < total → ⊥
+    sum_zero n total low high = let z : n * 0 ≡ 0 = mul_zero n in omega arith
     cond_zero : (b : Bool) → ◌≡◌ {A = ℕ} (cond b 0 0) 0
     cond_zero true = refl
     cond_zero false = refl
@@ -326,9 +332,130 @@ module _ {H N : Type 0} (name : H → N) (slot_of : N → ℕ) where
         later = omega arith;
         few = omega arith;
         count = let a = step.count in let p = ap pending_at free in omega arith;
-        counted = let p = ap (λ x. cond (is_admitted x) 1 0) free in omega arith;
+        counted = let p : ◌≡◌ {A = ℕ} (cond (is_admitted (place_at grown slot)) 1 0) 0 = ap (λ x. cond (is_admitted x) 1 0) free in omega arith;
         aside_few = let a = side.aside_few in omega arith;
       })) where
     no_name : (x : Option (Place H)) → name_at name x ≡ None → x ≡ None
     no_name None none = refl
     no_name (Some place) none = absurd (let no : ⊥ = cc in no)
+
+  -- a slot that was admitted and doesn't wait leaves room among those that do
+  pub waiting_fewer : (places : List (Option (Place H))) (slot : ℕ) (aside : List H) (desks : List (Desk H)) (waiting serving : List ℕ) (admitted asked : ℕ)
+      → IsSide name slot_of places aside desks waiting serving admitted asked → slot < length places
+      → is_admitted (place_at places slot) ≡ true → is_waiting_at (place_at places slot) ≡ false → length waiting + length serving < admitted
+  waiting_fewer places slot aside desks waiting serving admitted asked side within there idle =
+      let one : ℕ → ℕ = λ _. 1 in
+      let f : Option (Place H) → ℕ = wait_weight name slot_of one in
+      let g : Option (Place H) → ℕ = λ x. cond (is_admitted x) 1 0 in
+      let a = side.queued one in
+      let b = side.counted in
+      let c = sum_by-le-sum_by f g (set places slot None) wait_one in
+      let d = sum_by-set f places slot None None within in
+      let e = sum_by-set g places slot None None within in
+      let i : f (place_at places slot) ≡ 0 =
+      wait_weight_is name slot_of one slot (place_at places slot) (at_slot name slot_of places side.slots slot) ∙ ap (λ t. cond t 1 0) idle in
+      let j : g (place_at places slot) ≡ 1 = ap (λ t. cond t 1 0) there in
+      let m = sum_by-one waiting in let n = sum_by-one serving in omega arith where
+    cond_le : (b : Bool) → cond b 1 0 ≤ 1
+    cond_le true = omega arith
+    cond_le false = omega arith
+    wait_one : (x : Option (Place H)) → wait_weight name slot_of (λ _. 1) x ≤ cond (is_admitted x) 1 0
+    wait_one None = omega arith
+    wait_one (Some place) = cond_le (is_waiting place.state)
+
+  pub admitted_within : (places : List (Option (Place H))) (slot : ℕ) → is_admitted (place_at places slot) ≡ true → slot < length places
+  admitted_within places slot there = elim (nat_lt slot (length places)) as (λ b. nat_lt slot (length places) ≡ b → slot < length places) [
+      | true ↦ λ e. ltb-true slot (length places) e
+      | false ↦ λ e. absurd (true≢false (sym there ∙ ap is_admitted (get_or_past places slot None (ltb-false slot (length places) e))))
+    ] refl
+
+  -- the slot that is served next waits
+  pub next_waits : (places : List (Option (Place H))) (slot : ℕ) (aside : List H) (desks : List (Desk H)) (waiting serving new_serving : List ℕ)
+      (admitted asked : ℕ) → IsSide name slot_of places aside desks waiting serving admitted asked → serving ≡ new_serving ++ slot ∷ []
+      → is_waiting_at (place_at places slot) ≡ true
+  next_waits places slot aside desks waiting serving new_serving admitted asked side next = queued_here places slot side.slots
+      (let a = side.queued (on slot) in
+       let b = ap (sum_by (on slot)) next ∙ sum_by_push (on slot) new_serving slot in
+       let c : on slot slot ≡ 1 = ap (λ t. cond t 1 0) (eq-eqb slot slot refl) in omega arith)
+
+  -- a slot moved
+  pub gone_side : (places new_places : List (Option (Place H))) (slot slice until : ℕ) (newly : Bool) (aside : List H) (desks now : List (Desk H))
+      (waiting new_waiting serving : List ℕ) (admitted asked : ℕ)
+      → IsSide name slot_of places aside desks waiting serving admitted asked → slice < length desks → asked < 2 ^ 48
+      → MovesAt slot slice until places new_places desks now → NewlyWaits newly (place_at places slot) (place_at new_places slot)
+      → ((w : ℕ → ℕ) → sum_by w new_waiting ≡ sum_by w waiting + cond newly (w slot) 0)
+      → IsSide name slot_of new_places aside now new_waiting serving admitted (asked + 1)
+      × (names_of name new_places ≡ names_of name places) × (lanes_of now ≡ lanes_of desks)
+  gone_side places new_places slot slice until newly aside desks now waiting new_waiting serving admitted asked side there few moves waits noted =
+      let place = moves.0 in
+      let within = moves.1 in
+      let fits = All-get_or (PlaceFits (length desks) asked) places slot None within side.fits in
+      let step = moved_place name desks now slot slice until (length desks) asked (place_at places slot) place fits there moves.3 in
+      let is : place_at new_places slot ≡ place = ap (λ l. place_at l slot) moves.2 ∙ get_or-set_same places slot place None within in (
+        subst (λ (l : List (Option (Place H))). IsSide name slot_of l aside now new_waiting serving admitted (asked + 1)) (sym moves.2)
+            (stepped_side 2 places place slot aside desks now waiting new_waiting serving serving admitted asked (asked + 1) side within step.0 step.1
+            (omega arith) (omega arith) (omega arith)
+            (λ w. let a = noted w in let b = waits (w slot) in let c = ap (λ x. cond (is_waiting_at x) (w slot) 0) is in omega arith)),
+        ap (names_of name) moves.2 ∙ map-set_same (name_at name) places slot place None step.0.named,
+        step.0.lanes,
+      )
+
+  -- the slot that is served next was served
+  pub served_side : (hop_of : H → ℕ) (places new_places : List (Option (Place H))) (slot : ℕ) (waits : Bool) (aside : List H) (desks now : List (Desk H))
+      (waiting new_waiting serving new_serving : List ℕ) (admitted asked : ℕ)
+      → IsSide name slot_of places aside desks waiting serving admitted asked → serving ≡ new_serving ++ slot ∷ []
+      → ServedAt name hop_of slot waits places new_places desks now
+      → ((w : ℕ → ℕ) → sum_by w new_waiting ≡ sum_by w waiting + cond waits (w slot) 0)
+      → IsSide name slot_of new_places aside now new_waiting new_serving admitted asked
+      × (names_of name new_places ≡ names_of name places) × (hops_of new_places ≡ hops_of places)
+      × (lanes_of now ≡ lanes_of desks) × (homes_of now ≡ homes_of desks) × ServedNext serving new_serving places new_places desks now
+  served_side hop_of places new_places slot waits aside desks now waiting new_waiting serving new_serving admitted asked side next served noted =
+      let place = served.0 in
+      let true_here = next_waits places slot aside desks waiting serving new_serving admitted asked side next in
+      let within = waiting_within places slot true_here in
+      let fits = All-get_or (PlaceFits (length desks) asked) places slot None within side.fits in
+      let step = served_place name hop_of desks now slot (length desks) asked (place_at places slot) place true_here fits served.3 in
+      let is : place_at new_places slot ≡ place = ap (λ l. place_at l slot) served.1 ∙ get_or-set_same places slot place None within in (
+        subst (λ (l : List (Option (Place H))). IsSide name slot_of l aside now new_waiting new_serving admitted asked) (sym served.1)
+            (stepped_side 0 places place slot aside desks now waiting new_waiting serving new_serving admitted asked asked side within step.0 step.2
+            (omega arith) side.asked_few (omega arith)
+            (λ w.
+            let a = noted w in
+            let b = ap (sum_by w) next ∙ sum_by_push w new_serving slot in
+            let c = ap (λ t. cond t (w slot) 0) true_here in
+            let d = ap (λ t. cond t (w slot) 0) served.2 in omega arith)),
+        ap (names_of name) served.1 ∙ map-set_same (name_at name) places slot place None step.0.named,
+        ap hops_of served.1 ∙ map-set_same hop_at places slot place None step.3,
+        step.0.lanes,
+        step.0.homes,
+        record {
+          slot = slot;
+          next = next;
+          others = λ other apart. ap (λ l. place_at l other) served.1 ∙ get_or-set_other places slot other place None apart;
+          again = λ slice still. rose_raised (fulls_at desks slice) (fulls_at now slice) (step.1 slice (sym (ap waits_at is) ∙ still));
+          later = λ slice. elim (step.0.fulls slice) [
+            | inl same ↦ inl same
+            | inr more ↦ inr (rose_raised (fulls_at desks slice) (fulls_at now slice) more)
+          ];
+        },
+      )
+
+-- a place that waits newly didn't wait
+pub was_idle : {H : Type 0} (newly : Bool) (old new : Option (Place H)) → newly ≡ true → NewlyWaits newly old new → is_waiting_at old ≡ false
+was_idle newly old new is waits = elim (is_waiting_at old) as (λ b. is_waiting_at old ≡ b → is_waiting_at old ≡ false) [
+    | false ↦ λ e. e
+    | true ↦ λ e. absurd (
+      let a = waits 1 in
+      let b : ◌≡◌ {A = ℕ} (cond (is_waiting_at old) 1 0) 1 = ap (λ t. cond t 1 0) e in
+      let c : ◌≡◌ {A = ℕ} (cond newly 1 0) 1 = ap (λ t. cond t 1 0) is in
+      let d = at_most (is_waiting_at new) in omega arith)
+  ] refl where
+  at_most : (b : Bool) → cond b 1 0 ≤ 1
+  at_most true = omega arith
+  at_most false = omega arith
+
+-- a place that a half came home to was admitted and didn't wait
+pub leaving_idle : {H : Type 0} (half : H) (old new : Option (Place H)) → Welcomes half old new None → (is_admitted old ≡ true) × (is_waiting_at old ≡ false)
+leaving_idle half old new welcomes =
+    let homes = welcomes.6 in
+    (ap is_admitted welcomes.2, ap is_waiting_at welcomes.2 ∙ ap is_waiting homes.2)

@@ -192,10 +192,29 @@ module _ {H : Type 0} where
 
   pub grown_more : (places old new : List (Option (Place H))) → Grown places old → new ≡ old ++ None ∷ [] → Grown places new
   grown_more places old new grown more =
-      (grown.0 + 1, more ∙ ap (λ l. l ++ None ∷ []) grown.1 ∙ one_more places grown.0) where
-    pushed : (n : ℕ) → replicate {A = Option (Place H)} n None ++ None ∷ [] ≡ replicate (n + 1) None
+      (suc grown.0, more ∙ ap (λ l. l ++ None ∷ []) grown.1 ∙ one_more places grown.0) where
+    pushed : (n : ℕ) → replicate {A = Option (Place H)} n None ++ None ∷ [] ≡ replicate (suc n) None
     pushed zero = refl
     pushed (suc n) = ap (λ l. None ∷ l) (pushed n)
-    one_more : (xs : List (Option (Place H))) (n : ℕ) → (xs ++ replicate n None) ++ None ∷ [] ≡ xs ++ replicate (n + 1) None
+    one_more : (xs : List (Option (Place H))) (n : ℕ) → (xs ++ replicate n None) ++ None ∷ [] ≡ xs ++ replicate (suc n) None
     one_more [] n = pushed n
     one_more (x ∷ xs) n = ap (λ l. x ∷ l) (one_more xs n)
+
+module _ {H N : Type 0} (name : H → N) (slot_of : N → ℕ) where
+  -- what a place of a side has fits
+  pub place_fits : (places : List (Option (Place H))) (slot : ℕ) (aside : List H) (desks : List (Desk H)) (waiting serving : List ℕ) (admitted asked : ℕ)
+      → IsSide name slot_of places aside desks waiting serving admitted asked → slot < length places
+      → PlaceFits (length desks) (2 ^ 48) (place_at places slot)
+  place_fits places slot aside desks waiting serving admitted asked side within =
+      let f = All-get_or (PlaceFits (length desks) asked) places slot None within side.fits in
+      let e = side.asked_few in (f.0, f.1, (let g = f.2 in omega arith))
+
+  -- room was made
+  pub roomy_side : (places new : List (Option (Place H))) (aside new_aside : List H) (desks : List (Desk H))
+      (waiting new_waiting serving new_serving : List ℕ) (admitted asked : ℕ) → IsSide name slot_of places aside desks waiting serving admitted asked
+      → Grown places new → new_aside ≡ aside → new_waiting ≡ waiting → new_serving ≡ serving
+      → IsSide name slot_of new new_aside desks new_waiting new_serving admitted asked
+  roomy_side places new aside new_aside desks waiting new_waiting serving new_serving admitted asked side grown a w s =
+      subst (λ (p : List (Option (Place H)) × List H × List ℕ × List ℕ). IsSide name slot_of p.0 p.1 desks p.2 p.3 admitted asked)
+      (λ i. (sym grown.1 i, sym a i, sym w i, sym s i))
+      (grown_side name slot_of places grown.0 aside desks waiting serving admitted asked side)

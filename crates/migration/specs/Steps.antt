@@ -1,12 +1,12 @@
 -- What one step does to the state of one slot, and which order it gives.
-use Rattle.std.specs.Prelude.{◌≡◌, ℕ, ◌+◌, ◌<◌, ◌⊎◌, List, [], ◌++◌, length, replicate, slice_set, Option, Some, None}
+use Rattle.std.specs.Prelude.{◌≡◌, ℕ, ◌+◌, ◌<◌, ◌⊎◌, Bool, cond, List, [], ◌++◌, length, replicate, slice_set, Option, Some, None}
 use Rattle.worker_core.specs.declared.pairing.Desk.{Desk}
 use Rattle.worker_core.specs.declared.order.Order.TheVariants.{Arrive, Leave}
 use Rattle.migration.specs.declared.place.Place.{Place}
 use Rattle.migration.specs.declared.place.State.{State}
 use Rattle.migration.specs.declared.place.State.TheVariants.{Front, Placed, Recall, Leaving}
 use Rattle.migration.specs.Desks.{Given, Refused}
-use Rattle.migration.specs.Places.{place_at}
+use Rattle.migration.specs.Places.{place_at, is_waiting_at}
 
 -- a half is told the hop of its slot, and then it was sent to a slice, or is at the front since that lane was full
 pub record Sends {H N : Type 0} (name : H → N) (hop_of : H → ℕ) (hop to : ℕ) (half : H) (state : State H) (old new : List (Desk H)) : Type 0 where
@@ -34,6 +34,16 @@ module _ {H N : Type 0} (name : H → N) (hop_of : H → ℕ) where
   PlaceServed slot (Some before) place old new =
       (now : Place H) × (place ≡ Some now) × (now.hop ≡ before.hop) × (now.admitted ≡ before.admitted)
       × Serves slot before.hop before.state now.state old new
+
+  -- the same at the place of a slot, and whether it waits still
+  abbrev pub ServedAt : ℕ → Bool → List (Option (Place H)) → List (Option (Place H)) → List (Desk H) → List (Desk H) → Type 0
+  ServedAt slot waits places new_places old new =
+      (place : Option (Place H)) × (new_places ≡ slice_set places slot place) × (waits ≡ is_waiting_at place)
+      × PlaceServed slot (place_at places slot) place old new
+
+-- a place waits now and didn't before, or as it did before
+abbrev pub NewlyWaits : {H : Type 0} → Bool → Option (Place H) → Option (Place H) → Type 0
+NewlyWaits newly old new = (x : ℕ) → cond (is_waiting_at new) x 0 ≡ cond (is_waiting_at old) x 0 + cond newly x 0
 
 -- what a move makes of a state: the destination changes, and a half that is at a slice is told to leave it
 abbrev pub Goes : {H : Type 0} → ℕ → ℕ → ℕ → State H → State H → List (Desk H) → List (Desk H) → Type 0

@@ -3,7 +3,7 @@ ghost use Rattle.std.specs.Prelude.{◌≡◌, ◌≤◌, ◌<◌, ◌+◌, ◌*
 ghost use Rattle.worker_core.specs.Workers.{IsNewDesk};
 ghost use Rattle.migration.specs.Sides.{IsSide};
 
-use crate::place::{Place, State};
+use crate::place::Place;
 use crate::steps;
 use lane_core::NoMemory;
 use pc_base::{SliceNo, Slot};
@@ -87,7 +87,12 @@ impl<H: Traveller> Side<H> {
         let admitted = Snapshot::of(&half);
         let state = steps::send(rt, &mut self.desks, half, slice, hop);
         let waits = steps::waits(&state);
-        self.places[slot.0 as usize] = Some(Place { hop, state, admitted });
+        let place = Place {
+            hop,
+            state,
+            admitted,
+        };
+        steps::put(&mut self.places, slot, place);
         steps::note(&mut self.waiting, slot, waits);
         Ok(())
     }
@@ -105,10 +110,10 @@ impl<H: Traveller> Side<H> {
         ensures lanes { lanes_of (desks_of self.new) ≡ lanes_of (desks_of self.old) }
     {
         self.asked += 1;
-        let newly = steps::go(
+        let newly = steps::go_at(
             rt,
             &mut self.desks,
-            &mut self.places[slot.0 as usize],
+            &mut self.places,
             slot,
             slice,
             until,
@@ -247,12 +252,7 @@ impl<H: Traveller> Side<H> {
         let Some(slot) = self.serving.pop() else {
             unreachable!()
         };
-        let waits = steps::serve(
-            rt,
-            &mut self.desks,
-            &mut self.places[slot.0 as usize],
-            slot,
-        );
+        let waits = steps::serve_at(rt, &mut self.desks, &mut self.places, slot);
         steps::note(&mut self.waiting, slot, waits);
     }
 }

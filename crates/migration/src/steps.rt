@@ -1,9 +1,9 @@
 //! Steps at one slot: an order is offered, and a half comes home.
-ghost use Rattle.std.specs.Prelude.{◌≡◌, ◌≤◌, ◌<◌, ◌+◌, ◌^◌, cond, true, [], ℕ, List, vec_len, vec_capacity, OnOk, IfErr, MatchOption};
+ghost use Rattle.std.specs.Prelude.{◌≡◌, ◌≤◌, ◌<◌, ◌+◌, ◌^◌, cond, true, [], ℕ, Some, List, length, vec_len, vec_capacity, slice_set, OnOk, IfErr, MatchOption};
 ghost use Rattle.std.specs.List.{sum_by};
 ghost use Rattle.migration.specs.Desks.{Given, Refused, Taken, Empty, order_count};
-ghost use Rattle.migration.specs.Places.{PlaceFits, slices_fit, is_admitted, is_placed, is_waiting, is_waiting_at};
-ghost use Rattle.migration.specs.Steps.{Sends, Recalls, Serves, PlaceServed, Goes, Moves, Homes, Welcomes, WelcomesAt, Grown};
+ghost use Rattle.migration.specs.Places.{place_at, PlaceFits, slices_fit, is_admitted, is_placed, is_waiting, is_waiting_at};
+ghost use Rattle.migration.specs.Steps.{Sends, Recalls, Serves, PlaceServed, ServedAt, Goes, Moves, MovesAt, NewlyWaits, Homes, Welcomes, WelcomesAt, Grown};
 
 use crate::place::{Place, State};
 use lane_core::{Full, NoMemory};
@@ -124,7 +124,7 @@ pub fn serve<H: Traveller, R: Wait>(
     place: &mut Option<Place<H>>,
     slot: Slot,
 ) -> bool
-    requires fits { PlaceFits (vec_len desks.old) (2 ^ 48) place.old }
+    requires fits { PlaceFits (length desks.old.items) (2 ^ 48) place.old }
     requires few { sum_by order_count desks.old.items < 2 ^ 50 }
     ensures served { PlaceServed H.name H.hop_of slot place.old place.new desks.old.items desks.new.items }
     ensures waits { result ≡ is_waiting_at place.new }
@@ -146,6 +146,21 @@ pub fn serve<H: Traveller, R: Wait>(
         admitted,
     });
     waits
+}
+
+// The same at the place of a slot.
+pub fn serve_at<H: Traveller, R: Wait>(
+    rt: &R,
+    desks: &mut Vec<Desk<H>>,
+    places: &mut Vec<Option<Place<H>>>,
+    slot: Slot,
+) -> bool
+    requires within { slot < length places.old.items }
+    requires fits { PlaceFits (length desks.old.items) (2 ^ 48) (place_at places.old.items slot) }
+    requires few { sum_by order_count desks.old.items < 2 ^ 50 }
+    ensures served { ServedAt H.name H.hop_of slot result places.old.items places.new.items desks.old.items desks.new.items }
+{
+    serve(rt, desks, &mut places[slot.0 as usize], slot)
 }
 
 // What a move makes of a state.
@@ -180,10 +195,10 @@ pub fn go<H: Traveller, R: Wait>(
     until: u64,
 ) -> bool
     requires admitted { is_admitted place.old ≡ true }
-    requires fits { PlaceFits (vec_len desks.old) (2 ^ 48) place.old }
+    requires fits { PlaceFits (length desks.old.items) (2 ^ 48) place.old }
     requires few { sum_by order_count desks.old.items < 2 ^ 50 }
     ensures moves { Moves slot slice until place.old place.new desks.old.items desks.new.items }
-    ensures newly { (x : ℕ) → cond (is_waiting_at place.new) x 0 ≡ cond (is_waiting_at place.old) x 0 + cond result x 0 }
+    ensures newly { NewlyWaits result place.old place.new }
     ensures len { vec_len desks.new ≡ vec_len desks.old }
 {
     let Some(place_was) = place.take() else {
@@ -203,6 +218,33 @@ pub fn go<H: Traveller, R: Wait>(
         admitted,
     });
     newly
+}
+
+// The same at the place of a slot.
+pub fn go_at<H: Traveller, R: Wait>(
+    rt: &R,
+    desks: &mut Vec<Desk<H>>,
+    places: &mut Vec<Option<Place<H>>>,
+    slot: Slot,
+    slice: SliceNo,
+    until: u64,
+) -> bool
+    requires within { slot < length places.old.items }
+    requires admitted { is_admitted (place_at places.old.items slot) ≡ true }
+    requires fits { PlaceFits (length desks.old.items) (2 ^ 48) (place_at places.old.items slot) }
+    requires few { sum_by order_count desks.old.items < 2 ^ 50 }
+    ensures moves { MovesAt slot slice until places.old.items places.new.items desks.old.items desks.new.items }
+    ensures newly { NewlyWaits result (place_at places.old.items slot) (place_at places.new.items slot) }
+{
+    go(rt, desks, &mut places[slot.0 as usize], slot, slice, until)
+}
+
+// Puts a place in its slot.
+pub fn put<H: Drop>(places: &mut Vec<Option<Place<H>>>, slot: Slot, place: Place<H>)
+    requires { slot < vec_len places.old }
+    ensures { places.new.items ≡ slice_set places.old.items slot (Some place) }
+{
+    places[slot.0 as usize] = Some(place);
 }
 
 // A half that came home goes to the place of its slot.
