@@ -75,21 +75,21 @@ module _ {H : Type 0} (slice : ℕ) (first : List H) (desks : List (Desk H)) whe
     fulls = λ other. refl;
   }
 
-  pub taking_more : (admitted done : ℕ) (aside new_aside : List H) (now new : List (Desk H)) → Taking slice done first aside desks now
-      → TookOne true slice admitted aside new_aside now new → Taking slice (done + 1) first new_aside desks new
-  taking_more admitted done aside new_aside now new taking took = record {
+  pub taking_more : (went : Bool) (admitted done : ℕ) (aside new_aside : List H) (now new : List (Desk H)) → Taking slice done first aside desks now
+      → went ≡ true → TookOne went slice admitted aside new_aside now new → Taking slice (done + 1) first new_aside desks new
+  taking_more went admitted done aside new_aside now new taking is took = record {
     others = λ other apart. ((took.others other apart).0 ∙ (taking.others other apart).0, (took.others other apart).1 ∙ (taking.others other apart).1);
-    so_many = let a = (took.more refl).0 in let b = taking.so_many in omega arith;
-    empties = (took.more refl).1 ∙ taking.empties;
+    so_many = let a = (took.more is).0 in let b = taking.so_many in omega arith;
+    empties = (took.more is).1 ∙ taking.empties;
     aside_grows = let a = taking.aside_grows in let b = took.aside_grows in omega arith;
     fulls = λ other. took.fulls other ∙ taking.fulls other;
   }
 
-  pub taking_ends : (admitted done : ℕ) (aside new_aside : List H) (now new : List (Desk H)) → Taking slice done first aside desks now
-      → TookOne false slice admitted aside new_aside now new → TookFrom slice admitted first new_aside desks new
-  taking_ends admitted done aside new_aside now new taking took = record {
+  pub taking_ends : (went : Bool) (admitted done : ℕ) (aside new_aside : List H) (now new : List (Desk H)) → Taking slice done first aside desks now
+      → went ≡ false → TookOne went slice admitted aside new_aside now new → TookFrom slice admitted first new_aside desks new
+  taking_ends went admitted done aside new_aside now new taking is took = record {
     others = λ other apart. ((took.others other apart).0 ∙ (taking.others other apart).0, (took.others other apart).1 ∙ (taking.others other apart).1);
-    ended = elim (took.ended refl) [
+    ended = elim (took.ended is) [
       | inl rose ↦ inl (subst (λ (n : ℕ). Rose n (empties_at new slice)) taking.empties rose)
       | inr full ↦ inr (inr full)
     ];
@@ -97,11 +97,11 @@ module _ {H : Type 0} (slice : ℕ) (first : List H) (desks : List (Desk H)) whe
     fulls = λ other. took.fulls other ∙ taking.fulls other;
   }
 
-  pub taking_all : (admitted : ℕ) (aside : List H) (now : List (Desk H)) → Taking slice 64 first aside desks now
+  pub taking_all : (admitted done : ℕ) (aside : List H) (now : List (Desk H)) → Taking slice done first aside desks now → done ≡ 64
       → TookFrom slice admitted first aside desks now
-  taking_all admitted aside now taking = record {
+  taking_all admitted done aside now taking all = record {
     others = taking.others;
-    ended = inr (inl taking.so_many);
+    ended = inr (inl (taking.so_many ∙ ap (λ n. home_count desks slice + n) all));
     aside_grows = taking.aside_grows;
     fulls = taking.fulls;
   }
@@ -116,19 +116,19 @@ pub below_none : {H : Type 0} (admitted : ℕ) (aside : List H) (desks : List (D
 below_none admitted aside desks = record { ended = λ low within. absurd (omega arith); others = λ high above. (refl, refl); fulls = λ other. refl }
 
 module _ {H : Type 0} (slice admitted : ℕ) (aside new_aside : List H) (desks now new : List (Desk H)) where
-  pub below_more : TakenBelow slice admitted aside desks now → TookFrom slice admitted aside new_aside now new → length new_aside ≤ admitted
-      → TakenBelow (slice + 1) admitted new_aside desks new
-  below_more below took few = record {
+  pub below_more : (was : ℕ) → TakenBelow slice was aside desks now → was ≡ admitted → TookFrom slice admitted aside new_aside now new
+      → length new_aside ≤ admitted → TakenBelow (slice + 1) admitted new_aside desks new
+  below_more was had same_count took few = record {
     ended = λ low within. elim (nat_eq low slice) as (λ b. nat_eq low slice ≡ b → HomeEnded (length new_aside) admitted low desks new) [
       | true ↦ λ e. subst (λ (n : ℕ). HomeEnded (length new_aside) admitted n desks new) (sym (eqb-true low slice e)) here
-      | false ↦ λ e. let apart : low ≢ slice = eqb-false low slice e in still low apart (below.ended low (omega arith))
+      | false ↦ λ e. let apart : low ≢ slice = eqb-false low slice e in still low apart (had.ended low (omega arith))
     ] refl;
     others = λ high above. let apart : high ≢ slice = λ e. absurd (omega arith) in
-        ((took.others high apart).0 ∙ (below.others high (omega arith)).0, (took.others high apart).1 ∙ (below.others high (omega arith)).1);
-    fulls = λ other. took.fulls other ∙ below.fulls other;
+        ((took.others high apart).0 ∙ (had.others high (omega arith)).0, (took.others high apart).1 ∙ (had.others high (omega arith)).1);
+    fulls = λ other. took.fulls other ∙ had.fulls other;
   } where
     same : (home_count now slice ≡ home_count desks slice) × (empties_at now slice ≡ empties_at desks slice)
-    same = below.others slice (omega arith)
+    same = had.others slice (omega arith)
     here : HomeEnded (length new_aside) admitted slice desks new
     here = elim took.ended [
       | inl rose ↦ inl (subst (λ (n : ℕ). Rose n (empties_at new slice)) same.1 rose)
@@ -137,7 +137,7 @@ module _ {H : Type 0} (slice admitted : ℕ) (aside new_aside : List H) (desks n
         | inr full ↦ inr (inr full)
       ]
     ]
-    still : (low : ℕ) → low ≢ slice → HomeEnded (length aside) admitted low desks now → HomeEnded (length new_aside) admitted low desks new
+    still : (low : ℕ) → low ≢ slice → HomeEnded (length aside) was low desks now → HomeEnded (length new_aside) admitted low desks new
     still low apart ended = elim ended [
       | inl rose ↦ inl (subst (λ (n : ℕ). Rose (empties_at desks low) n) (sym (took.others low apart).1) rose)
       | inr more ↦ elim more [

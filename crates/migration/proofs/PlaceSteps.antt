@@ -18,7 +18,7 @@ use Rattle.migration.specs.declared.place.State.{State}
 use Rattle.migration.specs.declared.place.State.TheVariants.{Front, Placed, Recall, Leaving}
 use Rattle.migration.specs.Desks.{sent_weight, home_weight, lanes_of, homes_of, order_count, fulls_at, Taken, Empty}
 use Rattle.migration.specs.Places.{place_at, pending_at, is_admitted, is_waiting, is_waiting_at, waits_at, PlaceFits, slices_fit, at_end, to_end, hop_at, hops_of, name_at, names_of, name_of, front_at, front_weight, pending, weight_at, wait_weight}
-use Rattle.migration.specs.Steps.{Sends, Serves, PlaceServed, ServedAt, Goes, Moves, MovesAt, NewlyWaits, Homes, Welcomes, Admits}
+use Rattle.migration.specs.Steps.{Sends, Serves, PlaceServed, ServedAt, Goes, Moves, MovesAt, NewlyWaits, Homes, Welcomes, Admits, Grown}
 use Rattle.migration.specs.Sides.{Balanced, slot_at, BySlot, IsSide, Rose}
 use Rattle.migration.specs.Words.{ServedNext}
 use Rattle.migration.proofs.Desks.{changed_sum, changed_len, homes_sum}
@@ -144,7 +144,8 @@ module _ {H N : Type 0} (name : H → N) (slot_of : N → ℕ) where
                    let c = ap (λ b. cond b (on slot slot) 0) e in omega arith)
               | false ↦ λ apart.
                   (let a = wait_weight_is name slot_of (on slot) k (place_at places k) (at_slot name slot_of places slots k) in
-                   let c = ap (λ b. cond (is_waiting_at (place_at places k)) (cond b 1 0) 0) apart in
+                   let c : ◌≡◌ {A = ℕ} (cond (is_waiting_at (place_at places k)) (on slot k) 0) (cond (is_waiting_at (place_at places k)) 0 0) =
+                   ap (λ t. cond (is_waiting_at (place_at places k)) (cond t 1 0) 0) apart in
                    let d = cond_zero (is_waiting_at (place_at places k)) in omega arith)
             ] refl) in
             let none = sum_by-le f 0 places all in
@@ -200,12 +201,12 @@ module _ {H N : Type 0} (name : H → N) (slot_of : N → ℕ) where
         let c = new_sum desks (All-tail IsNewDesk d desks new) f zero_at in omega arith
 
   -- a half came home to a slot that was leaving
-  pub came_home : (places : List (Option (Place H))) (place : Option (Place H)) (slot slice : ℕ) (half : H) (aside : List H) (desks now : List (Desk H))
+  pub came_home : (places new_places : List (Option (Place H))) (place : Option (Place H)) (slot slice : ℕ) (half : H) (aside : List H) (desks now : List (Desk H))
       (waiting new_waiting serving : List ℕ) (admitted asked : ℕ)
       → IsSide name slot_of places aside desks waiting serving admitted asked → slot < length places → Taken slice half desks now
       → (old : Option (Place H)) → old ≡ place_at places slot → Welcomes half old place None → new_waiting ≡ waiting ++ slot ∷ []
-      → IsSide name slot_of (set places slot place) aside now new_waiting serving admitted asked
-  came_home places place slot slice half aside desks now waiting new_waiting serving admitted asked side within took old same welcomes more =
+      → new_places ≡ set places slot place → IsSide name slot_of new_places aside now new_waiting serving admitted asked
+  came_home places new_places place slot slice half aside desks now waiting new_waiting serving admitted asked side within took old same welcomes more made =
       let before = welcomes.0 in
       let after = welcomes.1 in
       let was : place_at places slot ≡ Some before = sym same ∙ welcomes.2 in
@@ -220,7 +221,8 @@ module _ {H N : Type 0} (name : H → N) (slot_of : N → ℕ) where
       let fits : PlaceFits (length desks) asked (Some before) =
       subst (PlaceFits (length desks) asked) was (All-get_or (PlaceFits (length desks) asked) places slot None within side.fits) in
       let b = took.before in let n = took.now in
-      set_side name slot_of places place slot aside aside desks now waiting new_waiting serving serving admitted admitted asked asked side (record {
+      subst (λ (l : List (Option (Place H))). IsSide name slot_of l aside now new_waiting serving admitted asked) (sym made)
+      (set_side name slot_of places place slot aside aside desks now waiting new_waiting serving serving admitted admitted asked asked side (record {
         within = within;
         balance = λ h.
         let a : front_at name h place ≡ h (name half) = ap (front_at name h) is ∙ ap (front_weight name h) front in
@@ -253,16 +255,17 @@ module _ {H N : Type 0} (name : H → N) (slot_of : N → ℕ) where
         let q : pending_at place ≡ 1 = ap pending_at is ∙ ap pending front in omega arith;
         counted = ap (λ t. admitted + cond t 1 0) (ap is_admitted was ∙ sym (ap is_admitted is));
         aside_few = side.aside_few;
-      })
+      }))
 
   -- a half that came home is kept aside
-  pub kept_aside : (places : List (Option (Place H))) (slice : ℕ) (half : H) (aside new_aside : List H) (desks now : List (Desk H))
+  pub kept_aside : (places new_places : List (Option (Place H))) (slice : ℕ) (half : H) (aside new_aside : List H) (desks now : List (Desk H))
       (waiting serving : List ℕ) (admitted asked : ℕ)
       → IsSide name slot_of places aside desks waiting serving admitted asked → Taken slice half desks now → new_aside ≡ aside ++ half ∷ []
-      → length aside < admitted → IsSide name slot_of places new_aside now waiting serving admitted asked
-  kept_aside places slice half aside new_aside desks now waiting serving admitted asked side took more room =
+      → length aside < admitted → new_places ≡ places → IsSide name slot_of new_places new_aside now waiting serving admitted asked
+  kept_aside places new_places slice half aside new_aside desks now waiting serving admitted asked side took more room made =
       let b = took.before in let n = took.now in
-      same_places name slot_of places aside new_aside desks now waiting waiting serving serving admitted asked side
+      subst (λ (l : List (Option (Place H))). IsSide name slot_of l new_aside now waiting serving admitted asked) (sym made)
+      (same_places name slot_of places aside new_aside desks now waiting waiting serving serving admitted asked side
       (λ h.
       let s = changed_sum slice b n desks now took.desk (sent_weight name h) in
       let t = ap (λ o. weight name h (arrivals (sent o))) took.orders in
@@ -274,7 +277,7 @@ module _ {H N : Type 0} (name : H → N) (slot_of : N → ℕ) where
       (changed_len slice b n desks now took.desk)
       (let s = changed_sum slice b n desks now took.desk (order_count {H = H}) in
        let t = ap (λ o. length (sent o)) took.orders in omega arith)
-      (let l = ap length more ∙ length-append aside (half ∷ []) in omega arith)
+      (let l = ap length more ∙ length-append aside (half ∷ []) in omega arith))
 
   -- a lane home was empty
   pub none_home : (places : List (Option (Place H))) (slice : ℕ) (aside : List H) (desks now : List (Desk H)) (waiting serving : List ℕ) (admitted asked : ℕ)
@@ -298,7 +301,7 @@ module _ {H N : Type 0} (name : H → N) (slot_of : N → ℕ) where
   -- a half was admitted
   pub admitted_side : (hop_of : H → ℕ) (places new_places : List (Option (Place H))) (slot slice hop : ℕ) (half : H) (aside : List H)
       (desks now : List (Desk H)) (waiting new_waiting serving : List ℕ) (admitted asked : ℕ)
-      → IsSide name slot_of places aside desks waiting serving admitted asked → slot_of (name half) ≡ slot → name_of name places slot ≡ None
+      → IsSide name slot_of places aside desks waiting serving admitted asked → slot_of (name half) ≡ slot → is_admitted (place_at places slot) ≡ false
       → slice < length desks → hop < 2 ^ 60 → asked < 2 ^ 48
       → (admits : Admits name hop_of slot slice hop half places new_places desks now)
       → ((w : ℕ → ℕ) → sum_by w new_waiting ≡ sum_by w waiting + cond (is_waiting admits.now.state) (w slot) 0)
@@ -307,7 +310,7 @@ module _ {H N : Type 0} (name : H → N) (slot_of : N → ℕ) where
       let grown : List (Option (Place H)) = places ++ replicate admits.more None in
       let after = admits.now in
       let free : place_at grown slot ≡ None =
-      place_grown name slot_of places admits.more slot ∙ no_name (place_at places slot) (sym (index_map (name_at name) places slot None) ∙ fresh) in
+      place_grown name slot_of places admits.more slot ∙ no_place (place_at places slot) fresh in
       let step = (sends_step name desks now hop_of hop slice half after.state admits.sends).0 in
       subst (λ (l : List (Option (Place H))). IsSide name slot_of l aside now new_waiting serving (admitted + 1) (asked + 1)) (sym admits.is)
       (set_side name slot_of grown (Some after) slot aside aside desks now waiting new_waiting serving serving admitted (admitted + 1) asked (asked + 1)
@@ -335,9 +338,9 @@ module _ {H N : Type 0} (name : H → N) (slot_of : N → ℕ) where
         counted = let p : ◌≡◌ {A = ℕ} (cond (is_admitted (place_at grown slot)) 1 0) 0 = ap (λ x. cond (is_admitted x) 1 0) free in omega arith;
         aside_few = let a = side.aside_few in omega arith;
       })) where
-    no_name : (x : Option (Place H)) → name_at name x ≡ None → x ≡ None
-    no_name None none = refl
-    no_name (Some place) none = absurd (let no : ⊥ = cc in no)
+    no_place : (x : Option (Place H)) → is_admitted x ≡ false → x ≡ None
+    no_place None none = refl
+    no_place (Some place) none = absurd (true≢false none)
 
   -- a slot that was admitted and doesn't wait leaves room among those that do
   pub waiting_fewer : (places : List (Option (Place H))) (slot : ℕ) (aside : List H) (desks : List (Desk H)) (waiting serving : List ℕ) (admitted asked : ℕ)
@@ -390,7 +393,7 @@ module _ {H N : Type 0} (name : H → N) (slot_of : N → ℕ) where
       let place = moves.0 in
       let within = moves.1 in
       let fits = All-get_or (PlaceFits (length desks) asked) places slot None within side.fits in
-      let step = moved_place name desks now slot slice until (length desks) asked (place_at places slot) place fits there moves.3 in
+      let step = moved_place name (λ _. 0) desks now slot slice until (length desks) asked (place_at places slot) place fits there moves.3 in
       let is : place_at new_places slot ≡ place = ap (λ l. place_at l slot) moves.2 ∙ get_or-set_same places slot place None within in (
         subst (λ (l : List (Option (Place H))). IsSide name slot_of l aside now new_waiting serving admitted (asked + 1)) (sym moves.2)
             (stepped_side 2 places place slot aside desks now waiting new_waiting serving serving admitted asked (asked + 1) side within step.0 step.1
@@ -459,3 +462,22 @@ pub leaving_idle : {H : Type 0} (half : H) (old new : Option (Place H)) → Welc
 leaving_idle half old new welcomes =
     let homes = welcomes.6 in
     (ap is_admitted welcomes.2, ap is_waiting_at welcomes.2 ∙ ap is_waiting homes.2)
+
+-- a half was admitted at a list of places that had grown
+pub admits_from : {H N : Type 0} (name : H → N) (hop_of : H → ℕ) (slot slice hop : ℕ) (half : H) (places mid new : List (Option (Place H))) (now : Place H)
+    (desks after : List (Desk H)) → Grown places mid → slot < length mid → new ≡ set mid slot (Some now) → now.hop ≡ hop → now.admitted.value ≡ half
+    → Sends name hop_of hop slice half now.state desks after → Admits name hop_of slot slice hop half places new desks after
+admits_from name hop_of slot slice hop half places mid new now desks after grown within is hopped same sends = record {
+  now = now;
+  more = grown.0;
+  within = let a = ap length grown.1 in omega arith;
+  is = is ∙ ap (λ l. set l slot (Some now)) grown.1;
+  hopped = hopped;
+  admitted = same;
+  sends = sends;
+}
+
+pub still_free : {H N : Type 0} (name : H → N) (slot_of : N → ℕ) (places mid : List (Option (Place H))) (slot : ℕ) → Grown places mid
+    → is_admitted (place_at places slot) ≡ false → is_admitted (place_at mid slot) ≡ false
+still_free name slot_of places mid slot grown fresh =
+    ap (λ l. is_admitted (place_at l slot)) grown.1 ∙ ap is_admitted (place_grown name slot_of places grown.0 slot) ∙ fresh

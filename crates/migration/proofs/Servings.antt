@@ -1,5 +1,5 @@
 -- How the slots that wait are served, one after another.
-use Rattle.std.proofs.Common.{◌≡◌, ◌≢◌, ℕ, ◌+◌, ◌<◌, ◌≤◌, ◌⊎◌, inl, inr, Bool, true, false, true≢false, cond, List, [], ◌∷◌, ◌++◌, length, map, set, get_or, refl, sym, ap, ◌∙◌, subst, arith, length-append}
+use Rattle.std.proofs.Common.{◌≡◌, ◌≢◌, ℕ, ◌+◌, ◌-◌, ◌^◌, ◌<◌, ◌≤◌, ◌⊎◌, inl, inr, Bool, true, false, true≢false, cond, List, [], ◌∷◌, ◌++◌, length, map, set, get_or, refl, sym, ap, ◌∙◌, subst, arith, length-append}
 use Rattle.std.specs.Prelude.{nat_eq, Option, Some, None}
 use Rattle.std.specs.List.{sum_by}
 use Rattle.std.proofs.lemmas.List.Sums.{sum_by_push, get_or-le-sum_by}
@@ -11,11 +11,12 @@ use Rattle.worker_core.specs.declared.pairing.Desk.{Desk}
 use Rattle.worker_core.specs.Workers.{Lanes}
 use Rattle.migration.specs.declared.place.Place.{Place}
 use Rattle.migration.specs.declared.place.State.TheVariants.{Front, Placed, Recall, Leaving}
-use Rattle.lane_core.specs.Ends.{raised}
-use Rattle.migration.specs.Desks.{fulls_at}
+use Rattle.lane_core.specs.declared.ends.Receiver.{Receiver}
+use Rattle.lane_core.specs.Ends.{raised, taken, empty_answers}
+use Rattle.migration.specs.Desks.{fulls_at, homes_of, empties_at, home_count}
 use Rattle.migration.specs.Places.{place_at, is_waiting, is_waiting_at, waits_at, waits_for, hop_at, hops_of, name_at, names_of, wait_weight}
 use Rattle.migration.specs.Steps.{Welcomes}
-use Rattle.migration.specs.Sides.{slot_at, BySlot, IsSide, Rose, AllMetFull}
+use Rattle.migration.specs.Sides.{slot_at, BySlot, IsSide, Rose, AllMetFull, HomeEnded}
 use Rattle.migration.specs.Words.{Roll, ServedNext}
 use Rattle.migration.proofs.PlaceSteps.{on, rose_raised, waiting_within}
 use Rattle.migration.proofs.SideSteps.{at_slot, wait_weight_is}
@@ -82,7 +83,7 @@ rose_later first before now rose more = elim more [
         | inr last ↦ inr last
       ]
       | inr last ↦ elim again [
-        | inl higher ↦ inl (omega arith)
+        | inl higher ↦ inr (omega arith)
         | inr ends ↦ inr ends
       ]
     ]
@@ -140,3 +141,24 @@ module _ {H : Type 0} where
       → AllMetFull places desks now → AllMetFull places first now
   met_full_since places first desks now same met slot slice waits =
       subst (λ (n : ℕ). Rose n (fulls_at now slice)) (same slice) (met slot slice waits)
+
+pub none_left : (serving : List ℕ) → length serving ≡ 0 → serving ≡ []
+none_left [] none = refl
+none_left (x ∷ xs) none = absurd (omega arith)
+
+-- how the lanes home ended stays, while orders are given
+pub ended_since : {H : Type 0} (admitted was : ℕ) (aside old_aside : List H) (slice : ℕ) (first desks now : List (Desk H)) → homes_of now ≡ homes_of desks
+    → aside ≡ old_aside → admitted ≡ was → HomeEnded (length old_aside) was slice first desks → HomeEnded (length aside) admitted slice first now
+ended_since {H} admitted was aside old_aside slice first desks now homes same alike ended = elim ended [
+    | inl rose ↦ inl (subst (Rose (empties_at first slice)) (sym (by_homes empty_answers)) rose)
+    | inr more ↦ elim more [
+      | inl many ↦ inr (inl (by_homes (λ home. length (taken home)) ∙ many))
+      | inr full ↦ inr (inr (ap length same ∙ full ∙ sym alike))
+    ]
+  ] where
+  map_map : {A B : Type 0} (f : A → B) (g : B → ℕ) (xs : List A) → map (λ x. g (f x)) xs ≡ map g (map f xs)
+  map_map f g [] = refl
+  map_map f g (x ∷ xs) = ap (λ l. g (f x) ∷ l) (map_map f g xs)
+  by_homes : (count : Receiver H → ℕ) → get_or (map (λ (desk : Desk H). count desk.home) now) slice 0 ≡ get_or (map (λ (desk : Desk H). count desk.home) desks) slice 0
+  by_homes count = ap (λ l. get_or l slice 0)
+      (map_map (λ (desk : Desk H). desk.home) count now ∙ ap (map count) homes ∙ sym (map_map (λ (desk : Desk H). desk.home) count desks))

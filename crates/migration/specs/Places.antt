@@ -48,6 +48,13 @@ module _ {H : Type 0} where
   is_waiting (Recall _ _ _) = true
   is_waiting (Leaving _ _) = false
 
+  -- whether its half was told to leave
+  abbrev pub is_leaving : State H → Bool
+  is_leaving (Front _ _) = false
+  is_leaving (Placed _) = false
+  is_leaving (Recall _ _ _) = false
+  is_leaving (Leaving _ _) = true
+
   abbrev pub is_waiting_at : Option (Place H) → Bool
   is_waiting_at None = false
   is_waiting_at (Some place) = is_waiting place.state

@@ -37,7 +37,7 @@ pub record IsSide {H N : Type 0} (name : H → N) (slot_of : N → ℕ) (places 
 
 -- a count of answers rose, or stands at the last u64
 abbrev pub Rose : ℕ → ℕ → Type 0
-Rose old new = (old < new) ⊎ (new ≡ 2 ^ 64 - 1)
+Rose old new = (old < new) ⊎ (2 ^ 64 - 1 ≤ new)
 
 -- each slot that still waits for a slice met a full lane of orders there
 abbrev pub AllMetFull : {H : Type 0} → List (Option (Place H)) → List (Desk H) → List (Desk H) → Type 0

@@ -1,12 +1,12 @@
 -- What one step does to the state of one slot, and which order it gives.
-use Rattle.std.specs.Prelude.{◌≡◌, ℕ, ◌+◌, ◌<◌, ◌⊎◌, Bool, cond, List, [], ◌++◌, length, replicate, slice_set, Option, Some, None}
+use Rattle.std.specs.Prelude.{◌≡◌, ℕ, ◌+◌, ◌<◌, ◌⊎◌, Bool, false, cond, List, [], ◌++◌, length, replicate, slice_set, Option, Some, None}
 use Rattle.worker_core.specs.declared.pairing.Desk.{Desk}
 use Rattle.worker_core.specs.declared.order.Order.TheVariants.{Arrive, Leave}
 use Rattle.migration.specs.declared.place.Place.{Place}
 use Rattle.migration.specs.declared.place.State.{State}
 use Rattle.migration.specs.declared.place.State.TheVariants.{Front, Placed, Recall, Leaving}
 use Rattle.migration.specs.Desks.{Given, Refused}
-use Rattle.migration.specs.Places.{place_at, is_waiting_at}
+use Rattle.migration.specs.Places.{place_at, is_waiting_at, is_leaving}
 
 -- a half is told the hop of its slot, and then it was sent to a slice, or is at the front since that lane was full
 pub record Sends {H N : Type 0} (name : H → N) (hop_of : H → ℕ) (hop to : ℕ) (half : H) (state : State H) (old new : List (Desk H)) : Type 0 where
@@ -64,7 +64,7 @@ pub record Moves {H : Type 0} (slot slice until : ℕ) (place new_place : Option
 
 -- what a state becomes as a half comes home, which is handed back where it isn't expected
 abbrev pub Homes : {H : Type 0} → H → State H → State H → Option H → Type 0
-Homes half old new (Some back) = (back ≡ half) × (new ≡ old)
+Homes half old new (Some back) = (back ≡ half) × (new ≡ old) × (is_leaving old ≡ false)
 Homes half old new None = (from : ℕ) × (to : ℕ) × (old ≡ Leaving from to) × (new ≡ Front half to)
 
 -- a half that came home stands at the front where its slot is leaving, and else it is handed back

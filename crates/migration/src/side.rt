@@ -1,5 +1,5 @@
 //! A side: the desks of its workers, and the state of each slot.
-ghost use Rattle.std.specs.Prelude.{◌≡◌, ◌≤◌, ◌<◌, ◌+◌, ◌*◌, ◌^◌, ◌⊎◌, ℕ, All, Some, None, true, [], length, vec_len, vec_capacity, IsTrue, IsFalse, OnOk, OnErr, IfErr};
+ghost use Rattle.std.specs.Prelude.{◌≡◌, ◌≤◌, ◌<◌, ◌+◌, ◌*◌, ◌^◌, ◌⊎◌, ℕ, All, true, false, [], length, vec_len, vec_capacity, IsTrue, IsFalse, OnOk, OnErr, IfErr};
 ghost use Rattle.worker_core.specs.Workers.{IsNewDesk};
 ghost use Rattle.migration.specs.Sides.{IsSide};
 
@@ -37,7 +37,7 @@ pub struct Side<H: Traveller> {
 
 impl<H: Traveller> Side<H> {
     ghost use Rattle.migration.specs.Desks.{lanes_of, homes_of, fulls_at};
-    ghost use Rattle.migration.specs.Places.{names_of, name_of, place_at, is_admitted, is_placed_at};
+    ghost use Rattle.migration.specs.Places.{names_of, place_at, is_admitted, is_placed_at};
     ghost use Rattle.migration.specs.Steps.{Grown, Admits, MovesAt};
     ghost use Rattle.migration.specs.Sides.{AllMetFull, HomeEnded};
     ghost use Rattle.migration.specs.Words.{desks_of, places_of, aside_of, waiting_of, serving_of, admitted_of, asked_of, roll_of, TookOne, TookFrom, ServedNext};
@@ -63,7 +63,7 @@ impl<H: Traveller> Side<H> {
     /// Admits a half, which is bound for a slice, and offers it there at once. It comes back for want
     /// of memory alone.
     pub fn admit<R: Wait>(&mut self, rt: &R, half: H, slice: SliceNo, hop: u64) -> Result<(), H>
-        requires fresh { name_of H.name (places_of self.old) (H.slot_of (H.name half)) ≡ None }
+        requires fresh { is_admitted (place_at (places_of self.old) (H.slot_of (H.name half))) ≡ false }
         requires slice { slice < length (desks_of self.old) }
         requires hop { hop < 2 ^ 60 }
         requires asked { asked_of self.old < 2 ^ 48 }
@@ -142,6 +142,20 @@ impl<H: Traveller> Side<H> {
             Some(Some(place)) => steps::placed(&place.state),
             _ => false,
         }
+    }
+
+    /// Whether a half was admitted at this slot.
+    pub fn is_admitted(&self, slot: Slot) -> bool
+        ensures { result ≡ is_admitted (place_at (places_of self.now) slot) }
+    {
+        matches!(self.places.get(slot.0 as usize), Some(Some(_)))
+    }
+
+    /// How many slices the side has.
+    pub fn slices(&self) -> usize
+        ensures { result ≡ length (desks_of self.now) }
+    {
+        self.desks.len()
     }
 
     /// How many calls of `admit` and `go` there were.

@@ -1,4 +1,4 @@
-use Rattle.std.proofs.Common.{rules, ◌≡◌, ◌∙◌, Option, None, true, get_or, sym, ap, subst, arith}
+use Rattle.std.proofs.Common.{rules, ◌≡◌, ◌∙◌, ◌^◌, Option, None, true, length, get_or, sym, ap, subst, arith}
 use Rattle.std.proofs.lemmas.List.{get_or-set_same}
 use Rattle.migration.specs.declared.place.Place.{Place}
 use Rattle.migration.specs.Places.{PlaceFits, is_admitted, place_at}
@@ -7,13 +7,13 @@ use Rattle.migration.proofs.SideSteps.{same_default}
 use Rattle.migration.proofs.steps.go_at.Goals as goal
 
 pub go-requires-clause-fits : goal.go-requires-clause-fits
-go-requires-clause-fits g c =
+go-requires-clause-fits g c = λ κs within.
     let there : c.index_mut.result.now ≡ get_or c.args.places.now.items c.args.slot c.index_mut.result.now = search rules in
     let is = there ∙ same_default c.args.places.now.items c.args.slot c.index_mut.result.now None c.requires.within in
-    subst (PlaceFits _ _) (sym is) c.requires.fits
+    subst (PlaceFits (length c.args.desks.now.items) (2 ^ 48)) (sym is) c.requires.fits
 
 pub go-requires-clause-admitted : goal.go-requires-clause-admitted
-go-requires-clause-admitted g c =
+go-requires-clause-admitted g c = λ κs within.
     let there : c.index_mut.result.now ≡ get_or c.args.places.now.items c.args.slot c.index_mut.result.now = search rules in
     let is = there ∙ same_default c.args.places.now.items c.args.slot c.index_mut.result.now None c.requires.within in
     ap is_admitted is ∙ c.requires.admitted

@@ -15,14 +15,6 @@ pub returns-in_default-clause-took : goal.returns-in_default-clause-took
 returns-in_default-clause-took g c =
     took_none c.args.slice _ _ _ _ _ c.in_default.ensures.taken (omega arith)
 
-pub invariant_of-self-in_default : goal.invariant_of-self-in_default
-invariant_of-self-in_default g c = record {
-  laid = none_home g.H.Traveller.name g.H.Traveller.slot_of _ c.args.slice _ _ _ _ _ _ _ c.args.self.now.laid c.in_default.ensures.taken;
-  aside_room = search rules;
-  waiting_room = search rules;
-  serving_room = search rules;
-}
-
 pub push_reserved-requires-in-None : goal.push_reserved-requires-in-None
 push_reserved-requires-in-None g c =
     let w = c.in-None.ensures in
@@ -33,8 +25,9 @@ push_reserved-requires-in-None g c =
 
 pub invariant_of-self-in-Some-welcome : goal.invariant_of-self-in-Some-welcome
 invariant_of-self-in-Some-welcome g c = record {
-  laid = subst (λ l. _) (sym c.in-Some-welcome.ensures.1)
-      (kept_aside g.H.Traveller.name g.H.Traveller.slot_of _ c.args.slice _ _ _ _ _ _ _ _ _ c.args.self.now.laid c.in-Some.ensures.taken (search rules) (omega arith));
+  laid = kept_aside g.H.Traveller.name g.H.Traveller.slot_of _ _ c.args.slice c.in-Some.half _ _ _ _ _ _ _ _ c.args.self.now.laid c.in-Some.ensures.taken
+      (c.push_reserved.ensures.items ∙ ap (λ h. c.args.self.now.aside.items ++ h ∷ []) c.in-Some-welcome.ensures.0)
+      (let a = c.args.self.now.aside.ok in omega arith) c.in-Some-welcome.ensures.1;
   aside_room = search rules;
   waiting_room = search rules;
   serving_room = search rules;
@@ -44,9 +37,8 @@ pub invariant_of-self-in-None : goal.invariant_of-self-in-None
 invariant_of-self-in-None g c =
     let w = c.in-None.ensures in
     record {
-      laid = subst (λ l. _) (sym w.2)
-          (came_home g.H.Traveller.name g.H.Traveller.slot_of c.args.self.now.places.items w.0 c.slot-slot.result c.args.slice _ _ _ _ _ _ _ _ _ c.args.self.now.laid
-          w.1 c.in-Some.ensures.taken _ refl w.3 c.push_reserved-in-None.ensures.items);
+      laid = came_home g.H.Traveller.name g.H.Traveller.slot_of c.args.self.now.places.items _ w.0 c.slot-slot.result c.args.slice c.in-Some.half _ _ _ _ _ _ _ _ c.args.self.now.laid
+          w.1 c.in-Some.ensures.taken _ refl w.3 c.push_reserved-in-None.ensures.items w.2;
       aside_room = search rules;
       waiting_room = search rules;
       serving_room = search rules;
