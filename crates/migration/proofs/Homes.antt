@@ -22,7 +22,7 @@ module _ {H : Type 0} (slice admitted : ℕ) (aside new_aside : List H) (desks n
         others = λ other apart. (count_other slice b n desks now took.desk count other apart, count_other slice b n desks now took.desk empties other apart);
         more = λ went. (
           count_now slice b n desks now took.desk count ∙ ap length took.taken ∙ length-append (taken b.home) (half ∷ [])
-          ∙ ap (λ n. n + 1) (sym (count_before slice b n desks now took.desk count)),
+              ∙ ap (λ n. n + 1) (sym (count_before slice b n desks now took.desk count)),
           count_same slice b n desks now took.desk empties slice took.empties,
         );
         ended = λ no. absurd (true≢false no);
@@ -129,6 +129,7 @@ module _ {H : Type 0} (slice admitted : ℕ) (aside new_aside : List H) (desks n
   } where
     same : (home_count now slice ≡ home_count desks slice) × (empties_at now slice ≡ empties_at desks slice)
     same = had.others slice (omega arith)
+
     here : HomeEnded (length new_aside) admitted slice desks new
     here = elim took.ended [
       | inl rose ↦ inl (subst (λ (n : ℕ). Rose n (empties_at new slice)) same.1 rose)
@@ -137,6 +138,7 @@ module _ {H : Type 0} (slice admitted : ℕ) (aside new_aside : List H) (desks n
         | inr full ↦ inr (inr full)
       ]
     ]
+
     still : (low : ℕ) → low ≢ slice → HomeEnded (length aside) was low desks now → HomeEnded (length new_aside) admitted low desks new
     still low apart ended = elim ended [
       | inl rose ↦ inl (subst (λ (n : ℕ). Rose (empties_at desks low) n) (sym (took.others low apart).1) rose)

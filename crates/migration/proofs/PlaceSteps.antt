@@ -35,9 +35,9 @@ sum_by-one {X} (x ∷ xs) = let one : X → ℕ = λ _. 1 in let h = sum_by-one 
 
 pub rose_raised : (old new : ℕ) → new ≡ raised old → Rose old new
 rose_raised old new e = elim (nat_lt old (2 ^ 64 - 1)) as (λ b. nat_lt old (2 ^ 64 - 1) ≡ b → Rose old new) [
-    | true ↦ λ low. let l : old < 2 ^ 64 - 1 = ltb-true old (2 ^ 64 - 1) low in inl (omega arith)
-    | false ↦ λ high. let h : 2 ^ 64 - 1 ≤ old = ltb-false old (2 ^ 64 - 1) high in inr (omega arith)
-  ] refl
+  | true ↦ λ low. let l : old < 2 ^ 64 - 1 = ltb-true old (2 ^ 64 - 1) low in inl (omega arith)
+  | false ↦ λ high. let h : 2 ^ 64 - 1 ≤ old = ltb-false old (2 ^ 64 - 1) high in inr (omega arith)
+] refl
 
 -- a weight that sees one slot alone
 abbrev pub on : ℕ → ℕ → ℕ
@@ -83,7 +83,7 @@ module _ {H N : Type 0} (name : H → N) (hop_of : H → ℕ) (desks now : List 
         state_place 0 before after served.3 step.0,
         step.1,
         (let s = serves_fit name desks now hop_of n slot before.hop before.state after.state (fits.0, fits.1) served.4 in
-         (s.0, s.1, (let h = served.2 in let f = fits.2 in omega arith))),
+            (s.0, s.1, (let h = served.2 in let f = fits.2 in omega arith))),
         served.2,
       )
 
@@ -97,7 +97,7 @@ module _ {H N : Type 0} (name : H → N) (hop_of : H → ℕ) (desks now : List 
       subst (λ (p : Option (Place H) × Option (Place H)). PlaceStep name 2 p.0 p.1 desks now × PlaceFits n (asked + 1) p.1) (λ i. (sym moves.was i, sym moves.is i)) (
         state_place 2 before after moves.admitted (goes_step name desks now slot slice until before.state after.state moves.goes),
         (let s = goes_fit name desks now n slot slice until before.state after.state (fits.0, fits.1) there moves.goes in
-         (s.0, s.1, (let h = moves.hop in let f = fits.2 in omega arith))),
+            (s.0, s.1, (let h = moves.hop in let f = fits.2 in omega arith))),
       )
 
 module _ {H N : Type 0} (name : H → N) (slot_of : N → ℕ) where
@@ -141,27 +141,28 @@ module _ {H N : Type 0} (name : H → N) (slot_of : N → ℕ) where
             elim (nat_eq k slot) as (λ b. nat_eq k slot ≡ b → f (place_at places k) ≤ 0) [
               | true ↦ λ same. subst (λ (n : ℕ). f (place_at places n) ≤ 0) (sym (eqb-true k slot same))
                   (let a = wait_weight_is name slot_of (on slot) slot (place_at places slot) (at_slot name slot_of places slots slot) in
-                   let c = ap (λ b. cond b (on slot slot) 0) e in omega arith)
+                  let c = ap (λ b. cond b (on slot slot) 0) e in omega arith)
               | false ↦ λ apart.
                   (let a = wait_weight_is name slot_of (on slot) k (place_at places k) (at_slot name slot_of places slots k) in
-                   let c : ◌≡◌ {A = ℕ} (cond (is_waiting_at (place_at places k)) (on slot k) 0) (cond (is_waiting_at (place_at places k)) 0 0) =
-                   ap (λ t. cond (is_waiting_at (place_at places k)) (cond t 1 0) 0) apart in
-                   let d = cond_zero (is_waiting_at (place_at places k)) in omega arith)
+                  let c : ◌≡◌ {A = ℕ} (cond (is_waiting_at (place_at places k)) (on slot k) 0) (cond (is_waiting_at (place_at places k)) 0 0) =
+                  ap (λ t. cond (is_waiting_at (place_at places k)) (cond t 1 0) 0) apart in
+                  let d = cond_zero (is_waiting_at (place_at places k)) in omega arith)
             ] refl) in
             let none = sum_by-le f 0 places all in
             absurd (sum_zero (length places) (sum_by f places) none some)
       ] refl where
-    sum_zero : (n total : ℕ) → total ≤ n * 0 → 0 < total → ⊥
-    sum_zero n total low high = let z : n * 0 ≡ 0 = mul_zero n in omega arith
-    cond_zero : (b : Bool) → ◌≡◌ {A = ℕ} (cond b 0 0) 0
-    cond_zero true = refl
-    cond_zero false = refl
+        sum_zero : (n total : ℕ) → total ≤ n * 0 → 0 < total → ⊥
+        sum_zero n total low high = let z : n * 0 ≡ 0 = mul_zero n in omega arith
+
+        cond_zero : (b : Bool) → ◌≡◌ {A = ℕ} (cond b 0 0) 0
+        cond_zero true = refl
+        cond_zero false = refl
 
   pub waiting_within : (places : List (Option (Place H))) (slot : ℕ) → is_waiting_at (place_at places slot) ≡ true → slot < length places
   waiting_within places slot waits = elim (nat_lt slot (length places)) as (λ b. nat_lt slot (length places) ≡ b → slot < length places) [
-      | true ↦ λ e. ltb-true slot (length places) e
-      | false ↦ λ e. absurd (true≢false (sym waits ∙ ap is_waiting_at (get_or_past places slot None (ltb-false slot (length places) e))))
-    ] refl
+    | true ↦ λ e. ltb-true slot (length places) e
+    | false ↦ λ e. absurd (true≢false (sym waits ∙ ap is_waiting_at (get_or_past places slot None (ltb-false slot (length places) e))))
+  ] refl
 
   -- the slots with an order to give are no more than those admitted
   pub waiting_few : (places : List (Option (Place H))) (aside : List H) (desks : List (Desk H)) (waiting serving : List ℕ) (admitted asked : ℕ)
@@ -172,19 +173,20 @@ module _ {H N : Type 0} (name : H → N) (slot_of : N → ℕ) where
       let b = side.counted in
       let c = sum_by-le-sum_by (wait_weight name slot_of one) (λ x. cond (is_admitted x) 1 0) places wait_one in
       let d = sum_by-one waiting in let e = sum_by-one serving in omega arith where
-    cond_le : (b : Bool) → cond b 1 0 ≤ 1
-    cond_le true = omega arith
-    cond_le false = omega arith
-    wait_one : (x : Option (Place H)) → wait_weight name slot_of (λ _. 1) x ≤ cond (is_admitted x) 1 0
-    wait_one None = omega arith
-    wait_one (Some place) = cond_le (is_waiting place.state)
+        cond_le : (b : Bool) → cond b 1 0 ≤ 1
+        cond_le true = omega arith
+        cond_le false = omega arith
+
+        wait_one : (x : Option (Place H)) → wait_weight name slot_of (λ _. 1) x ≤ cond (is_admitted x) 1 0
+        wait_one None = omega arith
+        wait_one (Some place) = cond_le (is_waiting place.state)
 
   -- a side that has just begun
   pub new_side : (desks : List (Desk H)) → All IsNewDesk desks → IsSide name slot_of [] [] desks [] [] 0 0
   new_side desks new = record {
     balanced = λ h.
-    let a : sum_by (sent_weight name h) desks ≡ 0 = new_sum desks new (sent_weight name h) (λ d is. ap (λ l. weight name h (arrivals l)) is.0) in
-    let b : sum_by (home_weight name h) desks ≡ 0 = new_sum desks new (home_weight name h) (λ d is. ap (weight name h) is.1) in omega arith;
+        let a : sum_by (sent_weight name h) desks ≡ 0 = new_sum desks new (sent_weight name h) (λ d is. ap (λ l. weight name h (arrivals l)) is.0) in
+        let b : sum_by (home_weight name h) desks ≡ 0 = new_sum desks new (home_weight name h) (λ d is. ap (weight name h) is.1) in omega arith;
     slots = λ slot. refl;
     queued = λ w. refl;
     fits = All-nil (PlaceFits (length desks) 0);
@@ -225,21 +227,21 @@ module _ {H N : Type 0} (name : H → N) (slot_of : N → ℕ) where
       (set_side name slot_of places place slot aside aside desks now waiting new_waiting serving serving admitted admitted asked asked side (record {
         within = within;
         balance = λ h.
-        let a : front_at name h place ≡ h (name half) = ap (front_at name h) is ∙ ap (front_weight name h) front in
-        let z : front_at name h (place_at places slot) ≡ 0 = ap (front_at name h) was ∙ ap (front_weight name h) left in
-        let w = ap (weight_at h) named in
-        let s = changed_sum slice b n desks now took.desk (sent_weight name h) in
-        let t = ap (λ o. weight name h (arrivals (sent o))) took.orders in
-        let u = changed_sum slice b n desks now took.desk (home_weight name h) in
-        let v = ap (weight name h) took.taken ∙ weight-push name h (taken b.home) half in
-        omega arith;
+            let a : front_at name h place ≡ h (name half) = ap (front_at name h) is ∙ ap (front_weight name h) front in
+            let z : front_at name h (place_at places slot) ≡ 0 = ap (front_at name h) was ∙ ap (front_weight name h) left in
+            let w = ap (weight_at h) named in
+            let s = changed_sum slice b n desks now took.desk (sent_weight name h) in
+            let t = ap (λ o. weight name h (arrivals (sent o))) took.orders in
+            let u = changed_sum slice b n desks now took.desk (home_weight name h) in
+            let v = ap (weight name h) took.taken ∙ weight-push name h (taken b.home) half in
+            omega arith;
         at = new_at;
         waits = λ w.
-        let m = ap (sum_by w) more ∙ sum_by_push w waiting slot in
-        let p = wait_weight_is name slot_of w slot (place_at places slot) old_at
+            let m = ap (sum_by w) more ∙ sum_by_push w waiting slot in
+            let p = wait_weight_is name slot_of w slot (place_at places slot) old_at
             ∙ ap (λ t. cond t (w slot) 0) (ap is_waiting_at was ∙ ap is_waiting left) in
-        let q = wait_weight_is name slot_of w slot place new_at ∙ ap (λ t. cond t (w slot) 0) (ap is_waiting_at is ∙ ap is_waiting front) in
-        omega arith;
+            let q = wait_weight_is name slot_of w slot place new_at ∙ ap (λ t. cond t (w slot) 0) (ap is_waiting_at is ∙ ap is_waiting front) in
+            omega arith;
         long = changed_len slice b n desks now took.desk;
         fits = subst (PlaceFits (length desks) asked) (sym is) (
           (let a = ap at_end front in omega arith),
@@ -249,10 +251,10 @@ module _ {H N : Type 0} (name : H → N) (slot_of : N → ℕ) where
         later = omega arith;
         few = side.asked_few;
         count =
-        let s = changed_sum slice b n desks now took.desk (order_count {H = H}) in
-        let t = ap (λ o. length (sent o)) took.orders in
-        let p : pending_at (place_at places slot) ≡ 1 = ap pending_at was ∙ ap pending left in
-        let q : pending_at place ≡ 1 = ap pending_at is ∙ ap pending front in omega arith;
+            let s = changed_sum slice b n desks now took.desk (order_count {H = H}) in
+            let t = ap (λ o. length (sent o)) took.orders in
+            let p : pending_at (place_at places slot) ≡ 1 = ap pending_at was ∙ ap pending left in
+            let q : pending_at place ≡ 1 = ap pending_at is ∙ ap pending front in omega arith;
         counted = ap (λ t. admitted + cond t 1 0) (ap is_admitted was ∙ sym (ap is_admitted is));
         aside_few = side.aside_few;
       }))
@@ -276,7 +278,7 @@ module _ {H N : Type 0} (name : H → N) (slot_of : N → ℕ) where
       (λ w. refl)
       (changed_len slice b n desks now took.desk)
       (let s = changed_sum slice b n desks now took.desk (order_count {H = H}) in
-       let t = ap (λ o. length (sent o)) took.orders in omega arith)
+      let t = ap (λ o. length (sent o)) took.orders in omega arith)
       (let l = ap length more ∙ length-append aside (half ∷ []) in omega arith))
 
   -- a lane home was empty
@@ -295,7 +297,7 @@ module _ {H N : Type 0} (name : H → N) (slot_of : N → ℕ) where
       (λ w. refl)
       (changed_len slice b n desks now none.desk)
       (let s = changed_sum slice b n desks now none.desk (order_count {H = H}) in
-       let t = ap (λ o. length (sent o)) none.orders in omega arith)
+      let t = ap (λ o. length (sent o)) none.orders in omega arith)
       side.aside_few
 
   -- a half was admitted
@@ -317,18 +319,18 @@ module _ {H N : Type 0} (name : H → N) (slot_of : N → ℕ) where
       (grown_side name slot_of places admits.more aside desks waiting serving admitted asked side) (record {
         within = admits.within;
         balance = λ h.
-        let a = step.weight h in
-        let p = ap (front_at name h) free in
-        let q = ap (λ x. weight_at h (name_at name x)) free in
-        let n : h (name after.admitted.value) ≡ h (name half) = ap (λ x. h (name x)) admits.admitted in
-        let c : sum_by (home_weight name h) now ≡ sum_by (home_weight name h) desks = homes_sum (weight name h) desks now step.homes in
-        omega arith;
+            let a = step.weight h in
+            let p = ap (front_at name h) free in
+            let q = ap (λ x. weight_at h (name_at name x)) free in
+            let n : h (name after.admitted.value) ≡ h (name half) = ap (λ x. h (name x)) admits.admitted in
+            let c : sum_by (home_weight name h) now ≡ sum_by (home_weight name h) desks = homes_sum (weight name h) desks now step.homes in
+            omega arith;
         at = ap (λ x. slot_of (name x)) admits.admitted ∙ slot_is;
         waits = λ w.
-        let a = noted w in
-        let p = ap (wait_weight name slot_of w) free in
-        let q = ap (λ n. cond (is_waiting after.state) (w n) 0) (ap (λ x. slot_of (name x)) admits.admitted ∙ slot_is) in
-        omega arith;
+            let a = noted w in
+            let p = ap (wait_weight name slot_of w) free in
+            let q = ap (λ n. cond (is_waiting after.state) (w n) 0) (ap (λ x. slot_of (name x)) admits.admitted ∙ slot_is) in
+            omega arith;
         long = step.long;
         fits = let s = sends_fit name desks now hop_of (length desks) hop slice half after.state fits admits.sends in
             (s.0, s.1, (let e = admits.hopped in omega arith));
@@ -338,9 +340,9 @@ module _ {H N : Type 0} (name : H → N) (slot_of : N → ℕ) where
         counted = let p : ◌≡◌ {A = ℕ} (cond (is_admitted (place_at grown slot)) 1 0) 0 = ap (λ x. cond (is_admitted x) 1 0) free in omega arith;
         aside_few = let a = side.aside_few in omega arith;
       })) where
-    no_place : (x : Option (Place H)) → is_admitted x ≡ false → x ≡ None
-    no_place None none = refl
-    no_place (Some place) none = absurd (true≢false none)
+        no_place : (x : Option (Place H)) → is_admitted x ≡ false → x ≡ None
+        no_place None none = refl
+        no_place (Some place) none = absurd (true≢false none)
 
   -- a slot that was admitted and doesn't wait leaves room among those that do
   pub waiting_fewer : (places : List (Option (Place H))) (slot : ℕ) (aside : List H) (desks : List (Desk H)) (waiting serving : List ℕ) (admitted asked : ℕ)
@@ -359,18 +361,19 @@ module _ {H N : Type 0} (name : H → N) (slot_of : N → ℕ) where
       wait_weight_is name slot_of one slot (place_at places slot) (at_slot name slot_of places side.slots slot) ∙ ap (λ t. cond t 1 0) idle in
       let j : g (place_at places slot) ≡ 1 = ap (λ t. cond t 1 0) there in
       let m = sum_by-one waiting in let n = sum_by-one serving in omega arith where
-    cond_le : (b : Bool) → cond b 1 0 ≤ 1
-    cond_le true = omega arith
-    cond_le false = omega arith
-    wait_one : (x : Option (Place H)) → wait_weight name slot_of (λ _. 1) x ≤ cond (is_admitted x) 1 0
-    wait_one None = omega arith
-    wait_one (Some place) = cond_le (is_waiting place.state)
+        cond_le : (b : Bool) → cond b 1 0 ≤ 1
+        cond_le true = omega arith
+        cond_le false = omega arith
+
+        wait_one : (x : Option (Place H)) → wait_weight name slot_of (λ _. 1) x ≤ cond (is_admitted x) 1 0
+        wait_one None = omega arith
+        wait_one (Some place) = cond_le (is_waiting place.state)
 
   pub admitted_within : (places : List (Option (Place H))) (slot : ℕ) → is_admitted (place_at places slot) ≡ true → slot < length places
   admitted_within places slot there = elim (nat_lt slot (length places)) as (λ b. nat_lt slot (length places) ≡ b → slot < length places) [
-      | true ↦ λ e. ltb-true slot (length places) e
-      | false ↦ λ e. absurd (true≢false (sym there ∙ ap is_admitted (get_or_past places slot None (ltb-false slot (length places) e))))
-    ] refl
+    | true ↦ λ e. ltb-true slot (length places) e
+    | false ↦ λ e. absurd (true≢false (sym there ∙ ap is_admitted (get_or_past places slot None (ltb-false slot (length places) e))))
+  ] refl
 
   -- the slot that is served next waits
   pub next_waits : (places : List (Option (Place H))) (slot : ℕ) (aside : List H) (desks : List (Desk H)) (waiting serving new_serving : List ℕ)
@@ -378,8 +381,8 @@ module _ {H N : Type 0} (name : H → N) (slot_of : N → ℕ) where
       → is_waiting_at (place_at places slot) ≡ true
   next_waits places slot aside desks waiting serving new_serving admitted asked side next = queued_here places slot side.slots
       (let a = side.queued (on slot) in
-       let b = ap (sum_by (on slot)) next ∙ sum_by_push (on slot) new_serving slot in
-       let c : on slot slot ≡ 1 = ap (λ t. cond t 1 0) (eq-eqb slot slot refl) in omega arith)
+      let b = ap (sum_by (on slot)) next ∙ sum_by_push (on slot) new_serving slot in
+      let c : on slot slot ≡ 1 = ap (λ t. cond t 1 0) (eq-eqb slot slot refl) in omega arith)
 
   -- a slot moved
   pub gone_side : (places new_places : List (Option (Place H))) (slot slice until : ℕ) (newly : Bool) (aside : List H) (desks now : List (Desk H))
@@ -446,13 +449,13 @@ module _ {H N : Type 0} (name : H → N) (slot_of : N → ℕ) where
 -- a place that waits newly didn't wait
 pub was_idle : {H : Type 0} (newly : Bool) (old new : Option (Place H)) → newly ≡ true → NewlyWaits newly old new → is_waiting_at old ≡ false
 was_idle newly old new is waits = elim (is_waiting_at old) as (λ b. is_waiting_at old ≡ b → is_waiting_at old ≡ false) [
-    | false ↦ λ e. e
-    | true ↦ λ e. absurd (
+  | false ↦ λ e. e
+  | true ↦ λ e. absurd (
       let a = waits 1 in
       let b : ◌≡◌ {A = ℕ} (cond (is_waiting_at old) 1 0) 1 = ap (λ t. cond t 1 0) e in
       let c : ◌≡◌ {A = ℕ} (cond newly 1 0) 1 = ap (λ t. cond t 1 0) is in
       let d = at_most (is_waiting_at new) in omega arith)
-  ] refl where
+] refl where
   at_most : (b : Bool) → cond b 1 0 ≤ 1
   at_most true = omega arith
   at_most false = omega arith
@@ -464,7 +467,7 @@ leaving_idle half old new welcomes =
     (ap is_admitted welcomes.2, ap is_waiting_at welcomes.2 ∙ ap is_waiting homes.2)
 
 -- a half was admitted at a list of places that had grown
-pub admits_from : {H N : Type 0} (name : H → N) (hop_of : H → ℕ) (slot slice hop : ℕ) (half : H) (places mid new : List (Option (Place H))) (now : Place H)
+abbrev pub admits_from : {H N : Type 0} (name : H → N) (hop_of : H → ℕ) (slot slice hop : ℕ) (half : H) (places mid new : List (Option (Place H))) (now : Place H)
     (desks after : List (Desk H)) → Grown places mid → slot < length mid → new ≡ set mid slot (Some now) → now.hop ≡ hop → now.admitted.value ≡ half
     → Sends name hop_of hop slice half now.state desks after → Admits name hop_of slot slice hop half places new desks after
 admits_from name hop_of slot slice hop half places mid new now desks after grown within is hopped same sends = record {

@@ -76,24 +76,24 @@ module _ {H N : Type 0} (name : H → N) (slot_of : N → ℕ) where
 
 rose_later : (first before now : ℕ) → Rose first before → (now ≡ before) ⊎ Rose before now → Rose first now
 rose_later first before now rose more = elim more [
-    | inl same ↦ subst (Rose first) (sym same) rose
-    | inr again ↦ elim rose [
-      | inl low ↦ elim again [
-        | inl higher ↦ inl (omega arith)
-        | inr last ↦ inr last
-      ]
-      | inr last ↦ elim again [
-        | inl higher ↦ inr (omega arith)
-        | inr ends ↦ inr ends
-      ]
+  | inl same ↦ subst (Rose first) (sym same) rose
+  | inr again ↦ elim rose [
+    | inl low ↦ elim again [
+      | inl higher ↦ inl (omega arith)
+      | inr last ↦ inr last
+    ]
+    | inr last ↦ elim again [
+      | inl higher ↦ inr (omega arith)
+      | inr ends ↦ inr ends
     ]
   ]
+]
 
 rose_since : (first before now : ℕ) → (before ≡ first) ⊎ Rose first before → Rose before now → Rose first now
 rose_since first before now earlier again = elim earlier [
-    | inl same ↦ subst (λ (n : ℕ). Rose n now) same again
-    | inr rose ↦ rose_later first before now rose (inr again)
-  ]
+  | inl same ↦ subst (λ (n : ℕ). Rose n now) same again
+  | inr rose ↦ rose_later first before now rose (inr again)
+]
 
 module _ {H : Type 0} where
   pub serving_more : (serving new_serving : List ℕ) (places new_places : List (Option (Place H))) (first desks now : List (Desk H))
@@ -110,10 +110,10 @@ module _ {H : Type 0} where
             let apart : slot ≢ served.slot = eqb-false slot served.slot e in
             elim (so_far slot slice (ap waits_at (sym (served.others slot apart)) ∙ waits)) [
               | inl queued ↦ inl (
-                let a = ap (sum_by (on slot)) served.next in
-                let b = sum_by_push (on slot) new_serving served.slot in
-                let c : on slot served.slot ≡ 0 = ap (λ t. cond t 1 0) (ne_eqb served.slot slot (λ q. apart (sym q))) in
-                omega arith)
+                  let a = ap (sum_by (on slot)) served.next in
+                  let b = sum_by_push (on slot) new_serving served.slot in
+                  let c : on slot served.slot ≡ 0 = ap (λ t. cond t 1 0) (ne_eqb served.slot slot (λ q. apart (sym q))) in
+                  omega arith)
               | inr rose ↦ inr (rose_later (fulls_at first slice) (fulls_at desks slice) (fulls_at now slice) rose (served.later slice))
             ]
       ] refl
@@ -123,19 +123,19 @@ module _ {H : Type 0} where
       → (fulls_at now slice ≡ fulls_at desks slice) ⊎ Rose (fulls_at desks slice) (fulls_at now slice)
       → (fulls_at now slice ≡ fulls_at first slice) ⊎ Rose (fulls_at first slice) (fulls_at now slice)
   later_more first desks now slice earlier more = elim more [
-      | inl same ↦ elim earlier [
-        | inl still ↦ inl (same ∙ still)
-        | inr rose ↦ inr (subst (Rose (fulls_at first slice)) (sym same) rose)
-      ]
-      | inr again ↦ inr (rose_since (fulls_at first slice) (fulls_at desks slice) (fulls_at now slice) earlier again)
+    | inl same ↦ elim earlier [
+      | inl still ↦ inl (same ∙ still)
+      | inr rose ↦ inr (subst (Rose (fulls_at first slice)) (sym same) rose)
     ]
+    | inr again ↦ inr (rose_since (fulls_at first slice) (fulls_at desks slice) (fulls_at now slice) earlier again)
+  ]
 
   pub serving_none : (serving : List ℕ) (places : List (Option (Place H))) (desks now : List (Desk H)) → serving ≡ [] → Serving serving places desks now
       → AllMetFull places desks now
   serving_none serving places desks now none so_far slot slice waits = elim (so_far slot slice waits) [
-      | inl queued ↦ absurd (let a = ap (sum_by (on slot)) none in omega arith)
-      | inr rose ↦ rose
-    ]
+    | inl queued ↦ absurd (let a = ap (sum_by (on slot)) none in omega arith)
+    | inr rose ↦ rose
+  ]
 
   pub met_full_since : (places : List (Option (Place H))) (first desks now : List (Desk H)) → ((slice : ℕ) → fulls_at desks slice ≡ fulls_at first slice)
       → AllMetFull places desks now → AllMetFull places first now
@@ -150,15 +150,16 @@ none_left (x ∷ xs) none = absurd (omega arith)
 pub ended_since : {H : Type 0} (admitted was : ℕ) (aside old_aside : List H) (slice : ℕ) (first desks now : List (Desk H)) → homes_of now ≡ homes_of desks
     → aside ≡ old_aside → admitted ≡ was → HomeEnded (length old_aside) was slice first desks → HomeEnded (length aside) admitted slice first now
 ended_since {H} admitted was aside old_aside slice first desks now homes same alike ended = elim ended [
-    | inl rose ↦ inl (subst (Rose (empties_at first slice)) (sym (by_homes empty_answers)) rose)
-    | inr more ↦ elim more [
-      | inl many ↦ inr (inl (by_homes (λ home. length (taken home)) ∙ many))
-      | inr full ↦ inr (inr (ap length same ∙ full ∙ sym alike))
-    ]
-  ] where
+  | inl rose ↦ inl (subst (Rose (empties_at first slice)) (sym (by_homes empty_answers)) rose)
+  | inr more ↦ elim more [
+    | inl many ↦ inr (inl (by_homes (λ home. length (taken home)) ∙ many))
+    | inr full ↦ inr (inr (ap length same ∙ full ∙ sym alike))
+  ]
+] where
   map_map : {A B : Type 0} (f : A → B) (g : B → ℕ) (xs : List A) → map (λ x. g (f x)) xs ≡ map g (map f xs)
   map_map f g [] = refl
   map_map f g (x ∷ xs) = ap (λ l. g (f x) ∷ l) (map_map f g xs)
+
   by_homes : (count : Receiver H → ℕ) → get_or (map (λ (desk : Desk H). count desk.home) now) slice 0 ≡ get_or (map (λ (desk : Desk H). count desk.home) desks) slice 0
   by_homes count = ap (λ l. get_or l slice 0)
       (map_map (λ (desk : Desk H). desk.home) count now ∙ ap (map count) homes ∙ sym (map_map (λ (desk : Desk H). desk.home) count desks))

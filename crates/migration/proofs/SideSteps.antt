@@ -88,24 +88,24 @@ module _ {H N : Type 0} (name : H → N) (slot_of : N → ℕ) where
       let slots = at_slot places side.slots in
       record {
         balanced = λ h.
-        let named : Option (Place H) → ℕ = λ x. weight_at h (name_at name x) in
-        let a = side.balanced h in
-        let b = change.balance h in
-        let c = sum_by-set (front_at name h) places slot place None change.within in
-        let d = sum_by-set named places slot place None change.within in
-        let e = sum_by-through (name_at name) (weight_at h) places in
-        let f = sum_by-through (name_at name) (weight_at h) new in
-        omega arith;
+            let named : Option (Place H) → ℕ = λ x. weight_at h (name_at name x) in
+            let a = side.balanced h in
+            let b = change.balance h in
+            let c = sum_by-set (front_at name h) places slot place None change.within in
+            let d = sum_by-set named places slot place None change.within in
+            let e = sum_by-through (name_at name) (weight_at h) places in
+            let f = sum_by-through (name_at name) (weight_at h) new in
+            omega arith;
         slots = by_slot new (λ k. elim (nat_eq k slot) as (λ b. nat_eq k slot ≡ b → slot_at slot_of k (name_at name (place_at new k)) ≡ k) [
           | true ↦ λ e. subst (λ (n : ℕ). slot_at slot_of n (name_at name (place_at new n)) ≡ n) (sym (eqb-true k slot e))
               (ap (λ x. slot_at slot_of slot (name_at name x)) (get_or-set_same places slot place None change.within) ∙ change.at)
           | false ↦ λ e. ap (λ x. slot_at slot_of k (name_at name x)) (get_or-set_other places slot k place None (eqb-false k slot e)) ∙ slots k
         ] refl);
         queued = λ w.
-        let a = side.queued w in
-        let b = change.waits w in
-        let c = sum_by-set (wait_weight name slot_of w) places slot place None change.within in
-        omega arith;
+            let a = side.queued w in
+            let b = change.waits w in
+            let c = sum_by-set (wait_weight name slot_of w) places slot place None change.within in
+            omega arith;
         fits = subst (λ (n : ℕ). All (PlaceFits n new_asked) new) (sym change.long)
             (All-set (PlaceFits (length desks) new_asked) places slot place change.fits
             (All-weaker (PlaceFits (length desks) asked) (PlaceFits (length desks) new_asked) (fits_later (length desks) asked new_asked change.later) places side.fits));
@@ -162,13 +162,13 @@ module _ {H N : Type 0} (name : H → N) (slot_of : N → ℕ) where
       let new : List (Option (Place H)) = places ++ replicate more None in
       record {
         balanced = λ h.
-        let named : Option (Place H) → ℕ = λ x. weight_at h (name_at name x) in
-        let a = side.balanced h in
-        let c = grown_sum (front_at name h) places more refl in
-        let d = grown_sum named places more refl in
-        let e = sum_by-through (name_at name) (weight_at h) places in
-        let f = sum_by-through (name_at name) (weight_at h) new in
-        omega arith;
+            let named : Option (Place H) → ℕ = λ x. weight_at h (name_at name x) in
+            let a = side.balanced h in
+            let c = grown_sum (front_at name h) places more refl in
+            let d = grown_sum named places more refl in
+            let e = sum_by-through (name_at name) (weight_at h) places in
+            let f = sum_by-through (name_at name) (weight_at h) new in
+            omega arith;
         slots = by_slot new (λ k. ap (λ x. slot_at slot_of k (name_at name x)) (place_grown places more k) ∙ at_slot places side.slots k);
         queued = λ w. let a = side.queued w in let c = grown_sum (wait_weight name slot_of w) places more refl in omega arith;
         fits = All-append (PlaceFits (length desks) asked) places (replicate more None) side.fits
@@ -193,12 +193,13 @@ module _ {H : Type 0} where
   pub grown_more : (places old new : List (Option (Place H))) → Grown places old → new ≡ old ++ None ∷ [] → Grown places new
   grown_more places old new grown more =
       (suc grown.0, more ∙ ap (λ l. l ++ None ∷ []) grown.1 ∙ one_more places grown.0) where
-    pushed : (n : ℕ) → replicate {A = Option (Place H)} n None ++ None ∷ [] ≡ replicate (suc n) None
-    pushed zero = refl
-    pushed (suc n) = ap (λ l. None ∷ l) (pushed n)
-    one_more : (xs : List (Option (Place H))) (n : ℕ) → (xs ++ replicate n None) ++ None ∷ [] ≡ xs ++ replicate (suc n) None
-    one_more [] n = pushed n
-    one_more (x ∷ xs) n = ap (λ l. x ∷ l) (one_more xs n)
+        pushed : (n : ℕ) → replicate {A = Option (Place H)} n None ++ None ∷ [] ≡ replicate (suc n) None
+        pushed zero = refl
+        pushed (suc n) = ap (λ l. None ∷ l) (pushed n)
+
+        one_more : (xs : List (Option (Place H))) (n : ℕ) → (xs ++ replicate n None) ++ None ∷ [] ≡ xs ++ replicate (suc n) None
+        one_more [] n = pushed n
+        one_more (x ∷ xs) n = ap (λ l. x ∷ l) (one_more xs n)
 
 module _ {H N : Type 0} (name : H → N) (slot_of : N → ℕ) where
   -- what a place of a side has fits

@@ -64,10 +64,10 @@ module _ {H N : Type 0} (name : H → N) (desks now : List (Desk H)) where
         homes = changed_map to b n desks now given.desk (λ (desk : Desk H). desk.home) given.home;
         long = changed_len to b n desks now given.desk;
         weight = λ h.
-        let e = changed_sum to b n desks now given.desk (sent_weight name h) in
-        let s = ap (λ orders. weight name h (arrivals orders)) given.sent in
-        let a = arrive_weight name h (sent b.orders) told in
-        let w = ap h named in omega arith;
+            let e = changed_sum to b n desks now given.desk (sent_weight name h) in
+            let s = ap (λ orders. weight name h (arrivals orders)) given.sent in
+            let a = arrive_weight name h (sent b.orders) told in
+            let w = ap h named in omega arith;
         count = let e = given_count to (Arrive told) desks now given in omega arith;
         fulls = λ slice. inl (given_fulls to (Arrive told) desks now given slice);
       }
@@ -81,10 +81,10 @@ module _ {H N : Type 0} (name : H → N) (desks now : List (Desk H)) where
         homes = changed_map at b n desks now given.desk (λ (desk : Desk H). desk.home) given.home;
         long = changed_len at b n desks now given.desk;
         weight = λ h.
-        let e = changed_sum at b n desks now given.desk (sent_weight name h) in
-        let s = ap (λ orders. weight name h (arrivals orders)) given.sent in
-        let a = leave_weight name h (sent b.orders) slot until in
-        let f = front h in omega arith;
+            let e = changed_sum at b n desks now given.desk (sent_weight name h) in
+            let s = ap (λ orders. weight name h (arrivals orders)) given.sent in
+            let a = leave_weight name h (sent b.orders) slot until in
+            let f = front h in omega arith;
         count = let e = given_count at (Leave slot until) desks now given in omega arith;
         fulls = λ slice. inl (given_fulls at (Leave slot until) desks now given slice);
       }

@@ -12,7 +12,7 @@ use Rattle.migration.specs.Places.{place_at, name_at, names_of, front_at, weight
 abbrev pub Balanced : {H N : Type 0} → (H → N) → List (Option (Place H)) → List H → List (Desk H) → Type 0
 Balanced {H} {N} name places aside desks =
     (h : N → ℕ) → sum_by (front_at name h) places + weight name h aside + sum_by (sent_weight name h) desks
-        ≡ sum_by (weight_at h) (names_of name places) + sum_by (home_weight name h) desks
+    ≡ sum_by (weight_at h) (names_of name places) + sum_by (home_weight name h) desks
 
 -- the slot of the name at a place, and the place itself where there is none
 abbrev pub slot_at : {N : Type 0} → (N → ℕ) → ℕ → Option N → ℕ

@@ -16,13 +16,25 @@ use std::snapshot::Snapshot;
 #[derive(Drop)]
 pub enum State<H> {
     /// The half is here, and is bound for a slice.
-    Front { half: H, to: SliceNo },
+    Front {
+        half: H,
+        to: SliceNo,
+    },
     /// The half was sent to a slice, or is on its way there.
-    Placed { at: SliceNo },
+    Placed {
+        at: SliceNo,
+    },
     /// The half is at a slice, is to leave it at a count, and is bound for another one.
-    Recall { at: SliceNo, until: u64, to: SliceNo },
+    Recall {
+        at: SliceNo,
+        until: u64,
+        to: SliceNo,
+    },
     /// The half was told to leave, and is bound for a slice.
-    Leaving { from: SliceNo, to: SliceNo },
+    Leaving {
+        from: SliceNo,
+        to: SliceNo,
+    },
 }
 
 /// An admitted slot.

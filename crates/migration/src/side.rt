@@ -110,14 +110,7 @@ impl<H: Traveller> Side<H> {
         ensures lanes { lanes_of (desks_of self.new) ≡ lanes_of (desks_of self.old) }
     {
         self.asked += 1;
-        let newly = steps::go_at(
-            rt,
-            &mut self.desks,
-            &mut self.places,
-            slot,
-            slice,
-            until,
-        );
+        let newly = steps::go_at(rt, &mut self.desks, &mut self.places, slot, slice, until);
         steps::note(&mut self.waiting, slot, newly);
     }
 

@@ -180,7 +180,11 @@ fn gone<H: Traveller, R: Wait>(
     match state {
         State::Front { half, .. } => State::Front { half, to: slice },
         State::Placed { at } => recall(rt, desks, slot, at, until, slice),
-        State::Recall { at, until, .. } => State::Recall { at, until, to: slice },
+        State::Recall { at, until, .. } => State::Recall {
+            at,
+            until,
+            to: slice,
+        },
         State::Leaving { from, .. } => State::Leaving { from, to: slice },
     }
 }
@@ -291,11 +295,7 @@ fn homed<H: Drop>(state: State<H>, half: H) -> (State<H>, Option<H>)
 }
 
 // Takes a half from the lane home of a slice.
-pub fn take_home<H: Traveller, R: Wait>(
-    rt: &R,
-    desks: &mut Vec<Desk<H>>,
-    slice: usize,
-) -> Option<H>
+pub fn take_home<H: Traveller, R: Wait>(rt: &R, desks: &mut Vec<Desk<H>>, slice: usize) -> Option<H>
     requires { slice < vec_len desks.old }
     ensures taken { MatchOption result (Empty slice desks.old.items desks.new.items)
         (λ half. Taken slice half desks.old.items desks.new.items) }

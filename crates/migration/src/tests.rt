@@ -1,4 +1,7 @@
 //! A side and its workers on one thread, with a half that counts.
+ghost use Rattle.std.specs.Prelude.{All, IfOk, ◌≡◌, ◌≤◌, ◌<◌, true, false, length, vec_len, ℕ};
+ghost use Rattle.worker_core.specs.Workers.{IsNewDesk};
+
 use crate::Side;
 use lane_core::{Carried, Did, NoMemory};
 use pc_base::{SliceNo, Slot};
@@ -73,10 +76,13 @@ impl Traveller for Pupil {
 }
 
 // A side of so many slices, and their workers.
-fn side_of(alloc: Global, slices: u8) -> Result<(Side<Pupil>, Vec<Worker<Pupil>>), Fail> {
+fn side_of(alloc: Global, slices: u8) -> Result<(Side<Pupil>, Vec<Worker<Pupil>>), Fail>
+    requires { slices ≤ 64 }
+    ensures { IfOk result (λ made. vec_len made.1 ≡ slices) }
+{
     let mut desks = Vec::new(alloc);
     let mut workers = Vec::new(alloc);
-    for slice in 0..slices.min(64) {
+    for slice in 0..slices {
         let (desk, worker) = pair(alloc, SliceNo(slice))?;
         desks.push(desk)?;
         workers.push(worker)?;
@@ -84,14 +90,38 @@ fn side_of(alloc: Global, slices: u8) -> Result<(Side<Pupil>, Vec<Worker<Pupil>>
     Ok((Side::new(alloc, desks), workers))
 }
 
+// Admits a half.
+fn admit<R: Wait>(rt: &R, side: &mut Side<Pupil>, half: Pupil, slice: SliceNo) -> Result<(), Fail> {
+    if side.is_admitted(half.slot) || slice.0 as usize >= side.slices() || side.asked() > 9999 {
+        return Err("a free slot, a slice and few calls".into());
+    }
+    match side.admit(rt, half, slice, 0) {
+        Ok(()) => Ok(()),
+        Err(_) => Err("memory".into()),
+    }
+}
+
+// Moves a slot.
+fn go<R: Wait>(
+    rt: &R,
+    side: &mut Side<Pupil>,
+    slot: Slot,
+    slice: SliceNo,
+    until: u64,
+) -> Result<(), Fail> {
+    if !side.is_admitted(slot) || slice.0 as usize >= side.slices() || side.asked() > 9999 {
+        return Err("an admitted slot, a slice and few calls".into());
+    }
+    side.go(rt, slot, slice, until);
+    Ok(())
+}
+
 #[test]
 fn moved_before_its_arrival_is_taken(rt: HostRuntime) -> Result<(), Fail> {
     let (mut side, mut workers) = side_of(rt.alloc(), 2)?;
-    let Ok(()) = side.admit(&rt, pupil(Slot(5), 0), SliceNo(0), 0) else {
-        return Err("memory".into());
-    };
+    admit(&rt, &mut side, pupil(Slot(5), 0), SliceNo(0))?;
     assert!(rt; side.settled(Slot(5)));
-    side.go(&rt, Slot(5), SliceNo(1), 0);
+    go(&rt, &mut side, Slot(5), SliceNo(1), 0)?;
     assert!(rt; !side.settled(Slot(5)));
     for _ in 0..3 {
         assert_eq!(rt; workers[0].turn(&rt), Ok(Did::Worked));
@@ -107,11 +137,9 @@ fn moved_before_its_arrival_is_taken(rt: HostRuntime) -> Result<(), Fail> {
 #[test]
 fn two_moves_in_a_row(rt: HostRuntime) -> Result<(), Fail> {
     let (mut side, mut workers) = side_of(rt.alloc(), 3)?;
-    let Ok(()) = side.admit(&rt, pupil(Slot(0), 2), SliceNo(0), 0) else {
-        return Err("memory".into());
-    };
-    side.go(&rt, Slot(0), SliceNo(1), 1);
-    side.go(&rt, Slot(0), SliceNo(2), 1);
+    admit(&rt, &mut side, pupil(Slot(0), 2), SliceNo(0))?;
+    go(&rt, &mut side, Slot(0), SliceNo(1), 1)?;
+    go(&rt, &mut side, Slot(0), SliceNo(2), 1)?;
     for _ in 0..4 {
         assert_eq!(rt; workers[0].turn(&rt), Ok(Did::Worked));
     }

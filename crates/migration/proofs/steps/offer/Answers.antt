@@ -23,16 +23,19 @@ returns-clause-given g c =
 pub returns-clause-full : goal.returns-clause-full
 returns-clause-full g c =
     let a = c.args.desks.now.ok in
-    IfErr-weaker c.offer.result _ _ (λ full not. (not.0, record {
-      before = c.index_mut.result.now;
-      now = record { orders = c.offer.new.self; home = c.index_mut.result.now.home };
-      desk = record {
-        within = omega arith;
-        there = search rules;
-        changed = search rules;
-        lanes = λ i. (c.offer.ensures.lane i, receiver_lane c.index_mut.result.now.home);
-      };
-      home = refl;
-      sent = not.1;
-      fulls = not.2;
-    })) c.offer.ensures.full
+    IfErr-weaker c.offer.result _ _ (λ full not. (
+      not.0,
+      record {
+        before = c.index_mut.result.now;
+        now = record { orders = c.offer.new.self; home = c.index_mut.result.now.home };
+        desk = record {
+          within = omega arith;
+          there = search rules;
+          changed = search rules;
+          lanes = λ i. (c.offer.ensures.lane i, receiver_lane c.index_mut.result.now.home);
+        };
+        home = refl;
+        sent = not.1;
+        fulls = not.2;
+      },
+    )) c.offer.ensures.full

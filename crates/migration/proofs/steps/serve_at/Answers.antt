@@ -14,10 +14,12 @@ serve-requires-clause-fits g c = λ κs within.
 pub returns : goal.returns
 returns g c =
     let there : c.index_mut.result.now ≡ get_or c.args.places.now.items c.args.slot c.index_mut.result.now = search rules in
-    let is = there ∙ same_default c.args.places.now.items c.args.slot c.index_mut.result.now None c.requires.within in record { served = (
-      c.serve.new.place,
-      search rules,
-      c.serve.ensures.waits,
-      subst (λ (p : Option (Place g.row.H.Denot)). PlaceServed g.H.Traveller.name g.H.Traveller.hop_of c.args.slot p c.serve.new.place c.args.desks.now.items c.serve.new.desks.items) is
-          c.serve.ensures.served,
-    ) }
+    let is = there ∙ same_default c.args.places.now.items c.args.slot c.index_mut.result.now None c.requires.within in record {
+      served = (
+        c.serve.new.place,
+        search rules,
+        c.serve.ensures.waits,
+        subst (λ (p : Option (Place g.row.H.Denot)). PlaceServed g.H.Traveller.name g.H.Traveller.hop_of c.args.slot p c.serve.new.place c.args.desks.now.items c.serve.new.desks.items) is
+            c.serve.ensures.served,
+      );
+    }

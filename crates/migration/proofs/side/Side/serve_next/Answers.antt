@@ -31,15 +31,15 @@ invariant_of-self g c = record {
 pub returns-clause-roll : goal.returns-clause-roll
 returns-clause-roll g c =
     let served = served_side g.H.Traveller.name g.H.Traveller.slot_of g.H.Traveller.hop_of _ _ c.in-Some.slot c.serve_at-waits.result _ _ c.serve_at-waits.new.desks.items _ c.note.new.waiting.items c.args.self.now.serving.items c.pop.new.self.items _ _ c.args.self.now.laid
-      (search rules) c.serve_at-waits.ensures.served c.note.ensures.noted in
+    (search rules) c.serve_at-waits.ensures.served c.note.ensures.noted in
     roll_same _ _ _ _ _ _ _ _ served.1 served.2 served.3
 
 pub returns-clause-homes : goal.returns-clause-homes
 returns-clause-homes g c =
     (served_side g.H.Traveller.name g.H.Traveller.slot_of g.H.Traveller.hop_of _ _ c.in-Some.slot c.serve_at-waits.result _ _ c.serve_at-waits.new.desks.items _ c.note.new.waiting.items c.args.self.now.serving.items c.pop.new.self.items _ _ c.args.self.now.laid
-      (search rules) c.serve_at-waits.ensures.served c.note.ensures.noted).4
+    (search rules) c.serve_at-waits.ensures.served c.note.ensures.noted).4
 
 pub returns-clause-served : goal.returns-clause-served
 returns-clause-served g c =
     (served_side g.H.Traveller.name g.H.Traveller.slot_of g.H.Traveller.hop_of _ _ c.in-Some.slot c.serve_at-waits.result _ _ c.serve_at-waits.new.desks.items _ c.note.new.waiting.items c.args.self.now.serving.items c.pop.new.self.items _ _ c.args.self.now.laid
-      (search rules) c.serve_at-waits.ensures.served c.note.ensures.noted).5
+    (search rules) c.serve_at-waits.ensures.served c.note.ensures.noted).5
