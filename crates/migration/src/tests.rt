@@ -22,14 +22,16 @@ struct Pupil {
     works: u64,
 }
 
-fn pupil(slot: Slot, due: u64) -> Pupil {
-    Pupil {
-        slot,
-        due,
-        done: 0,
-        hop: 0,
-        turns: 0,
-        works: 0,
+impl Pupil {
+    fn new(slot: Slot, due: u64) -> Pupil {
+        Pupil {
+            slot,
+            due,
+            done: 0,
+            hop: 0,
+            turns: 0,
+            works: 0,
+        }
     }
 }
 
@@ -119,7 +121,7 @@ fn go<R: Wait>(
 #[test]
 fn moved_before_its_arrival_is_taken(rt: HostRuntime) -> Result<(), Fail> {
     let (mut side, mut workers) = side_of(rt.alloc(), 2)?;
-    admit(&rt, &mut side, pupil(Slot(5), 0), SliceNo(0))?;
+    admit(&rt, &mut side, Pupil::new(Slot(5), 0), SliceNo(0))?;
     assert!(rt; side.settled(Slot(5)));
     go(&rt, &mut side, Slot(5), SliceNo(1), 0)?;
     assert!(rt; !side.settled(Slot(5)));
@@ -137,7 +139,7 @@ fn moved_before_its_arrival_is_taken(rt: HostRuntime) -> Result<(), Fail> {
 #[test]
 fn two_moves_in_a_row(rt: HostRuntime) -> Result<(), Fail> {
     let (mut side, mut workers) = side_of(rt.alloc(), 3)?;
-    admit(&rt, &mut side, pupil(Slot(0), 2), SliceNo(0))?;
+    admit(&rt, &mut side, Pupil::new(Slot(0), 2), SliceNo(0))?;
     go(&rt, &mut side, Slot(0), SliceNo(1), 1)?;
     go(&rt, &mut side, Slot(0), SliceNo(2), 1)?;
     for _ in 0..4 {
@@ -147,5 +149,37 @@ fn two_moves_in_a_row(rt: HostRuntime) -> Result<(), Fail> {
     assert!(rt; side.settled(Slot(0)));
     assert_eq!(rt; workers[1].turn(&rt), Ok(Did::Idle));
     assert_eq!(rt; workers[2].turn(&rt), Ok(Did::Worked));
+    Ok(())
+}
+
+#[test]
+fn sixty_five_halves_come_home_by_sixty_four(rt: HostRuntime) -> Result<(), Fail> {
+    let (mut side, mut workers) = side_of(rt.alloc(), 2)?;
+    for slot in 0..65 {
+        admit(&rt, &mut side, Pupil::new(Slot(slot), 0), SliceNo(0))?;
+        assert_eq!(rt; workers[0].turn(&rt), Ok(Did::Worked), "takes the half");
+    }
+    for slot in 0..65 {
+        go(&rt, &mut side, Slot(slot), SliceNo(1), 0)?;
+        assert_eq!(rt; workers[0].turn(&rt), Ok(Did::Worked), "takes the order");
+    }
+    for _ in 0..64 {
+        assert_eq!(rt; workers[0].turn(&rt), Ok(Did::Worked), "a half goes home");
+    }
+    assert_eq!(rt;
+        workers[0].turn(&rt),
+        Ok(Did::Idle),
+        "the lane home is full"
+    );
+
+    side.pump(&rt);
+    assert!(rt; side.settled(Slot(63)), "64 halves go on");
+    assert!(rt; !side.settled(Slot(64)));
+    assert_eq!(rt; workers[0].turn(&rt), Ok(Did::Worked), "the last goes home");
+    side.pump(&rt);
+    assert!(rt; !side.settled(Slot(64)), "the lane of orders is full");
+    assert_eq!(rt; workers[1].turn(&rt), Ok(Did::Worked));
+    side.pump(&rt);
+    assert!(rt; side.settled(Slot(64)));
     Ok(())
 }
