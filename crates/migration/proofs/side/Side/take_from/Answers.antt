@@ -1,0 +1,23 @@
+use Rattle.std.proofs.Common.{rules, ◌≡◌, ◌<◌, ◌≤◌, ◌+◌, ◌∙◌, ◌⊎◌, inl, inr, true, false, List, [], ◌∷◌, ◌++◌, length, vec_len, refl, sym, ap, subst, arith}
+use Rattle.std.specs.Prelude.{Bool}
+use Rattle.migration.specs.Words.{TookOne}
+use Rattle.migration.proofs.Homes.{Taking, taking_none, taking_more, taking_ends, taking_all}
+use Rattle.migration.proofs.side.Side.take_from.Goals as goal
+
+pub loop-init : goal.loop-init
+loop-init g c = (refl, refl, taking_none c.args.slice _ _)
+
+pub loop-preserved : goal.loop-preserved
+loop-preserved g c = (
+  c.take_one.ensures.roll ∙ c.loop.invariant.0,
+  c.take_one.ensures.len ∙ c.loop.invariant.1,
+  taking_more c.args.slice _ _ c.take_one.result _ _ _ _ _ _ c.loop.invariant.2 (search rules) c.take_one.ensures.took,
+)
+
+pub returns-then-not-take_one-clause-took : goal.returns-then-not-take_one-clause-took
+returns-then-not-take_one-clause-took g c =
+    taking_ends c.args.slice _ _ c.take_one.result _ _ _ _ _ _ c.loop.invariant.2 (search rules) c.take_one.ensures.took
+
+pub returns-clause-took : goal.returns-clause-took
+returns-clause-took g c =
+    taking_all c.args.slice _ _ _ c.loop.counter _ _ c.loop.invariant.2 (search rules)

@@ -1,0 +1,5 @@
+pub mod Desks
+pub mod Places
+pub mod Sides
+pub mod Steps
+pub mod Words
