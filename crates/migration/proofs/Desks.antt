@@ -1,19 +1,19 @@
 -- What a change of one desk does to all of them.
-use Rattle.std.proofs.Common.{◌≡◌, ◌≢◌, ℕ, ◌+◌, ◌<◌, ◌≤◌, ◌⊎◌, inl, inr, Bool, true, false, List, [], ◌∷◌, ◌++◌, length, map, set, get_or, refl, sym, ap, ◌∙◌, subst, arith, length-append}
+use Rattle.std.proofs.Common.{◌≡◌, ◌≢◌, ℕ, ◌+◌, ◌<◌, ◌⊎◌, inl, inr, true, false, List, [], ◌∷◌, ◌++◌, length, map, set, get_or, refl, sym, ap, ◌∙◌, subst, arith, length-append}
 use Rattle.std.specs.Prelude.{nat_eq, Option, Some, None, MatchOption}
 use Rattle.std.specs.List.{sum_by}
 use Rattle.std.proofs.lemmas.List.{length-map, length-set, map-set, get_or-map, get_or-set_same, get_or-set_other}
 use Rattle.std.proofs.lemmas.List.Sums.{sum_by-append, sum_by_push, sum_by-set}
 use Rattle.std.proofs.Math.Seq.{map-set_same}
 use borrow.Author.Tests.{eqb-true, eqb-false}
-use Rattle.lane_core.specs.Ends.{sent, taken, full_answers, empty_answers, raised}
+use Rattle.lane_core.specs.Ends.{sent, taken, full_answers, raised}
 use Rattle.worker_core.specs.declared.pairing.Desk.{Desk}
 use Rattle.worker_core.specs.declared.order.Order.{Order}
 use Rattle.worker_core.specs.declared.order.Order.TheVariants.{Arrive, Leave}
 use Rattle.worker_core.specs.Names.{arrivals, weight}
 use Rattle.worker_core.specs.Workers.{desk_lanes}
 use Rattle.worker_core.proofs.Arrivals.{arrivals-append, sum_by-through}
-use Rattle.migration.specs.Desks.{sent_weight, home_weight, lanes_of, homes_of, order_count, fulls_at, empties_at, home_count, DeskChanged, Given, Refused, Taken, Empty}
+use Rattle.migration.specs.Desks.{lanes_of, homes_of, order_count, fulls_at, DeskChanged, Given, Refused}
 
 pub option_then : {X : Type 0} (o : Option X) {A B : Type 0} {P Q : X → Type 0} → (A → B) → ((x : X) → P x → Q x) → MatchOption o A P → MatchOption o B Q
 option_then None f g m = f m

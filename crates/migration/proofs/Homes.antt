@@ -1,13 +1,13 @@
 -- How the lanes home are emptied, one after another.
-use Rattle.std.proofs.Common.{◌≡◌, ◌≢◌, ℕ, ◌+◌, ◌<◌, ◌≤◌, ◌⊎◌, inl, inr, Bool, true, false, true≢false, List, [], ◌∷◌, ◌++◌, length, map, get_or, refl, sym, ap, ◌∙◌, subst, arith, length-append}
-use Rattle.std.specs.Prelude.{nat_eq, Option, Some, None}
+use Rattle.std.proofs.Common.{◌≡◌, ◌≢◌, ℕ, ◌+◌, ◌<◌, ◌≤◌, inl, inr, Bool, true, false, true≢false, List, [], ◌∷◌, length, refl, sym, ap, ◌∙◌, subst, arith, length-append}
+use Rattle.std.specs.Prelude.{nat_eq}
 use borrow.Author.Tests.{eqb-true, eqb-false}
-use Rattle.lane_core.specs.Ends.{sent, taken, full_answers, empty_answers, raised}
+use Rattle.lane_core.specs.Ends.{taken, full_answers, empty_answers, raised}
 use Rattle.worker_core.specs.declared.pairing.Desk.{Desk}
 use Rattle.migration.specs.Desks.{fulls_at, empties_at, home_count, Taken, Empty}
 use Rattle.migration.specs.Sides.{Rose, HomeEnded}
 use Rattle.migration.specs.Words.{TookOne, TookFrom}
-use Rattle.migration.proofs.Desks.{changed_map, count_now, count_before, count_other, count_same}
+use Rattle.migration.proofs.Desks.{count_now, count_before, count_other, count_same}
 use Rattle.migration.proofs.PlaceSteps.{rose_raised}
 
 module _ {H : Type 0} (slice admitted : ℕ) (aside new_aside : List H) (desks now : List (Desk H)) where

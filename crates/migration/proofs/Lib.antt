@@ -1,5 +1,6 @@
 pub mod Desks
 pub mod Homes
+pub mod Passes
 pub mod PlaceSteps
 pub mod Servings
 pub mod SideSteps

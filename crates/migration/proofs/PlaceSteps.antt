@@ -1,29 +1,28 @@
 -- What offering an order, a move, an arrival home and an admission leave of the facts that a side keeps.
-use Rattle.std.proofs.Common.{◌≡◌, ◌≢◌, ℕ, zero, suc, ◌+◌, ◌-◌, ◌*◌, ◌^◌, ◌<◌, ◌≤◌, ◌⊎◌, inl, inr, Bool, true, false, true≢false, cond, List, [], ◌∷◌, ◌++◌, length, map, set, get_or, replicate, refl, sym, ap, ◌∙◌, subst, arith, length-append}
-use Rattle.std.specs.Prelude.{nat_eq, nat_lt, min, Option, Some, None, count_by}
+use Rattle.std.proofs.Common.{◌≡◌, ℕ, ◌+◌, ◌-◌, ◌*◌, ◌^◌, ◌<◌, ◌≤◌, ◌⊎◌, inl, inr, Bool, true, false, true≢false, cond, List, [], ◌∷◌, ◌++◌, length, set, replicate, refl, sym, ap, ◌∙◌, subst, arith, length-append}
+use Rattle.std.specs.Prelude.{nat_eq, nat_lt, Option, Some, None}
 use Rattle.std.specs.List.{sum_by, All}
-use Rattle.std.proofs.lemmas.List.{length-map, length-set, map-set, get_or_past, get_or-set_same, get_or-set_other}
+use Rattle.std.proofs.lemmas.List.{get_or_past, get_or-set_same, get_or-set_other}
 use Rattle.std.proofs.lemmas.List.Elements.{All-nil, All-get_or, All-head, All-tail, All-from_get_or}
-use Rattle.std.proofs.lemmas.List.Sums.{sum_by-cons, sum_by-append, sum_by_push, sum_by-set, sum_by-le, get_or-le-sum_by, sum_by-le-sum_by}
+use Rattle.std.proofs.lemmas.List.Sums.{sum_by-cons, sum_by_push, sum_by-set, sum_by-le, sum_by-le-sum_by}
 use Rattle.std.proofs.Math.Seq.{map-set_same}
-use borrow.Author.Tests.{eqb-true, eqb-false, ltb-true, ltb-false}
-use Rattle.std.proofs.lemmas.Bool.{eq-eqb, ne_eqb}
+use borrow.Author.Tests.{eqb-true, ltb-true, ltb-false}
+use Rattle.std.proofs.lemmas.Bool.{eq-eqb}
 use Rattle.lane_core.specs.Ends.{sent, taken, raised}
 use Rattle.worker_core.specs.declared.pairing.Desk.{Desk}
 use Rattle.worker_core.specs.Names.{arrivals, weight}
 use Rattle.worker_core.specs.Workers.{IsNewDesk}
 use Rattle.worker_core.proofs.Arrivals.{weight-push}
 use Rattle.migration.specs.declared.place.Place.{Place}
-use Rattle.migration.specs.declared.place.State.{State}
-use Rattle.migration.specs.declared.place.State.TheVariants.{Front, Placed, Recall, Leaving}
+use Rattle.migration.specs.declared.place.State.TheVariants.{Front, Leaving}
 use Rattle.migration.specs.Desks.{sent_weight, home_weight, lanes_of, homes_of, order_count, fulls_at, Taken, Empty}
-use Rattle.migration.specs.Places.{place_at, pending_at, is_admitted, is_waiting, is_waiting_at, waits_at, PlaceFits, slices_fit, at_end, to_end, hop_at, hops_of, name_at, names_of, name_of, front_at, front_weight, pending, weight_at, wait_weight}
-use Rattle.migration.specs.Steps.{Sends, Serves, PlaceServed, ServedAt, Goes, Moves, MovesAt, NewlyWaits, Homes, Welcomes, Admits, Grown}
-use Rattle.migration.specs.Sides.{Balanced, slot_at, BySlot, IsSide, Rose}
+use Rattle.migration.specs.Places.{place_at, pending_at, is_admitted, is_waiting, is_waiting_at, waits_at, PlaceFits, at_end, to_end, hop_at, hops_of, name_at, names_of, front_at, front_weight, pending, weight_at, wait_weight}
+use Rattle.migration.specs.Steps.{Sends, PlaceServed, ServedAt, Moves, MovesAt, NewlyWaits, Welcomes, Admits, Grown}
+use Rattle.migration.specs.Sides.{slot_at, BySlot, IsSide, Rose}
 use Rattle.migration.specs.Words.{ServedNext}
 use Rattle.migration.proofs.Desks.{changed_sum, changed_len, homes_sum}
-use Rattle.migration.proofs.StateSteps.{StateStep, Again, sends_step, serves_step, goes_step, sends_fit, serves_fit, goes_fit}
-use Rattle.migration.proofs.SideSteps.{index_map, at_slot, by_slot, AtSlot, wait_weight_is, Change, set_side, same_places, grown_side, place_grown}
+use Rattle.migration.proofs.StateSteps.{StateStep, sends_step, serves_step, goes_step, sends_fit, serves_fit, goes_fit}
+use Rattle.migration.proofs.SideSteps.{at_slot, wait_weight_is, set_side, same_places, grown_side, place_grown}
 
 mul_zero : (n : ℕ) → ◌≡◌ {A = ℕ} (n * 0) 0
 mul_zero n = omega arith

@@ -1,9 +1,8 @@
 -- How the slots that wait are served, one after another.
-use Rattle.std.proofs.Common.{◌≡◌, ◌≢◌, ℕ, ◌+◌, ◌-◌, ◌^◌, ◌<◌, ◌≤◌, ◌⊎◌, inl, inr, Bool, true, false, true≢false, cond, List, [], ◌∷◌, ◌++◌, length, map, set, get_or, refl, sym, ap, ◌∙◌, subst, arith, length-append}
+use Rattle.std.proofs.Common.{◌≡◌, ◌≢◌, ℕ, ◌<◌, ◌⊎◌, inl, inr, true, false, cond, List, [], ◌∷◌, length, map, set, get_or, refl, sym, ap, ◌∙◌, subst, arith}
 use Rattle.std.specs.Prelude.{nat_eq, Option, Some, None}
 use Rattle.std.specs.List.{sum_by}
 use Rattle.std.proofs.lemmas.List.Sums.{sum_by_push, get_or-le-sum_by}
-use Rattle.std.proofs.lemmas.List.{get_or-set_same, get_or-set_other}
 use Rattle.std.proofs.lemmas.Bool.{eq-eqb, ne_eqb}
 use Rattle.std.proofs.Math.Seq.{map-set_same}
 use borrow.Author.Tests.{eqb-true, eqb-false}
@@ -12,13 +11,13 @@ use Rattle.worker_core.specs.Workers.{Lanes}
 use Rattle.migration.specs.declared.place.Place.{Place}
 use Rattle.migration.specs.declared.place.State.TheVariants.{Front, Placed, Recall, Leaving}
 use Rattle.lane_core.specs.declared.ends.Receiver.{Receiver}
-use Rattle.lane_core.specs.Ends.{raised, taken, empty_answers}
-use Rattle.migration.specs.Desks.{fulls_at, homes_of, empties_at, home_count}
+use Rattle.lane_core.specs.Ends.{taken, empty_answers}
+use Rattle.migration.specs.Desks.{fulls_at, homes_of, empties_at}
 use Rattle.migration.specs.Places.{place_at, is_waiting, is_waiting_at, waits_at, waits_for, hop_at, hops_of, name_at, names_of, wait_weight}
 use Rattle.migration.specs.Steps.{Welcomes}
-use Rattle.migration.specs.Sides.{slot_at, BySlot, IsSide, Rose, AllMetFull, HomeEnded}
+use Rattle.migration.specs.Sides.{IsSide, Rose, AllMetFull, HomeEnded}
 use Rattle.migration.specs.Words.{Roll, ServedNext}
-use Rattle.migration.proofs.PlaceSteps.{on, rose_raised, waiting_within}
+use Rattle.migration.proofs.PlaceSteps.{on, waiting_within}
 use Rattle.migration.proofs.SideSteps.{at_slot, wait_weight_is}
 
 module _ {N : Type 0} where

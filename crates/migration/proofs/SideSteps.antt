@@ -1,23 +1,20 @@
 -- What one step leaves of the facts that a side keeps.
-use Rattle.std.proofs.Common.{◌≡◌, ◌≢◌, ℕ, zero, suc, ◌+◌, ◌*◌, ◌^◌, ◌<◌, ◌≤◌, ◌⊎◌, inl, inr, Bool, true, false, true≢false, cond, List, [], ◌∷◌, ◌++◌, length, map, set, get_or, replicate, refl, sym, ap, ◌∙◌, subst, arith, length-append}
-use Rattle.std.specs.Prelude.{nat_eq, Option, Some, None, count_by}
+use Rattle.std.proofs.Common.{◌≡◌, ℕ, zero, suc, ◌+◌, ◌*◌, ◌^◌, ◌<◌, ◌≤◌, true, false, cond, List, [], ◌∷◌, ◌++◌, length, map, set, get_or, replicate, refl, sym, ap, ◌∙◌, subst, arith}
+use Rattle.std.specs.Prelude.{nat_eq, Option, Some, None}
 use Rattle.std.specs.List.{sum_by, All}
-use Rattle.std.proofs.lemmas.List.{length-map, length-set, map-set, set-get_or, get_or-map, get_or-set_same, get_or-set_other}
-use Rattle.std.proofs.lemmas.List.Elements.{All-nil, All-get_or, All-set, All-append, All-replicate, All-weaker}
-use Rattle.std.proofs.lemmas.List.Sums.{sum_by-append, sum_by_push, sum_by-set}
+use Rattle.std.proofs.lemmas.List.{set-get_or, get_or-set_same, get_or-set_other}
+use Rattle.std.proofs.lemmas.List.Elements.{All-get_or, All-set, All-append, All-replicate, All-weaker}
+use Rattle.std.proofs.lemmas.List.Sums.{sum_by-append, sum_by-set}
 use Rattle.std.proofs.lemmas.List.Folds.{sum_by-replicate}
-use Rattle.std.proofs.Math.Seq.{map-set_same}
 use borrow.Author.Tests.{eqb-true, eqb-false}
 use Rattle.worker_core.specs.declared.pairing.Desk.{Desk}
 use Rattle.worker_core.specs.Names.{weight}
 use Rattle.worker_core.proofs.Arrivals.{sum_by-through}
 use Rattle.migration.specs.declared.place.Place.{Place}
-use Rattle.migration.specs.declared.place.State.{State}
-use Rattle.migration.specs.declared.place.State.TheVariants.{Front, Placed, Recall, Leaving}
-use Rattle.migration.specs.Desks.{sent_weight, home_weight, lanes_of, homes_of, order_count, fulls_at}
-use Rattle.migration.specs.Places.{place_at, pending_at, is_admitted, is_waiting_at, waits_at, PlaceFits, hop_at, name_at, names_of, front_at, weight_at, wait_weight}
+use Rattle.migration.specs.Desks.{sent_weight, home_weight, order_count}
+use Rattle.migration.specs.Places.{place_at, pending_at, is_admitted, is_waiting_at, PlaceFits, name_at, names_of, front_at, weight_at, wait_weight}
 use Rattle.migration.specs.Steps.{Grown, Welcomes, WelcomesAt}
-use Rattle.migration.specs.Sides.{Balanced, slot_at, BySlot, IsSide}
+use Rattle.migration.specs.Sides.{slot_at, BySlot, IsSide}
 
 -- an index of mapped items, where the default is mapped too
 pub index_map : {X Y : Type 0} (f : X → Y) (xs : List X) (k : ℕ) (d : X) → get_or (map f xs) k (f d) ≡ f (get_or xs k d)
@@ -36,7 +33,7 @@ pub welcomed_at : {H : Type 0} (half : H) (slot : ℕ) (places new : List (Optio
     → slot < length places → new ≡ set places slot place → Welcomes half (place_at places slot) place back → WelcomesAt half slot places new back
 welcomed_at half slot places new place None within is welcomes = (place, within, is, welcomes)
 welcomed_at half slot places new place (Some back) within is welcomes =
-    (welcomes.0, is ∙ ap (set places slot) welcomes.1 ∙ set-get_or places slot None)
+    (welcomes.0, is ∙ ap (set places slot) welcomes.1 ∙ set-get_or places slot None, welcomes.2)
 
 module _ {H N : Type 0} (name : H → N) (slot_of : N → ℕ) where
   -- each place has a name of its slot

@@ -1,8 +1,8 @@
 -- What one step at a slot changes in sums over all.
-use Rattle.std.proofs.Common.{◌≡◌, ◌≢◌, ℕ, ◌+◌, ◌*◌, ◌^◌, ◌<◌, ◌≤◌, ◌⊎◌, inl, inr, Bool, true, false, List, [], ◌∷◌, ◌++◌, length, map, set, get_or, refl, sym, ap, ◌∙◌, subst, arith}
-use Rattle.std.specs.Prelude.{Option, Some, None, is_some}
+use Rattle.std.proofs.Common.{◌≡◌, ℕ, ◌+◌, ◌<◌, ◌≤◌, ◌⊎◌, inl, inr, List, length, refl, sym, ap, ◌∙◌, subst, arith}
+use Rattle.std.specs.Prelude.{Option, Some, None}
 use Rattle.std.specs.List.{sum_by}
-use Rattle.lane_core.specs.Ends.{sent, taken, full_answers, raised}
+use Rattle.lane_core.specs.Ends.{sent, raised}
 use Rattle.worker_core.specs.declared.pairing.Desk.{Desk}
 use Rattle.worker_core.specs.declared.order.Order.TheVariants.{Arrive, Leave}
 use Rattle.worker_core.specs.Names.{arrivals, weight}
@@ -12,6 +12,7 @@ use Rattle.migration.specs.declared.place.State.TheVariants.{Front, Placed, Reca
 use Rattle.migration.specs.Desks.{sent_weight, lanes_of, homes_of, order_count, fulls_at, Given, Refused}
 use Rattle.migration.specs.Places.{pending, waits_for, front_weight, slices_fit}
 use Rattle.migration.specs.Steps.{Sends, Recalls, Serves, Goes, Homes, Welcomes}
+use Rattle.migration.proofs.Passes.{not_leaving}
 use Rattle.migration.proofs.Desks.{changed_sum, changed_map, changed_len, changed_lanes, arrive_weight, leave_weight, refused_sum, refused_full, refused_fulls, given_fulls, given_count}
 
 -- a state changed with the desks; so many orders may be given more
@@ -177,4 +178,4 @@ pub homed_place : {H : Type 0} (half : H) (before now : Place H) (back : Option 
     → Homes half before.state now.state back → Welcomes half (Some before) (Some now) back
 homed_place half before now None hop admitted homes = (before, now, refl, refl, hop, admitted, homes)
 homed_place half before now (Some other) hop admitted homes =
-    (homes.0, λ i. Some (record { hop = hop i; state = homes.1 i; admitted = admitted i }))
+    (homes.0, (λ i. Some (record { hop = hop i; state = homes.1 i; admitted = admitted i })), not_leaving before.state homes.2)

@@ -1,4 +1,5 @@
 pub mod Desks
+pub mod Passes
 pub mod Places
 pub mod Sides
 pub mod Steps

@@ -1,5 +1,5 @@
 -- What one step does to the state of one slot, and which order it gives.
-use Rattle.std.specs.Prelude.{◌≡◌, ℕ, ◌+◌, ◌<◌, ◌⊎◌, Bool, false, cond, List, [], ◌++◌, length, replicate, slice_set, Option, Some, None}
+use Rattle.std.specs.Prelude.{◌≡◌, ℕ, ◌+◌, ◌<◌, ◌⊎◌, Bool, false, cond, List, ◌++◌, length, replicate, slice_set, Option, Some, None}
 use Rattle.worker_core.specs.declared.pairing.Desk.{Desk}
 use Rattle.worker_core.specs.declared.order.Order.TheVariants.{Arrive, Leave}
 use Rattle.migration.specs.declared.place.Place.{Place}
@@ -7,6 +7,7 @@ use Rattle.migration.specs.declared.place.State.{State}
 use Rattle.migration.specs.declared.place.State.TheVariants.{Front, Placed, Recall, Leaving}
 use Rattle.migration.specs.Desks.{Given, Refused}
 use Rattle.migration.specs.Places.{place_at, is_waiting_at, is_leaving}
+use Rattle.migration.specs.Passes.{Unawaited}
 
 -- a half is told the hop of its slot, and then it was sent to a slice, or is at the front since that lane was full
 pub record Sends {H N : Type 0} (name : H → N) (hop_of : H → ℕ) (hop to : ℕ) (half : H) (state : State H) (old new : List (Desk H)) : Type 0 where
@@ -69,14 +70,14 @@ Homes half old new None = (from : ℕ) × (to : ℕ) × (old ≡ Leaving from to
 
 -- a half that came home stands at the front where its slot is leaving, and else it is handed back
 abbrev pub Welcomes : {H : Type 0} → H → Option (Place H) → Option (Place H) → Option H → Type 0
-Welcomes half place new_place (Some back) = (back ≡ half) × (new_place ≡ place)
+Welcomes half place new_place (Some back) = (back ≡ half) × (new_place ≡ place) × Unawaited place
 Welcomes {H} half place new_place None =
     (before : Place H) × (now : Place H) × (place ≡ Some before) × (new_place ≡ Some now)
     × (now.hop ≡ before.hop) × (now.admitted ≡ before.admitted) × Homes half before.state now.state None
 
 -- the same of the place of a slot
 abbrev pub WelcomesAt : {H : Type 0} → H → ℕ → List (Option (Place H)) → List (Option (Place H)) → Option H → Type 0
-WelcomesAt half slot places new (Some back) = (back ≡ half) × (new ≡ places)
+WelcomesAt half slot places new (Some back) = (back ≡ half) × (new ≡ places) × Unawaited (place_at places slot)
 WelcomesAt {H} half slot places new None =
     (place : Option (Place H)) × (slot < length places) × (new ≡ slice_set places slot place) × Welcomes half (place_at places slot) place None
 

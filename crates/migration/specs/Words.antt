@@ -1,12 +1,11 @@
 -- Parts of a side that clauses speak of.
-use Rattle.std.specs.Prelude.{◌≡◌, ◌≢◌, ℕ, ◌+◌, ◌<◌, ◌≤◌, ◌⊎◌, Bool, true, false, List, [], ◌∷◌, ◌++◌, length, Option, Some, None}
-use Rattle.lane_core.specs.declared.ends.Receiver.{Receiver}
+use Rattle.std.specs.Prelude.{◌≡◌, ◌≢◌, ℕ, ◌+◌, ◌≤◌, ◌⊎◌, Bool, true, false, List, [], ◌∷◌, ◌++◌, length, Option, Some}
 use Rattle.worker_core.specs.declared.pairing.Desk.{Desk}
 use Rattle.worker_core.specs.declared.traveller.Traveller.{Ghosts}
 use Rattle.worker_core.specs.Workers.{Lanes}
 use Rattle.migration.specs.declared.place.Place.{Place}
 use Rattle.migration.specs.declared.side.Side.{Side}
-use Rattle.migration.specs.Desks.{lanes_of, homes_of, fulls_at, empties_at, home_count}
+use Rattle.migration.specs.Desks.{lanes_of, fulls_at, empties_at, home_count}
 use Rattle.migration.specs.Places.{place_at, names_of, hops_of, waits_at}
 use Rattle.migration.specs.Sides.{Rose, HomeEnded}
 

@@ -9,4 +9,5 @@ mod steps;
 #[cfg(test)]
 mod tests;
 
-pub use side::Side;
+pub use place::{Place, State};
+pub use side::{Side, SideEnd};

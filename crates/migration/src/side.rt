@@ -1,7 +1,8 @@
 //! A side: the desks of its workers, and the state of each slot.
 ghost use Rattle.std.specs.Prelude.{◌≡◌, ◌≤◌, ◌<◌, ◌+◌, ◌*◌, ◌^◌, ◌⊎◌, ℕ, All, true, false, [], length, vec_len, vec_capacity, IsTrue, IsFalse, OnOk, OnErr, IfErr};
 ghost use Rattle.worker_core.specs.Workers.{IsNewDesk};
-ghost use Rattle.migration.specs.Sides.{IsSide};
+ghost use Rattle.migration.specs.Places.{names_of};
+ghost use Rattle.migration.specs.Sides.{Balanced, BySlot, IsSide};
 
 use crate::place::Place;
 use crate::steps;
@@ -35,11 +36,23 @@ pub struct Side<H: Traveller> {
     ghost serving_room: { admitted ≤ vec_capacity serving },
 }
 
+/// What is left of a side that stopped: its desks, the state of each slot, and the halves kept aside.
+#[derive(Drop)]
+pub struct SideEnd<H: Traveller> {
+    pub desks: Vec<Desk<H>>,
+    /// By slot.
+    pub places: Vec<Option<Place<H>>>,
+    pub aside: Vec<H>,
+    pub ghost balanced: { Balanced H.name places.items aside.items desks.items },
+    pub ghost slots: { BySlot H.slot_of (names_of H.name places.items) },
+}
+
 impl<H: Traveller> Side<H> {
     ghost use Rattle.migration.specs.Desks.{lanes_of, homes_of, fulls_at};
-    ghost use Rattle.migration.specs.Places.{names_of, place_at, is_admitted, is_placed_at};
+    ghost use Rattle.migration.specs.Places.{place_at, is_admitted, is_placed_at};
     ghost use Rattle.migration.specs.Steps.{Grown, Admits, MovesAt};
     ghost use Rattle.migration.specs.Sides.{AllMetFull, HomeEnded};
+    ghost use Rattle.migration.specs.Passes.{Passes};
     ghost use Rattle.migration.specs.Words.{desks_of, places_of, aside_of, waiting_of, serving_of, admitted_of, asked_of, roll_of, TookOne, TookFrom, ServedNext};
 
     /// A side with these desks, one for each slice in order, and no slot.
@@ -118,6 +131,8 @@ impl<H: Traveller> Side<H> {
     /// by slot.
     pub fn pump<R: Wait>(&mut self, rt: &R)
         ensures roll { roll_of H.name self.new ≡ roll_of H.name self.old }
+        ensures passed { Passes (λ half. H.slot_of (H.name half)) H.hop_of (places_of self.old) (places_of self.new) (aside_of self.old) (aside_of self.new)
+            (desks_of self.old) (desks_of self.new) }
         ensures full { AllMetFull (places_of self.new) (desks_of self.old) (desks_of self.new) }
         ensures home { (slice : ℕ) → slice < length (desks_of self.old)
             → HomeEnded (length (aside_of self.new)) (admitted_of self.new) slice (desks_of self.old) (desks_of self.new) }
@@ -158,6 +173,28 @@ impl<H: Traveller> Side<H> {
         self.asked
     }
 
+    /// Gives what the side has.
+    pub fn into_end(self) -> SideEnd<H>
+        ensures desks { result.desks.items ≡ desks_of self }
+        ensures places { result.places.items ≡ places_of self }
+        ensures aside { result.aside.items ≡ aside_of self }
+    {
+        let Side {
+            desks,
+            places,
+            aside,
+            waiting: _,
+            serving: _,
+            admitted: _,
+            asked: _,
+        } = self;
+        SideEnd {
+            desks,
+            places,
+            aside,
+        }
+    }
+
     // Room for the place of a slot, for one more half aside, and for one more slot that waits.
     fn make_room(&mut self, slot: Slot) -> Result<(), NoMemory>
         ensures grown { Grown (places_of self.old) (places_of self.new) }
@@ -175,6 +212,8 @@ impl<H: Traveller> Side<H> {
     // Takes home what came, from each slice.
     fn take_all<R: Wait>(&mut self, rt: &R)
         ensures roll { roll_of H.name self.new ≡ roll_of H.name self.old }
+        ensures passed { Passes (λ half. H.slot_of (H.name half)) H.hop_of (places_of self.old) (places_of self.new) (aside_of self.old) (aside_of self.new)
+            (desks_of self.old) (desks_of self.new) }
         ensures home { (slice : ℕ) → slice < length (desks_of self.old)
             → HomeEnded (length (aside_of self.new)) (admitted_of self.new) slice (desks_of self.old) (desks_of self.new) }
         ensures fulls { (slice : ℕ) → fulls_at (desks_of self.new) slice ≡ fulls_at (desks_of self.old) slice }
@@ -188,6 +227,8 @@ impl<H: Traveller> Side<H> {
     fn take_from<R: Wait>(&mut self, rt: &R, slice: usize)
         requires { slice < vec_len self.old.desks }
         ensures roll { roll_of H.name self.new ≡ roll_of H.name self.old }
+        ensures passed { Passes (λ half. H.slot_of (H.name half)) H.hop_of (places_of self.old) (places_of self.new) (aside_of self.old) (aside_of self.new)
+            (desks_of self.old) (desks_of self.new) }
         ensures len { vec_len self.new.desks ≡ vec_len self.old.desks }
         ensures took { TookFrom slice (admitted_of self.new) (aside_of self.old) (aside_of self.new) (desks_of self.old) (desks_of self.new) }
     {
@@ -202,6 +243,8 @@ impl<H: Traveller> Side<H> {
     fn take_one<R: Wait>(&mut self, rt: &R, slice: usize) -> bool
         requires { slice < vec_len self.old.desks }
         ensures roll { roll_of H.name self.new ≡ roll_of H.name self.old }
+        ensures passed { Passes (λ half. H.slot_of (H.name half)) H.hop_of (places_of self.old) (places_of self.new) (aside_of self.old) (aside_of self.new)
+            (desks_of self.old) (desks_of self.new) }
         ensures len { vec_len self.new.desks ≡ vec_len self.old.desks }
         ensures took { TookOne result slice (admitted_of self.new) (aside_of self.old) (aside_of self.new) (desks_of self.old) (desks_of self.new) }
     {
@@ -227,6 +270,8 @@ impl<H: Traveller> Side<H> {
     // All that wait are to be served.
     fn line_up(&mut self)
         ensures roll { roll_of H.name self.new ≡ roll_of H.name self.old }
+        ensures passed { Passes (λ half. H.slot_of (H.name half)) H.hop_of (places_of self.old) (places_of self.new) (aside_of self.old) (aside_of self.new)
+            (desks_of self.old) (desks_of self.new) }
         ensures none { waiting_of self.new ≡ [] }
         ensures desks { desks_of self.new ≡ desks_of self.old }
         ensures aside { aside_of self.new ≡ aside_of self.old }
@@ -238,6 +283,8 @@ impl<H: Traveller> Side<H> {
     fn serve_all<R: Wait>(&mut self, rt: &R)
         requires { waiting_of self.old ≡ [] }
         ensures roll { roll_of H.name self.new ≡ roll_of H.name self.old }
+        ensures passed { Passes (λ half. H.slot_of (H.name half)) H.hop_of (places_of self.old) (places_of self.new) (aside_of self.old) (aside_of self.new)
+            (desks_of self.old) (desks_of self.new) }
         ensures homes { homes_of (desks_of self.new) ≡ homes_of (desks_of self.old) }
         ensures aside { aside_of self.new ≡ aside_of self.old }
         ensures full { AllMetFull (places_of self.new) (desks_of self.old) (desks_of self.new) }
@@ -251,6 +298,8 @@ impl<H: Traveller> Side<H> {
     fn serve_next<R: Wait>(&mut self, rt: &R)
         requires { 0 < vec_len self.old.serving }
         ensures roll { roll_of H.name self.new ≡ roll_of H.name self.old }
+        ensures passed { Passes (λ half. H.slot_of (H.name half)) H.hop_of (places_of self.old) (places_of self.new) (aside_of self.old) (aside_of self.new)
+            (desks_of self.old) (desks_of self.new) }
         ensures homes { homes_of (desks_of self.new) ≡ homes_of (desks_of self.old) }
         ensures aside { aside_of self.new ≡ aside_of self.old }
         ensures served { ServedNext (serving_of self.old) (serving_of self.new) (places_of self.old) (places_of self.new)

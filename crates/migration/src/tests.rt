@@ -133,6 +133,11 @@ fn moved_before_its_arrival_is_taken(rt: HostRuntime) -> Result<(), Fail> {
     assert!(rt; side.settled(Slot(5)));
     assert_eq!(rt; workers[1].turn(&rt), Ok(Did::Worked));
     assert_eq!(rt; side.asked(), 2);
+    let end = side.into_end();
+    assert_eq!(rt;
+        (end.desks.len(), end.places.len(), end.aside.len()),
+        (2, 6, 0)
+    );
     Ok(())
 }
 

@@ -1,4 +1,4 @@
-use Rattle.std.proofs.Common.{rules, ◌≡◌, Option, Some, refl, sym, subst}
+use Rattle.std.proofs.Common.{rules, refl}
 use Rattle.migration.proofs.steps.go.Goals as goal
 
 pub returns-clause-moves : goal.returns-clause-moves

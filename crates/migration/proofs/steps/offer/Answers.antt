@@ -1,6 +1,6 @@
 use Rattle.std.proofs.Common.{rules, refl, arith}
 use Rattle.std.proofs.lemmas.Result.{on_ok_weaker, IfErr-weaker}
-use Rattle.lane_core.specs.Ends.{sender_lane, receiver_lane}
+use Rattle.lane_core.specs.Ends.{receiver_lane}
 use Rattle.migration.proofs.steps.offer.Goals as goal
 
 pub returns-clause-given : goal.returns-clause-given

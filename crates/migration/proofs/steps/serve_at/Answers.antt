@@ -1,4 +1,4 @@
-use Rattle.std.proofs.Common.{rules, ◌≡◌, ◌∙◌, ◌^◌, Option, None, length, get_or, sym, subst, arith}
+use Rattle.std.proofs.Common.{rules, ◌≡◌, ◌∙◌, ◌^◌, Option, None, length, get_or, sym, subst}
 use Rattle.migration.specs.declared.place.Place.{Place}
 use Rattle.migration.specs.Places.{PlaceFits}
 use Rattle.migration.specs.Steps.{PlaceServed}

@@ -1,6 +1,6 @@
 use Rattle.std.proofs.Common.{rules, refl, arith}
 use Rattle.migration.proofs.Desks.{option_then}
-use Rattle.lane_core.specs.Ends.{sender_lane, receiver_lane}
+use Rattle.lane_core.specs.Ends.{sender_lane}
 use Rattle.migration.proofs.steps.take_home.Goals as goal
 
 pub returns-clause-taken : goal.returns-clause-taken

@@ -1,6 +1,5 @@
-use Rattle.std.proofs.Common.{rules, ◌≡◌, ◌<◌, ◌∙◌, Option, None, length, get_or, refl, sym, subst, arith}
+use Rattle.std.proofs.Common.{rules, ◌≡◌, ◌<◌, ◌∙◌, Option, None, length, get_or, subst, arith}
 use Rattle.migration.specs.declared.place.Place.{Place}
-use Rattle.migration.specs.Places.{place_at}
 use Rattle.migration.specs.Steps.{Welcomes}
 use Rattle.migration.proofs.SideSteps.{same_default, welcomed_at}
 use Rattle.migration.proofs.steps.welcome.Goals as goal

@@ -1,5 +1,4 @@
-use Rattle.std.proofs.Common.{rules, ◌≡◌, ◌^◌, ◌+◌, Bool, false, cond, ◌<◌, ◌≤◌, ◌∙◌, List, length, refl, sym, ap, subst, arith}
-use Rattle.std.specs.Prelude.{Some, None}
+use Rattle.std.proofs.Common.{rules, ◌≡◌, ◌^◌, ◌+◌, Bool, false, cond, ◌<◌, ◌∙◌, length, refl, sym, ap, subst, arith}
 use Rattle.std.specs.List.{sum_by}
 use Rattle.migration.specs.declared.place.Place.{Place}
 use Rattle.migration.specs.Desks.{lanes_of}

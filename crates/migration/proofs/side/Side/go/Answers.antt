@@ -1,5 +1,4 @@
-use Rattle.std.proofs.Common.{rules, ◌≡◌, ◌<◌, ◌≤◌, ◌∙◌, inl, inr, true, false, List, [], ◌∷◌, ◌++◌, length, refl, sym, ap, subst, arith}
-use Rattle.std.proofs.lemmas.Bool.{cases_Bool}
+use Rattle.std.proofs.Common.{rules, ◌≡◌, false, arith}
 use Rattle.migration.specs.Places.{is_waiting_at, place_at}
 use Rattle.migration.proofs.SideSteps.{place_fits}
 use Rattle.migration.proofs.PlaceSteps.{admitted_within, waiting_fewer, gone_side, was_idle}

@@ -1,7 +1,8 @@
-use Rattle.std.proofs.Common.{rules, ◌≡◌, ◌<◌, ◌≤◌, ◌∙◌, inl, inr, true, false, List, [], ◌∷◌, ◌++◌, length, refl, sym, ap, subst, arith}
+use Rattle.std.proofs.Common.{rules, refl, ap, arith}
 use Rattle.migration.proofs.PlaceSteps.{waiting_few}
 use Rattle.migration.proofs.SideSteps.{same_places}
 use Rattle.std.specs.List.{sum_by}
+use Rattle.migration.proofs.Passes.{passes_same}
 use Rattle.migration.proofs.side.Side.line_up.Goals as goal
 
 pub line_up-requires : goal.line_up-requires
@@ -17,3 +18,6 @@ invariant_of-self g c = record {
   waiting_room = search rules;
   serving_room = search rules;
 }
+
+pub returns-clause-passed : goal.returns-clause-passed
+returns-clause-passed g c = passes_same (λ half. g.H.Traveller.slot_of (g.H.Traveller.name half)) g.H.Traveller.hop_of _ _ _ _ _ _ refl refl (λ slice. refl)

@@ -1,5 +1,5 @@
-use Rattle.std.proofs.Common.{rules, ◌≡◌, ◌<◌, ◌≤◌, ◌∙◌, inl, inr, true, false, List, [], ◌∷◌, ◌++◌, length, refl, sym, ap, subst, arith}
-use Rattle.migration.proofs.SideSteps.{roomy_side, grown_none}
+use Rattle.std.proofs.Common.{rules, refl}
+use Rattle.migration.proofs.SideSteps.{roomy_side}
 use Rattle.migration.proofs.side.Side.make_room.Goals as goal
 
 pub invariant_of-self : goal.invariant_of-self

@@ -1,4 +1,4 @@
-use Rattle.std.proofs.Common.{rules, ◌≡◌, ◌<◌, ◌≤◌, ◌∙◌, inl, inr, true, false, List, [], ◌∷◌, ◌++◌, length, refl, sym, ap, subst, arith}
+use Rattle.std.proofs.Common.{List, sym, subst, arith}
 use Rattle.migration.specs.Sides.{IsSide}
 use Rattle.migration.proofs.PlaceSteps.{new_side}
 use Rattle.migration.specs.declared.place.Place.{Place}

@@ -1,7 +1,8 @@
-use Rattle.std.proofs.Common.{rules, ◌≡◌, ◌<◌, ◌≤◌, ◌∙◌, inl, inr, true, false, List, [], ◌∷◌, ◌++◌, length, refl, sym, ap, subst, arith}
+use Rattle.std.proofs.Common.{rules, refl, arith}
 use Rattle.migration.proofs.SideSteps.{place_fits}
 use Rattle.migration.proofs.PlaceSteps.{next_waits, waiting_within, waiting_few, served_side}
 use Rattle.migration.proofs.Servings.{roll_same}
+use Rattle.migration.proofs.Passes.{passes_served}
 use Rattle.migration.proofs.side.Side.serve_next.Goals as goal
 
 pub serve_at-waits-requires-clause-within : goal.serve_at-waits-requires-clause-within
@@ -43,3 +44,10 @@ pub returns-clause-served : goal.returns-clause-served
 returns-clause-served g c =
     (served_side g.H.Traveller.name g.H.Traveller.slot_of g.H.Traveller.hop_of _ _ c.in-Some.slot c.serve_at-waits.result _ _ c.serve_at-waits.new.desks.items _ c.note.new.waiting.items c.args.self.now.serving.items c.pop.new.self.items _ _ c.args.self.now.laid
     (search rules) c.serve_at-waits.ensures.served c.note.ensures.noted).5
+
+pub returns-clause-passed : goal.returns-clause-passed
+returns-clause-passed g c =
+    passes_served (λ half. g.H.Traveller.slot_of (g.H.Traveller.name half)) g.H.Traveller.hop_of g.H.Traveller.name c.args.self.now.places.items _ c.in-Some.slot c.serve_at-waits.result _ _ _ _
+    (waiting_within g.H.Traveller.name g.H.Traveller.slot_of c.args.self.now.places.items c.in-Some.slot
+    (next_waits g.H.Traveller.name g.H.Traveller.slot_of c.args.self.now.places.items c.in-Some.slot _ _ _ c.args.self.now.serving.items c.pop.new.self.items _ _ c.args.self.now.laid (search rules)))
+    refl c.serve_at-waits.ensures.served

@@ -1,9 +1,11 @@
-use Rattle.std.proofs.Common.{rules, ◌≡◌, ◌<◌, ◌≤◌, ◌∙◌, inl, inr, true, false, List, [], ◌∷◌, ◌++◌, length, refl, sym, ap, subst, arith}
+use Rattle.std.proofs.Common.{rules, ◌∙◌, [], ◌∷◌, ◌++◌, refl, ap, subst, arith}
 use Rattle.migration.proofs.Desks.{changed_lanes}
-use Rattle.migration.specs.Places.{is_waiting_at, is_admitted, place_at, names_of, hops_of}
-use Rattle.migration.proofs.PlaceSteps.{waiting_fewer, came_home, kept_aside, none_home, leaving_idle}
-use Rattle.migration.proofs.Homes.{took_half, took_none, took_full}
+use Rattle.migration.specs.Places.{place_at, names_of, hops_of}
+use Rattle.migration.proofs.PlaceSteps.{waiting_fewer, came_home, kept_aside, leaving_idle}
+use Rattle.migration.proofs.Homes.{took_half, took_none}
 use Rattle.migration.proofs.Servings.{roll_same, names_set, hops_set, welcomed_name}
+use Rattle.migration.proofs.Passes.{passes_same, passes_empty, passes_home, passes_aside}
+use Rattle.migration.specs.Passes.{Unawaited}
 use Rattle.migration.proofs.side.Side.take_one.Goals as goal
 
 pub returns-in_default-clause-roll : goal.returns-in_default-clause-roll
@@ -67,3 +69,20 @@ returns-in-None-clause-roll g c =
 pub returns-in-None-clause-took : goal.returns-in-None-clause-took
 returns-in-None-clause-took g c =
     took_half c.args.slice _ _ _ _ _ c.in-Some.half c.in-Some.ensures.taken (omega arith)
+
+pub returns-then-len-self-clause-passed : goal.returns-then-len-self-clause-passed
+returns-then-len-self-clause-passed g c = passes_same (λ half. g.H.Traveller.slot_of (g.H.Traveller.name half)) g.H.Traveller.hop_of _ _ _ _ _ _ refl refl (λ slice. refl)
+
+pub returns-in_default-clause-passed : goal.returns-in_default-clause-passed
+returns-in_default-clause-passed g c = passes_empty (λ half. g.H.Traveller.slot_of (g.H.Traveller.name half)) g.H.Traveller.hop_of c.args.slice _ _ _ _ c.in_default.ensures.taken
+
+pub returns-in-Some-welcome-clause-passed : goal.returns-in-Some-welcome-clause-passed
+returns-in-Some-welcome-clause-passed g c =
+    passes_aside (λ half. g.H.Traveller.slot_of (g.H.Traveller.name half)) g.H.Traveller.hop_of c.args.slice c.in-Some.half _ _ _ _ _ _ c.in-Some.ensures.taken c.in-Some-welcome.ensures.1
+    (c.push_reserved.ensures.items ∙ ap (λ h. c.args.self.now.aside.items ++ h ∷ []) c.in-Some-welcome.ensures.0)
+    (subst (λ n. Unawaited (place_at c.args.self.now.places.items n)) c.slot-slot.ensures c.in-Some-welcome.ensures.2)
+
+pub returns-in-None-clause-passed : goal.returns-in-None-clause-passed
+returns-in-None-clause-passed g c =
+    let w = c.in-None.ensures in
+    passes_home (λ half. g.H.Traveller.slot_of (g.H.Traveller.name half)) g.H.Traveller.hop_of c.args.slice c.slot-slot.result c.in-Some.half w.0 _ _ _ _ _ c.in-Some.ensures.taken w.1 w.2 w.3
