@@ -1,0 +1,7 @@
+pub mod Desks
+pub mod Homes
+pub mod Passes
+pub mod PlaceSteps
+pub mod Servings
+pub mod SideSteps
+pub mod StateSteps

@@ -1,0 +1,6 @@
+pub mod Desks
+pub mod Passes
+pub mod Places
+pub mod Sides
+pub mod Steps
+pub mod Words

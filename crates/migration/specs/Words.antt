@@ -1,0 +1,73 @@
+-- Parts of a side that clauses speak of.
+use Rattle.std.specs.Prelude.{◌≡◌, ◌≢◌, ℕ, ◌+◌, ◌≤◌, ◌⊎◌, Bool, true, false, List, [], ◌∷◌, ◌++◌, length, Option, Some}
+use Rattle.worker_core.specs.declared.pairing.Desk.{Desk}
+use Rattle.worker_core.specs.declared.traveller.Traveller.{Ghosts}
+use Rattle.worker_core.specs.Workers.{Lanes}
+use Rattle.migration.specs.declared.place.Place.{Place}
+use Rattle.migration.specs.declared.side.Side.{Side}
+use Rattle.migration.specs.Desks.{lanes_of, fulls_at, empties_at, home_count}
+use Rattle.migration.specs.Places.{place_at, names_of, hops_of, waits_at}
+use Rattle.migration.specs.Sides.{Rose, HomeEnded}
+
+-- what no call but admit and go changes: the names and the hops by slot, the lanes, and both counts
+pub record Roll (N : Type 0) : Type 0 where
+  pub names : List (Option N)
+  pub hops : List ℕ
+  pub lanes : List Lanes
+  pub admitted : ℕ
+  pub asked : ℕ
+
+module _ {H N : Type 0} {g : Ghosts H N} where
+  abbrev pub desks_of : Side H N g → List (Desk H)
+  desks_of side = side.desks.items
+
+  abbrev pub places_of : Side H N g → List (Option (Place H))
+  places_of side = side.places.items
+
+  -- the halves that came home though nobody had told them to
+  abbrev pub aside_of : Side H N g → List H
+  aside_of side = side.aside.items
+
+  abbrev pub waiting_of : Side H N g → List ℕ
+  waiting_of side = side.waiting.items
+
+  abbrev pub serving_of : Side H N g → List ℕ
+  serving_of side = side.serving.items
+
+  abbrev pub admitted_of : Side H N g → ℕ
+  admitted_of side = side.admitted
+
+  abbrev pub asked_of : Side H N g → ℕ
+  asked_of side = side.asked
+
+  abbrev pub roll_of : (H → N) → Side H N g → Roll N
+  roll_of name side = record {
+    names = names_of name side.places.items;
+    hops = hops_of side.places.items;
+    lanes = lanes_of side.desks.items;
+    admitted = side.admitted;
+    asked = side.asked;
+  }
+
+-- a look at the lane home of a slice: a half was taken, or none, since the lane was empty or no more may be kept aside
+pub record TookOne {H : Type 0} (went : Bool) (slice admitted : ℕ) (aside new_aside : List H) (old new : List (Desk H)) : Type 0 where
+  pub others : (other : ℕ) → other ≢ slice → (home_count new other ≡ home_count old other) × (empties_at new other ≡ empties_at old other)
+  pub more : went ≡ true → (home_count new slice ≡ home_count old slice + 1) × (empties_at new slice ≡ empties_at old slice)
+  pub ended : went ≡ false → Rose (empties_at old slice) (empties_at new slice) ⊎ (length new_aside ≡ admitted)
+  pub aside_grows : length aside ≤ length new_aside
+  pub fulls : (other : ℕ) → fulls_at new other ≡ fulls_at old other
+
+-- the lane home of a slice was emptied as far as it may be at once
+pub record TookFrom {H : Type 0} (slice admitted : ℕ) (aside new_aside : List H) (old new : List (Desk H)) : Type 0 where
+  pub others : (other : ℕ) → other ≢ slice → (home_count new other ≡ home_count old other) × (empties_at new other ≡ empties_at old other)
+  pub ended : HomeEnded (length new_aside) admitted slice old new
+  pub aside_grows : length aside ≤ length new_aside
+  pub fulls : (other : ℕ) → fulls_at new other ≡ fulls_at old other
+
+-- the order of the slot that is served next was offered
+pub record ServedNext {H : Type 0} (serving new_serving : List ℕ) (places new_places : List (Option (Place H))) (old new : List (Desk H)) : Type 0 where
+  pub slot : ℕ
+  pub next : serving ≡ new_serving ++ slot ∷ []
+  pub others : (other : ℕ) → other ≢ slot → place_at new_places other ≡ place_at places other
+  pub again : (slice : ℕ) → waits_at (place_at new_places slot) ≡ Some slice → Rose (fulls_at old slice) (fulls_at new slice)
+  pub later : (slice : ℕ) → (fulls_at new slice ≡ fulls_at old slice) ⊎ Rose (fulls_at old slice) (fulls_at new slice)

@@ -1,0 +1,361 @@
+//! Steps at one slot: an order is offered, and a half comes home.
+ghost use Rattle.std.specs.Prelude.{◌≡◌, ◌≤◌, ◌<◌, ◌+◌, ◌^◌, cond, true, [], ℕ, Some, List, length, vec_len, vec_capacity, slice_set, OnOk, IfErr, MatchOption};
+ghost use Rattle.std.specs.List.{sum_by};
+ghost use Rattle.migration.specs.Desks.{Given, Refused, Taken, Empty, order_count};
+ghost use Rattle.migration.specs.Places.{place_at, PlaceFits, slices_fit, is_admitted, is_placed, is_waiting, is_waiting_at};
+ghost use Rattle.migration.specs.Steps.{Sends, Recalls, Serves, PlaceServed, ServedAt, Goes, Moves, MovesAt, NewlyWaits, Homes, Welcomes, WelcomesAt, Grown};
+
+use crate::place::{Place, State};
+use lane_core::{Full, NoMemory};
+use pc_base::{SliceNo, Slot};
+use std::sync::Wait;
+use worker_core::{Desk, Order, Traveller};
+
+// Offers an order at the desk of a slice.
+fn offer<H: Traveller, R: Wait>(
+    rt: &R,
+    desks: &mut Vec<Desk<H>>,
+    slice: SliceNo,
+    order: Order<H>,
+) -> Result<(), Full<Order<H>>>
+    requires within { slice < vec_len desks.old }
+    requires few { sum_by order_count desks.old.items < 2 ^ 50 }
+    ensures given { OnOk result (Given slice order desks.old.items desks.new.items) }
+    ensures full { IfErr result (λ full. (full.0 ≡ order) × Refused slice desks.old.items desks.new.items) }
+    ensures len { vec_len desks.new ≡ vec_len desks.old }
+{
+    desks[slice.0 as usize].orders.offer(rt, order)
+}
+
+// Sends a half to a slice, or keeps it at the front where that lane is full.
+pub fn send<H: Traveller, R: Wait>(
+    rt: &R,
+    desks: &mut Vec<Desk<H>>,
+    mut half: H,
+    to: SliceNo,
+    hop: u64,
+) -> State<H>
+    requires within { to < vec_len desks.old }
+    requires few { sum_by order_count desks.old.items < 2 ^ 50 }
+    requires hop { hop ≤ 2 ^ 61 }
+    ensures sends { Sends H.name H.hop_of hop to half result desks.old.items desks.new.items }
+    ensures len { vec_len desks.new ≡ vec_len desks.old }
+{
+    half.arrive(hop);
+    match offer(rt, desks, to, Order::Arrive(half)) {
+        Ok(()) => State::Placed { at: to },
+        Err(Full(order)) => match order {
+            Order::Arrive(half) => State::Front { half, to },
+            Order::Leave { .. } => unreachable!(),
+        },
+    }
+}
+
+// Tells a half to leave a slice, or waits with it where that lane is full.
+fn recall<H: Traveller, R: Wait>(
+    rt: &R,
+    desks: &mut Vec<Desk<H>>,
+    slot: Slot,
+    at: SliceNo,
+    until: u64,
+    to: SliceNo,
+) -> State<H>
+    requires within { at < vec_len desks.old }
+    requires few { sum_by order_count desks.old.items < 2 ^ 50 }
+    ensures recalls { Recalls slot at until to result desks.old.items desks.new.items }
+    ensures len { vec_len desks.new ≡ vec_len desks.old }
+{
+    match offer(rt, desks, at, Order::Leave { slot, until }) {
+        Ok(()) => State::Leaving { from: at, to },
+        Err(_) => State::Recall { at, until, to },
+    }
+}
+
+// Whether a state has an order to give.
+pub fn waits<H>(state: &State<H>) -> bool
+    ensures { result ≡ is_waiting state.now }
+{
+    match state {
+        State::Front { .. } => true,
+        State::Placed { .. } => false,
+        State::Recall { .. } => true,
+        State::Leaving { .. } => false,
+    }
+}
+
+// Whether the half was sent to a slice, and nothing else is asked of it.
+pub fn placed<H>(state: &State<H>) -> bool
+    ensures { result ≡ is_placed state.now }
+{
+    match state {
+        State::Front { .. } => false,
+        State::Placed { .. } => true,
+        State::Recall { .. } => false,
+        State::Leaving { .. } => false,
+    }
+}
+
+// Offers the order that a state waits to give.
+fn served<H: Traveller, R: Wait>(
+    rt: &R,
+    desks: &mut Vec<Desk<H>>,
+    slot: Slot,
+    hop: u64,
+    state: State<H>,
+) -> State<H>
+    requires fits { slices_fit (vec_len desks.old) state }
+    requires hop { hop ≤ 2 ^ 61 }
+    requires few { sum_by order_count desks.old.items < 2 ^ 50 }
+    ensures serves { Serves H.name H.hop_of slot hop state result desks.old.items desks.new.items }
+    ensures len { vec_len desks.new ≡ vec_len desks.old }
+{
+    match state {
+        State::Front { half, to } => send(rt, desks, half, to, hop),
+        State::Placed { at } => State::Placed { at },
+        State::Recall { at, until, to } => recall(rt, desks, slot, at, until, to),
+        State::Leaving { from, to } => State::Leaving { from, to },
+    }
+}
+
+// Offers the order that a place waits to give, and tells whether it waits still.
+pub fn serve<H: Traveller, R: Wait>(
+    rt: &R,
+    desks: &mut Vec<Desk<H>>,
+    place: &mut Option<Place<H>>,
+    slot: Slot,
+) -> bool
+    requires fits { PlaceFits (length desks.old.items) (2 ^ 48) place.old }
+    requires few { sum_by order_count desks.old.items < 2 ^ 50 }
+    ensures served { PlaceServed H.name H.hop_of slot place.old place.new desks.old.items desks.new.items }
+    ensures waits { result ≡ is_waiting_at place.new }
+    ensures len { vec_len desks.new ≡ vec_len desks.old }
+{
+    let Some(place_was) = place.take() else {
+        return false;
+    };
+    let Place {
+        hop,
+        state,
+        admitted,
+    } = place_was;
+    let state = served(rt, desks, slot, hop, state);
+    let waits = waits(&state);
+    *place = Some(Place {
+        hop,
+        state,
+        admitted,
+    });
+    waits
+}
+
+// The same at the place of a slot.
+pub fn serve_at<H: Traveller, R: Wait>(
+    rt: &R,
+    desks: &mut Vec<Desk<H>>,
+    places: &mut Vec<Option<Place<H>>>,
+    slot: Slot,
+) -> bool
+    requires within { slot < length places.old.items }
+    requires fits { PlaceFits (length desks.old.items) (2 ^ 48) (place_at places.old.items slot) }
+    requires few { sum_by order_count desks.old.items < 2 ^ 50 }
+    ensures served { ServedAt H.name H.hop_of slot result places.old.items places.new.items desks.old.items desks.new.items }
+{
+    serve(rt, desks, &mut places[slot.0 as usize], slot)
+}
+
+// What a move makes of a state.
+fn gone<H: Traveller, R: Wait>(
+    rt: &R,
+    desks: &mut Vec<Desk<H>>,
+    slot: Slot,
+    slice: SliceNo,
+    until: u64,
+    state: State<H>,
+) -> State<H>
+    requires fits { slices_fit (vec_len desks.old) state }
+    requires few { sum_by order_count desks.old.items < 2 ^ 50 }
+    ensures goes { Goes slot slice until state result desks.old.items desks.new.items }
+    ensures len { vec_len desks.new ≡ vec_len desks.old }
+{
+    match state {
+        State::Front { half, .. } => State::Front { half, to: slice },
+        State::Placed { at } => recall(rt, desks, slot, at, until, slice),
+        State::Recall { at, until, .. } => State::Recall {
+            at,
+            until,
+            to: slice,
+        },
+        State::Leaving { from, .. } => State::Leaving { from, to: slice },
+    }
+}
+
+// Moves a slot to a slice, and tells whether it waits now and didn't before.
+pub fn go<H: Traveller, R: Wait>(
+    rt: &R,
+    desks: &mut Vec<Desk<H>>,
+    place: &mut Option<Place<H>>,
+    slot: Slot,
+    slice: SliceNo,
+    until: u64,
+) -> bool
+    requires admitted { is_admitted place.old ≡ true }
+    requires fits { PlaceFits (length desks.old.items) (2 ^ 48) place.old }
+    requires few { sum_by order_count desks.old.items < 2 ^ 50 }
+    ensures moves { Moves slot slice until place.old place.new desks.old.items desks.new.items }
+    ensures newly { NewlyWaits result place.old place.new }
+    ensures len { vec_len desks.new ≡ vec_len desks.old }
+{
+    let Some(place_was) = place.take() else {
+        unreachable!()
+    };
+    let Place {
+        hop,
+        state,
+        admitted,
+    } = place_was;
+    let waited = waits(&state);
+    let state = gone(rt, desks, slot, slice, until, state);
+    let newly = waits(&state) && !waited;
+    *place = Some(Place {
+        hop: hop + 1,
+        state,
+        admitted,
+    });
+    newly
+}
+
+// The same at the place of a slot.
+pub fn go_at<H: Traveller, R: Wait>(
+    rt: &R,
+    desks: &mut Vec<Desk<H>>,
+    places: &mut Vec<Option<Place<H>>>,
+    slot: Slot,
+    slice: SliceNo,
+    until: u64,
+) -> bool
+    requires within { slot < length places.old.items }
+    requires admitted { is_admitted (place_at places.old.items slot) ≡ true }
+    requires fits { PlaceFits (length desks.old.items) (2 ^ 48) (place_at places.old.items slot) }
+    requires few { sum_by order_count desks.old.items < 2 ^ 50 }
+    ensures moves { MovesAt slot slice until places.old.items places.new.items desks.old.items desks.new.items }
+    ensures newly { NewlyWaits result (place_at places.old.items slot) (place_at places.new.items slot) }
+{
+    go(rt, desks, &mut places[slot.0 as usize], slot, slice, until)
+}
+
+// Puts a place in its slot.
+pub fn put<H: Drop>(places: &mut Vec<Option<Place<H>>>, slot: Slot, place: Place<H>)
+    requires { slot < vec_len places.old }
+    ensures { places.new.items ≡ slice_set places.old.items slot (Some place) }
+{
+    places[slot.0 as usize] = Some(place);
+}
+
+// A half that came home goes to the place of its slot.
+pub fn welcome<H: Drop>(places: &mut Vec<Option<Place<H>>>, half: H, slot: Slot) -> Option<H>
+    ensures { WelcomesAt half slot places.old.items places.new.items result }
+{
+    if slot.0 as usize >= places.len() {
+        return Some(half);
+    }
+    received(&mut places[slot.0 as usize], half)
+}
+
+// A half that came home stands at the front where its slot is leaving, and else it is handed back.
+fn received<H: Drop>(place: &mut Option<Place<H>>, half: H) -> Option<H>
+    ensures { Welcomes half place.old place.new result }
+{
+    let Some(place_was) = place.take() else {
+        return Some(half);
+    };
+    let Place {
+        hop,
+        state,
+        admitted,
+    } = place_was;
+    let (state, back) = homed(state, half);
+    *place = Some(Place {
+        hop,
+        state,
+        admitted,
+    });
+    back
+}
+
+// What a state becomes as a half comes home, which is handed back where it isn't expected.
+fn homed<H: Drop>(state: State<H>, half: H) -> (State<H>, Option<H>)
+    ensures { Homes half state result.0 result.1 }
+{
+    match state {
+        State::Front { half: own, to } => (State::Front { half: own, to }, Some(half)),
+        State::Placed { at } => (State::Placed { at }, Some(half)),
+        State::Recall { at, until, to } => (State::Recall { at, until, to }, Some(half)),
+        State::Leaving { to, .. } => (State::Front { half, to }, None),
+    }
+}
+
+// Takes a half from the lane home of a slice.
+pub fn take_home<H: Traveller, R: Wait>(rt: &R, desks: &mut Vec<Desk<H>>, slice: usize) -> Option<H>
+    requires { slice < vec_len desks.old }
+    ensures taken { MatchOption result (Empty slice desks.old.items desks.new.items)
+        (λ half. Taken slice half desks.old.items desks.new.items) }
+    ensures len { vec_len desks.new ≡ vec_len desks.old }
+{
+    desks[slice].home.take(rt)
+}
+
+// Makes free places until there are so many.
+pub fn grow<H: Drop>(places: &mut Vec<Option<Place<H>>>, len: usize) -> Result<(), NoMemory>
+    ensures grown { Grown places.old.items places.new.items }
+    ensures enough { OnOk result (len ≤ vec_len places.new) }
+{
+    while places.len() < len {
+        places.push(None)?;
+    }
+    Ok(())
+}
+
+// Makes room for so many items.
+pub fn widen<T>(items: &mut Vec<T>, room: usize) -> Result<(), NoMemory>
+    ensures items { items.new.items ≡ items.old.items }
+    ensures kept { vec_capacity items.old ≤ vec_capacity items.new }
+    ensures wide { OnOk result (room ≤ vec_capacity items.new) }
+{
+    if items.len() < room {
+        items.reserve(room - items.len())?;
+    }
+    Ok(())
+}
+
+// Notes that a slot waits.
+pub fn note(waiting: &mut Vec<Slot>, slot: Slot, waits: bool)
+    requires { waits ≡ true → vec_len waiting.old < vec_capacity waiting.old }
+    ensures noted { (w : ℕ → ℕ) → sum_by w waiting.new.items ≡ sum_by w waiting.old.items + cond waits (w slot) 0 }
+    ensures room { vec_capacity waiting.new ≡ vec_capacity waiting.old }
+{
+    if waits {
+        waiting.push_reserved(slot);
+    }
+}
+
+// All of a list go to another one, whose last is then the lowest.
+pub fn line_up(from: &mut Vec<Slot>, to: &mut Vec<Slot>)
+    requires { vec_len from.old + vec_len to.old ≤ vec_capacity to.old }
+    ensures empty { from.new.items ≡ [] }
+    ensures all { (w : ℕ → ℕ) → sum_by w to.new.items ≡ sum_by w from.old.items + sum_by w to.old.items }
+    ensures room { (vec_capacity to.new ≡ vec_capacity to.old) × (vec_capacity from.new ≡ vec_capacity from.old) }
+{
+    pour(from, to);
+    to.sort_unstable_by(|a, b| b.cmp(a));
+}
+
+fn pour(from: &mut Vec<Slot>, to: &mut Vec<Slot>)
+    requires { vec_len from.old + vec_len to.old ≤ vec_capacity to.old }
+    ensures empty { from.new.items ≡ [] }
+    ensures all { (w : ℕ → ℕ) → sum_by w to.new.items ≡ sum_by w from.old.items + sum_by w to.old.items }
+    ensures room { (vec_capacity to.new ≡ vec_capacity to.old) × (vec_capacity from.new ≡ vec_capacity from.old) }
+{
+    while let Some(slot) = from.pop() {
+        to.push_reserved(slot);
+    }
+}
