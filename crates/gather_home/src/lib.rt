@@ -3,9 +3,11 @@
 #![tactic(auto)]
 
 mod home_lane;
+mod homecoming;
 mod parts;
 mod steps;
 #[cfg(test)]
 mod tests;
 
-pub use parts::{Parts, gather};
+pub use homecoming::gather;
+pub use parts::Parts;

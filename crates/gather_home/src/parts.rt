@@ -15,23 +15,7 @@ use std::snapshot::Snapshot;
 use std::sync::Wait;
 use worker_core::{Desk, Order, Traveller, WorkerEnd};
 
-/// Finds each half that was admitted to a side, once, by slot. The ends are those of the workers of
-/// its desks, in order. After want of memory what is left comes back, and nothing is lost.
-pub fn gather<H: Traveller, R: Wait>(
-    rt: &R,
-    alloc: Global,
-    side: SideEnd<H>,
-    ends: Vec<WorkerEnd<H>>,
-) -> Result<Vec<H>, Parts<H>>
-    requires { AreEnds side.desks.items ends.items }
-    ensures home { IfOk result (λ halves. map H.name halves.items ≡ somes (names_of H.name side.places.items)) }
-    ensures each { IfOk result (λ halves. AtSlots H.name H.slot_of side.places.items halves.items) }
-    ensures parts { IfErr result (λ parts. parts.admitted.value.items ≡ side.places.items) }
-{
-    Parts::new(alloc, side, ends).again(rt)
-}
-
-/// What is left of a side and its workers after want of memory.
+/// What is left of a side and its workers after want of memory. No half is lost.
 #[derive(Drop)]
 pub struct Parts<H: Traveller> {
     alloc: Global,
@@ -56,7 +40,7 @@ pub struct Parts<H: Traveller> {
 impl<H: Traveller> Parts<H> {
     ghost use Rattle.gather_home.specs.Words.{admitted_of};
 
-    fn new(alloc: Global, side: SideEnd<H>, ends: Vec<WorkerEnd<H>>) -> Parts<H>
+    pub(crate) fn new(alloc: Global, side: SideEnd<H>, ends: Vec<WorkerEnd<H>>) -> Parts<H>
         requires { AreEnds side.desks.items ends.items }
         ensures { admitted_of result ≡ side.places.items }
     {

@@ -1,6 +1,8 @@
 //! Halves that travel between workers and come home, on one thread.
-ghost use Rattle.std.specs.Prelude.{All, IfOk, ◌≡◌, ◌≤◌, ◌<◌, true, false, length, vec_len, ℕ};
-ghost use Rattle.worker_core.specs.Workers.{IsNewDesk};
+ghost use Rattle.std.specs.Prelude.{◌≡◌, [], ◌∷◌};
+ghost use Rattle.worker_core.specs.Workers.{worker_lanes};
+ghost use Rattle.migration.specs.Desks.{lanes_of};
+ghost use Rattle.migration.specs.Words.{desks_of};
 
 use crate::gather;
 use lane_core::{Carried, Did, NoMemory};
@@ -10,7 +12,7 @@ use std::alloc::Global;
 use std::process::Abort;
 use std::sync::Wait;
 use std::test::Fail;
-use worker_core::{Traveller, Worker, WorkerEnd, pair};
+use worker_core::{Traveller, Worker, pair};
 
 /// A half that has so much to do, one item in a turn.
 #[derive(Debug, Drop, PartialEq, Eq)]
@@ -78,61 +80,162 @@ impl Traveller for Pupil {
     ghost free = { λ before half. tt };
 }
 
-// A side of so many slices, and their workers.
-fn side_of(alloc: Global, slices: u8) -> Result<(Side<Pupil>, Vec<Worker<Pupil>>), Fail>
-    requires { slices ≤ 64 }
-    ensures { IfOk result (λ made. vec_len made.1 ≡ slices) }
-{
-    let mut desks = Vec::new(alloc);
-    let mut workers = Vec::new(alloc);
-    for slice in 0..slices {
-        let (desk, worker) = pair(alloc, SliceNo(slice))?;
-        desks.push(desk)?;
-        workers.push(worker)?;
-    }
-    Ok((Side::new(alloc, desks), workers))
+/// A side, and the workers of its three slices.
+#[derive(Drop)]
+struct Yard {
+    side: Side<Pupil>,
+    first: Worker<Pupil>,
+    second: Worker<Pupil>,
+    third: Worker<Pupil>,
+    ghost lanes: { lanes_of (desks_of side) ≡ worker_lanes first ∷ worker_lanes second ∷ worker_lanes third ∷ [] },
 }
 
-// Admits a half.
-fn admit<R: Wait>(rt: &R, side: &mut Side<Pupil>, half: Pupil, slice: SliceNo) -> Result<(), Fail> {
-    if side.is_admitted(half.slot) || slice.0 as usize >= side.slices() || side.asked() > 9999 {
-        return Err("a free slot, a slice and few calls".into());
+impl Yard {
+    fn new(alloc: Global) -> Result<Yard, Fail> {
+        let (one, first) = pair(alloc, SliceNo(0))?;
+        let (two, second) = pair(alloc, SliceNo(1))?;
+        let (three, third) = pair(alloc, SliceNo(2))?;
+        let desks = Vec::from_array(alloc, [one, two, three])?;
+        Ok(Yard {
+            side: Side::new(alloc, desks),
+            first,
+            second,
+            third,
+        })
     }
-    match side.admit(rt, half, slice, 0) {
-        Ok(()) => Ok(()),
-        Err(_) => Err("memory".into()),
-    }
-}
 
-// Moves a slot.
-fn go<R: Wait>(
-    rt: &R,
-    side: &mut Side<Pupil>,
-    slot: Slot,
-    slice: SliceNo,
-    until: u64,
-) -> Result<(), Fail> {
-    if !side.is_admitted(slot) || slice.0 as usize >= side.slices() || side.asked() > 9999 {
-        return Err("an admitted slot, a slice and few calls".into());
+    fn turn<R: Wait>(&mut self, rt: &R, slice: u64) -> Result<(), Fail> {
+        match slice {
+            0 => self.first.turn(rt)?,
+            1 => self.second.turn(rt)?,
+            _ => self.third.turn(rt)?,
+        };
+        Ok(())
     }
-    side.go(rt, slot, slice, until);
-    Ok(())
+
+    // Admits a half, if its slot is free.
+    fn admit<R: Wait>(&mut self, rt: &R, half: Pupil, slice: SliceNo) -> Result<(), Fail> {
+        if self.side.is_admitted(half.slot)
+            || slice.0 as usize >= self.side.slices()
+            || self.side.asked() > 9999
+        {
+            return Ok(());
+        }
+        match self.side.admit(rt, half, slice, 0) {
+            Ok(()) => Ok(()),
+            Err(_) => Err("memory".into()),
+        }
+    }
+
+    // Moves a slot, if it is admitted.
+    fn go<R: Wait>(&mut self, rt: &R, slot: Slot, slice: SliceNo, until: u64) {
+        if !self.side.is_admitted(slot)
+            || slice.0 as usize >= self.side.slices()
+            || self.side.asked() > 9999
+        {
+            return;
+        }
+        self.side.go(rt, slot, slice, until);
+    }
+
+    fn pump<R: Wait>(&mut self, rt: &R) {
+        self.side.pump(rt);
+    }
+
+    // All come home.
+    fn home<R: Wait>(self, rt: &R, alloc: Global) -> Result<Vec<Pupil>, Fail> {
+        let ends = Vec::from_array(
+            alloc,
+            [
+                self.first.into_end(),
+                self.second.into_end(),
+                self.third.into_end(),
+            ],
+        )?;
+        match gather(rt, alloc, self.side.into_end(), ends) {
+            Ok(halves) => Ok(halves),
+            Err(parts) => match parts.again(rt) {
+                Ok(halves) => Ok(halves),
+                Err(_) => Err("memory".into()),
+            },
+        }
+    }
 }
 
 #[test]
 fn admitted_and_never_turned(rt: HostRuntime) -> Result<(), Fail> {
-    let (mut side, workers) = side_of(rt.alloc(), 2)?;
-    admit(&rt, &mut side, Pupil::new(Slot(5), 0), SliceNo(1))?;
-    admit(&rt, &mut side, Pupil::new(Slot(2), 0), SliceNo(0))?;
-    let mut ends = Vec::new(rt.alloc());
-    for worker in workers {
-        ends.push(worker.into_end())?;
-    }
-    let Ok(halves) = gather(&rt, rt.alloc(), side.into_end(), ends) else {
-        return Err("memory".into());
-    };
+    let mut yard = Yard::new(rt.alloc())?;
+    yard.admit(&rt, Pupil::new(Slot(5), 7), SliceNo(1))?;
+    yard.admit(&rt, Pupil::new(Slot(2), 8), SliceNo(0))?;
+    let halves = yard.home(&rt, rt.alloc())?;
     assert_eq!(rt; halves.len(), 2);
-    assert_eq!(rt; halves[0].slot, Slot(2));
-    assert_eq!(rt; halves[1].slot, Slot(5));
+    for (at, half) in halves.iter().enumerate() {
+        assert_eq!(rt;
+            (half.slot, half.due),
+            if at == 0 { (Slot(2), 8) } else { (Slot(5), 7) }
+        );
+    }
+    Ok(())
+}
+
+/// How many rounds are drawn, of how many steps, over how many slots.
+const ROUNDS: u64 = 1000;
+
+const STEPS: u64 = 200;
+
+const SLOTS: u32 = 20;
+
+#[test]
+fn each_half_comes_home_once(rt: HostRuntime) -> Result<(), Fail> {
+    for seed in 0..ROUNDS {
+        one_round(&rt, rt.alloc(), seed)?;
+    }
+    Ok(())
+}
+
+// The next number of a sequence that looks drawn.
+fn next(drawn: u64) -> u64 {
+    drawn
+        .wrapping_mul(6_364_136_223_846_793_005)
+        .wrapping_add(1_442_695_040_888_963_407)
+}
+
+// Halves are admitted, moved and turned as it is drawn, and then all come home.
+fn one_round<R: Wait + Abort>(rt: &R, alloc: Global, seed: u64) -> Result<(), Fail> {
+    let mut yard = Yard::new(alloc)?;
+    let mut drawn = next(seed);
+    for slot in 0..SLOTS {
+        drawn = next(drawn);
+        yard.admit(rt, Pupil::new(Slot(slot), drawn >> 60), slice_of(drawn))?;
+    }
+    for _ in 0..STEPS {
+        drawn = next(drawn);
+        one_step(rt, &mut yard, drawn)?;
+    }
+    let halves = yard.home(rt, alloc)?;
+    assert_eq!(rt; halves.len(), SLOTS as usize);
+    for (at, half) in halves.iter().enumerate() {
+        assert_eq!(rt; half.slot.0 as usize, at);
+    }
+    Ok(())
+}
+
+// One of three slices.
+fn slice_of(drawn: u64) -> SliceNo {
+    SliceNo(((drawn >> 40) % 3) as u8)
+}
+
+// A turn, a move, or a pump.
+fn one_step<R: Wait>(rt: &R, yard: &mut Yard, drawn: u64) -> Result<(), Fail> {
+    match (drawn >> 34) % 8 {
+        0 => yard.go(
+            rt,
+            Slot(((drawn >> 45) % 20) as u32),
+            slice_of(drawn),
+            (drawn >> 56) % 4,
+        ),
+        1 => yard.pump(rt),
+        _ => yard.turn(rt, (drawn >> 48) % 3)?,
+    }
     Ok(())
 }
