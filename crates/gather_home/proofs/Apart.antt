@@ -1,5 +1,5 @@
 -- Two values that weigh the same however they are weighed are the same.
-use Rattle.std.proofs.Common.{◌≡◌, ℕ, ◌≤◌, Bool, true, false, true≢false, cond, refl, sym, ap, ◌∙◌, arith}
+use Rattle.std.proofs.Common.{◌≡◌, ℕ, ◌≤◌, Bool, true, false, true≢false, cond, refl, sym, ap, arith}
 use Rattle.std.specs.Prelude.{nat_eq, ◌&&◌}
 use Rattle.std.proofs.lemmas.Bool.{eq-eqb}
 use borrow.Author.Tests.{eqb-true}

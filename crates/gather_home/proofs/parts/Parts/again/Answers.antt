@@ -1,4 +1,4 @@
-use Rattle.std.proofs.Common.{rules, ◌≡◌}
+use Rattle.std.proofs.Common.{rules}
 use Rattle.gather_home.proofs.BySlots.{each_at_slot}
 use Rattle.gather_home.proofs.parts.Parts.again.Goals as goal
 

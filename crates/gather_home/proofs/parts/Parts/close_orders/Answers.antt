@@ -1,4 +1,4 @@
-use Rattle.std.proofs.Common.{rules, ◌≡◌, ◌<◌, ◌≤◌, ◌+◌, ◌∙◌, ℕ, List, [], ◌∷◌, ◌++◌, length, vec_len, map, refl, sym, ap, subst, arith}
+use Rattle.std.proofs.Common.{rules, sym, ap}
 use Rattle.std.specs.List.{sum_by}
 use Rattle.lane_core.specs.Ends.{sent, taken}
 use Rattle.worker_core.specs.Names.{weight}

@@ -1,4 +1,4 @@
-use Rattle.std.proofs.Common.{◌≡◌, ◌+◌, ℕ, [], vec_len}
+use Rattle.std.proofs.Common.{◌≡◌, ◌+◌, [], vec_len}
 use Rattle.std.specs.Prelude.{None}
 use Rattle.gather_home.specs.Words.{admitted_of}
 use Rattle.gather_home.proofs.parts.Parts.collect.Given as goal
