@@ -1,0 +1,2 @@
+pub mod Homecomings
+pub mod Words

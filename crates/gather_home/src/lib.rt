@@ -1,0 +1,13 @@
+//! The homecoming of halves: at the end of a run a side and its workers are taken apart, and each
+//! half that was admitted is found, once, wherever it was. Nothing is sent any more.
+#![tactic(auto)]
+
+mod home_lane;
+mod homecoming;
+mod parts;
+mod steps;
+#[cfg(test)]
+mod tests;
+
+pub use homecoming::gather;
+pub use parts::Parts;
