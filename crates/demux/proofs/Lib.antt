@@ -7,3 +7,4 @@ pub mod LineLemmas
 pub mod AnswerLemmas
 pub mod TraceLemmas
 pub mod ResolvedLemmas
+pub mod MomentLemmas

@@ -113,3 +113,10 @@ IsDecision slices book (Command whose asks) = IsDue book whose
 IsDecision slices book (Packet at lent) = at < length book
 IsDecision slices book (Move at slice) = (at < length book) × (slice < slices)
 IsDecision slices book (Note text) = Unit {0}
+
+-- a packet has this moment
+abbrev pub HasMoment : ℕ → Decision → Type 0
+HasMoment moment (Command whose asks) = Unit {0}
+HasMoment moment (Packet at lent) = lent.moment ≡ moment
+HasMoment moment (Move at slice) = Unit {0}
+HasMoment moment (Note text) = Unit {0}

@@ -1,6 +1,6 @@
 //! What a line means.
 ghost use Rattle.std.specs.Prelude.{◌≡◌, IfOk};
-ghost use Rattle.demux.specs.Resolved.{decided, book_after, book_behind, IsDecision};
+ghost use Rattle.demux.specs.Resolved.{decided, book_after, book_behind, HasMoment, IsDecision};
 
 use crate::Decision;
 use crate::mme::decide_mme;
@@ -28,6 +28,9 @@ pub fn decide<'a>(
     // The book behind the line is the book with whom the decision is for.
     ensures book { IfOk result (λ decision. book_behind book.now decision ≡ book_after book.now line.now) }
     ensures valid { IfOk result (IsDecision slices book.now) }
+
+    // A packet came at the moment of its line.
+    ensures moment { IfOk result (HasMoment line.now.moment) }
 {
     decide_kind(alloc, book, slices, line)
 }
