@@ -1,88 +1,134 @@
--- What a gateway stands for with one line more, by the line's kind.
-use Rattle.std.proofs.Common.{◌≡◌, ℕ, List, [], ◌∷◌, ◌++◌, length, codes, false, Result, Ok, Err, OnOk, refl, sym, ap, subst, ◌∙◌}
-use Rattle.pc_base.specs.declared.packet.Peer.{Peer}
-use Rattle.address_book.specs.Book.{slot_in}
+-- The story behind one line more, by the decision on it.
+use Rattle.std.proofs.Common.{◌≡◌, ℕ, ◌+◌, ◌<◌, ◌≤◌, ◌==◌, if◌then◌else◌, Bool, true, false, Result, Ok, Err, OnOk, IfSome, List, [], ◌∷◌, ◌++◌, length, refl, sym, ap, subst, ◌∙◌, arith, length-append}
 use Rattle.trace_lines.specs.Line.{Line}
-use Rattle.trace_lines.specs.declared.line.LineKind.{LineKind}
-use Rattle.trace_lines.specs.declared.line.LineKind.TheVariants.{S1u, Attach}
-use Rattle.uplink_gateway.specs.Built.{is_built}
-use Rattle.uplink_gateway.specs.Book.{with_imsi, booked, booked_by, book_of}
-use Rattle.uplink_gateway.specs.Decision.{Decision, decided, decided_by, decisions, attaching, received, note}
-use Rattle.uplink_gateway.specs.Entered.{entry_after}
-use Rattle.uplink_gateway.specs.Entry.{text_of}
-use Rattle.uplink_gateway.specs.declared.command.Command.TheVariants as order
-use Rattle.uplink_gateway.proofs.DecisionLemmas.{book_from-push, decisions_from-push}
+use Rattle.demux.specs.declared.decision.Decision.{Decision}
+use Rattle.demux.specs.declared.decision.Decision.TheVariants as decision
+use Rattle.demux.specs.Destinations.{bound_for}
+use Rattle.demux.specs.Resolved.{book_after, book_behind, decided}
+use Rattle.demux.specs.Texts.{move_note}
+use Rattle.demux.specs.Trace.{Meaning, book_of, decisions, destination_after, meant, move, note}
+use Rattle.demux.proofs.TraceLemmas.{book_of-push, destination_after-push}
+use Rattle.lawful_run.specs.AnsweredRun.{brings}
+use Rattle.lawful_run.specs.Order.{Histories}
+use Rattle.lawful_run.specs.Trace.{settled_by}
+use Rattle.gate_model.specs.declared.event.Event.{Event}
+use Rattle.split_record.specs.Standing as subscribers
 use Rattle.pepc.specs.declared.solo.Solo.{Solo}
-use Rattle.pepc.specs.Standing.{Stands, StandsFor}
+use Rattle.pepc.specs.Places.{HasAt}
+use Rattle.pepc.specs.Report.{slices}
+use Rattle.pepc.specs.Standing.{BringsNothing, SlotStands, Stands, Story, entry_line, events_of, meant_next, story_of, with_meaning}
+use Rattle.pepc.proofs.PlaceLemmas.{has_at_map}
+use Rattle.pepc.proofs.StoryLemmas.{later, events_stay}
 
-pub on_ok_map : {T E : Type 0} {P Q : Type 0} (r : Result T E) → (P → Q) → OnOk r P → OnOk r Q
-on_ok_map (Ok x) f p = f p
-on_ok_map (Err e) f p = p
+-- what a line means, by the decision on it
+abbrev pub meant_by : List Line → Decision → Meaning
+meant_by done made = settled_by slices done (meant slices (book_of done) (decisions slices done) made)
 
-pub booked-attach : (book : List (List ℕ)) (line : Line) (imsi : List ℕ) (enb : Peer) (up down : ℕ)
-    → line.kind ≡ Attach imsi enb up down
-    → booked book line ≡ with_imsi book imsi
-booked-attach book line imsi enb up down is = ap (booked_by book) is
+-- the decision on a line by this book
+pub record IsDecided (done : List Line) (line : Line) (book : List (List ℕ)) (made : Decision) : Type 0 where
+  pub decision : made ≡ decided slices book line
+  pub behind : book_behind book made ≡ book_after book line
+  pub same : book ≡ book_of done
 
-pub decided-attach : (book : List (List ℕ)) (line : Line) (imsi : List ℕ) (enb : Peer) (up down : ℕ)
-    → line.kind ≡ Attach imsi enb up down
-    → decided (booked book line) line ≡ attaching (slot_in (with_imsi book imsi) imsi) (order.Attach enb up down)
-decided-attach book line imsi enb up down is = ap (λ kind. decided_by (booked_by book kind) line.moment kind) is
+decided_so : (done : List Line) (line : Line) (book : List (List ℕ)) (made : Decision) → IsDecided done line book made
+    → decided slices (book_of done) line ≡ made
+decided_so done line book made is = ap (λ b. decided slices b line) (sym is.same) ∙ sym is.decision
 
-pub booked-s1u : (book : List (List ℕ)) (line : Line) (octets : List ℕ) → line.kind ≡ S1u octets
-    → booked book line ≡ book
-booked-s1u book line octets is = ap (booked_by book) is
+pub meant_is : (done : List Line) (line : Line) (book : List (List ℕ)) (made : Decision) → IsDecided done line book made
+    → meant_by done made ≡ meant_next done line
+meant_is done line book made is = ap (meant_by done) (sym (decided_so done line book made is))
 
-pub decided-s1u : (book : List (List ℕ)) (line : Line) (octets : List ℕ) → line.kind ≡ S1u octets
-    → decided (booked book line) line ≡ received (length book) line.moment octets
-decided-s1u book line octets is = ap (λ kind. decided_by (booked_by book kind) line.moment kind) is
+-- so is the story behind it
+pub story_is : (done : List Line) (line : Line) (book : List (List ℕ)) (made : Decision) (before : Histories) (means : List Meaning) (after : List (List ℕ))
+    (bound : ℕ → ℕ) → IsDecided done line book made → after ≡ book_behind book made
+    → ((slot : ℕ) → bound slot ≡ bound_for slot (destination_after slices slot done) made)
+    → record { lines = length done + 1; book = after; bound = bound; latest = line.moment; before = before; made = means ++ meant_by done made ∷ [] }
+    ≡ story_of (done ++ line ∷ []) line.moment before (means ++ meant_next done line ∷ [])
+story_is done line book made before means after bound is after_is bound_is =
+    let lines : length done + 1 ≡ length (done ++ line ∷ []) = sym (length-append done (line ∷ [])) in
+    let books : after ≡ book_of (done ++ line ∷ []) =
+    after_is ∙ is.behind ∙ ap (λ b. book_after b line) is.same ∙ sym (book_of-push done line) in
+    let bounds : (slot : ℕ) → bound slot ≡ destination_after slices slot (done ++ line ∷ []) =
+    λ slot. bound_is slot ∙ ap (bound_for slot (destination_after slices slot done)) (sym (decided_so done line book made is))
+    ∙ sym (destination_after-push slices slot done line) in
+    let now = meant_is done line book made is in
+    λ i. record {
+      lines = lines i;
+      book = books i;
+      bound = λ slot. bounds slot i;
+      latest = line.moment;
+      before = before;
+      made = means ++ now i ∷ [];
+    }
 
--- a kind that is neither isn't built
-pub not_built : (kind : LineKind) → ((octets : List ℕ) → kind ≡ S1u octets → ⊥)
-    → ((imsi : List ℕ) (enb : Peer) (up down : ℕ) → kind ≡ Attach imsi enb up down → ⊥) → is_built kind ≡ false
-not_built (S1u octets) no_s1u no_attach = absurd (no_s1u octets refl)
-not_built (Attach imsi enb up down) no_s1u no_attach = absurd (no_attach imsi enb up down refl)
-not_built _ no_s1u no_attach = refl
+-- a later moment
+pub stands_later : (solo : Solo) (story : Story) (moment : ℕ) → story.latest ≤ moment → Stands solo story → Stands solo (record story { latest = moment })
+stands_later solo story moment le stands = record {
+  counted = stands.counted;
+  same_book = stands.same_book;
+  places = stands.places;
+  each = λ slot within.
+      has_at_map solo.subscribers.items slot (λ h. SlotStands h slot (story.bound slot) story.latest (events_of story slot))
+      (λ h. SlotStands h slot (story.bound slot) moment (events_of story slot))
+      (λ h before. record {
+        stands = before.stands;
+        bound_for = before.bound_for;
+        in_order = later (subscribers.last_of h) story.latest moment le before.in_order;
+      }) (stands.each slot within);
+  none_beyond = stands.none_beyond;
+  at_home = stands.at_home;
+  few = stands.few;
+  gathered = stands.gathered;
+}
 
-booked_by-other : (book : List (List ℕ)) (kind : LineKind) → is_built kind ≡ false → booked_by book kind ≡ book
-booked_by-other book (Attach imsi enb up down) other = cc
-booked_by-other book _ other = refl
+-- what is told and what is stood for, by what the line means
+pub told_so : (done : List Line) (line : Line) (book : List (List ℕ)) (made : Decision) (story : Story) (old new : List ℕ) → IsDecided done line book made
+    → new ≡ old ++ entry_line story (meant_by done made) → new ≡ old ++ entry_line story (meant_next done line)
+told_so done line book made story old new is told = told ∙ ap (λ now. old ++ entry_line story now) (meant_is done line book made is)
 
-decided_by-other : (book : List (List ℕ)) (moment : ℕ) (kind : LineKind) → is_built kind ≡ false
-    → decided_by book moment kind ≡ note (codes "unbuilt")
-decided_by-other book moment (S1u octets) other = cc
-decided_by-other book moment (Attach imsi enb up down) other = cc
-decided_by-other book moment _ other = refl
+pub stands_so : (done : List Line) (line : Line) (book : List (List ℕ)) (made : Decision) (latest : ℕ) (before : Histories) (means : List Meaning)
+    (after : List (List ℕ)) (bound : ℕ → ℕ) (solo : Solo) → IsDecided done line book made → after ≡ book_behind book made
+    → ((slot : ℕ) → bound slot ≡ bound_for slot (destination_after slices slot done) made) → latest ≤ line.moment
+    → Stands solo (record { lines = length done + 1; book = after; bound = bound; latest = latest; before = before; made = means ++ meant_by done made ∷ [] })
+    → Stands solo (story_of (done ++ line ∷ []) line.moment before (means ++ meant_next done line ∷ []))
+stands_so done line book made latest before means after bound solo is after_is bound_is le stands =
+    subst (Stands solo) (story_is done line book made before means after bound is after_is bound_is)
+    (stands_later solo (record { lines = length done + 1; book = after; bound = bound; latest = latest; before = before; made = means ++ meant_by done made ∷ [] })
+    line.moment le stands)
 
-pub booked-other : (book : List (List ℕ)) (line : Line) → is_built line.kind ≡ false → booked book line ≡ book
-booked-other book line other = booked_by-other book line.kind other
+-- a move is no event, whether it is a stay or not
+settled_nothing : (b : Bool) (slot slice : ℕ) (text : List ℕ) → BringsNothing (if b then note text else move slot slice text)
+settled_nothing true slot slice text = λ s events. refl
+settled_nothing false slot slice text = λ s events. refl
 
-pub decided-other : (book : List (List ℕ)) (line : Line) → is_built line.kind ≡ false
-    → decided (booked book line) line ≡ note (codes "unbuilt")
-decided-other book line other = decided_by-other (booked book line) line.moment line.kind other
+pub move_nothing : (done : List Line) (slot slice : ℕ) → BringsNothing (meant_by done (decision.Move slot slice))
+move_nothing done slot slice =
+    settled_nothing (slice == destination_after slices slot done) slot slice (move_note (destination_after slices slot done) slot slice)
 
--- the book and the decision of the line are all that it adds
-pub stands_for_push : (solo : Solo) (done : List Line) (line : Line) (book : List (List ℕ)) (made : Decision)
-    → booked (book_of done) line ≡ book → decided (booked (book_of done) line) line ≡ made
-    → Stands solo book (decisions done ++ made ∷ []) → StandsFor solo (done ++ line ∷ [])
-stands_for_push solo done line book made same_book same stands =
-    rw (book_from-push [] done line, decisions_from-push [] done line)
-    (subst (λ b. Stands solo b (decisions done ++ decided (booked (book_of done) line) line ∷ [])) (sym same_book)
-    (subst (λ d. Stands solo book (decisions done ++ d ∷ [])) (sym same) stands))
+settled_line : (story : Story) (b : Bool) (slot slice : ℕ) (text : List ℕ) → entry_line story (note text) ≡ entry_line story (if b then note text else move slot slice text)
+settled_line story true slot slice text = refl
+settled_line story false slot slice text = refl
 
--- what octets mean where a gateway has so many slots, they mean by the book that it stands for
-pub received_in_book : (solo : Solo) (book : List (List ℕ)) (made : List Decision) (slots moment : ℕ) (octets : List ℕ) (meant : Decision)
-    → slots ≡ length solo.book → Stands solo book made → meant ≡ received slots moment octets
-    → meant ≡ received (length book) moment octets
-received_in_book solo book made slots moment octets meant slots_is stands is =
-    is ∙ ap (λ n. received n moment octets) (slots_is ∙ ap length stands.same_book)
+pub move_line : (story : Story) (done : List Line) (slot slice : ℕ)
+    → entry_line story (note (move_note (destination_after slices slot done) slot slice)) ≡ entry_line story (meant_by done (decision.Move slot slice))
+move_line story done slot slice =
+    settled_line story (slice == destination_after slices slot done) slot slice (move_note (destination_after slices slot done) slot slice)
 
--- and what is told of a meaning is told of its equal
-pub told_of_equal : {E : Type 0} (result : Result (Unit {0}) E) (old new : List ℕ) (made : List Decision) (one other : Decision) → one ≡ other
-    → OnOk result (new ≡ old ++ text_of (entry_after made one))
-    → OnOk result (new ≡ old ++ text_of (entry_after made other))
-told_of_equal result old new made one other same told = subst (λ d. OnOk result (new ≡ old ++ text_of (entry_after made d))) same told
-
-pub stands_of_equal : {E : Type 0} (result : Result (Unit {0}) E) (solo : Solo) (book : List (List ℕ)) (made : List Decision) (one other : Decision) → one ≡ other
-    → OnOk result (Stands solo book (made ++ one ∷ [])) → OnOk result (Stands solo book (made ++ other ∷ []))
-stands_of_equal result solo book made one other same stands = subst (λ d. OnOk result (Stands solo book (made ++ d ∷ []))) same stands
+-- a subscriber that a line sends to another slice
+pub move_holds : (story : Story) (now : Meaning) (own bound : ℕ) (old new : subscribers.SubscriberState) → BringsNothing now
+    → SlotStands old own (story.bound own) story.latest (events_of story own) → new ≡ record old { destination = bound }
+    → SlotStands new own bound story.latest (events_of (with_meaning story now) own)
+move_holds story now own bound old new nothing holds is =
+    subst (λ s. SlotStands s own bound story.latest (events_of (with_meaning story now) own)) (sym is)
+    (subst (λ e. SlotStands (record old { destination = bound }) own bound story.latest e) (sym (events_stay story now own (nothing own (events_of story own))))
+    (record {
+      stands = record {
+        session = holds.stands.session;
+        version = holds.stands.version;
+        counters = holds.stands.counters;
+        commands = holds.stands.commands;
+        packets = holds.stands.packets;
+      };
+      bound_for = refl;
+      in_order = holds.in_order;
+    }))

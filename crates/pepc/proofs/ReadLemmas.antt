@@ -3,8 +3,7 @@ use Rattle.std.proofs.Common.{◌≡◌, ℕ, ◌+◌, List, [], ◌∷◌, ◌+
 use Rattle.std.specs.Io.KnownBytes.{prepend_known}
 use Rattle.pc_outside.specs.Held.{Held, IsUnfinished}
 use Rattle.pc_outside.specs.Limits.{newline}
-use Rattle.trace_lines.specs.Input.{Input, Stop, ended, stopped, after_lines}
-use Rattle.uplink_gateway.specs.Built.{built, trace_within, trace_of}
+use Rattle.trace_lines.specs.Input.{Input, Stop, ended, stopped, after_lines, input_of, input_within}
 use Rattle.trace_lines.specs.Line.{Line}
 use Rattle.trace_lines.proofs.InputLemmas.{at_end}
 use Rattle.pepc.specs.declared.reading.Next.{Next}
@@ -38,30 +37,30 @@ read_more number least room after done line octets ahead rest read line_said = r
     length-append (read.gone ++ line_said.text) (newline ∷ []),
     length-append read.gone line_said.text,
   );
-  says = λ behind. ap trace_of (regrouped read.gone line_said.text behind)
+  says = λ behind. ap input_of (regrouped read.gone line_said.text behind)
       ∙ read.says (line_said.text ++ newline ∷ behind)
       ∙ ap (after_lines done) (line_said.says behind)
-      ∙ after_lines-push done line (trace_within after (number + 1) line.moment behind);
+      ∙ after_lines-push done line (input_within after (number + 1) line.moment behind);
 }
 
-pub told_more : (start a b : Option (List ℕ)) (number least room after : ℕ) (done : List Line) (line : Line)
+pub told_more : (start a b : Option (List ℕ)) (number least room after : ℕ) (done : List Line) (line : Line) (len : ℕ)
     → WhereTold start a (λ octets rest. HasRead octets rest number least room done)
-    → Tells (next.Line line) number least room after a b
+    → Tells (next.Line line len) number least room after a b
     → WhereTold start b (λ octets rest. HasRead octets rest (number + 1) line.moment after (done ++ line ∷ []))
-told_more start a b number least room after done line read tells =
-    told_then start a b (λ octets rest. HasRead octets rest number least room done) (λ octets rest. Says (next.Line line) number least room after octets rest)
+told_more start a b number least room after done line len read tells =
+    told_then start a b (λ octets rest. HasRead octets rest number least room done) (λ octets rest. Says (next.Line line len) number least room after octets rest)
     (λ octets rest. HasRead octets rest (number + 1) line.moment after (done ++ line ∷ []))
     (read_more number least room after done line) read tells
 
 -- the octets say the lines that were read, and then what those ahead say
 pub begins_so : (number least room : ℕ) (done : List Line) (octets ahead : List ℕ)
     → HasRead octets ahead number least room done
-    → trace_of octets ≡ after_lines done (trace_within room number least ahead)
-begins_so number least room done octets ahead read = ap trace_of read.parts ∙ read.says ahead
+    → input_of octets ≡ after_lines done (input_within room number least ahead)
+begins_so number least room done octets ahead read = ap input_of read.parts ∙ read.says ahead
 
 pub stops_so : (number least room : ℕ) (done : List Line) (stop : Stop) (octets ahead : List ℕ)
     → HasRead octets ahead number least room done
-    → trace_within room number least ahead ≡ stopped stop → Stops octets done stop
+    → input_within room number least ahead ≡ stopped stop → Stops octets done stop
 stops_so number least room done stop octets ahead read says =
     begins_so number least room done octets ahead read ∙ ap (after_lines done) says
     ∙ ap (λ lines. record { lines = lines; stop = stop }) (append-nil done)
@@ -69,8 +68,8 @@ stops_so number least room done stop octets ahead read says =
 -- one line more, and what comes behind it
 pub begins_more : (number least room : ℕ) (done : List Line) (line : Line) (behind : Input) (octets ahead : List ℕ)
     → HasRead octets ahead number least room done
-    → trace_within room number least ahead ≡ after_lines (line ∷ []) behind
-    → trace_of octets ≡ after_lines (done ++ line ∷ []) behind
+    → input_within room number least ahead ≡ after_lines (line ∷ []) behind
+    → input_of octets ≡ after_lines (done ++ line ∷ []) behind
 begins_more number least room done line behind octets ahead read says =
     begins_so number least room done octets ahead read ∙ ap (after_lines done) says ∙ after_lines-push done line behind
 
@@ -104,21 +103,21 @@ fails_so number least room done now octets ahead rest unfinished read stays same
     short = unfinished.short;
     within = omega (arith, read.taken, unfinished.more, same);
   };
-  stops = ap trace_of (sym (append-nil read.gone)) ∙ read.says []
-      ∙ ap (after_lines done) (ap built (at_end room number least (omega (arith, unfinished.more, same))))
+  stops = ap input_of (sym (append-nil read.gone)) ∙ read.says []
+      ∙ ap (after_lines done) (at_end room number least (omega (arith, unfinished.more, same)))
       ∙ ap (λ lines. record { lines = lines; stop = ended }) (append-nil done);
-  begins = (trace_within room number least ahead, begins_so number least room done octets ahead read);
+  begins = (input_within room number least ahead, begins_so number least room done octets ahead read);
 }
 
 -- what is next begins with this line
 abbrev pub GivesLine : Next → Line → ℕ → ℕ → ℕ → ℕ → Type 0
 GivesLine one line number least room after =
     (ahead rest : List ℕ) → Says one number least room after ahead rest
-    → (behind : Input) × (trace_within room number least ahead ≡ after_lines (line ∷ []) behind)
+    → (behind : Input) × (input_within room number least ahead ≡ after_lines (line ∷ []) behind)
 
-pub gives_line : (line : Line) (number least room after : ℕ) → GivesLine (next.Line line) line number least room after
-gives_line line number least room after = λ ahead rest says.
-    (trace_within after (number + 1) line.moment rest, ap (trace_within room number least) says.parts ∙ says.says rest)
+pub gives_line : (line : Line) (len number least room after : ℕ) → GivesLine (next.Line line len) line number least room after
+gives_line line len number least room after = λ ahead rest says.
+    (input_within after (number + 1) line.moment rest, ap (input_within room number least) says.parts ∙ says.says rest)
 
-pub gives_last : (line : Line) (number least room after : ℕ) → GivesLine (next.Last line) line number least room after
-gives_last line number least room after = λ ahead rest says. (stopped ended, says.0)
+pub gives_last : (line : Line) (len number least room after : ℕ) → GivesLine (next.Last line len) line number least room after
+gives_last line len number least room after = λ ahead rest says. (stopped ended, says.0)

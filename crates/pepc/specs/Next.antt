@@ -1,9 +1,9 @@
 -- What is next in an input, by what the octets say from a line on.
-use Rattle.std.specs.Prelude.{◌≡◌, ℕ, ◌+◌, ◌<◌, List, [], ◌∷◌, ◌++◌, length, Bool, Option, if◌then◌else◌}
-use Rattle.pc_outside.specs.Limits.{newline}
-use Rattle.trace_lines.specs.Input.{bad, long, big, ended, stopped, after_lines}
-use Rattle.uplink_gateway.specs.Built.{is_built, trace_within}
+use Rattle.std.specs.Prelude.{◌≡◌, ℕ, ◌+◌, ◌<◌, ◌≤◌, List, [], ◌∷◌, ◌++◌, length, Bool, Option, if◌then◌else◌}
+use Rattle.pc_outside.specs.Limits.{line_max, newline}
+use Rattle.trace_lines.specs.Input.{bad, long, big, ended, stopped, after_lines, input_within}
 use Rattle.trace_lines.specs.Line.{Line}
+use Rattle.trace_lines.specs.Text.{line_text}
 use Rattle.trace_lines.specs.declared.bad.LineBad.{LineBad}
 use Rattle.trace_lines.specs.declared.bad.LineBad.TheVariants as why
 use Rattle.pepc.specs.Told.{WhereTold}
@@ -15,19 +15,19 @@ pub record SaysLine (line : Line) (number least room after : ℕ) (octets rest :
   pub text : List ℕ
   pub parts : octets ≡ text ++ newline ∷ rest
   pub given : room ≡ length text + 1 + after
-  pub says : (behind : List ℕ) → trace_within room number least (text ++ newline ∷ behind)
-      ≡ after_lines (line ∷ []) (trace_within after (number + 1) line.moment behind)
+  pub says : (behind : List ℕ) → input_within room number least (text ++ newline ∷ behind)
+      ≡ after_lines (line ∷ []) (input_within after (number + 1) line.moment behind)
 
 -- what the octets say with this room, and what rest and room they leave
 abbrev pub Says : Next → ℕ → ℕ → ℕ → ℕ → List ℕ → List ℕ → Type 0
-Says (next.Line line) number least room after octets rest = SaysLine line number least room after octets rest
-Says (next.Last line) number least room after octets rest =
-    (trace_within room number least octets ≡ after_lines (line ∷ []) (stopped ended)) × (rest ≡ [])
-Says (next.Bad why) number least room after octets rest = trace_within room number least octets ≡ stopped (bad number why)
-Says next.End number least room after octets rest = (trace_within room number least octets ≡ stopped ended)
+Says (next.Line line len) number least room after octets rest = SaysLine line number least room after octets rest
+Says (next.Last line len) number least room after octets rest =
+    (input_within room number least octets ≡ after_lines (line ∷ []) (stopped ended)) × (rest ≡ [])
+Says (next.Bad why) number least room after octets rest = input_within room number least octets ≡ stopped (bad number why)
+Says next.End number least room after octets rest = (input_within room number least octets ≡ stopped ended)
     × (rest ≡ [])
-Says next.LineLong number least room after octets rest = trace_within room number least octets ≡ stopped (long number)
-Says next.TooLong number least room after octets rest = trace_within room number least octets ≡ stopped big
+Says next.LineLong number least room after octets rest = input_within room number least octets ≡ stopped (long number)
+Says next.TooLong number least room after octets rest = input_within room number least octets ≡ stopped big
 Says next.ReadFault number least room after octets rest = (rest ≡ octets) × (after ≡ room)
 Says next.NoMemory number least room after octets rest = Unit {0}
 
@@ -35,10 +35,10 @@ Says next.NoMemory number least room after octets rest = Unit {0}
 abbrev pub Tells : Next → ℕ → ℕ → ℕ → ℕ → Option (List ℕ) → Option (List ℕ) → Type 0
 Tells what number least room after start now = WhereTold start now (λ octets rest. Says what number least room after octets rest)
 
--- a line that more may follow takes room
+-- a line takes room
 abbrev pub TakesRoom : Next → ℕ → ℕ → Type 0
-TakesRoom (next.Line line) room after = after < room
-TakesRoom (next.Last line) room after = Unit {0}
+TakesRoom (next.Line line len) room after = after < room
+TakesRoom (next.Last line len) room after = after < room
 TakesRoom (next.Bad why) room after = Unit {0}
 TakesRoom next.End room after = Unit {0}
 TakesRoom next.LineLong room after = Unit {0}
@@ -46,9 +46,23 @@ TakesRoom next.TooLong room after = Unit {0}
 TakesRoom next.ReadFault room after = Unit {0}
 TakesRoom next.NoMemory room after = Unit {0}
 
--- a line that was read, and whether it is the last one
-abbrev pub given_as : Line → Bool → Next
-given_as line last = if is_built line.kind then (if last then next.Last line else next.Line line) else next.Bad why.Kind
+-- a line comes with the length of its text, which isn't too long, and isn't below the least moment
+abbrev pub IsNext : Line → ℕ → ℕ → Type 0
+IsNext line len least = (len ≡ length (line_text line)) × (len ≤ line_max) × (least ≤ line.moment)
+
+abbrev pub Gives : Next → ℕ → Type 0
+Gives (next.Line line len) least = IsNext line len least
+Gives (next.Last line len) least = IsNext line len least
+Gives (next.Bad why) least = Unit {0}
+Gives next.End least = Unit {0}
+Gives next.LineLong least = Unit {0}
+Gives next.TooLong least = Unit {0}
+Gives next.ReadFault least = Unit {0}
+Gives next.NoMemory least = Unit {0}
+
+-- a line that was read, with the length of its text, and whether it is the last one
+abbrev pub given_as : Line → ℕ → Bool → Next
+given_as line len last = if last then next.Last line len else next.Line line len
 
 -- a line that can't be read
 abbrev pub refused_as : LineBad → Next

@@ -1,11 +1,18 @@
-//! A law of the definitions, the contract of a function that does nothing.
-ghost use Rattle.std.specs.Prelude.{◌≡◌, ℕ, List};
-ghost use Rattle.trace_lines.specs.Input.{Stop};
-ghost use Rattle.trace_lines.specs.Line.{Line};
-ghost use Rattle.pepc.specs.Report.{IsReport};
+//! Laws of the definitions, each the contract of a function that does nothing.
+ghost use Rattle.std.specs.Prelude.{◌≡◌, ◌<◌, ℕ, List};
+ghost use Rattle.trace_lines.specs.Input.{Input};
+ghost use Rattle.lawful_run.specs.Ledger.{IsPartition};
+ghost use Rattle.lawful_run.specs.Trace.{slots_of};
+ghost use Rattle.pepc.specs.Report.{IsText};
 
 /// The report is one function of the lines and of why they stop: no two texts are reports of the same.
 pub fn one_report()
-    ensures { (lines : List Line) (stop : Stop) (text other : List ℕ)
-        → IsReport lines stop text → IsReport lines stop other → text ≡ other }
+    ensures { (input : Input) (text other : List ℕ) → IsText input text → IsText input other → text ≡ other }
+{}
+
+/// The exact ledger of what is written: of each bearer's life the charging records and the open counter tell
+/// pieces that have, one behind another, just the packets that entries tell as forwarded for it.
+pub fn each_packet_is_charged()
+    ensures { (input : Input) (text : List ℕ) (written : IsText input text) (slot life : ℕ) → slot < slots_of input
+        → IsPartition slot life written.report }
 {}

@@ -2,16 +2,14 @@
 //! the command line and the standard streams, and tells its status.
 #![tactic(auto)]
 
-mod charges;
 mod entry_text;
-mod judgement;
+mod epoch;
+mod gathered;
 mod laws;
 mod reading;
-mod receive;
 mod run;
 mod solo;
 mod status;
-mod subscriber;
 #[cfg(test)]
 mod tests;
 mod words;

@@ -1,22 +1,21 @@
 //! The next line of a trace.
-ghost use Rattle.std.specs.Prelude.{◌≡◌, ◌+◌, ◌<◌, ◌≤◌, ◌^◌};
+ghost use Rattle.std.specs.Prelude.{◌≡◌, ◌≤◌};
 ghost use Rattle.std.specs.Io.KnownBytes.{prepend_known};
 ghost use Rattle.pc_outside.specs.Faults.{Rises};
 ghost use Rattle.pc_outside.specs.Held.{IsUnfinished};
-ghost use Rattle.pepc.specs.Next.{Tells, TakesRoom, given_as, refused_as};
+ghost use Rattle.pepc.specs.Next.{Gives, Tells, TakesRoom, given_as, refused_as};
 
 use pc_base::Moment;
 use pc_outside::{LineBuf, LineRead, Source, read_line};
 use std::alloc::Global;
 use trace_lines::{LineBad, TraceLine};
-use uplink_gateway::is_built;
 
 /// What comes next in a trace.
 pub enum Next {
-    /// A line that a newline ends.
-    Line(TraceLine),
+    /// A line that a newline ends, and the length of its text.
+    Line { line: TraceLine, len: usize },
     /// The last line: no newline ends it, and the source is at its end behind it.
-    Last(TraceLine),
+    Last { line: TraceLine, len: usize },
     Bad(LineBad),
     End,
     LineLong,
@@ -36,6 +35,7 @@ pub fn next_line<S: Source>(
     ensures tells { Tells result number least buf.old.room buf.new.room (prepend_known buf.old.front (S.left source.old))
         (prepend_known buf.new.front (S.left source.new)) }
     ensures room { TakesRoom result buf.old.room buf.new.room }
+    ensures given { Gives result least }
 
     // A fault is the source's, and comes only where more octets of a line are needed.
     ensures later { S.faults source.old ≤ S.faults source.new }
@@ -49,22 +49,21 @@ pub fn next_line<S: Source>(
         LineRead::TooLong => return Next::TooLong,
         LineRead::ReadFault => return Next::ReadFault,
     }
-    match trace_lines::read_line(alloc, buf.line(), number, least) {
-        Ok(line) => given(line, buf.is_last()),
+    let text = buf.line();
+    match trace_lines::read_line(alloc, text, number, least) {
+        Ok(line) => given(line, text.len(), buf.is_last()),
         Err(why) => refused(why),
     }
 }
 
-// A line that was read, and whether it is the last one. It is bad where its kind isn't built.
-fn given(line: TraceLine, last: bool) -> Next
-    ensures { result ≡ given_as line last }
+// A line that was read, and whether it is the last one.
+fn given(line: TraceLine, len: usize, last: bool) -> Next
+    ensures { result ≡ given_as line len last }
 {
-    if !is_built(&line.kind) {
-        Next::Bad(LineBad::Kind)
-    } else if last {
-        Next::Last(line)
+    if last {
+        Next::Last { line, len }
     } else {
-        Next::Line(line)
+        Next::Line { line, len }
     }
 }
 
@@ -74,7 +73,8 @@ fn refused(why: LineBad) -> Next
 {
     match why {
         LineBad::NoMemory => Next::NoMemory,
-        LineBad::Field | LineBad::Number | LineBad::Kind | LineBad::Hex | LineBad::MomentBack =>
-            Next::Bad(why),
+        LineBad::Field | LineBad::Number | LineBad::Kind | LineBad::Hex | LineBad::MomentBack => {
+            Next::Bad(why)
+        }
     }
 }

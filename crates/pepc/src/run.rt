@@ -1,19 +1,26 @@
-//! A run of `solo`: line after line is read and answered, and the report written in blocks.
-ghost use Rattle.std.specs.Prelude.{◌≡◌, ◌+◌, ◌<◌, ◌≤◌, ◌^◌, ◌∷◌, ◌++◌, ◌↔◌, [], false, ℕ, List, Option, length, codes, map, Ok, Err, OnOk, OnErr, IfOk, IfErr};
-ghost use Rattle.std.specs.Io.KnownBytes.{Appends, Keeps};
+//! A run of `solo`: line after line is read and answered, and the report written epoch by epoch.
+ghost use Rattle.std.specs.Prelude.{◌≡◌, ◌+◌, ◌<◌, ◌≤◌, ◌^◌, ◌∷◌, ◌++◌, ◌↔◌, [], ℕ, List, Option, Some, length, map, Ok, Err, OnOk, OnErr, IfOk, IfErr, true, false};
+ghost use Rattle.std.specs.Io.KnownBytes.{Appends};
 ghost use Rattle.std.specs.String.{string_bytes};
 ghost use Rattle.pc_outside.specs.Faults.{Rises};
 ghost use Rattle.pc_outside.specs.Fronts.{AppendsFront};
+ghost use Rattle.pc_outside.specs.Limits.{line_max};
+ghost use Rattle.trace_lines.specs.Epochs.{ends_epoch, octets_in};
+ghost use Rattle.trace_lines.specs.Input.{ended, input_of};
 ghost use Rattle.trace_lines.specs.Line.{Line};
-ghost use Rattle.uplink_gateway.specs.Entry.{text_of};
-ghost use Rattle.pepc.specs.Standing.{StandsFor, entry_at};
-ghost use Rattle.pepc.specs.Progress.{Moves, Ends, Cuts, status_at, status_without};
-ghost use Rattle.pepc.specs.Report.{Reports, Runs};
+ghost use Rattle.trace_lines.specs.Text.{line_text};
+ghost use Rattle.demux.specs.Trace.{Meaning};
+ghost use Rattle.lawful_run.specs.Order.{Histories};
+ghost use Rattle.lawful_run.specs.Run.{no_events};
+ghost use Rattle.pepc.specs.Cut.{Counts};
+ghost use Rattle.pepc.specs.Progress.{Ends, Cuts, Takes, end_text, next_story, next_text, rest_text, status_at, status_without};
+ghost use Rattle.pepc.specs.Report.{IsDone, Reports, Runs};
+ghost use Rattle.pepc.specs.Standing.{HasRoom, IsLate, NoneBeyond, Stands, Story, story_of, with_end};
 ghost use Rattle.pepc.specs.Told.{WhereTold};
 ghost use Rattle.pepc.specs.Words.{IsSolo};
-ghost use Rattle.pepc.specs.declared.solo.Solo.{Solo};
 
 use crate::entry_text::push_refusal;
+use crate::epoch::Size;
 use crate::reading::{Next, next_line};
 use crate::solo::Solo;
 use crate::status::Status;
@@ -22,9 +29,6 @@ use pc_base::Moment;
 use pc_outside::{LineBuf, Sink, Source, write_whole};
 use std::alloc::{AllocError, Global};
 use trace_lines::{LineBad, TraceLine};
-
-/// How many octets of a report are gathered before they are written.
-const BLOCK: usize = 0x1_0000;
 
 /// Why no more lines are read.
 #[derive(Clone, Copy)]
@@ -56,7 +60,7 @@ impl From<AllocError> for Unwritten {
 
 // Writes what is there of the report, and empties it.
 fn write_report<K: Sink>(sink: &mut K, report: &mut Vec<u8>) -> Result<(), Unwritten>
-    ensures moved { OnOk result (Moves (K.written sink.old) (K.written sink.new) report.old.items report.new.items) }
+    ensures moved { OnOk result (Appends (K.written sink.old) (K.written sink.new) report.old.items) }
     ensures emptied { OnOk result (report.new.items ≡ []) }
     ensures cut { OnErr result (AppendsFront (K.written sink.old) (K.written sink.new) report.old.items) }
     ensures no_other { OnErr result (result ≡ Err Unwritten.WriteFault) }
@@ -71,50 +75,103 @@ fn write_report<K: Sink>(sink: &mut K, report: &mut Vec<u8>) -> Result<(), Unwri
     Ok(())
 }
 
-// The same, where a block is there.
-fn write_block<K: Sink>(sink: &mut K, report: &mut Vec<u8>) -> Result<(), Unwritten>
-    ensures moved { OnOk result (Moves (K.written sink.old) (K.written sink.new) report.old.items report.new.items) }
-    ensures less { OnOk result (length report.new.items < BLOCK) }
-    ensures cut { OnErr result (AppendsFront (K.written sink.old) (K.written sink.new) report.old.items) }
-    ensures no_other { OnErr result (result ≡ Err Unwritten.WriteFault) }
+// Ends the epoch, whose text is written when it is whole.
+fn end_epoch<K: Sink>(
+    gateway: &mut Solo,
+    sink: &mut K,
+    report: &mut Vec<u8>,
+) -> Result<(), Unwritten>
+    ensures stands { (story : Story) → Stands gateway.old story → OnOk result (Stands gateway.new (with_end story)) }
+    ensures written { (story : Story) → Stands gateway.old story
+        → OnOk result (Appends (K.written sink.old) (K.written sink.new) (report.old.items ++ end_text story)) }
+    ensures emptied { OnOk result (report.new.items ≡ []) }
+    ensures cut { (story : Story) → Stands gateway.old story → result ≡ Err Unwritten.WriteFault
+        → AppendsFront (K.written sink.old) (K.written sink.new) (report.old.items ++ end_text story) }
+    ensures kept { result ≡ Err Unwritten.NoMemory → sink.new ≡ sink.old }
 
     ensures later { K.faults sink.old ≤ K.faults sink.new }
-    ensures fault { OnErr result (Rises (K.faults sink.old) (K.faults sink.new)) }
+    ensures fault { result ≡ Err Unwritten.WriteFault → Rises (K.faults sink.old) (K.faults sink.new) }
 {
-    if report.len() < BLOCK {
-        return Ok(());
-    }
+    gateway.close(report)?;
     write_report(sink, report)
 }
 
-// Answers a line, and gives its moment.
+// Answers a line, whose text has this length. An epoch that it ends is written.
 fn take_line<K: Sink>(
     alloc: Global,
     gateway: &mut Solo,
+    size: &mut Size,
+    line: &TraceLine,
+    len: usize,
+    sink: &mut K,
+    report: &mut Vec<u8>,
+) -> Result<(), Unwritten>
+    requires room { HasRoom gateway.old }
+    requires late { IsLate gateway.old line.now }
+    requires sized { (before : List Line) × Counts size.old before × (length before < 2 ^ 50) × (octets_in before < 2 ^ 50) }
+    requires long { len ≡ length (line_text line.now) }
+    requires short { len ≤ line_max }
+
+    ensures taken { (done open_ : List Line) (latest : ℕ) (before : Histories) (made : List Meaning)
+        → Stands gateway.old (story_of done latest before made) → latest ≤ line.now.moment → Counts size.old open_
+        → OnOk result (Takes (ends_epoch open_ line.now) gateway.new size.new (K.written sink.old) (K.written sink.new)
+        (next_text report.old.items done latest before made line.now) report.new.items
+        (next_story done latest before made line.now) (open_ ++ line.now ∷ [])) }
+    ensures cut { (done open_ : List Line) (latest : ℕ) (before : Histories) (made : List Meaning)
+        → Stands gateway.old (story_of done latest before made) → latest ≤ line.now.moment → Counts size.old open_ → result ≡ Err Unwritten.WriteFault
+        → (ends_epoch open_ line.now ≡ true) × NoneBeyond (next_story done latest before made line.now)
+        × AppendsFront (K.written sink.old) (K.written sink.new)
+        (next_text report.old.items done latest before made line.now ++ end_text (next_story done latest before made line.now)) }
+    ensures kept { result ≡ Err Unwritten.NoMemory → sink.new ≡ sink.old }
+
+    ensures later { K.faults sink.old ≤ K.faults sink.new }
+    ensures fault { result ≡ Err Unwritten.WriteFault → Rises (K.faults sink.old) (K.faults sink.new) }
+{
+    gateway.enter(alloc, line, report)?;
+    if !size.take(line, len as u64) {
+        return Ok(());
+    }
+    end_epoch(gateway, sink, report)
+}
+
+// The same of a line that is let go: its moment.
+fn spend_line<K: Sink>(
+    alloc: Global,
+    gateway: &mut Solo,
+    size: &mut Size,
     line: TraceLine,
+    len: usize,
     sink: &mut K,
     report: &mut Vec<u8>,
 ) -> Result<Moment, Unwritten>
-    requires { (done : List Line) × StandsFor gateway.old done × (length done < 2 ^ 58) }
+    requires room { HasRoom gateway.old }
+    requires late { IsLate gateway.old line }
+    requires sized { (before : List Line) × Counts size.old before × (length before < 2 ^ 50) × (octets_in before < 2 ^ 50) }
+    requires long { len ≡ length (line_text line) }
+    requires short { len ≤ line_max }
 
-    ensures stands { (done : List Line) → StandsFor gateway.old done
-        → OnOk result (StandsFor gateway.new (done ++ line ∷ [])) }
-    ensures moved { (done : List Line) → StandsFor gateway.old done
-        → OnOk result (Moves (K.written sink.old) (K.written sink.new) (report.old.items ++ text_of (entry_at done line)) report.new.items) }
-    ensures cut { (done : List Line) → StandsFor gateway.old done → result ≡ Err Unwritten.WriteFault
-        → AppendsFront (K.written sink.old) (K.written sink.new) (report.old.items ++ text_of (entry_at done line)) }
+    ensures taken { (done open_ : List Line) (latest : ℕ) (before : Histories) (made : List Meaning)
+        → Stands gateway.old (story_of done latest before made) → latest ≤ line.moment → Counts size.old open_
+        → OnOk result (Takes (ends_epoch open_ line) gateway.new size.new (K.written sink.old) (K.written sink.new)
+        (next_text report.old.items done latest before made line) report.new.items
+        (next_story done latest before made line) (open_ ++ line ∷ [])) }
+    ensures cut { (done open_ : List Line) (latest : ℕ) (before : Histories) (made : List Meaning)
+        → Stands gateway.old (story_of done latest before made) → latest ≤ line.moment → Counts size.old open_ → result ≡ Err Unwritten.WriteFault
+        → (ends_epoch open_ line ≡ true) × NoneBeyond (next_story done latest before made line)
+        × AppendsFront (K.written sink.old) (K.written sink.new)
+        (next_text report.old.items done latest before made line ++ end_text (next_story done latest before made line)) }
     ensures moment { IfOk result (λ at. at ≡ line.moment) }
     ensures kept { result ≡ Err Unwritten.NoMemory → sink.new ≡ sink.old }
 
     ensures later { K.faults sink.old ≤ K.faults sink.new }
     ensures fault { result ≡ Err Unwritten.WriteFault → Rises (K.faults sink.old) (K.faults sink.new) }
 {
-    gateway.enter(alloc, &line, report)?;
-    write_block(sink, report)?;
+    take_line(alloc, gateway, size, &line, len, sink, report)?;
     Ok(line.moment)
 }
 
-// Reads lines and answers them until no more come. What isn't written yet of the report is left in it.
+// Reads lines and answers them until no more come. The entries of the open epoch's lines are left in the
+// report.
 fn run_lines<S: Source, K: Sink>(
     alloc: Global,
     source: &mut S,
@@ -124,7 +181,7 @@ fn run_lines<S: Source, K: Sink>(
     report: &mut Vec<u8>,
 ) -> Result<Ending, Unwritten>
     requires fresh { buf.old ≡ record { line = []; last = false; front = []; room = 2 ^ 40 } }
-    requires first { StandsFor gateway.old [] }
+    requires first { Stands gateway.old (story_of [] 0 no_events []) }
     requires empty { report.old.items ≡ [] }
 
     ensures ended { IfOk result (λ ending. Ends ending (S.left source.old) (S.left source.new) (K.written sink.old) (K.written sink.new) report.new.items gateway.new) }
@@ -135,16 +192,17 @@ fn run_lines<S: Source, K: Sink>(
     ensures read_fault { result ≡ Ok Ending.ReadFault → Rises (S.faults source.old) (S.faults source.new) }
     ensures write_fault { result ≡ Err Unwritten.WriteFault → Rises (K.faults sink.old) (K.faults sink.new) }
 {
+    let mut size = Size::new();
     let mut number = 1;
     let mut least = Moment(0);
     loop {
         match next_line(alloc, source, buf, number, least) {
-            Next::Line(line) => {
-                least = take_line(alloc, gateway, line, sink, report)?;
+            Next::Line { line, len } => {
+                least = spend_line(alloc, gateway, &mut size, line, len, sink, report)?;
                 number += 1;
             }
-            Next::Last(line) => {
-                take_line(alloc, gateway, line, sink, report)?;
+            Next::Last { line, len } => {
+                spend_line(alloc, gateway, &mut size, line, len, sink, report)?;
                 return Ok(Ending::Ended);
             }
             Next::Bad(why) => {
@@ -181,11 +239,24 @@ fn status_without(why: Unwritten) -> Status
     }
 }
 
-// Appends what is charged, and writes the last block.
-fn end_run<K: Sink>(ending: Ending, gateway: &Solo, sink: &mut K, report: &mut Vec<u8>) -> Status
-    requires { (done : List Line) × StandsFor gateway.now done }
+// Appends what stands behind the lines of the last epoch, and the open counters.
+fn push_rest(gateway: &mut Solo, report: &mut Vec<u8>) -> Result<(), AllocError>
+    ensures { (story : Story) → Stands gateway.old story
+        → OnOk result (report.new.items ≡ report.old.items ++ rest_text story) }
+{
+    gateway.close(report)?;
+    gateway.push_opens(report)
+}
+
+// Ends the last epoch, and writes it with the open counters.
+fn end_run<K: Sink>(
+    ending: Ending,
+    gateway: &mut Solo,
+    sink: &mut K,
+    report: &mut Vec<u8>,
+) -> Status
     ensures whole { (before now : ℕ) (start left old : Option (List ℕ)) → (ending ≡ Ending.ReadFault → Rises before now)
-        → Ends ending start left old (K.written sink.old) report.old.items gateway.now
+        → Ends ending start left old (K.written sink.old) report.old.items gateway.old
         → Runs result (Rises before now) start left old (K.written sink.new) }
     ensures read_fault { result ≡ Status.ReadFault → ending ≡ Ending.ReadFault }
     ensures no_usage { result ≡ Status.Usage → ⊥ }
@@ -193,7 +264,7 @@ fn end_run<K: Sink>(ending: Ending, gateway: &Solo, sink: &mut K, report: &mut V
     ensures later { K.faults sink.old ≤ K.faults sink.new }
     ensures write_fault { result ≡ Status.WriteFault → Rises (K.faults sink.old) (K.faults sink.new) }
 {
-    match gateway.push_charges(report) {
+    match push_rest(gateway, report) {
         Ok(()) => {}
         Err(AllocError) => return Status::NoMemory,
     }
@@ -221,13 +292,13 @@ fn solo<S: Source, K: Sink>(alloc: Global, source: &mut S, sink: &mut K) -> Stat
     let mut gateway = Solo::new(alloc);
     let mut report = Vec::new(alloc);
     match run_lines(alloc, source, sink, &mut buf, &mut gateway, &mut report) {
-        Ok(ending) => end_run(ending, &gateway, sink, &mut report),
+        Ok(ending) => end_run(ending, &mut gateway, sink, &mut report),
         Err(why) => status_without(why),
     }
 }
 
 /// Does what the words say, without the program's name: `solo` reads a trace from the source and writes
-/// its report to the sink. Other words are Usage.
+/// its report to the sink, epoch by epoch. Other words are Usage.
 pub fn run_plain<S: Source, K: Sink>(
     alloc: Global,
     words: &[String],
@@ -244,6 +315,12 @@ pub fn run_plain<S: Source, K: Sink>(
     ensures report { (text : List ℕ) × Appends (K.written sink.old) (K.written sink.new) text
         × WhereTold (S.left source.old) (S.left source.new)
         (λ octets left. Reports result (Rises (S.faults source.old) (S.faults source.new)) octets left text) }
+
+    // Where the words are a command, the input stops at its end and no count of faults rose, the whole
+    // report is written, unless memory ran out.
+    ensures complete { (octets : List ℕ) → IsSolo (map string_bytes words.now) → S.left source.old ≡ Some octets
+        → (input_of octets).stop ≡ ended → ¬ Rises (S.faults source.old) (S.faults source.new)
+        → ¬ Rises (K.faults sink.old) (K.faults sink.new) → IsDone result }
 
     // Faults are those of the source and the sink.
     ensures source_later { S.faults source.old ≤ S.faults source.new }

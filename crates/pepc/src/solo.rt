@@ -1,214 +1,57 @@
 //! The gateway on one thread: each line is answered at once.
-ghost use Rattle.std.specs.Prelude.{◌≡◌, ◌+◌, ◌^◌, ◌<◌, ◌∷◌, ◌++◌, [], ℕ, List, length, OnOk, IfOk, IfSome, IfNone};
-ghost use Rattle.uplink_gateway.specs.Book.{book_of, with_imsi};
-ghost use Rattle.uplink_gateway.specs.Decision.{Decision, command as command_of, packet as packet_of, note, attaching, received, told};
-ghost use Rattle.uplink_gateway.specs.Entry.{text_of, texts};
-ghost use Rattle.uplink_gateway.specs.Entered.{entry_after};
-ghost use Rattle.std.specs.String.{string_bytes};
-ghost use Rattle.gtpu_codec.specs.Text.{payload_len};
+ghost use Rattle.std.specs.Prelude.{◌≡◌, ℕ, ◌≤◌, ◌<◌, ◌^◌, ◌==◌, ◌∷◌, ◌++◌, [], List, flat_map, length, map, find, None, OnOk, IfOk};
+ghost use Rattle.std.specs.Option.{option_copied};
 ghost use Rattle.address_book.specs.Book.{slot_in};
+ghost use Rattle.bearer_state.specs.declared.version.ActiveBearer.{ActiveBearer};
+ghost use Rattle.charging_book.specs.Rows.{Counters};
+ghost use Rattle.demux.specs.Resolved.{IsDue, book_with, slot_of};
 ghost use Rattle.ipv4_packet.specs.Packet.{IsPacket};
+ghost use Rattle.gate_model.specs.declared.event.Event.{Event};
+ghost use Rattle.split_record.specs.Standing.{StandsFor};
+ghost use Rattle.demux.specs.Texts.{move_note};
+ghost use Rattle.demux.specs.Trace.{Meaning, note as noted, command as commanded, packet as carried};
+ghost use Rattle.lawful_run.specs.Order.{Histories};
+ghost use Rattle.lawful_run.specs.Outcomes.{opens};
+ghost use Rattle.lawful_run.specs.Run.{by_slot, no_events};
 ghost use Rattle.trace_lines.specs.Line.{Line};
-ghost use Rattle.pepc.specs.Judgement.{uplink as uplink_of};
-ghost use Rattle.pepc.specs.Standing.{Stands, StandsFor, charges_of, entry_at};
+ghost use Rattle.pepc.specs.Gathering.{charges_text, closing_text, open_for};
+ghost use Rattle.pepc.specs.Standing.{BringsNothing, HasRoom, IsInBook, IsLate, Stands, Story, entry_line, events_of, meant_next, story_of, with_end, with_book, with_meaning, with_move, with_packet};
 
-use crate::charges::{add_book, change_life, charge, push_charges};
-use crate::entry_text::{push_note, push_packet, push_reply};
-use crate::receive::{Received, receive};
-use crate::subscriber::Subscriber;
+use crate::entry_text::{push_answer, push_handled, push_move, push_note, push_open};
+use crate::gathered::Gathered;
 use address_book::{AddressBook, AdmitNo};
-use charging_book::Book;
-use gtpu_codec::GtpU;
-use ipv4_packet::Ip4;
-use pc_base::{Addr4, Imsi, Moment, Slot};
+use bearer_state::ActiveBearer;
+use charging_book::Open;
+use control_steps::Command;
+use demux::{Decision, LentPacket, Whose, decide, home_slice};
+use pc_base::{Imsi, SliceNo, Slot};
+use split_record::Subscriber;
 use std::alloc::{AllocError, Global};
-use trace_lines::{LineKind, TraceLine};
-use uplink_gateway::{Command, GATEWAY_ADDR};
+use trace_lines::TraceLine;
 
-/// The lines so far, the book, and a subscriber for each slot in it.
+/// How many slices there are for an order to move.
+const SLICES: u8 = 64;
+
+/// The lines so far, the book, a subscriber for each slot in it, and what waits for the end of the epoch.
 #[derive(Drop)]
 pub struct Solo {
     lines: u64,
     book: AddressBook,
     subscribers: Vec<Subscriber>,
-    accounts: Vec<Book>,
+    gathered: Gathered,
 }
 
 impl Solo {
     /// The gateway before its first line.
     pub fn new(alloc: Global) -> Solo
-        ensures { StandsFor result [] }
+        ensures { Stands result (story_of [] 0 no_events []) }
     {
         Solo {
             lines: 0,
             book: AddressBook::new(alloc),
             subscribers: Vec::new(alloc),
-            accounts: Vec::new(alloc),
+            gathered: Gathered::new(alloc),
         }
-    }
-
-    // A line that comes to a note alone.
-    fn note(&mut self, text: &str, report: &mut Vec<u8>) -> Result<(), AllocError>
-        requires { (book : List (List ℕ)) × (made : List Decision) × Stands self.old book made
-            × (length made < 2 ^ 58) }
-
-        ensures told { (book : List (List ℕ)) (made : List Decision) → Stands self.old book made
-            → OnOk result (report.new.items ≡ report.old.items ++ text_of (entry_after made (note text.now))) }
-        ensures stands { (book : List (List ℕ)) (made : List Decision) → Stands self.old book made
-            → OnOk result (Stands self.new book (made ++ note text.now ∷ [])) }
-    {
-        let line = self.lines + 1;
-        push_note(report, line, text)?;
-        self.lines = line;
-        Ok(())
-    }
-
-    // A command of a slot in the book.
-    fn command(
-        &mut self,
-        slot: Slot,
-        command: &Command,
-        report: &mut Vec<u8>,
-    ) -> Result<(), AllocError>
-        requires { (book : List (List ℕ)) × (made : List Decision) × Stands self.old book made × (slot < length book)
-            × (length made < 2 ^ 58) }
-
-        ensures told { (book : List (List ℕ)) (made : List Decision) → Stands self.old book made → slot < length book
-            → OnOk result (report.new.items ≡ report.old.items ++ text_of (entry_after made (command_of slot command.now))) }
-        ensures stands { (book : List (List ℕ)) (made : List Decision) → Stands self.old book made → slot < length book
-            → OnOk result (Stands self.new book (made ++ command_of slot command.now ∷ [])) }
-    {
-        let line = self.lines + 1;
-        let place = slot.0 as usize;
-        let subscriber = &mut self.subscribers[place];
-        let old = subscriber.bearer();
-        let (number, reply) = subscriber.command(command);
-        let new = subscriber.bearer();
-        change_life(&mut self.accounts[place], old, new)?;
-        push_reply(report, line, slot, number, &reply)?;
-        self.lines = line;
-        Ok(())
-    }
-
-    // A packet that came up on a bearer of a slot in the book.
-    fn uplink(
-        &mut self,
-        moment: Moment,
-        slot: Slot,
-        index: u8,
-        packet: &Ip4<'_>,
-        report: &mut Vec<u8>,
-    ) -> Result<(), AllocError>
-        requires { (book : List (List ℕ)) × (made : List Decision) × Stands self.old book made × (slot < length book)
-            × (length made < 2 ^ 58) }
-
-        ensures told { (book : List (List ℕ)) (made : List Decision) → Stands self.old book made → slot < length book
-            → OnOk result (report.new.items ≡ report.old.items ++ text_of (entry_after made (packet_of slot (uplink_of moment index packet.now)))) }
-        ensures stands { (book : List (List ℕ)) (made : List Decision) → Stands self.old book made → slot < length book
-            → OnOk result (Stands self.new book (made ++ packet_of slot (uplink_of moment index packet.now) ∷ [])) }
-    {
-        let line = self.lines + 1;
-        let place = slot.0 as usize;
-        let subscriber = &mut self.subscribers[place];
-        let (number, commands, judgement) = subscriber.uplink(index, packet);
-        charge(
-            &mut self.accounts[place],
-            judgement,
-            len_of(packet.octets()),
-            moment,
-        )?;
-        push_packet(report, line, slot, number, commands, judgement)?;
-        self.lines = line;
-        Ok(())
-    }
-
-    // The slot of an IMSI, which gets a row if it is new; None where the pool is used up.
-    fn admit(&mut self, alloc: Global, imsi: Imsi) -> Result<Option<Slot>, AllocError>
-        ensures slot { IfOk result (λ slot. slot ≡ slot_in self.new.book imsi) }
-        ensures stands { (book : List (List ℕ)) (made : List Decision) → Stands self.old book made
-            → OnOk result (Stands self.new (with_imsi book imsi) made) }
-    {
-        match self.book.admit(imsi) {
-            Ok(slot) if (slot.0 as usize) < self.subscribers.len() => Ok(Some(slot)),
-            Ok(slot) => {
-                self.subscribers
-                    .extend_from_slice(&[Subscriber::new(slot)])?;
-                add_book(alloc, &mut self.accounts)?;
-                Ok(Some(slot))
-            }
-            Err(AdmitNo::PoolUsed) => Ok(None),
-            Err(AdmitNo::NoMemory) => Err(AllocError),
-        }
-    }
-
-    // An order to attach.
-    fn attach(
-        &mut self,
-        alloc: Global,
-        imsi: Imsi,
-        order: &Command,
-        report: &mut Vec<u8>,
-    ) -> Result<(), AllocError>
-        requires { (book : List (List ℕ)) × (made : List Decision) × Stands self.old book made
-            × (length made < 2 ^ 58) }
-
-        ensures told { (book : List (List ℕ)) (made : List Decision) → Stands self.old book made
-            → OnOk result (report.new.items ≡ report.old.items ++ text_of (entry_after made (attaching (slot_in (with_imsi book imsi) imsi) order.now))) }
-        ensures stands { (book : List (List ℕ)) (made : List Decision) → Stands self.old book made
-            → OnOk result (Stands self.new (with_imsi book imsi) (made ++ attaching (slot_in (with_imsi book imsi) imsi) order.now ∷ [])) }
-    {
-        match self.admit(alloc, imsi)? {
-            Some(slot) => self.command(slot, order, report),
-            None => self.note("pool", report),
-        }
-    }
-
-    // A message of an eNodeB.
-    fn receive(
-        &mut self,
-        alloc: Global,
-        moment: Moment,
-        octets: &[u8],
-        report: &mut Vec<u8>,
-    ) -> Result<(), AllocError>
-        requires { (book : List (List ℕ)) × (made : List Decision) × Stands self.old book made
-            × (length made < 2 ^ 58) }
-
-        ensures told { (book : List (List ℕ)) (made : List Decision) → Stands self.old book made
-            → OnOk result (report.new.items ≡ report.old.items ++ text_of (entry_after made (received (length book) moment octets.now))) }
-        ensures stands { (book : List (List ℕ)) (made : List Decision) → Stands self.old book made
-            → OnOk result (Stands self.new book (made ++ received (length book) moment octets.now ∷ [])) }
-    {
-        match receive(octets, self.book.len()) {
-            Received::Note(text) => self.note(text, report),
-            Received::Echo(seq) => {
-                let text = told(alloc, "s1u echo", &GtpU::EchoResponse { seq })?;
-                self.note(text.as_str(), report)
-            }
-            Received::Unknown(teid) => {
-                let peer = Addr4(GATEWAY_ADDR);
-                let text = told(
-                    alloc,
-                    "s1u unknown",
-                    &GtpU::ErrorIndication { seq: 0, teid, peer },
-                )?;
-                self.note(text.as_str(), report)
-            }
-            Received::Packet {
-                slot,
-                index,
-                packet,
-            } => self.uplink(moment, slot, index, &packet, report),
-        }
-    }
-
-    /// Appends what all subscribers are charged.
-    pub fn push_charges(&self, report: &mut Vec<u8>) -> Result<(), AllocError>
-        requires { (done : List Line) × StandsFor self.now done }
-        ensures { (done : List Line) → StandsFor self.now done
-            → OnOk result (report.new.items ≡ report.old.items ++ texts (charges_of done)) }
-    {
-        push_charges(report, self.accounts.as_slice())
     }
 
     /// Answers a line: its entry's text is appended to the report. After want of memory the gateway may
@@ -219,51 +62,233 @@ impl Solo {
         line: &TraceLine,
         report: &mut Vec<u8>,
     ) -> Result<(), AllocError>
-        requires { (done : List Line) × StandsFor self.old done × (length done < 2 ^ 58) }
+        requires room { HasRoom self.old }
+        requires late { IsLate self.old line.now }
 
-        ensures told { (done : List Line) → StandsFor self.old done
-            → OnOk result (report.new.items ≡ report.old.items ++ text_of (entry_at done line.now)) }
-        ensures stands { (done : List Line) → StandsFor self.old done
-            → OnOk result (StandsFor self.new (done ++ line.now ∷ [])) }
+        ensures told { (done : List Line) (latest : ℕ) (before : Histories) (made : List Meaning) → Stands self.old (story_of done latest before made)
+            → OnOk result (report.new.items ≡ report.old.items ++ entry_line (story_of done latest before made) (meant_next done line.now)) }
+        ensures stands { (done : List Line) (latest : ℕ) (before : Histories) (made : List Meaning) → Stands self.old (story_of done latest before made)
+            → latest ≤ line.now.moment
+            → OnOk result (Stands self.new (story_of (done ++ line.now ∷ []) line.now.moment before (made ++ meant_next done line.now ∷ []))) }
     {
-        match &line.kind {
-            LineKind::Attach {
-                imsi,
-                enb,
-                up,
-                down,
-            } => {
-                let order = Command::Attach {
-                    enb: *enb,
-                    up: *up,
-                    down: *down,
-                };
-                self.attach(alloc, *imsi, &order, report)
+        match decide(alloc, &self.book, SLICES, line)? {
+            Decision::Packet { slot, packet } => self.packet(alloc, slot, &packet, report),
+            Decision::Command { whose, command } => self.command(alloc, whose, &command, report),
+            Decision::Move { slot, slice } => self.move_to(slot, slice, report),
+            Decision::Note(text) => self.note(text.as_slice(), report),
+        }
+    }
+
+    /// Ends an epoch: its effects are appended by slot, and then its charging records.
+    pub fn close(&mut self, report: &mut Vec<u8>) -> Result<(), AllocError>
+        ensures told { (story : Story) → Stands self.old story
+            → OnOk result (report.new.items ≡ report.old.items ++ closing_text (length story.book) story.before story.made) }
+        ensures stands { (story : Story) → Stands self.old story → OnOk result (Stands self.new (with_end story)) }
+    {
+        self.gathered.push_all(report)
+    }
+
+    /// Appends the open counters of all subscribers.
+    pub fn push_opens(&self, report: &mut Vec<u8>) -> Result<(), AllocError>
+        ensures { (story : Story) → Stands self.now story → OnOk result (report.new.items
+            ≡ report.old.items ++ charges_text (by_slot (length story.book) (λ slot. opens slot (events_of story slot)))) }
+    {
+        for subscriber in self.subscribers.iter() {
+            push_subscriber(report, subscriber)?;
+        }
+        Ok(())
+    }
+
+    // A line that comes to a note alone.
+    fn note(&mut self, text: &[u8], report: &mut Vec<u8>) -> Result<(), AllocError>
+        requires { HasRoom self.old }
+
+        ensures told { (story : Story) → Stands self.old story
+            → OnOk result (report.new.items ≡ report.old.items ++ entry_line story (noted text.now)) }
+        ensures stands { (story : Story) → Stands self.old story → OnOk result (Stands self.new (with_meaning story (noted text.now))) }
+    {
+        let line = self.lines + 1;
+        push_note(report, line, text)?;
+        self.lines = line;
+        Ok(())
+    }
+
+    // An order that a subscriber goes to a slice.
+    fn move_to(
+        &mut self,
+        slot: Slot,
+        slice: SliceNo,
+        report: &mut Vec<u8>,
+    ) -> Result<(), AllocError>
+        requires room { HasRoom self.old }
+        requires known { IsInBook self.old slot }
+
+        ensures told { (story : Story) → Stands self.old story
+            → OnOk result (report.new.items ≡ report.old.items ++ entry_line story (noted (move_note (story.bound slot) slot slice))) }
+        ensures stands { (story : Story) (now : Meaning) → Stands self.old story → BringsNothing now
+            → OnOk result (Stands self.new (with_move story now slot slice)) }
+    {
+        let line = self.lines + 1;
+        let place = slot.0 as usize;
+        let subscriber = &mut self.subscribers[place];
+        push_move(report, line, subscriber.destination(), slot, slice)?;
+        subscriber.set_destination(slice);
+        self.lines = line;
+        Ok(())
+    }
+
+    // A packet of a slot in the book.
+    fn packet(
+        &mut self,
+        alloc: Global,
+        slot: Slot,
+        packet: &LentPacket<'_>,
+        report: &mut Vec<u8>,
+    ) -> Result<(), AllocError>
+        requires room { HasRoom self.old }
+        requires known { IsInBook self.old slot }
+        requires late { (story : Story) × Stands self.old story × (story.latest ≤ packet.now.moment) }
+
+        ensures told { (story : Story) → Stands self.old story
+            → OnOk result (report.new.items ≡ report.old.items ++ entry_line story (carried slot packet.now)) }
+        ensures stands { (story : Story) → Stands self.old story → story.latest ≤ packet.now.moment
+            → OnOk result (Stands self.new (with_packet story (carried slot packet.now) packet.now.moment)) }
+    {
+        let line = self.lines + 1;
+        let place = slot.0 as usize;
+        let subscriber = &mut self.subscribers[place];
+        let _len = packet_len(packet.ip.octets());
+        let handled = subscriber.judge(packet.moment, packet.way, &packet.ip)?;
+        push_handled(alloc, report, line, slot, handled)?;
+        self.gathered.add_rows(slot, subscriber.take_closed())?;
+        self.lines = line;
+        Ok(())
+    }
+
+    // A command of a slot in the book, or of a new one.
+    fn command(
+        &mut self,
+        alloc: Global,
+        whose: Whose,
+        command: &Command,
+        report: &mut Vec<u8>,
+    ) -> Result<(), AllocError>
+        requires room { HasRoom self.old }
+        requires due { IsDue self.old.book whose }
+
+        ensures told { (story : Story) → Stands self.old story
+            → OnOk result (report.new.items ≡ report.old.items ++ entry_line story (commanded (slot_of story.book whose) command.now)) }
+        ensures stands { (story : Story) → Stands self.old story
+            → OnOk result (Stands self.new (with_book (with_meaning story (commanded (slot_of story.book whose) command.now)) (book_with story.book whose))) }
+    {
+        match whose {
+            Whose::Known(slot) => self.answer(alloc, slot, command, report),
+            Whose::New(imsi) => {
+                let slot = self.admit(alloc, imsi)?;
+                self.answer(alloc, slot, command, report)
             }
-            LineKind::S1u(octets) => self.receive(alloc, line.moment, octets.as_slice(), report),
-            // Refused where lines are read.
-            _ => self.note("unbuilt", report),
+        }
+    }
+
+    // A command of a slot in the book.
+    fn answer(
+        &mut self,
+        alloc: Global,
+        slot: Slot,
+        command: &Command,
+        report: &mut Vec<u8>,
+    ) -> Result<(), AllocError>
+        requires room { HasRoom self.old }
+        requires known { IsInBook self.old slot }
+
+        ensures told { (story : Story) → Stands self.old story
+            → OnOk result (report.new.items ≡ report.old.items ++ entry_line story (commanded slot command.now)) }
+        ensures stands { (story : Story) → Stands self.old story
+            → OnOk result (Stands self.new (with_meaning story (commanded slot command.now))) }
+    {
+        let line = self.lines + 1;
+        let place = slot.0 as usize;
+        let subscriber = &mut self.subscribers[place];
+        let number = subscriber.commands();
+        let (reply, effects) = subscriber.command(alloc, command)?;
+        push_answer(report, line, slot, number, &reply)?;
+        self.gathered.add_effects(slot, number, effects)?;
+        self.gathered.add_rows(slot, subscriber.take_closed())?;
+        self.lines = line;
+        Ok(())
+    }
+
+    // The slot of a new IMSI, which gets a subscriber.
+    fn admit(&mut self, alloc: Global, imsi: Imsi) -> Result<Slot, AllocError>
+        requires new { slot_in self.old.book imsi ≡ None }
+
+        ensures slot { (story : Story) → Stands self.old story → IfOk result (λ slot. slot ≡ length story.book) }
+        ensures stands { (story : Story) → Stands self.old story → OnOk result (Stands self.new (with_book story (story.book ++ imsi ∷ []))) }
+    {
+        match self.book.admit(imsi) {
+            Ok(slot) => {
+                let home = home_slice(slot, SLICES);
+                self.subscribers.push(Subscriber::new(alloc, slot, home)?)?;
+                Ok(slot)
+            }
+            Err(AdmitNo::PoolUsed) | Err(AdmitNo::NoMemory) => Err(AllocError),
         }
     }
 }
 
-// How many octets a packet has.
-fn len_of(packet: &[u8]) -> u32
-    requires { IsPacket packet.now }
-    ensures { result ≡ length packet.now }
+// How many octets a packet has, as it says itself.
+fn packet_len(octets: &[u8]) -> u32
+    requires { IsPacket octets.now }
+    ensures len { result ≡ length octets.now }
+    ensures bound { result < 2 ^ 16 }
 {
-    packet.len() as u32
+    0x100 * u32::from(octets[2]) + u32::from(octets[3])
 }
 
-// A message of the gateway, in the words of a note.
-fn told(alloc: Global, word: &str, message: &GtpU) -> Result<String, AllocError>
-    requires { payload_len message.now < 2 ^ 16 }
-    ensures { IfOk result (λ text. string_bytes text ≡ told word.now message.now) }
+// Appends the open counters of a subscriber, by its bearers' indices.
+fn push_subscriber(report: &mut Vec<u8>, subscriber: &Subscriber) -> Result<(), AllocError>
+    ensures { (slot : ℕ) (events : List Event) (taken : ℕ) → StandsFor subscriber.now slot events taken
+        → OnOk result (report.new.items ≡ report.old.items ++ charges_text (opens slot events)) }
 {
-    let octets = gtpu_codec::write(alloc, message)?;
-    let digits = hex::encode(alloc, octets.as_slice())?;
-    let mut text = String::from_str(alloc, word)?;
-    text.push_str(" ")?;
-    text.push_str(digits.as_str())?;
-    Ok(text)
+    let slot = subscriber.slot();
+    let counted = subscriber.still_open();
+    push_lives(report, slot, subscriber.bearers(), counted)
+}
+
+// Appends the open counters of bearers, which are among these.
+fn push_lives(
+    report: &mut Vec<u8>,
+    slot: Slot,
+    bearers: &[ActiveBearer],
+    counted: &[Open],
+) -> Result<(), AllocError>
+    ensures { OnOk result (report.new.items ≡ report.old.items
+        ++ charges_text (flat_map (λ (bearer : ActiveBearer). open_for slot counted.now bearer.life) bearers.now)) }
+{
+    for bearer in bearers {
+        push_life(report, slot, bearer.life, counted)?;
+    }
+    Ok(())
+}
+
+// Appends those of a life.
+fn push_life(
+    report: &mut Vec<u8>,
+    slot: Slot,
+    life: u64,
+    counted: &[Open],
+) -> Result<(), AllocError>
+    ensures { OnOk result (report.new.items ≡ report.old.items ++ charges_text (open_for slot counted.now life)) }
+{
+    match counters_of(counted, life) {
+        Some(counters) => push_open(report, slot, counters),
+        None => Ok(()),
+    }
+}
+
+// The counters of a life.
+fn counters_of(counted: &[Open], life: u64) -> Option<&Open>
+    ensures { option_copied result ≡ find (λ (counters : Counters). counters.life == life) counted.now }
+{
+    counted.iter().find(|counters| counters.life == life)
 }

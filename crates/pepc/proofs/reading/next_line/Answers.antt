@@ -1,5 +1,5 @@
-use Rattle.std.proofs.Common.{sym, ◌∙◌}
-use Rattle.pepc.proofs.NextLemmas.{tells_given, takes_given, given-no_fault, tells_refused, tells_end, tells_long, tells_big, tells_fault}
+use Rattle.std.proofs.Common.{sym, ap, ◌∙◌, length, arith}
+use Rattle.pepc.proofs.NextLemmas.{gives_given, gives_refused, tells_given, takes_given, given-no_fault, tells_refused, tells_end, tells_long, tells_big, tells_fault}
 use Rattle.pepc.proofs.reading.next_line.Goals as goal
 
 pub returns-in-End-clause-tells : goal.returns-in-End-clause-tells
@@ -17,21 +17,31 @@ returns-in-ReadFault-clause-tells g c = tells_fault c.args.number c.args.least _
 pub returns-in-Ok-clause-tells : goal.returns-in-Ok-clause-tells
 returns-in-Ok-clause-tells g c =
     rw (c.given.ensures, c.is_last.ensures)
-    (tells_given c.args.number c.args.least _ _ _ _ c.line.result.now _ c.in-Ok.line (rw (sym c.line.ensures) at c.in-Line.ensures.octets)
-    c.in-Ok.ensures.line c.in-Ok.ensures.numbered)
+    (tells_given c.args.number c.args.least _ _ _ _ c.line-text.result.now _ c.in-Ok.line _ (rw (sym c.line-text.ensures) at c.in-Line.ensures.octets)
+    c.in-Ok.ensures.line)
 
 pub returns-in-Ok-clause-room : goal.returns-in-Ok-clause-room
 returns-in-Ok-clause-room g c =
-    rw (c.given.ensures, c.is_last.ensures) (takes_given _ _ _ _ _ _ c.in-Ok.line c.in-Line.ensures.held.1)
+    rw (c.given.ensures, c.is_last.ensures) (takes_given _ _ _ _ _ _ c.in-Ok.line _ c.in-Line.ensures.held.1)
+
+pub returns-in-Ok-clause-given : goal.returns-in-Ok-clause-given
+returns-in-Ok-clause-given g c =
+    rw c.given.ensures (gives_given c.in-Ok.line _ c.args.least c.is_last.result (
+      sym c.in-Ok.ensures.as_long,
+      omega (arith, c.in-Line.ensures.held.1.short, ap length c.line-text.ensures),
+      c.in-Ok.ensures.in_order,
+    ))
 
 pub returns-in-Ok-clause-fault : goal.returns-in-Ok-clause-fault
-returns-in-Ok-clause-fault g c = λ is. absurd (given-no_fault c.is_last.result c.in-Ok.line (sym c.given.ensures ∙ is))
+returns-in-Ok-clause-fault g c = λ is. absurd (given-no_fault c.is_last.result c.in-Ok.line _ (sym c.given.ensures ∙ is))
 
 pub returns-in-Ok-clause-unfinished : goal.returns-in-Ok-clause-unfinished
-returns-in-Ok-clause-unfinished g c = λ is. absurd (given-no_fault c.is_last.result c.in-Ok.line (sym c.given.ensures
-    ∙ is))
+returns-in-Ok-clause-unfinished g c = λ is. absurd (given-no_fault c.is_last.result c.in-Ok.line _ (sym c.given.ensures ∙ is))
+
+pub returns-in-Err-clause-given : goal.returns-in-Err-clause-given
+returns-in-Err-clause-given g c = rw c.refused.ensures (gives_refused c.in-Err.why c.args.least)
 
 pub returns-in-Err-clause-tells : goal.returns-in-Err-clause-tells
 returns-in-Err-clause-tells g c =
     rw c.refused.ensures
-    (tells_refused c.args.number c.args.least _ _ _ _ c.line.result.now _ c.in-Err.why (rw (sym c.line.ensures) at c.in-Line.ensures.octets) c.in-Err.ensures.refusal)
+    (tells_refused c.args.number c.args.least _ _ _ _ c.line-text.result.now _ c.in-Err.why (rw (sym c.line-text.ensures) at c.in-Line.ensures.octets) c.in-Err.ensures.refusal)

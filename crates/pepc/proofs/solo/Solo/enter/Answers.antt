@@ -1,74 +1,93 @@
-use Rattle.std.proofs.Common.{◌≡◌, false, ap, subst, sym, ◌∙◌, arith, ◌++◌, List, [], length}
-use Rattle.trace_lines.specs.Line.{Line}
-use Rattle.trace_lines.specs.declared.line.LineKind.TheVariants.{S1u, Attach}
-use Rattle.uplink_gateway.specs.Built.{is_built}
-use Rattle.uplink_gateway.specs.Book.{book_of, booked}
-use Rattle.uplink_gateway.specs.Decision.{decisions, decided, received}
-use Rattle.uplink_gateway.specs.Entry.{text_of}
-use Rattle.uplink_gateway.specs.Entered.{entry_after}
-use Rattle.uplink_gateway.proofs.DecisionLemmas.{length-decisions_from}
-use Rattle.pepc.proofs.LineLemmas.{on_ok_map, not_built, booked-other, decided-other, booked-attach, decided-attach, booked-s1u, decided-s1u, stands_for_push}
+use Rattle.std.proofs.Common.{◌≡◌, ◌≤◌, ◌+◌, ◌==◌, ◌++◌, ◌∷◌, [], if◌then◌else◌, List, ℕ, OnOk, refl, sym, ap, subst, ◌∙◌, arith, length}
+use Rattle.demux.specs.declared.decision.Decision.{Decision}
+use Rattle.demux.specs.declared.decision.Decision.TheVariants as decision
+use Rattle.demux.specs.Resolved.{HasMoment, book_behind, book_with, slot_of}
+use Rattle.demux.specs.Trace.{book_of, destination_after, note as noted}
+use Rattle.pepc.specs.Report.{slices}
+use Rattle.pepc.specs.Standing.{Stands, story_of, with_meaning}
+use Rattle.pepc.proofs.Answered.{on_ok}
+use Rattle.pepc.proofs.LineLemmas.{IsDecided, meant_by, move_line, move_nothing, stands_so, told_so}
 use Rattle.pepc.proofs.solo.Solo.enter.Goals as goal
 
-pub attach-requires : goal.attach-requires
-attach-requires c = (book_of c.requires.0, decisions c.requires.0, c.requires.1, omega (arith, length-decisions_from [] c.requires.0, c.requires.2))
+pub packet-requires-clause-late : goal.packet-requires-clause-late
+packet-requires-clause-late c =
+    let moment : HasMoment c.args.line.now.moment (decision.Packet c.in-Packet.slot c.in-Packet.packet) =
+    subst (HasMoment c.args.line.now.moment) c.in-Packet.is c.in_ok-slot.ensures.moment in
+    let late = c.requires.late in
+    (story_of late.0 late.1 late.2 late.3, late.4, omega (arith, late.5, moment))
 
-pub receive-requires : goal.receive-requires
-receive-requires c = (book_of c.requires.0, decisions c.requires.0, c.requires.1, omega (arith, length-decisions_from [] c.requires.0, c.requires.2))
+pub returns-in-Packet-clause-told : goal.returns-in-Packet-clause-told
+returns-in-Packet-clause-told c = λ done latest before made stands.
+    let is : IsDecided done c.args.line.now c.args.self.now.book (decision.Packet c.in-Packet.slot c.in-Packet.packet) = record {
+      decision = sym c.in-Packet.is ∙ c.in_ok-slot.ensures.decision;
+      behind = ap (book_behind c.args.self.now.book) (sym c.in-Packet.is) ∙ c.in_ok-slot.ensures.book;
+      same = stands.same_book;
+    } in
+    on_ok c.packet.result (λ told. told_so done c.args.line.now c.args.self.now.book (decision.Packet c.in-Packet.slot c.in-Packet.packet) (story_of done latest before made) c.args.report.now.items
+    c.packet.new.report.items is (told)) (c.packet.ensures.told (story_of done latest before made) stands)
 
-pub returns-in-Attach-clause-stands : goal.returns-in-Attach-clause-stands
-returns-in-Attach-clause-stands c = λ done stands.
-    let is : c.args.line.now.kind ≡ Attach c.in-Attach.imsi c.in-Attach.enb c.in-Attach.up c.in-Attach.down =
-    sym (ap (λ (l : Line). l.kind) c.line.view_is) ∙ c.in-Attach.is in
-    on_ok_map c.attach.result
-    (stands_for_push c.attach.new.self done c.args.line.now _ _
-    (booked-attach (book_of done) c.args.line.now c.in-Attach.imsi c.in-Attach.enb c.in-Attach.up c.in-Attach.down is)
-    (decided-attach (book_of done) c.args.line.now c.in-Attach.imsi c.in-Attach.enb c.in-Attach.up c.in-Attach.down is))
-    (c.attach.ensures.stands (book_of done) (decisions done) stands)
+pub returns-in-Packet-clause-stands : goal.returns-in-Packet-clause-stands
+returns-in-Packet-clause-stands c = λ done latest before made stands late.
+    let is : IsDecided done c.args.line.now c.args.self.now.book (decision.Packet c.in-Packet.slot c.in-Packet.packet) = record {
+      decision = sym c.in-Packet.is ∙ c.in_ok-slot.ensures.decision;
+      behind = ap (book_behind c.args.self.now.book) (sym c.in-Packet.is) ∙ c.in_ok-slot.ensures.book;
+      same = stands.same_book;
+    } in
+    let moment : HasMoment c.args.line.now.moment (decision.Packet c.in-Packet.slot c.in-Packet.packet) = subst (HasMoment c.args.line.now.moment) c.in-Packet.is c.in_ok-slot.ensures.moment in
+    on_ok c.packet.result (stands_so done c.args.line.now c.args.self.now.book (decision.Packet c.in-Packet.slot c.in-Packet.packet) c.in-Packet.packet.moment before made (book_of done)
+    (λ slot. destination_after slices slot done) c.packet.new.self is (sym stands.same_book) (λ slot. refl) (omega (arith, moment)))
+    (c.packet.ensures.stands (story_of done latest before made) stands (omega (arith, late, moment)))
 
-received-is : (c : goal.After-receive) (done : List Line)
-    → decided (booked (book_of done) c.args.line.now) c.args.line.now
-    ≡ received (length (book_of done)) c.line.inside.moment c.as_slice.result.now
-received-is c done =
-    let is : c.args.line.now.kind ≡ S1u c.as_slice.result.now =
-    sym (ap (λ (l : Line). l.kind) c.line.view_is) ∙ c.in-S1u.is ∙ ap S1u (sym c.as_slice.ensures) in
-    decided-s1u (book_of done) c.args.line.now c.as_slice.result.now is
-    ∙ ap (λ at. received (length (book_of done)) at c.as_slice.result.now)
-    (sym (ap (λ (l : Line). l.moment) c.line.view_is))
+pub returns-in-Command-clause-told : goal.returns-in-Command-clause-told
+returns-in-Command-clause-told c = λ done latest before made stands.
+    let is : IsDecided done c.args.line.now c.args.self.now.book (decision.Command c.in-Command.whose c.in-Command.command) = record {
+      decision = sym c.in-Command.is ∙ c.in_ok-slot.ensures.decision;
+      behind = ap (book_behind c.args.self.now.book) (sym c.in-Command.is) ∙ c.in_ok-slot.ensures.book;
+      same = stands.same_book;
+    } in
+    on_ok c.command-in-Command.result (λ told. told_so done c.args.line.now c.args.self.now.book (decision.Command c.in-Command.whose c.in-Command.command) (story_of done latest before made) c.args.report.now.items
+    c.command-in-Command.new.report.items is (told)) (c.command-in-Command.ensures.told (story_of done latest before made) stands)
 
-pub returns-in-S1u-clause-told : goal.returns-in-S1u-clause-told
-returns-in-S1u-clause-told c = λ done stands.
-    on_ok_map c.receive.result
-    (λ told. told ∙ ap (λ made. c.args.report.now.items ++ text_of (entry_after (decisions done) made)) (sym (received-is c done)))
-    (c.receive.ensures.told (book_of done) (decisions done) stands)
+pub returns-in-Command-clause-stands : goal.returns-in-Command-clause-stands
+returns-in-Command-clause-stands c = λ done latest before made stands late.
+    let is : IsDecided done c.args.line.now c.args.self.now.book (decision.Command c.in-Command.whose c.in-Command.command) = record {
+      decision = sym c.in-Command.is ∙ c.in_ok-slot.ensures.decision;
+      behind = ap (book_behind c.args.self.now.book) (sym c.in-Command.is) ∙ c.in_ok-slot.ensures.book;
+      same = stands.same_book;
+    } in
+    on_ok c.command-in-Command.result (stands_so done c.args.line.now c.args.self.now.book (decision.Command c.in-Command.whose c.in-Command.command) latest before made (book_with (book_of done) c.in-Command.whose)
+    (λ slot. destination_after slices slot done) c.command-in-Command.new.self is (ap (λ b. book_with b c.in-Command.whose) (sym stands.same_book)) (λ slot. refl) late)
+    (c.command-in-Command.ensures.stands (story_of done latest before made) stands)
 
-pub returns-in-S1u-clause-stands : goal.returns-in-S1u-clause-stands
-returns-in-S1u-clause-stands c = λ done stands.
-    let is : c.args.line.now.kind ≡ S1u c.as_slice.result.now =
-    sym (ap (λ (l : Line). l.kind) c.line.view_is) ∙ c.in-S1u.is ∙ ap S1u (sym c.as_slice.ensures) in
-    on_ok_map c.receive.result
-    (stands_for_push c.receive.new.self done c.args.line.now _ _
-    (booked-s1u (book_of done) c.args.line.now c.as_slice.result.now is)
-    (received-is c done))
-    (c.receive.ensures.stands (book_of done) (decisions done) stands)
+pub returns-in-Move-clause-told : goal.returns-in-Move-clause-told
+returns-in-Move-clause-told c = λ done latest before made stands.
+    let is : IsDecided done c.args.line.now c.args.self.now.book (decision.Move c.in-Move.slot c.in-Move.slice) = record {
+      decision = sym c.in-Move.is ∙ c.in_ok-slot.ensures.decision;
+      behind = ap (book_behind c.args.self.now.book) (sym c.in-Move.is) ∙ c.in_ok-slot.ensures.book;
+      same = stands.same_book;
+    } in
+    on_ok c.move_to.result (λ told. told_so done c.args.line.now c.args.self.now.book (decision.Move c.in-Move.slot c.in-Move.slice) (story_of done latest before made) c.args.report.now.items
+    c.move_to.new.report.items is (told ∙ ap (λ text. c.args.report.now.items ++ text) (move_line (story_of done latest before made) done c.in-Move.slot c.in-Move.slice))) (c.move_to.ensures.told (story_of done latest before made) stands)
 
-pub note-requires : goal.note-requires
-note-requires c = (book_of c.requires.0, decisions c.requires.0, c.requires.1, omega (arith, length-decisions_from [] c.requires.0, c.requires.2))
+pub returns-in-Move-clause-stands : goal.returns-in-Move-clause-stands
+returns-in-Move-clause-stands c = λ done latest before made stands late.
+    let is : IsDecided done c.args.line.now c.args.self.now.book (decision.Move c.in-Move.slot c.in-Move.slice) = record {
+      decision = sym c.in-Move.is ∙ c.in_ok-slot.ensures.decision;
+      behind = ap (book_behind c.args.self.now.book) (sym c.in-Move.is) ∙ c.in_ok-slot.ensures.book;
+      same = stands.same_book;
+    } in
+    on_ok c.move_to.result (stands_so done c.args.line.now c.args.self.now.book (decision.Move c.in-Move.slot c.in-Move.slice) latest before made (book_of done)
+    (λ slot. if c.in-Move.slot == slot then c.in-Move.slice else destination_after slices slot done) c.move_to.new.self is (sym stands.same_book) (λ slot. refl) late)
+    (c.move_to.ensures.stands (story_of done latest before made) (meant_by done (decision.Move c.in-Move.slot c.in-Move.slice)) stands (move_nothing done c.in-Move.slot c.in-Move.slice))
 
-pub returns-in_default : goal.returns-in_default
-returns-in_default c =
-    let kind_is : c.line.inside.kind ≡ c.args.line.now.kind = ap (λ (l : Line). l.kind) c.line.view_is in
-    let other : is_built c.args.line.now.kind ≡ false =
-    subst (λ kind. is_built kind ≡ false) kind_is (not_built c.line.inside.kind c.in_default.not-S1u c.in_default.not-Attach) in
-    record {
-      told = λ done stands.
-          on_ok_map c.note.result
-          (λ told. told ∙ ap (λ made. c.args.report.now.items ++ text_of (entry_after (decisions done) made))
-          (sym (decided-other (book_of done) c.args.line.now other)))
-          (c.note.ensures.told (book_of done) (decisions done) stands);
-      stands = λ done stands.
-          on_ok_map c.note.result
-          (stands_for_push c.note.new.self done c.args.line.now _ _ (booked-other (book_of done) c.args.line.now other)
-          (decided-other (book_of done) c.args.line.now other))
-          (c.note.ensures.stands (book_of done) (decisions done) stands);
-    }
+pub returns-in-Note-clause-stands : goal.returns-in-Note-clause-stands
+returns-in-Note-clause-stands c = λ done latest before made stands late.
+    let is : IsDecided done c.args.line.now c.args.self.now.book (decision.Note c.in-Note.text) = record {
+      decision = sym c.in-Note.is ∙ c.in_ok-slot.ensures.decision;
+      behind = ap (book_behind c.args.self.now.book) (sym c.in-Note.is) ∙ c.in_ok-slot.ensures.book;
+      same = stands.same_book;
+    } in
+    on_ok c.note.result (stands_so done c.args.line.now c.args.self.now.book (decision.Note c.in-Note.text) latest before made (book_of done)
+    (λ slot. destination_after slices slot done) c.note.new.self is (sym stands.same_book) (λ slot. refl) late)
+    (subst (λ text. OnOk c.note.result (Stands c.note.new.self (with_meaning (story_of done latest before made) (noted text)))) c.as_slice.ensures
+    (c.note.ensures.stands (story_of done latest before made) stands))

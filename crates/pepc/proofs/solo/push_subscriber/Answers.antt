@@ -1,0 +1,16 @@
+use Rattle.std.proofs.Common.{◌++◌, flat_map, ap, ◌∙◌}
+use Rattle.bearer_state.specs.declared.version.ActiveBearer.{ActiveBearer}
+use Rattle.pepc.specs.Gathering.{charges_text, open_for}
+use Rattle.pepc.proofs.Answered.{on_ok}
+use Rattle.pepc.proofs.OpenLemmas.{opens_are}
+use Rattle.pepc.proofs.solo.push_subscriber.Goals as goal
+
+pub returns : goal.returns
+returns c = λ slot events taken stands.
+    let own = c.slot-slot.ensures slot events taken stands in
+    let counted = c.still_open-counted.ensures slot events taken stands in
+    let bearers = c.bearers.ensures slot events taken stands in
+    on_ok c.push_lives.result
+    (λ told. told ∙ (λ i. c.args.report.now.items ++ charges_text (flat_map (λ (b : ActiveBearer). open_for (own i) (counted i) b.life) (bearers i)))
+    ∙ ap (λ entries. c.args.report.now.items ++ charges_text entries) (opens_are slot events))
+    c.push_lives.ensures

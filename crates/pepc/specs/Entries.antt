@@ -1,0 +1,35 @@
+-- The lines of a report.
+use Rattle.std.specs.Prelude.{ℕ, ◌<◌, ◌^◌, false, Some, List, [], ◌∷◌, ◌++◌, length}
+use Rattle.packet_steps.specs.declared.judged.Judged.{Judged}
+use Rattle.packet_steps.specs.declared.judged.Judged.TheVariants.{Up, Down, NoBearer, Spoof, Idle, Held, Policed}
+use Rattle.pc_base.specs.declared.packet.Place.TheVariants.{Closing}
+use Rattle.pc_base.specs.declared.packet.Verdict.{Verdict}
+use Rattle.report_lines.specs.Records.{Judged as JudgedEntry}
+use Rattle.report_lines.specs.Text.{entry_text, shown}
+use Rattle.report_lines.specs.declared.entry.Entry.{Entry}
+
+-- an entry, without a place, and a newline
+abbrev pub text_line : Entry → List ℕ
+text_line told = entry_text (shown false told) ++ 10 ∷ []
+
+-- the verdict on a slot's packet of this number, behind so many of its commands, handled at once
+abbrev pub judged_by : ℕ → ℕ → ℕ → ℕ → Verdict → JudgedEntry
+judged_by line slot number commands verdict = record {
+  line = line;
+  slot = slot;
+  number = number;
+  commands = commands;
+  verdict = verdict;
+  place = Some Closing;
+  parked = false;
+}
+
+-- a packet that goes down is no longer than IPv4 allows
+abbrev pub IsShort : Judged → Type 0
+IsShort (Up life octets) = Unit {0}
+IsShort (Down life peer octets) = length octets.now < 2 ^ 16
+IsShort NoBearer = Unit {0}
+IsShort Spoof = Unit {0}
+IsShort (Idle life) = Unit {0}
+IsShort (Held life message) = Unit {0}
+IsShort (Policed life) = Unit {0}

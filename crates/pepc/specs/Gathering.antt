@@ -1,0 +1,81 @@
+-- What waits for the end of an epoch, as entries by slot.
+use Rattle.std.specs.Prelude.{◌≡◌, ℕ, ◌<◌, ◌==◌, if◌then◌else◌, false, All, Option, Some, None, List, [], ◌∷◌, ◌++◌, map, flat_map, find}
+use Rattle.demux.specs.Trace.{Meaning}
+use Rattle.charging_book.specs.Rows.{Counters}
+use Rattle.report_lines.specs.Records.{Effected}
+use Rattle.report_lines.specs.declared.entry.ChargeEntry.{ChargeEntry}
+use Rattle.report_lines.specs.declared.entry.ChargeEntry.TheVariants.{R, O}
+use Rattle.report_lines.specs.declared.entry.Entry.TheVariants as entry
+use Rattle.lawful_run.specs.AnsweredRun.{brought}
+use Rattle.lawful_run.specs.Order.{Histories}
+use Rattle.lawful_run.specs.Outcomes.{effects, rows, effect_entry}
+use Rattle.lawful_run.specs.Report.{texts_of}
+use Rattle.lawful_run.specs.Run.{by_slot}
+use Rattle.pepc.specs.declared.gathered.Caused.{Caused}
+use Rattle.pepc.specs.declared.gathered.Closed.{Closed}
+use Rattle.pepc.specs.declared.gathered.Gathered.{Gathered}
+
+-- the effects of a command as entries, and charging records of a slot
+abbrev pub caused_entries : Caused → List Effected
+caused_entries caused = map (effect_entry caused.slot caused.command) caused.effects
+
+abbrev pub closed_entries : Closed → List ChargeEntry
+closed_entries closed = map (R closed.slot) closed.rows.items
+
+-- those of a slot, in the order in which they were made
+abbrev pub effects_for : ℕ → List Caused → List Effected
+effects_for slot all = flat_map (λ (caused : Caused). if caused.slot == slot then caused_entries caused else []) all
+
+abbrev pub rows_for : ℕ → List Closed → List ChargeEntry
+rows_for slot all = flat_map (λ (closed : Closed). if closed.slot == slot then closed_entries closed else []) all
+
+-- they are all of slots below so many
+abbrev pub CausedBelow : ℕ → List Caused → Type 0
+CausedBelow slots all = All (λ (caused : Caused). caused.slot < slots) all
+
+abbrev pub ClosedBelow : ℕ → List Closed → Type 0
+ClosedBelow slots all = All (λ (closed : Closed). closed.slot < slots) all
+
+-- what was gathered, of slots below so many, is what lines brought behind the events of each slot before them
+pub record Gathers (gathered : Gathered) (slots : ℕ) (before : Histories) (made : List Meaning) : Type 0 where
+  pub effects : (slot : ℕ) → effects_for slot gathered.effects.items ≡ effects slot (before slot) (brought slot (before slot) made)
+  pub rows : (slot : ℕ) → rows_for slot gathered.rows.items ≡ rows slot (before slot) (brought slot (before slot) made)
+  pub effects_below : CausedBelow slots gathered.effects.items
+  pub rows_below : ClosedBelow slots gathered.rows.items
+
+-- effects of a slot were added, and nothing else
+pub record AddsEffects (old new : Gathered) (own : ℕ) (added : List Effected) : Type 0 where
+  pub effects : (slot : ℕ) → effects_for slot new.effects.items ≡ effects_for slot old.effects.items ++ (if own == slot then added else [])
+  pub below : (slots : ℕ) → own < slots → CausedBelow slots old.effects.items → CausedBelow slots new.effects.items
+  pub same : new.rows.items ≡ old.rows.items
+
+-- the same of charging records
+pub record AddsRows (old new : Gathered) (own : ℕ) (added : List ChargeEntry) : Type 0 where
+  pub rows : (slot : ℕ) → rows_for slot new.rows.items ≡ rows_for slot old.rows.items ++ (if own == slot then added else [])
+  pub below : (slots : ℕ) → own < slots → ClosedBelow slots old.rows.items → ClosedBelow slots new.rows.items
+  pub same : new.effects.items ≡ old.effects.items
+
+-- nothing waits
+abbrev pub IsEmpty : Gathered → Type 0
+IsEmpty gathered = (gathered.effects.items ≡ []) × (gathered.rows.items ≡ [])
+
+-- texts of effects by slot, and of charging records
+abbrev pub effects_text : List Effected → List ℕ
+effects_text told = texts_of false (map entry.Effect told)
+
+abbrev pub charges_text : List ChargeEntry → List ℕ
+charges_text told = texts_of false (map entry.Charge told)
+
+-- what an epoch has behind the entries of its lines
+abbrev pub closing_text : ℕ → Histories → List Meaning → List ℕ
+closing_text slots before made =
+    effects_text (by_slot slots (λ slot. effects slot (before slot) (brought slot (before slot) made)))
+    ++ charges_text (by_slot slots (λ slot. rows slot (before slot) (brought slot (before slot) made)))
+
+-- the counters of a life among these, as entries
+abbrev pub open_entry : ℕ → Option Counters → List ChargeEntry
+open_entry slot (Some counters) = O slot counters ∷ []
+open_entry slot None = []
+
+abbrev pub open_for : ℕ → List Counters → ℕ → List ChargeEntry
+open_for slot counted life = open_entry slot (find (λ (counters : Counters). counters.life == life) counted)
