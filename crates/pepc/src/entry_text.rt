@@ -57,7 +57,8 @@ pub fn push_move(
     slice: SliceNo,
 ) -> Result<(), AllocError>
     ensures { OnOk result (report.new.items ≡ report.old.items
-        ++ text_line (entry.Line (line_entry.N (record { line = line; note = move_note bound_for slot slice })))) }
+        ++ text_line (entry.Line (line_entry.N
+        (record { line = line; note = move_note bound_for slot slice })))) }
 {
     report_lines::push_note(report, line, move_word(bound_for, slice).as_bytes())?;
     push_number(report, u64::from(slot.0))?;
@@ -84,7 +85,8 @@ pub fn push_answer(
     reply: &Reply,
 ) -> Result<(), AllocError>
     ensures { OnOk result (report.new.items ≡ report.old.items
-        ++ text_line (entry.Line (line_entry.C (record { line = line; slot = slot; number = number; reply = reply.now })))) }
+        ++ text_line (entry.Line (line_entry.C
+        (record { line = line; slot = slot; number = number; reply = reply.now })))) }
 {
     report_lines::push_answer(report, line, slot, number, reply)?;
     end_line(report)
@@ -109,7 +111,9 @@ pub fn push_handled(
 ) -> Result<(), AllocError>
     requires { IsShort handled.judged }
     ensures { OnOk result (report.new.items ≡ report.old.items
-        ++ text_line (entry.Line (line_entry.P (judged_by line slot handled.entry.number handled.entry.commands (verdict_of handled.entry.judged))))) }
+        ++ text_line (entry.Line (line_entry.P
+        (judged_by line slot handled.entry.number handled.entry.commands
+        (verdict_of handled.entry.judged))))) }
 {
     let packet = Which {
         line,
@@ -146,7 +150,9 @@ fn push_down(
 ) -> Result<(), AllocError>
     requires { length octets.now < 2 ^ 16 }
     ensures { OnOk result (report.new.items ≡ report.old.items
-        ++ text_line (entry.Line (line_entry.P (judged_by packet.line packet.slot packet.number packet.commands (verdict.Down life peer.addr (gpdu peer octets.now)))))) }
+        ++ text_line (entry.Line (line_entry.P
+        (judged_by packet.line packet.slot packet.number packet.commands
+        (verdict.Down life peer.addr (gpdu peer octets.now)))))) }
 {
     let tunnelled = write_gpdu(alloc, peer.teid, octets)?;
     let verdict = LentVerdict::Down {
@@ -163,7 +169,9 @@ fn push_verdict(
     verdict: LentVerdict<'_>,
 ) -> Result<(), AllocError>
     ensures { OnOk result (report.new.items ≡ report.old.items
-        ++ text_line (entry.Line (line_entry.P (judged_by packet.line packet.slot packet.number packet.commands (lent_verdict verdict.entry))))) }
+        ++ text_line (entry.Line (line_entry.P
+        (judged_by packet.line packet.slot packet.number packet.commands
+        (lent_verdict verdict.entry))))) }
 {
     report_lines::push_packet(
         report,
@@ -184,7 +192,8 @@ pub fn push_effect(
     effect: &Effect,
 ) -> Result<(), AllocError>
     ensures { OnOk result (report.new.items ≡ report.old.items
-        ++ text_line (entry.Effect (record { slot = slot; command = command; effect = effect.now }))) }
+        ++ text_line (entry.Effect
+        (record { slot = slot; command = command; effect = effect.now }))) }
 {
     report_lines::push_effect(report, slot, command, effect)?;
     end_line(report)
@@ -192,7 +201,8 @@ pub fn push_effect(
 
 /// Appends a charging record of a slot.
 pub fn push_row(report: &mut Vec<u8>, slot: Slot, row: &ChargeRow) -> Result<(), AllocError>
-    ensures { OnOk result (report.new.items ≡ report.old.items ++ text_line (entry.Charge (charge.R slot row.now))) }
+    ensures { OnOk result (report.new.items ≡ report.old.items
+        ++ text_line (entry.Charge (charge.R slot row.now))) }
 {
     report_lines::push_row(report, slot, row)?;
     end_line(report)
@@ -200,7 +210,8 @@ pub fn push_row(report: &mut Vec<u8>, slot: Slot, row: &ChargeRow) -> Result<(),
 
 /// Appends the open counters of a bearer of a slot.
 pub fn push_open(report: &mut Vec<u8>, slot: Slot, counters: &Open) -> Result<(), AllocError>
-    ensures { OnOk result (report.new.items ≡ report.old.items ++ text_line (entry.Charge (charge.O slot counters.now))) }
+    ensures { OnOk result (report.new.items ≡ report.old.items
+        ++ text_line (entry.Charge (charge.O slot counters.now))) }
 {
     report_lines::push_open(report, slot, counters)?;
     end_line(report)

@@ -33,7 +33,8 @@ impl Size {
         requires short { self.old.octets < 2 ^ 60 }
         requires short_line { len < 2 ^ 60 }
 
-        ensures ends { (before : List Line) → Counts self.old before → result ≡ ends_epoch before line.now }
+        ensures ends { (before : List Line) → Counts self.old before
+            → result ≡ ends_epoch before line.now }
         ensures counts { (before : List Line) → Counts self.old before
             → Counts self.new (if ends_epoch before line.now then [] else before ++ line.now ∷ []) }
     {

@@ -32,7 +32,8 @@ pub fn next_line<S: Source>(
     number: u64,
     least: Moment,
 ) -> Next
-    ensures tells { Tells result number least buf.old.room buf.new.room (prepend_known buf.old.front (S.left source.old))
+    ensures tells { Tells result number least buf.old.room buf.new.room
+        (prepend_known buf.old.front (S.left source.old))
         (prepend_known buf.new.front (S.left source.new)) }
     ensures room { TakesRoom result buf.old.room buf.new.room }
     ensures given { Gives result least }

@@ -60,9 +60,11 @@ impl From<AllocError> for Unwritten {
 
 // Writes what is there of the report, and empties it.
 fn write_report<K: Sink>(sink: &mut K, report: &mut Vec<u8>) -> Result<(), Unwritten>
-    ensures moved { OnOk result (Appends (K.written sink.old) (K.written sink.new) report.old.items) }
+    ensures moved { OnOk result (Appends (K.written sink.old) (K.written sink.new)
+        report.old.items) }
     ensures emptied { OnOk result (report.new.items ≡ []) }
-    ensures cut { OnErr result (AppendsFront (K.written sink.old) (K.written sink.new) report.old.items) }
+    ensures cut { OnErr result (AppendsFront (K.written sink.old) (K.written sink.new)
+        report.old.items) }
     ensures no_other { OnErr result (result ≡ Err Unwritten.WriteFault) }
 
     ensures later { K.faults sink.old ≤ K.faults sink.new }
@@ -81,16 +83,20 @@ fn end_epoch<K: Sink>(
     sink: &mut K,
     report: &mut Vec<u8>,
 ) -> Result<(), Unwritten>
-    ensures stands { (story : Story) → Stands gateway.old story → OnOk result (Stands gateway.new (with_end story)) }
+    ensures stands { (story : Story) → Stands gateway.old story
+        → OnOk result (Stands gateway.new (with_end story)) }
     ensures written { (story : Story) → Stands gateway.old story
-        → OnOk result (Appends (K.written sink.old) (K.written sink.new) (report.old.items ++ end_text story)) }
+        → OnOk result (Appends (K.written sink.old) (K.written sink.new)
+        (report.old.items ++ end_text story)) }
     ensures emptied { OnOk result (report.new.items ≡ []) }
     ensures cut { (story : Story) → Stands gateway.old story → result ≡ Err Unwritten.WriteFault
-        → AppendsFront (K.written sink.old) (K.written sink.new) (report.old.items ++ end_text story) }
+        → AppendsFront (K.written sink.old) (K.written sink.new)
+        (report.old.items ++ end_text story) }
     ensures kept { result ≡ Err Unwritten.NoMemory → sink.new ≡ sink.old }
 
     ensures later { K.faults sink.old ≤ K.faults sink.new }
-    ensures fault { result ≡ Err Unwritten.WriteFault → Rises (K.faults sink.old) (K.faults sink.new) }
+    ensures fault { result ≡ Err Unwritten.WriteFault
+        → Rises (K.faults sink.old) (K.faults sink.new) }
 {
     gateway.close(report)?;
     write_report(sink, report)
@@ -108,24 +114,31 @@ fn take_line<K: Sink>(
 ) -> Result<(), Unwritten>
     requires room { HasRoom gateway.old }
     requires late { IsLate gateway.old line.now }
-    requires sized { (before : List Line) × Counts size.old before × (length before < 2 ^ 50) × (octets_in before < 2 ^ 50) }
+    requires sized { (before : List Line) × Counts size.old before × (length before < 2 ^ 50)
+        × (octets_in before < 2 ^ 50) }
     requires long { len ≡ length (line_text line.now) }
     requires short { len ≤ line_max }
 
     ensures taken { (done open_ : List Line) (latest : ℕ) (before : Histories) (made : List Meaning)
-        → Stands gateway.old (story_of done latest before made) → latest ≤ line.now.moment → Counts size.old open_
-        → OnOk result (Takes (ends_epoch open_ line.now) gateway.new size.new (K.written sink.old) (K.written sink.new)
+        → Stands gateway.old (story_of done latest before made) → latest ≤ line.now.moment
+        → Counts size.old open_
+        → OnOk result (Takes (ends_epoch open_ line.now) gateway.new size.new
+        (K.written sink.old) (K.written sink.new)
         (next_text report.old.items done latest before made line.now) report.new.items
         (next_story done latest before made line.now) (open_ ++ line.now ∷ [])) }
     ensures cut { (done open_ : List Line) (latest : ℕ) (before : Histories) (made : List Meaning)
-        → Stands gateway.old (story_of done latest before made) → latest ≤ line.now.moment → Counts size.old open_ → result ≡ Err Unwritten.WriteFault
-        → (ends_epoch open_ line.now ≡ true) × NoneBeyond (next_story done latest before made line.now)
+        → Stands gateway.old (story_of done latest before made) → latest ≤ line.now.moment
+        → Counts size.old open_ → result ≡ Err Unwritten.WriteFault
+        → (ends_epoch open_ line.now ≡ true)
+        × NoneBeyond (next_story done latest before made line.now)
         × AppendsFront (K.written sink.old) (K.written sink.new)
-        (next_text report.old.items done latest before made line.now ++ end_text (next_story done latest before made line.now)) }
+        (next_text report.old.items done latest before made line.now
+        ++ end_text (next_story done latest before made line.now)) }
     ensures kept { result ≡ Err Unwritten.NoMemory → sink.new ≡ sink.old }
 
     ensures later { K.faults sink.old ≤ K.faults sink.new }
-    ensures fault { result ≡ Err Unwritten.WriteFault → Rises (K.faults sink.old) (K.faults sink.new) }
+    ensures fault { result ≡ Err Unwritten.WriteFault
+        → Rises (K.faults sink.old) (K.faults sink.new) }
 {
     gateway.enter(alloc, line, report)?;
     if !size.take(line, len as u64) {
@@ -146,25 +159,31 @@ fn spend_line<K: Sink>(
 ) -> Result<Moment, Unwritten>
     requires room { HasRoom gateway.old }
     requires late { IsLate gateway.old line }
-    requires sized { (before : List Line) × Counts size.old before × (length before < 2 ^ 50) × (octets_in before < 2 ^ 50) }
+    requires sized { (before : List Line) × Counts size.old before × (length before < 2 ^ 50)
+        × (octets_in before < 2 ^ 50) }
     requires long { len ≡ length (line_text line) }
     requires short { len ≤ line_max }
 
     ensures taken { (done open_ : List Line) (latest : ℕ) (before : Histories) (made : List Meaning)
-        → Stands gateway.old (story_of done latest before made) → latest ≤ line.moment → Counts size.old open_
-        → OnOk result (Takes (ends_epoch open_ line) gateway.new size.new (K.written sink.old) (K.written sink.new)
+        → Stands gateway.old (story_of done latest before made) → latest ≤ line.moment
+        → Counts size.old open_
+        → OnOk result (Takes (ends_epoch open_ line) gateway.new size.new (K.written sink.old)
+        (K.written sink.new)
         (next_text report.old.items done latest before made line) report.new.items
         (next_story done latest before made line) (open_ ++ line ∷ [])) }
     ensures cut { (done open_ : List Line) (latest : ℕ) (before : Histories) (made : List Meaning)
-        → Stands gateway.old (story_of done latest before made) → latest ≤ line.moment → Counts size.old open_ → result ≡ Err Unwritten.WriteFault
+        → Stands gateway.old (story_of done latest before made) → latest ≤ line.moment
+        → Counts size.old open_ → result ≡ Err Unwritten.WriteFault
         → (ends_epoch open_ line ≡ true) × NoneBeyond (next_story done latest before made line)
         × AppendsFront (K.written sink.old) (K.written sink.new)
-        (next_text report.old.items done latest before made line ++ end_text (next_story done latest before made line)) }
+        (next_text report.old.items done latest before made line
+        ++ end_text (next_story done latest before made line)) }
     ensures moment { IfOk result (λ at. at ≡ line.moment) }
     ensures kept { result ≡ Err Unwritten.NoMemory → sink.new ≡ sink.old }
 
     ensures later { K.faults sink.old ≤ K.faults sink.new }
-    ensures fault { result ≡ Err Unwritten.WriteFault → Rises (K.faults sink.old) (K.faults sink.new) }
+    ensures fault { result ≡ Err Unwritten.WriteFault
+        → Rises (K.faults sink.old) (K.faults sink.new) }
 {
     take_line(alloc, gateway, size, &line, len, sink, report)?;
     Ok(line.moment)
@@ -184,13 +203,17 @@ fn run_lines<S: Source, K: Sink>(
     requires first { Stands gateway.old (story_of [] 0 no_events []) }
     requires empty { report.old.items ≡ [] }
 
-    ensures ended { IfOk result (λ ending. Ends ending (S.left source.old) (S.left source.new) (K.written sink.old) (K.written sink.new) report.new.items gateway.new) }
-    ensures cut { IfErr result (λ why. Cuts why (S.left source.old) (S.left source.new) (K.written sink.old) (K.written sink.new)) }
+    ensures ended { IfOk result (λ ending. Ends ending (S.left source.old) (S.left source.new)
+        (K.written sink.old) (K.written sink.new) report.new.items gateway.new) }
+    ensures cut { IfErr result (λ why. Cuts why (S.left source.old) (S.left source.new)
+        (K.written sink.old) (K.written sink.new)) }
 
     ensures source_later { S.faults source.old ≤ S.faults source.new }
     ensures sink_later { K.faults sink.old ≤ K.faults sink.new }
-    ensures read_fault { result ≡ Ok Ending.ReadFault → Rises (S.faults source.old) (S.faults source.new) }
-    ensures write_fault { result ≡ Err Unwritten.WriteFault → Rises (K.faults sink.old) (K.faults sink.new) }
+    ensures read_fault { result ≡ Ok Ending.ReadFault
+        → Rises (S.faults source.old) (S.faults source.new) }
+    ensures write_fault { result ≡ Err Unwritten.WriteFault
+        → Rises (K.faults sink.old) (K.faults sink.new) }
 {
     let mut size = Size::new();
     let mut number = 1;
@@ -255,14 +278,16 @@ fn end_run<K: Sink>(
     sink: &mut K,
     report: &mut Vec<u8>,
 ) -> Status
-    ensures whole { (before now : ℕ) (start left old : Option (List ℕ)) → (ending ≡ Ending.ReadFault → Rises before now)
+    ensures whole { (before now : ℕ) (start left old : Option (List ℕ))
+        → (ending ≡ Ending.ReadFault → Rises before now)
         → Ends ending start left old (K.written sink.old) report.old.items gateway.old
         → Runs result (Rises before now) start left old (K.written sink.new) }
     ensures read_fault { result ≡ Status.ReadFault → ending ≡ Ending.ReadFault }
     ensures no_usage { result ≡ Status.Usage → ⊥ }
 
     ensures later { K.faults sink.old ≤ K.faults sink.new }
-    ensures write_fault { result ≡ Status.WriteFault → Rises (K.faults sink.old) (K.faults sink.new) }
+    ensures write_fault { result ≡ Status.WriteFault
+        → Rises (K.faults sink.old) (K.faults sink.new) }
 {
     match push_rest(gateway, report) {
         Ok(()) => {}
@@ -276,14 +301,17 @@ fn end_run<K: Sink>(
 
 // Does the command `solo`.
 fn solo<S: Source, K: Sink>(alloc: Global, source: &mut S, sink: &mut K) -> Status
-    ensures runs { Runs result (Rises (S.faults source.old) (S.faults source.new)) (S.left source.old) (S.left source.new)
+    ensures runs { Runs result (Rises (S.faults source.old) (S.faults source.new))
+        (S.left source.old) (S.left source.new)
         (K.written sink.old) (K.written sink.new) }
     ensures no_usage { result ≡ Status.Usage → ⊥ }
 
     ensures source_later { S.faults source.old ≤ S.faults source.new }
     ensures sink_later { K.faults sink.old ≤ K.faults sink.new }
-    ensures read_fault { result ≡ Status.ReadFault → Rises (S.faults source.old) (S.faults source.new) }
-    ensures write_fault { result ≡ Status.WriteFault → Rises (K.faults sink.old) (K.faults sink.new) }
+    ensures read_fault { result ≡ Status.ReadFault
+        → Rises (S.faults source.old) (S.faults source.new) }
+    ensures write_fault { result ≡ Status.WriteFault
+        → Rises (K.faults sink.old) (K.faults sink.new) }
 {
     let mut buf = match LineBuf::new(alloc) {
         Ok(buf) => buf,
@@ -314,19 +342,23 @@ pub fn run_plain<S: Source, K: Sink>(
     // What is written is that of the status, where source and sink tell their octets.
     ensures report { (text : List ℕ) × Appends (K.written sink.old) (K.written sink.new) text
         × WhereTold (S.left source.old) (S.left source.new)
-        (λ octets left. Reports result (Rises (S.faults source.old) (S.faults source.new)) octets left text) }
+        (λ octets left. Reports result
+        (Rises (S.faults source.old) (S.faults source.new)) octets left text) }
 
     // Where the words are a command, the input stops at its end and no count of faults rose, the whole
     // report is written, unless memory ran out.
-    ensures complete { (octets : List ℕ) → IsSolo (map string_bytes words.now) → S.left source.old ≡ Some octets
+    ensures complete { (octets : List ℕ) → IsSolo (map string_bytes words.now)
+        → S.left source.old ≡ Some octets
         → (input_of octets).stop ≡ ended → ¬ Rises (S.faults source.old) (S.faults source.new)
         → ¬ Rises (K.faults sink.old) (K.faults sink.new) → IsDone result }
 
     // Faults are those of the source and the sink.
     ensures source_later { S.faults source.old ≤ S.faults source.new }
     ensures sink_later { K.faults sink.old ≤ K.faults sink.new }
-    ensures read_fault { result ≡ Status.ReadFault → Rises (S.faults source.old) (S.faults source.new) }
-    ensures write_fault { result ≡ Status.WriteFault → Rises (K.faults sink.old) (K.faults sink.new) }
+    ensures read_fault { result ≡ Status.ReadFault
+        → Rises (S.faults source.old) (S.faults source.new) }
+    ensures write_fault { result ≡ Status.WriteFault
+        → Rises (K.faults sink.old) (K.faults sink.new) }
 {
     if !is_solo(words) {
         return Status::Usage;

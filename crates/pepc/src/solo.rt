@@ -65,11 +65,15 @@ impl Solo {
         requires room { HasRoom self.old }
         requires late { IsLate self.old line.now }
 
-        ensures told { (done : List Line) (latest : ℕ) (before : Histories) (made : List Meaning) → Stands self.old (story_of done latest before made)
-            → OnOk result (report.new.items ≡ report.old.items ++ entry_line (story_of done latest before made) (meant_next done line.now)) }
-        ensures stands { (done : List Line) (latest : ℕ) (before : Histories) (made : List Meaning) → Stands self.old (story_of done latest before made)
+        ensures told { (done : List Line) (latest : ℕ) (before : Histories) (made : List Meaning)
+            → Stands self.old (story_of done latest before made)
+            → OnOk result (report.new.items ≡ report.old.items
+            ++ entry_line (story_of done latest before made) (meant_next done line.now)) }
+        ensures stands { (done : List Line) (latest : ℕ) (before : Histories) (made : List Meaning)
+            → Stands self.old (story_of done latest before made)
             → latest ≤ line.now.moment
-            → OnOk result (Stands self.new (story_of (done ++ line.now ∷ []) line.now.moment before (made ++ meant_next done line.now ∷ []))) }
+            → OnOk result (Stands self.new (story_of (done ++ line.now ∷ []) line.now.moment before
+            (made ++ meant_next done line.now ∷ []))) }
     {
         match decide(alloc, &self.book, SLICES, line)? {
             Decision::Packet { slot, packet } => self.packet(alloc, slot, &packet, report),
@@ -82,8 +86,10 @@ impl Solo {
     /// Ends an epoch: its effects are appended by slot, and then its charging records.
     pub fn close(&mut self, report: &mut Vec<u8>) -> Result<(), AllocError>
         ensures told { (story : Story) → Stands self.old story
-            → OnOk result (report.new.items ≡ report.old.items ++ closing_text (length story.book) story.before story.made) }
-        ensures stands { (story : Story) → Stands self.old story → OnOk result (Stands self.new (with_end story)) }
+            → OnOk result (report.new.items ≡ report.old.items
+            ++ closing_text (length story.book) story.before story.made) }
+        ensures stands { (story : Story) → Stands self.old story
+            → OnOk result (Stands self.new (with_end story)) }
     {
         self.gathered.push_all(report)
     }
@@ -91,7 +97,8 @@ impl Solo {
     /// Appends the open counters of all subscribers.
     pub fn push_opens(&self, report: &mut Vec<u8>) -> Result<(), AllocError>
         ensures { (story : Story) → Stands self.now story → OnOk result (report.new.items
-            ≡ report.old.items ++ charges_text (by_slot (length story.book) (λ slot. opens slot (events_of story slot)))) }
+            ≡ report.old.items ++ charges_text
+            (by_slot (length story.book) (λ slot. opens slot (events_of story slot)))) }
     {
         for subscriber in self.subscribers.iter() {
             push_subscriber(report, subscriber)?;
@@ -104,8 +111,10 @@ impl Solo {
         requires { HasRoom self.old }
 
         ensures told { (story : Story) → Stands self.old story
-            → OnOk result (report.new.items ≡ report.old.items ++ entry_line story (noted text.now)) }
-        ensures stands { (story : Story) → Stands self.old story → OnOk result (Stands self.new (with_meaning story (noted text.now))) }
+            → OnOk result (report.new.items ≡ report.old.items
+            ++ entry_line story (noted text.now)) }
+        ensures stands { (story : Story) → Stands self.old story
+            → OnOk result (Stands self.new (with_meaning story (noted text.now))) }
     {
         let line = self.lines + 1;
         push_note(report, line, text)?;
@@ -124,7 +133,8 @@ impl Solo {
         requires known { IsInBook self.old slot }
 
         ensures told { (story : Story) → Stands self.old story
-            → OnOk result (report.new.items ≡ report.old.items ++ entry_line story (noted (move_note (story.bound slot) slot slice))) }
+            → OnOk result (report.new.items ≡ report.old.items
+            ++ entry_line story (noted (move_note (story.bound slot) slot slice))) }
         ensures stands { (story : Story) (now : Meaning) → Stands self.old story → BringsNothing now
             → OnOk result (Stands self.new (with_move story now slot slice)) }
     {
@@ -147,12 +157,15 @@ impl Solo {
     ) -> Result<(), AllocError>
         requires room { HasRoom self.old }
         requires known { IsInBook self.old slot }
-        requires late { (story : Story) × Stands self.old story × (story.latest ≤ packet.now.moment) }
+        requires late { (story : Story) × Stands self.old story
+            × (story.latest ≤ packet.now.moment) }
 
         ensures told { (story : Story) → Stands self.old story
-            → OnOk result (report.new.items ≡ report.old.items ++ entry_line story (carried slot packet.now)) }
+            → OnOk result (report.new.items ≡ report.old.items
+            ++ entry_line story (carried slot packet.now)) }
         ensures stands { (story : Story) → Stands self.old story → story.latest ≤ packet.now.moment
-            → OnOk result (Stands self.new (with_packet story (carried slot packet.now) packet.now.moment)) }
+            → OnOk result (Stands self.new (with_packet story (carried slot packet.now)
+            packet.now.moment)) }
     {
         let line = self.lines + 1;
         let place = slot.0 as usize;
@@ -177,9 +190,12 @@ impl Solo {
         requires due { IsDue self.old.book whose }
 
         ensures told { (story : Story) → Stands self.old story
-            → OnOk result (report.new.items ≡ report.old.items ++ entry_line story (commanded (slot_of story.book whose) command.now)) }
+            → OnOk result (report.new.items ≡ report.old.items
+            ++ entry_line story (commanded (slot_of story.book whose) command.now)) }
         ensures stands { (story : Story) → Stands self.old story
-            → OnOk result (Stands self.new (with_book (with_meaning story (commanded (slot_of story.book whose) command.now)) (book_with story.book whose))) }
+            → OnOk result (Stands self.new (with_book
+            (with_meaning story (commanded (slot_of story.book whose) command.now))
+            (book_with story.book whose))) }
     {
         match whose {
             Whose::Known(slot) => self.answer(alloc, slot, command, report),
@@ -202,7 +218,8 @@ impl Solo {
         requires known { IsInBook self.old slot }
 
         ensures told { (story : Story) → Stands self.old story
-            → OnOk result (report.new.items ≡ report.old.items ++ entry_line story (commanded slot command.now)) }
+            → OnOk result (report.new.items ≡ report.old.items
+            ++ entry_line story (commanded slot command.now)) }
         ensures stands { (story : Story) → Stands self.old story
             → OnOk result (Stands self.new (with_meaning story (commanded slot command.now))) }
     {
@@ -222,8 +239,10 @@ impl Solo {
     fn admit(&mut self, alloc: Global, imsi: Imsi) -> Result<Slot, AllocError>
         requires new { slot_in self.old.book imsi ≡ None }
 
-        ensures slot { (story : Story) → Stands self.old story → IfOk result (λ slot. slot ≡ length story.book) }
-        ensures stands { (story : Story) → Stands self.old story → OnOk result (Stands self.new (with_book story (story.book ++ imsi ∷ []))) }
+        ensures slot { (story : Story) → Stands self.old story
+            → IfOk result (λ slot. slot ≡ length story.book) }
+        ensures stands { (story : Story) → Stands self.old story
+            → OnOk result (Stands self.new (with_book story (story.book ++ imsi ∷ []))) }
     {
         match self.book.admit(imsi) {
             Ok(slot) => {
@@ -247,7 +266,8 @@ fn packet_len(octets: &[u8]) -> u32
 
 // Appends the open counters of a subscriber, by its bearers' indices.
 fn push_subscriber(report: &mut Vec<u8>, subscriber: &Subscriber) -> Result<(), AllocError>
-    ensures { (slot : ℕ) (events : List Event) (taken : ℕ) → StandsFor subscriber.now slot events taken
+    ensures { (slot : ℕ) (events : List Event) (taken : ℕ)
+        → StandsFor subscriber.now slot events taken
         → OnOk result (report.new.items ≡ report.old.items ++ charges_text (opens slot events)) }
 {
     let slot = subscriber.slot();
@@ -263,7 +283,8 @@ fn push_lives(
     counted: &[Open],
 ) -> Result<(), AllocError>
     ensures { OnOk result (report.new.items ≡ report.old.items
-        ++ charges_text (flat_map (λ (bearer : ActiveBearer). open_for slot counted.now bearer.life) bearers.now)) }
+        ++ charges_text (flat_map
+        (λ (bearer : ActiveBearer). open_for slot counted.now bearer.life) bearers.now)) }
 {
     for bearer in bearers {
         push_life(report, slot, bearer.life, counted)?;
@@ -278,7 +299,8 @@ fn push_life(
     life: u64,
     counted: &[Open],
 ) -> Result<(), AllocError>
-    ensures { OnOk result (report.new.items ≡ report.old.items ++ charges_text (open_for slot counted.now life)) }
+    ensures { OnOk result (report.new.items ≡ report.old.items
+        ++ charges_text (open_for slot counted.now life)) }
 {
     match counters_of(counted, life) {
         Some(counters) => push_open(report, slot, counters),
@@ -288,7 +310,8 @@ fn push_life(
 
 // The counters of a life.
 fn counters_of(counted: &[Open], life: u64) -> Option<&Open>
-    ensures { option_copied result ≡ find (λ (counters : Counters). counters.life == life) counted.now }
+    ensures { option_copied result
+        ≡ find (λ (counters : Counters). counters.life == life) counted.now }
 {
     counted.iter().find(|counters| counters.life == life)
 }
