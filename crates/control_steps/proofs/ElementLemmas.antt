@@ -50,29 +50,35 @@ accepted_fits slot ebi index fits is in_range = record {
 }
 
 -- the index that is found is one of a bearer
-found_if : (passes : Bool) (b : Bearer) (rest : Option Bearer) → IsBearer b → IfSome rest IsBearer → IfSome (cond passes (Some b) rest) IsBearer
+found_if : (passes : Bool) (b : Bearer) (rest : Option Bearer) → IsBearer b → IfSome rest IsBearer
+    → IfSome (cond passes (Some b) rest) IsBearer
 found_if true b rest is other = is
 found_if false b rest is other = other
 
-index_found : (ebi : ℕ) (bearers : List Bearer) → AllByRecursion IsBearer bearers → IfSome (find (is_active ebi) bearers) IsBearer
+index_found : (ebi : ℕ) (bearers : List Bearer) → AllByRecursion IsBearer bearers
+    → IfSome (find (is_active ebi) bearers) IsBearer
 index_found ebi [] each = tt
-index_found ebi (b ∷ bs) each = found_if (is_active ebi b) b (find (is_active ebi) bs) each.0 (index_found ebi bs each.1)
+index_found ebi (b ∷ bs) each =
+    found_if (is_active ebi b) b (find (is_active ebi) bs) each.0 (index_found ebi bs each.1)
 
 mapped : (found : Option Bearer) → IfSome found IsBearer → IfSome (option_map index_of found) (λ index. index ≤ 10)
 mapped None is = tt
 mapped (Some b) is = is.index
 
-one_accepted : (slot ebi : ℕ) (index : Option ℕ) (rest : List Element) → slot ≤ 65532 → IsEbi ebi → IfSome index (λ i. i ≤ 10)
+one_accepted : (slot ebi : ℕ) (index : Option ℕ) (rest : List Element) → slot ≤ 65532 → IsEbi ebi
+    → IfSome index (λ i. i ≤ 10)
     → AllByRecursion IsElement rest → AllByRecursion IsElement (cons_option (option_map (accepted slot ebi) index) rest)
 one_accepted slot ebi None rest fits is in_range each = each
 one_accepted slot ebi (Some index) rest fits is in_range each = (accepted_fits slot ebi index fits is in_range, each)
 
-pub asks_fit : (slot : ℕ) (bearers : List Bearer) (asks : List Ask) → slot ≤ 65532 → AllByRecursion IsBearer bearers → AllByRecursion IsAsk asks
+pub asks_fit : (slot : ℕ) (bearers : List Bearer) (asks : List Ask) → slot ≤ 65532
+    → AllByRecursion IsBearer bearers → AllByRecursion IsAsk asks
     → AllByRecursion IsElement (filter_map (ask_accepted slot bearers) asks)
 asks_fit slot bearers [] fits each asked = tt
 asks_fit slot bearers (ask ∷ asks) fits each asked =
     one_accepted slot ask.ebi (active_index bearers ask.ebi) (filter_map (ask_accepted slot bearers) asks) fits asked.0
-    (mapped (find (is_active ask.ebi) bearers) (index_found ask.ebi bearers each)) (asks_fit slot bearers asks fits each asked.1)
+    (mapped (find (is_active ask.ebi) bearers) (index_found ask.ebi bearers each))
+        (asks_fit slot bearers asks fits each asked.1)
 
 arp_kept : (arp : ℕ) → IsArp arp → arp_bits arp ≡ arp
 arp_kept arp is = omega (arith, is.bit_8, is.bit_2)
@@ -88,7 +94,8 @@ qos_fits qos is = record {
   gbr_down = is.gbr_down;
 }
 
-pub new_context_fits : (slot index : ℕ) (tft : List ℕ) (qos : Qos) → slot ≤ 65532 → index ≤ 10 → IsOctets 1000 tft → IsQos qos
+pub new_context_fits : (slot index : ℕ) (tft : List ℕ) (qos : Qos) → slot ≤ 65532 → index ≤ 10 → IsOctets 1000 tft
+    → IsQos qos
     → elements.IsContext (new_context slot index tft qos)
 new_context_fits slot index tft qos fits in_range tft_fits is = record {
   ebi = record { four_bits = omega arith; assigned = λ more. absurd (omega arith) };
@@ -99,20 +106,24 @@ new_context_fits slot index tft qos fits in_range tft_fits is = record {
   len = simp length-append (omega (arith, tft_fits.few));
 }
 
-pub changed_context_fits : (ebi : ℕ) (tft : Option (List ℕ)) → elements.IsEbi ebi → IfSome tft (IsOctets 1000) → elements.IsContext (changed_context ebi tft)
+pub changed_context_fits : (ebi : ℕ) (tft : Option (List ℕ)) → elements.IsEbi ebi → IfSome tft (IsOctets 1000)
+    → elements.IsContext (changed_context ebi tft)
 changed_context_fits ebi None is tft_fits =
     record { ebi = is; cause = tt; tft = tt; fteids = tt; qos = tt; len = omega arith }
 changed_context_fits ebi (Some tft) is tft_fits =
-    record { ebi = is; cause = tt; tft = tft_fits; fteids = tt; qos = tt; len = simp length-append (omega (arith, tft_fits.few)) }
+    record { ebi = is; cause = tt; tft = tft_fits; fteids = tt; qos = tt;
+        len = simp length-append (omega (arith, tft_fits.few)) }
 
 -- a template's text fits its element
-filters_len : (filters : List Filter) → AllByRecursion IsFilter filters → length (flat_map filter_text filters) ≤ 47 * length filters
+filters_len : (filters : List Filter) → AllByRecursion IsFilter filters
+    → length (flat_map filter_text filters) ≤ 47 * length filters
 filters_len [] each = omega arith
 filters_len (f ∷ fs) each =
     let here : length (contents f.components) ≤ 44 = contents_bound f.components each.0.components in
     omega (arith, length-append (filter_text f) (flat_map filter_text fs), filters_len fs each.1)
 
-entries_fit : (operation : ℕ) (filters : List Filter) → ArePacketFilters filters → IsOctets 1000 (entries_text operation filters)
+entries_fit : (operation : ℕ) (filters : List Filter) → ArePacketFilters filters
+    → IsOctets 1000 (entries_text operation filters)
 entries_fit operation filters are =
     record { some = omega arith; few = omega (arith, filters_len filters are.filters.each, are.few) }
 

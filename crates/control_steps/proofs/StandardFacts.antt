@@ -100,7 +100,8 @@ no_context : IsAnswered fresh (Delete 9) no_session No (Some (
 no_context = (refl, refl)
 
 -- all or nothing
-unknown_ebi : IsAnswered live (Modify 2 None (record { ebi = 5; enb = Some enb } ∷ record { ebi = 6; enb = None } ∷ [])) no_bearer No (Some (
+unknown_ebi : IsAnswered live (Modify 2 None (record { ebi = 5; enb = Some enb } ∷ record { ebi = 6; enb = None }
+    ∷ [])) no_bearer No (Some (
     0x48 ∷ 0x23 ∷ 0x00 ∷ 0x0e ∷ 0x00 ∷ 0x00 ∷ 0x10 ∷ 0x00 ∷ 0x00 ∷ 0x00 ∷ 0x02 ∷ 0x00 ∷ 0x02 ∷ 0x00 ∷ 0x02 ∷ 0x00
     ∷ 0x40 ∷ 0x00 ∷ []))
 unknown_ebi = (refl, refl)

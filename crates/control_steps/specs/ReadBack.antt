@@ -30,6 +30,7 @@ pub record AreOrderNumbers (qci mbr_up mbr_down gbr_up gbr_down : ℕ) : Type 0 
 abbrev pub HasOwnNumbers : CommandKind → Type 0
 HasOwnNumbers (Create seq mme pdn ebi qos enb up down) = HasTeid mme
 HasOwnNumbers (Modify seq mme asks) = IfSome mme HasTeid
-HasOwnNumbers (AddBearer seq qci mbr_up mbr_down gbr_up gbr_down tft) = AreOrderNumbers qci mbr_up mbr_down gbr_up gbr_down × IsTft tft
+HasOwnNumbers (AddBearer seq qci mbr_up mbr_down gbr_up gbr_down tft) =
+    AreOrderNumbers qci mbr_up mbr_down gbr_up gbr_down × IsTft tft
 HasOwnNumbers (Filters seq ebi tft) = IsTft tft
 HasOwnNumbers command = Unit {0}

@@ -65,7 +65,8 @@ filters_given template = None
 -- the filters that a template makes of an active bearer's
 abbrev pub filters_made : List Bearer → ℕ → Tft → Option (List Filter)
 filters_made bearers ebi template =
-    option_and_then (λ (bearer : Bearer). result_ok (applied bearer.choice.filters template)) (find (is_active ebi) bearers)
+    option_and_then (λ (bearer : Bearer). result_ok (applied bearer.choice.filters template))
+        (find (is_active ebi) bearers)
 
 abbrev pub can_ask : SessionState → Tft → Bool
 can_ask session template =
@@ -89,9 +90,11 @@ first_row session (Modify seq mme asks) =
     if not session.live then no_session else if not (all_active session.bearers asks) then no_bearer else modified
 first_row session (Release seq) = if not session.live then no_session else released
 first_row session (Delete seq) = if not session.live then no_session else deleted
-first_row session (AddBearer seq qci mbr_up mbr_down gbr_up gbr_down tft) = if not (can_ask session tft) then not_asked else asked
+first_row session (AddBearer seq qci mbr_up mbr_down gbr_up gbr_down tft) =
+    if not (can_ask session tft) then not_asked else asked
 first_row session (Filters seq ebi tft) = if not (can_refilter session ebi tft) then not_refiltered else refiltered
-first_row session (Drop seq ebi) = if not (session.live && has_dedicated session.bearers ebi) then not_dropped else dropped
+first_row session (Drop seq ebi) =
+    if not (session.live && has_dedicated session.bearers ebi) then not_dropped else dropped
 first_row session (Ambr seq up down) = if not session.live then not_rerated else rerated
 first_row session (CreateAns seq cause ebi row_cause enb) =
     if not (has_asked session.bearers seq) then unasked

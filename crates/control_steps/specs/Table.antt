@@ -67,13 +67,15 @@ with_enb session seq ebi (Some enb) = changes.granted session seq ebi enb
 -- what a command leaves of a session, but for the answer that is kept: the rows that aren't named here
 -- change nothing
 abbrev pub effect : Row → SessionState → CommandKind → SessionState
-effect created session (Create seq mme pdn ebi qos enb up down) = changes.attached session (Some mme) up down ebi qos enb
+effect created session (Create seq mme pdn ebi qos enb up down) =
+    changes.attached session (Some mme) up down ebi qos enb
 effect attached session (Attach enb up down) = changes.attached session None up down ordered_ebi ordered_qos (Some enb)
 effect modified session (Modify seq mme asks) = changes.rebound (changes.with_mme session mme) asks
 effect released session command = changes.released session
 effect deleted session command = changes.detached session
 effect asked session (AddBearer seq qci mbr_up mbr_down gbr_up gbr_down tft) =
-    with_bearer session seq (qos_asked session.bearers qci mbr_up mbr_down gbr_up gbr_down) (least_free session.bearers) (filters_given tft)
+    with_bearer session seq (qos_asked session.bearers qci mbr_up mbr_down gbr_up gbr_down)
+        (least_free session.bearers) (filters_given tft)
 effect refiltered session (Filters seq ebi tft) = with_filters session ebi (filters_made session.bearers ebi tft)
 effect dropped session (Drop seq ebi) = changes.dropped session ebi
 effect rerated session (Ambr seq up down) = changes.rerated session up down
@@ -131,14 +133,17 @@ written modified session (Modify seq mme asks) =
 written released session command = cause_answer session (request_of command) REQUEST_ACCEPTED
 written deleted session command = cause_answer session (request_of command) REQUEST_ACCEPTED
 written asked session (AddBearer seq qci mbr_up mbr_down gbr_up gbr_down tft) =
-    option_map (λ index. create_bearer_request session.slot (teid_of_mme session.mme) seq (default_ebi session.bearers) index (tft_spelling tft)
+    option_map (λ index. create_bearer_request session.slot (teid_of_mme session.mme) seq
+        (default_ebi session.bearers) index (tft_spelling tft)
     (qos_asked session.bearers qci mbr_up mbr_down gbr_up gbr_down))
     (least_free session.bearers)
 written refiltered session (Filters seq ebi tft) =
-    option_map (λ (mme : Peer). update_bearer_request mme.teid seq ebi (Some (tft_spelling tft)) session.up session.down) session.mme
+    option_map (λ (mme : Peer). update_bearer_request mme.teid seq ebi
+        (Some (tft_spelling tft)) session.up session.down) session.mme
 written dropped session (Drop seq ebi) = option_map (λ (mme : Peer). delete_bearer_request mme.teid seq ebi) session.mme
 written rerated session (Ambr seq up down) =
-    option_map (λ (mme : Peer). update_bearer_request mme.teid seq (default_ebi session.bearers) None up down) session.mme
+    option_map (λ (mme : Peer). update_bearer_request mme.teid seq (default_ebi session.bearers) None up down)
+        session.mme
 written row session command = None
 
 -- the octets of an answer: those that are kept, for a repeat

@@ -62,7 +62,8 @@ fn known(rate: Kbps) -> Kbps
 /// The quality of service that is asked for: its ARP is that of the default bearer.
 fn qos_of(default: &ActiveBearer, asked: &Order) -> Qos
     requires { IsQos default.now.qos }
-    ensures value { result ≡ record { arp = default.now.qos.arp; qci = asked.now.qci; mbr_up = asked.now.mbr_up; mbr_down = asked.now.mbr_down; gbr_up = asked.now.gbr_up; gbr_down = asked.now.gbr_down } }
+    ensures value { result ≡ record { arp = default.now.qos.arp; qci = asked.now.qci; mbr_up = asked.now.mbr_up;
+        mbr_down = asked.now.mbr_down; gbr_up = asked.now.gbr_up; gbr_down = asked.now.gbr_down } }
     ensures valid { IsQos result }
 {
     let _qci = asked.qci;
@@ -127,7 +128,8 @@ pub fn add_bearer(
 ) -> Result<Reply, NoMemory>
     requires seq { IsSeq asked.now.seq }
     requires room { HasRoom session.old }
-    ensures { Does (first_row session.old (order asked.now tft.now)) (order asked.now tft.now) session.old session.new result }
+    ensures { Does (first_row session.old (order asked.now tft.now))
+        (order asked.now tft.now) session.old session.new result }
 {
     let Some(default) = session.default_bearer() else {
         return Ok(silent(Outcome::No));

@@ -15,7 +15,8 @@ use std::alloc::Global;
 /// A Release Access Bearers Request that is no repeat.
 pub fn release(alloc: Global, session: &mut Session, seq: u32) -> Result<Reply, NoMemory>
     requires { IsSeq seq }
-    ensures { Does (first_row session.old (commands.Release seq)) (commands.Release seq) session.old session.new result }
+    ensures { Does (first_row session.old (commands.Release seq))
+        (commands.Release seq) session.old session.new result }
 {
     let kind = RELEASE_ACCESS_BEARERS_REQUEST;
     let teid = teid_of_mme(session.mme);

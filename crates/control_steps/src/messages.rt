@@ -126,7 +126,8 @@ fn asks_accepted(
     asks: &[Ask],
 ) -> Result<Vec<Ie>, NoMemory>
     requires { AreAsks asks.now }
-    ensures { IfOk result (λ ies. ies.items ≡ cause_element REQUEST_ACCEPTED ∷ filter_map (ask_accepted slot bearers.now) asks.now) }
+    ensures { IfOk result (λ ies. ies.items ≡ cause_element REQUEST_ACCEPTED
+        ∷ filter_map (ask_accepted slot bearers.now) asks.now) }
 {
     let mut ies = Vec::with_capacity(alloc, asks.len() + 1)?;
     ies.push(cause_element(REQUEST_ACCEPTED))?;
@@ -161,7 +162,8 @@ pub fn create_bearer_request(
     requires index { bearer.index ≤ 10 }
     requires tft { IsOctets 1000 bearer.tft }
     requires qos { IsQos bearer.qos }
-    ensures { IfOk result (λ message. message ≡ create_bearer_request slot teid seq linked bearer.index bearer.tft bearer.qos) }
+    ensures { IfOk result (λ message. message ≡ create_bearer_request slot teid seq linked bearer.index bearer.tft
+        bearer.qos) }
 {
     let ies = vec![in alloc;
         Ie {

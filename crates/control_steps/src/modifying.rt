@@ -88,7 +88,8 @@ pub fn modify(
     asks: &Asks,
 ) -> Result<Reply, NoMemory>
     requires { IsSeq seq }
-    ensures { Does (first_row session.old (commands.Modify seq mme.now asks.now)) (commands.Modify seq mme.now asks.now) session.old session.new result }
+    ensures { Does (first_row session.old (commands.Modify seq mme.now asks.now))
+        (commands.Modify seq mme.now asks.now) session.old session.new result }
 {
     if !session.live {
         refuse(alloc, session, seq, mme, asks)

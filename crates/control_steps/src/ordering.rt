@@ -109,7 +109,8 @@ pub fn refilter(
 ) -> Result<Reply, NoMemory>
     requires seq { IsSeq seq }
     requires ebi { IsEbi ebi }
-    ensures { Does (first_row session.old (commands.Filters seq ebi tft.now)) (commands.Filters seq ebi tft.now) session.old session.new result }
+    ensures { Does (first_row session.old (commands.Filters seq ebi tft.now))
+        (commands.Filters seq ebi tft.now) session.old session.new result }
 {
     if !session.live {
         return Ok(silent(Outcome::No));
@@ -143,7 +144,8 @@ pub fn drop_bearer(
 ) -> Result<Reply, NoMemory>
     requires seq { IsSeq seq }
     requires ebi { IsEbi ebi }
-    ensures { Does (first_row session.old (commands.Drop seq ebi)) (commands.Drop seq ebi) session.old session.new result }
+    ensures { Does (first_row session.old (commands.Drop seq ebi))
+        (commands.Drop seq ebi) session.old session.new result }
 {
     if !session.live || !session.bearers.has_dedicated(ebi) {
         return Ok(silent(Outcome::No));
@@ -168,7 +170,8 @@ pub fn rerate(
     requires up { IsAmbr up }
     requires down { IsAmbr down }
     requires room { HasRoom session.old }
-    ensures { Does (first_row session.old (commands.Ambr seq up down)) (commands.Ambr seq up down) session.old session.new result }
+    ensures { Does (first_row session.old (commands.Ambr seq up down))
+        (commands.Ambr seq up down) session.old session.new result }
 {
     let Some(default) = session.default_bearer() else {
         return Ok(silent(Outcome::No));

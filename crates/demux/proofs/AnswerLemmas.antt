@@ -8,11 +8,14 @@ use Rattle.bearer_state.specs.Bearer.{IsSeq}
 use Rattle.control_steps.specs.Kinds.{IsAnswered}
 use Rattle.demux.specs.Mme.{echo_response}
 
-one_below : (most kind x : ℕ) (is any : Bool) → eqb x kind ≡ is → x ≤ most → (any ≡ true → kind ≤ most) → (is || any) ≡ true → kind ≤ most
-one_below most kind x true any same le others some = let equal : x ≡ kind = eqb-true _ _ same in omega (arith, equal, le)
+one_below : (most kind x : ℕ) (is any : Bool) → eqb x kind ≡ is → x ≤ most → (any ≡ true → kind ≤ most)
+    → (is || any) ≡ true → kind ≤ most
+one_below most kind x true any same le others some =
+    let equal : x ≡ kind = eqb-true _ _ same in omega (arith, equal, le)
 one_below most kind x false any same le others some = others some
 
-below : (most kind : ℕ) (xs : List ℕ) → AllByRecursion (λ x. x ≤ most) xs → list_any (λ x. eqb x kind) xs ≡ true → kind ≤ most
+below : (most kind : ℕ) (xs : List ℕ) → AllByRecursion (λ x. x ≤ most) xs → list_any (λ x. eqb x kind) xs ≡ true
+    → kind ≤ most
 below most kind [] all any = absurd cc
 below most kind (x ∷ xs) all any =
     one_below most kind x (eqb x kind) (list_any (λ y. eqb y kind) xs) refl all.0 (below most kind xs all.1) any
@@ -40,7 +43,8 @@ answer_known kind is =
     ∙ or_true (is_request (kind + 1))
 
 pub is_answered : (kind : ℕ) → is_request kind ≡ true → IsAnswered kind
-is_answered kind is = record { fits = (let small = request_small kind is in omega (arith, small)); answer = answer_known kind is }
+is_answered kind is =
+    record { fits = (let small = request_small kind is in omega (arith, small)); answer = answer_known kind is }
 
 pub creation_is_answered : IsAnswered 32
 unfolding is_kind is_request

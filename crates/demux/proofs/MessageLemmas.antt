@@ -8,7 +8,8 @@ use Rattle.gtpv2_msg.specs.Reading.{IsBody, Spells}
 use Rattle.demux.specs.Message.{elements_where, elements_in, message_in}
 
 elements_spelled : (kind : ℕ) (octets : List ℕ) (ies : List Element) → IsBody kind octets ies → elements_in octets ≡ ies
-elements_spelled kind octets ies body = ap (elements_where octets) (ies_of-Stand octets body.raws body.stand) ∙ body.known
+elements_spelled kind octets ies body =
+    ap (elements_where octets) (ies_of-Stand octets body.raws body.stand) ∙ body.known
 
 pub message_spelled : (octets : List ℕ) (message : Message) → Spells octets message → message_in octets ≡ message
 unfolding message_in
@@ -18,4 +19,5 @@ message_spelled octets message spells =
     ap (λ kind. made kind (teid_of octets) (seq_of octets) (elements_in (body_of octets))) spells.header.kind
     ∙ ap (λ teid. made message.kind teid (seq_of octets) (elements_in (body_of octets))) spells.header.teid
     ∙ ap (λ seq. made message.kind message.teid seq (elements_in (body_of octets))) spells.header.seq
-    ∙ ap (made message.kind message.teid message.seq) (elements_spelled message.kind (body_of octets) message.ies spells.body)
+    ∙ ap (made message.kind message.teid message.seq) (elements_spelled message.kind
+        (body_of octets) message.ies spells.body)

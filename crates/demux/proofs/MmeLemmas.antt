@@ -13,7 +13,8 @@ use Rattle.demux.proofs.MessageLemmas.{message_spelled}
 pub asked_read : (octets : List ℕ) (message : Message) → Spells octets message → first_fault octets ≡ None
     → mme_asked octets ≡ message_asked message
 unfolding mme_asked
-asked_read octets message spells none = ap (asked_where octets) none ∙ ap message_asked (message_spelled octets message spells)
+asked_read octets message spells none =
+    ap (asked_where octets) none ∙ ap message_asked (message_spelled octets message spells)
 
 pub asked_refused : (octets : List ℕ) (bad : CBad) → first_fault octets ≡ Some bad
     → mme_asked octets ≡ note (message_note bad (refusal_of octets bad))

@@ -50,53 +50,63 @@ AskedAt moment (admission digits asks full) = Unit {0}
 AskedAt moment (of whom wish missing) = WishedAt moment wish
 
 -- what is decided then
-by_slice : (moment at slice : ℕ) (text : List ℕ) (test : Bool) → HasMoment moment (if test then Move at slice else Note text)
+by_slice : (moment at slice : ℕ) (text : List ℕ) (test : Bool)
+    → HasMoment moment (if test then Move at slice else Note text)
 by_slice moment at slice text true = tt
 by_slice moment at slice text false = tt
 
-by_found : (slices moment : ℕ) (found : Option ℕ) (wish : Wish) (missing : List ℕ) → WishedAt moment wish → HasMoment moment (wished_by slices found wish missing)
+by_found : (slices moment : ℕ) (found : Option ℕ) (wish : Wish) (missing : List ℕ) → WishedAt moment wish
+    → HasMoment moment (wished_by slices found wish missing)
 by_found slices moment None wish missing is = tt
 by_found slices moment (Some at) (command asks) missing is = tt
 by_found slices moment (Some at) (packet given) missing is = is
 by_found slices moment (Some at) (move slice) missing is = by_slice moment at slice _ (nat_lt slice slices)
 by_found slices moment (Some at) (noted text) missing is = tt
 
-by_whose : (moment : ℕ) (whose : Option Whose) (asks : CommandKind) (full : List ℕ) → HasMoment moment (admitting whose asks full)
+by_whose : (moment : ℕ) (whose : Option Whose) (asks : CommandKind) (full : List ℕ)
+    → HasMoment moment (admitting whose asks full)
 by_whose moment (Some whose) asks full = tt
 by_whose moment None asks full = tt
 
-has_moment : (slices moment : ℕ) (book : List (List ℕ)) (one : Asked) → AskedAt moment one → HasMoment moment (resolved slices book one)
+has_moment : (slices moment : ℕ) (book : List (List ℕ)) (one : Asked) → AskedAt moment one
+    → HasMoment moment (resolved slices book one)
 unfolding resolved
 has_moment slices moment book (note text) is = tt
 has_moment slices moment book (admission digits asks full) is = by_whose moment (whose_in book digits) asks full
 has_moment slices moment book (of whom wish missing) is = by_found slices moment (found_in book whom) wish missing is
 
 -- octets of the MME lend no packet
-then_at : {X : Type 0} (moment : ℕ) (first : Option X) (next : X → Option Asked) → ((x : X) → IfSome (next x) (AskedAt moment)) → IfSome (first >>= next) (AskedAt moment)
+then_at : {X : Type 0} (moment : ℕ) (first : Option X) (next : X → Option Asked)
+    → ((x : X) → IfSome (next x) (AskedAt moment)) → IfSome (first >>= next) (AskedAt moment)
 then_at moment (Some x) next each = each x
 then_at moment None next each = tt
 
-map_at : {X : Type 0} (moment : ℕ) (first : Option X) (next : X → Asked) → ((x : X) → AskedAt moment (next x)) → IfSome (option_map next first) (AskedAt moment)
+map_at : {X : Type 0} (moment : ℕ) (first : Option X) (next : X → Asked) → ((x : X) → AskedAt moment (next x))
+    → IfSome (option_map next first) (AskedAt moment)
 map_at moment (Some x) next each = each x
 map_at moment None next each = tt
 
 created_at : (moment : ℕ) (message : Message) → IfSome (create_asked message) (AskedAt moment)
 created_at moment message =
-    then_at moment (imsi_in message.ies) _ (λ digits. then_at moment (mme_in message.ies) _ (λ mme. then_at moment (creation message) _ (λ create. tt)))
+    then_at moment (imsi_in message.ies) _ (λ digits. then_at moment (mme_in message.ies) _
+        (λ mme. then_at moment (creation message) _ (λ create. tt)))
 
-slot_at : (moment : ℕ) (found : Option ℕ) (asks : CommandKind) (missing : List ℕ) → AskedAt moment (for_slot found asks missing)
+slot_at : (moment : ℕ) (found : Option ℕ) (asks : CommandKind) (missing : List ℕ)
+    → AskedAt moment (for_slot found asks missing)
 slot_at moment (Some number) asks missing = tt
 slot_at moment None asks missing = tt
 
 session_at : (moment : ℕ) (message : Message) → IfSome (session_asked message) (AskedAt moment)
 session_at moment message =
-    map_at moment (session_command message) _ (λ asks. slot_at moment (option_and_then control_slot message.teid) asks (no_context_note message))
+    map_at moment (session_command message) _ (λ asks.
+        slot_at moment (option_and_then control_slot message.teid) asks (no_context_note message))
 
 unexpected_at : (moment : ℕ) (one : Option Asked) → IfSome one (AskedAt moment) → AskedAt moment (or_unexpected one)
 unexpected_at moment (Some one) is = is
 unexpected_at moment None is = tt
 
-by_test : (moment : ℕ) (test : Bool) (one other : Asked) → AskedAt moment one → AskedAt moment other → AskedAt moment (if test then one else other)
+by_test : (moment : ℕ) (test : Bool) (one other : Asked) → AskedAt moment one → AskedAt moment other
+    → AskedAt moment (if test then one else other)
 by_test moment true one other first second = first
 by_test moment false one other first second = second
 
@@ -105,7 +115,8 @@ unfolding message_asked create_or_unexpected session_or_unexpected
 message_at moment message =
     by_test moment (message.kind == ECHO_REQUEST) _ _ tt
     (by_test moment (message.kind == ECHO_RESPONSE || message.kind == DOWNLINK_DATA_NOTIFICATION_ACKNOWLEDGE) _ _ tt
-    (by_test moment (message.kind == CREATE_SESSION_REQUEST) _ _ (unexpected_at moment (create_asked message) (created_at moment message))
+    (by_test moment (message.kind == CREATE_SESSION_REQUEST) _ _
+        (unexpected_at moment (create_asked message) (created_at moment message))
     (unexpected_at moment (session_asked message) (session_at moment message))))
 
 where_at : (moment : ℕ) (octets : List ℕ) (fault : Option CBad) → AskedAt moment (asked_where octets fault)
@@ -117,11 +128,13 @@ unfolding mme_asked
 mme_at moment octets = where_at moment octets (first_fault octets)
 
 -- octets of an eNodeB and of the internet lend one of their moment
-carried_at : (moment index : ℕ) (payload : List ℕ) (fault : Option IpBad) → WishedAt moment (carried_where moment index payload fault)
+carried_at : (moment index : ℕ) (payload : List ℕ) (fault : Option IpBad)
+    → WishedAt moment (carried_where moment index payload fault)
 carried_at moment index payload (Some bad) = tt
 carried_at moment index payload None = refl
 
-to_at : (moment teid : ℕ) (payload : List ℕ) (end : Option (ℕ × ℕ)) → AskedAt moment (tunnelled_to end moment teid payload)
+to_at : (moment teid : ℕ) (payload : List ℕ) (end : Option (ℕ × ℕ))
+    → AskedAt moment (tunnelled_to end moment teid payload)
 to_at moment teid payload (Some (number, index)) = carried_at moment index payload (ip_fault payload)
 to_at moment teid payload None = tt
 
@@ -129,14 +142,16 @@ tunnelled_at : (moment teid : ℕ) (payload : List ℕ) → AskedAt moment (tunn
 unfolding tunnelled
 tunnelled_at moment teid payload = to_at moment teid payload (bearer_end teid)
 
-type_at : (moment : ℕ) (one : GtpUKind) (head : GtpUHead) (body : List ℕ) → AskedAt moment (kind_asked moment one head body)
+type_at : (moment : ℕ) (one : GtpUKind) (head : GtpUHead) (body : List ℕ)
+    → AskedAt moment (kind_asked moment one head body)
 type_at moment tunnel.EchoRequest head body = tt
 type_at moment tunnel.EchoResponse head body = tt
 type_at moment tunnel.ErrorIndication head body = tt
 type_at moment tunnel.EndMarker head body = tt
 type_at moment tunnel.Gpdu head body = tunnelled_at moment head.teid body
 
-read_at : (moment : ℕ) (fault : Option UBad) (read : Option (GtpUHead × List ℕ)) → AskedAt moment (tunnel_where moment fault read)
+read_at : (moment : ℕ) (fault : Option UBad) (read : Option (GtpUHead × List ℕ))
+    → AskedAt moment (tunnel_where moment fault read)
 read_at moment fault (Some (head, body)) = type_at moment head.kind head body
 read_at moment (Some bad) None = tt
 read_at moment None None = tt
@@ -149,7 +164,8 @@ delivered_at : (found : Option ℕ) (given : LentPacket) → AskedAt given.momen
 delivered_at (Some number) given = refl
 delivered_at None given = tt
 
-packet_where_at : (moment : ℕ) (octets : List ℕ) (fault : Option IpBad) → AskedAt moment (packet_where moment octets fault)
+packet_where_at : (moment : ℕ) (octets : List ℕ) (fault : Option IpBad)
+    → AskedAt moment (packet_where moment octets fault)
 packet_where_at moment octets (Some bad) = tt
 packet_where_at moment octets None =
     let given = lent moment Down octets in
@@ -160,7 +176,8 @@ unfolding packet_asked
 packet_at moment octets = packet_where_at moment octets (ip_fault octets)
 
 -- orders lend none
-template_at : (moment : ℕ) (order : Tft → CommandKind) (octets : List ℕ) (fault : Option TBad) → WishedAt moment (templated_where order octets fault)
+template_at : (moment : ℕ) (order : Tft → CommandKind) (octets : List ℕ) (fault : Option TBad)
+    → WishedAt moment (templated_where order octets fault)
 template_at moment order octets (Some bad) = tt
 template_at moment order octets None = tt
 

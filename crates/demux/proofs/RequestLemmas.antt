@@ -61,7 +61,8 @@ there of kind ies true ie is here later =
     rw here (is ie.value (front (eqb (type_octet (kind_of ie.value)) (type_octet kind)) (eqb ie.instance 0) here))
 there of kind ies false ie is here later = rw here (later refl)
 
-has_value : {X : Type 0} (of : IeValue → Option X) (kind : IeKind) → ((value : IeValue) → IsOf kind value → IsSome (of value))
+has_value : {X : Type 0} (of : IeValue → Option X) (kind : IeKind)
+    → ((value : IeValue) → IsOf kind value → IsSome (of value))
     → (ies : List Element) → Has ies kind → IsSome (option_and_then of (first_value kind 0 ies))
 has_value of kind is [] has = absurd cc
 has_value of kind is (ie ∷ ies) has =
@@ -93,7 +94,9 @@ other_kind P rest false all = all
 
 own_kind : (P : Context → Type 0) (instance : ℕ) (own : Context) (rest : List Element) (context : Context) (b : Bool)
     → (context_in rest ≡ Some context → AllByRecursion P (contexts_of rest) → P context)
-    → option_and_then context_value (option_map (λ (ie : Element). ie.value) (if b then Some (record { instance = instance; value = values.Context own }) else find (is_of kinds.Context 0) rest)) ≡ Some context
+    → option_and_then context_value (option_map (λ (ie : Element). ie.value) (if b
+        then Some (record { instance = instance; value = values.Context own })
+        else find (is_of kinds.Context 0) rest)) ≡ Some context
     → AllByRecursion P (cons_option (if b then Some own else None) (contexts_of rest)) → P context
 own_kind P instance own rest context true later is all = let same : own ≡ context = cc in subst P same all.0
 own_kind P instance own rest context false later is all = later is all
@@ -102,7 +105,8 @@ one_more : (P : Context → Type 0) (instance : ℕ) (value : IeValue) (rest : L
     → (context_in rest ≡ Some context → AllByRecursion P (contexts_of rest) → P context)
     → context_in (record { instance = instance; value = value } ∷ rest) ≡ Some context
     → AllByRecursion P (contexts_of (record { instance = instance; value = value } ∷ rest)) → P context
-one_more P instance (values.Context own) rest context later is all = own_kind P instance own rest context (eqb instance 0) later is all
+one_more P instance (values.Context own) rest context later is all =
+    own_kind P instance own rest context (eqb instance 0) later is all
 one_more P instance value rest context later is all = later is (other_kind P rest (eqb instance 0) all)
 
 pub counted_context : (P : Context → Type 0) (ies : List Element) (context : Context) → context_in ies ≡ Some context
@@ -112,7 +116,8 @@ counted_context P (ie ∷ ies) context is all =
     one_more P ie.instance ie.value ies context (counted_context P ies context) is all
 
 -- a step that has something to go on with
-then_some : {A B : Type 0} (o : Option A) (f : A → Option B) → IsSome o → ((a : A) → o ≡ Some a → IsSome (f a)) → IsSome (o >>= f)
+then_some : {A B : Type 0} (o : Option A) (f : A → Option B) → IsSome o → ((a : A) → o ≡ Some a → IsSome (f a))
+    → IsSome (o >>= f)
 then_some (Some a) f some next = next a refl
 then_some None f some next = absurd cc
 
@@ -128,8 +133,10 @@ creation_of_row message meets =
     then_some (pdn_in message.ies) _ (has_pdn message.ies meets.before.1.1.0) (λ pdn _.
     then_some (rates_in message.ies) _ (has_rates message.ies meets.before.1.1.1.0) (λ rates _.
     then_some (context_in message.ies) _ (has_context message.ies (meets.context refl)) (λ context is.
-    then_some (assigned context.ebi) _ (assigned_some context.ebi (counted_context (HasPart parts.AssignedEbi) message.ies context is meets.inside.0)) (λ ebi _.
-    then_some context.qos _ (counted_context (HasPart (parts.Ie kinds.Qos)) message.ies context is meets.inside.1.0) (λ qos _. refl))))))
+    then_some (assigned context.ebi) _ (assigned_some context.ebi
+        (counted_context (HasPart parts.AssignedEbi) message.ies context is meets.inside.0)) (λ ebi _.
+    then_some context.qos _ (counted_context (HasPart (parts.Ie kinds.Qos)) message.ies context is
+        meets.inside.1.0) (λ qos _. refl))))))
 
 create_of_row : (message : Message) → MeetsRow (required 32) message.ies → IsSome (create_asked message)
 unfolding required
@@ -143,8 +150,10 @@ unfolding bearer_answer required
 answer_of_row message meets =
     then_some (cause_in message.ies) _ (has_cause message.ies meets.before.0) (λ cause _.
     then_some (context_in message.ies) _ (has_context message.ies (meets.context refl)) (λ context is.
-    then_some context.ebi _ (counted_context (HasPart (parts.Ie kinds.Ebi)) message.ies context is meets.inside.0) (λ ebi _.
-    then_some context.cause _ (counted_context (HasPart (parts.Ie kinds.Cause)) message.ies context is meets.inside.1.0) (λ row_cause _. refl))))
+    then_some context.ebi _ (counted_context (HasPart (parts.Ie kinds.Ebi)) message.ies context is meets.inside.0)
+        (λ ebi _.
+    then_some context.cause _ (counted_context (HasPart (parts.Ie kinds.Cause)) message.ies context is
+        meets.inside.1.0) (λ row_cause _. refl))))
 
 pub create_whole : (message : Message) → HasRequired message → message.kind ≡ 32 → IsSome (create_asked message)
 create_whole message has is = create_of_row message (subst (λ kind. MeetsRow (required kind) message.ies) is has)

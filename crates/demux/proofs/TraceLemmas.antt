@@ -14,7 +14,8 @@ pub book_of-push : (lines : List Line) (line : Line) → book_of (lines ++ line 
 book_of-push lines line = fold-push book_after [] lines line
 
 decisions_from-push : (slices : ℕ) (book : List (List ℕ)) (lines : List Line) (line : Line)
-    → decisions_from slices book (lines ++ line ∷ []) ≡ decisions_from slices book lines ++ decided slices (fold book_after book lines) line ∷ []
+    → decisions_from slices book (lines ++ line ∷ []) ≡ decisions_from slices book lines
+    ++ decided slices (fold book_after book lines) line ∷ []
 decisions_from-push slices book [] line = refl
 decisions_from-push slices book (first ∷ lines) line =
     ap (λ rest. decided slices book first ∷ rest) (decisions_from-push slices (book_after book first) lines line)
@@ -31,9 +32,11 @@ destination_after-push slices slot lines line =
     ∙ fold-push (bound_for slot) (home_slice slices slot) (decisions slices lines) (decided slices (book_of lines) line)
 
 pub meanings_from-push : (slices : ℕ) (before lines : List Line) (line : Line)
-    → meanings_from slices before (lines ++ line ∷ []) ≡ meanings_from slices before lines ++ meaning slices (before ++ lines) line ∷ []
+    → meanings_from slices before (lines ++ line ∷ []) ≡ meanings_from slices before lines
+    ++ meaning slices (before ++ lines) line ∷ []
 meanings_from-push slices before [] line = ap (λ lines. meaning slices lines line ∷ []) (sym (append-nil before))
 meanings_from-push slices before (first ∷ lines) line =
     ap (λ rest. meaning slices before first ∷ rest)
     (meanings_from-push slices (before ++ first ∷ []) lines line
-    ∙ ap (λ all. meanings_from slices (before ++ first ∷ []) lines ++ meaning slices all line ∷ []) (append_assoc before (first ∷ []) lines))
+    ∙ ap (λ all. meanings_from slices (before ++ first ∷ []) lines ++ meaning slices all line ∷ [])
+        (append_assoc before (first ∷ []) lines))

@@ -20,7 +20,8 @@ unfolding tunnel_asked
 tunnel_read moment octets head body is spelled same =
     ap (tunnel_where moment (first_fault octets)) spelled ∙ ap (λ k. kind_asked moment k head body) same
 
-pub tunnel_refused : (moment : ℕ) (octets : List ℕ) (bad : UBad) → first_fault octets ≡ Some bad → message_of octets ≡ None
+pub tunnel_refused : (moment : ℕ) (octets : List ℕ) (bad : UBad) → first_fault octets ≡ Some bad
+    → message_of octets ≡ None
     → tunnel_asked moment octets ≡ note (tunnel_note bad)
 unfolding tunnel_asked
 tunnel_refused moment octets bad is none = λ i. tunnel_where moment (is i) (none i)
@@ -35,9 +36,12 @@ pub packet_refused : (moment : ℕ) (octets : List ℕ) (bad : IpBad) → ip_fau
 unfolding packet_asked
 packet_refused moment octets bad is = ap (packet_where moment octets) is
 
-pub tunnel_noted : (moment : ℕ) (octets : List ℕ) (head : GtpUHead) (body : List ℕ) → message_of octets ≡ Some (head, body)
+pub tunnel_noted : (moment : ℕ) (octets : List ℕ) (head : GtpUHead) (body : List ℕ)
+    → message_of octets ≡ Some (head, body)
     → (head.kind ≡ kind.EchoResponse) ⊎ (head.kind ≡ kind.ErrorIndication) ⊎ (head.kind ≡ kind.EndMarker)
     → tunnel_asked moment octets ≡ note (codes "s1u noted")
 tunnel_noted moment octets head body spelled (inl is) = tunnel_read moment octets head body kind.EchoResponse spelled is
-tunnel_noted moment octets head body spelled (inr (inl is)) = tunnel_read moment octets head body kind.ErrorIndication spelled is
-tunnel_noted moment octets head body spelled (inr (inr is)) = tunnel_read moment octets head body kind.EndMarker spelled is
+tunnel_noted moment octets head body spelled (inr (inl is)) =
+    tunnel_read moment octets head body kind.ErrorIndication spelled is
+tunnel_noted moment octets head body spelled (inr (inr is)) =
+    tunnel_read moment octets head body kind.EndMarker spelled is

@@ -27,7 +27,8 @@ echo_note seq = told (codes "s11 echo") (spelling (echo_response seq))
 
 -- a Create Session Request where no slot is left, answered to its sender's TEID
 abbrev pub pool_note : ℕ → ℕ → List ℕ
-pool_note teid seq = told (codes "s11 pool") (spelling (cause_alone teid CREATE_SESSION_REQUEST seq ALL_DYNAMIC_ADDRESSES_ARE_OCCUPIED))
+pool_note teid seq = told (codes "s11 pool") (spelling
+    (cause_alone teid CREATE_SESSION_REQUEST seq ALL_DYNAMIC_ADDRESSES_ARE_OCCUPIED))
 
 -- a message to a TEID of no session: a request is answered, to TEID 0
 abbrev pub no_context_reply : Message → Option (List ℕ)
@@ -52,7 +53,8 @@ for_slot None asked missing = note missing
 
 abbrev pub session_asked : Message → Option Asked
 session_asked message =
-    option_map (λ asked. for_slot (option_and_then control_slot message.teid) asked (no_context_note message)) (session_command message)
+    option_map (λ asked. for_slot (option_and_then control_slot message.teid) asked (no_context_note message))
+        (session_command message)
 
 -- a type that an MME doesn't send is unexpected
 abbrev pub or_unexpected : Option Asked → Asked
@@ -68,7 +70,8 @@ session_or_unexpected message = or_unexpected (session_asked message)
 unfoldable pub message_asked : Message → Asked
 message_asked message =
     if message.kind == ECHO_REQUEST then note (echo_note message.seq)
-    else if message.kind == ECHO_RESPONSE || message.kind == DOWNLINK_DATA_NOTIFICATION_ACKNOWLEDGE then note (codes "s11 noted")
+    else if message.kind == ECHO_RESPONSE || message.kind == DOWNLINK_DATA_NOTIFICATION_ACKNOWLEDGE
+        then note (codes "s11 noted")
     else if message.kind == CREATE_SESSION_REQUEST then create_or_unexpected message
     else session_or_unexpected message
 

@@ -68,7 +68,8 @@ assigned ebi = option_and_then (λ number. if number == 0 then None else Some nu
 
 -- the eNodeB's end, of interface 0 (8.22)
 abbrev pub enb_in : List (ℕ × Fteid) → Option Peer
-enb_in fteids = option_map (λ (fteid : ℕ × Fteid). peer_of fteid.1) (find (λ (fteid : ℕ × Fteid). fteid.1.interface == 0) fteids)
+enb_in fteids = option_map (λ (fteid : ℕ × Fteid). peer_of fteid.1)
+    (find (λ (fteid : ℕ × Fteid). fteid.1.interface == 0) fteids)
 
 abbrev pub qos_of : QosIe → Qos
 qos_of qos = record {

@@ -22,7 +22,8 @@ abbrev pub controller_in : List (List ℕ) → Option ℕ → Option ℕ
 controller_in book teid = option_and_then (λ number. found_in book (slot number)) (option_and_then control_slot teid)
 
 abbrev pub bearer_in : List (List ℕ) → ℕ → Option (ℕ × ℕ)
-bearer_in book teid = option_and_then (λ (end : ℕ × ℕ). option_map (λ number. (number, end.1)) (found_in book (slot end.0))) (bearer_end teid)
+bearer_in book teid = option_and_then (λ (end : ℕ × ℕ).
+    option_map (λ number. (number, end.1)) (found_in book (slot end.0))) (bearer_end teid)
 
 abbrev pub addressee_in : List (List ℕ) → ℕ → Option ℕ
 addressee_in book addr = option_and_then (λ number. found_in book (slot number)) (addressee addr)

@@ -16,7 +16,8 @@ book_of lines = fold book_after [] lines
 -- the decisions on lines
 abbrev pub decisions_from : ℕ → List (List ℕ) → List Line → List Decision
 decisions_from slices book [] = []
-decisions_from slices book (line ∷ lines) = decided slices book line ∷ decisions_from slices (book_after book line) lines
+decisions_from slices book (line ∷ lines) =
+    decided slices book line ∷ decisions_from slices (book_after book line) lines
 
 abbrev pub decisions : ℕ → List Line → List Decision
 decisions slices lines = decisions_from slices [] lines
@@ -42,12 +43,14 @@ meant slices book before (Note text) = note text
 
 -- what a line means behind lines
 abbrev pub meaning : ℕ → List Line → Line → Meaning
-meaning slices before line = meant slices (book_of before) (decisions slices before) (decided slices (book_of before) line)
+meaning slices before line =
+    meant slices (book_of before) (decisions slices before) (decided slices (book_of before) line)
 
 -- what lines mean, each behind those before it
 abbrev pub meanings_from : ℕ → List Line → List Line → List Meaning
 meanings_from slices before [] = []
-meanings_from slices before (line ∷ lines) = meaning slices before line ∷ meanings_from slices (before ++ line ∷ []) lines
+meanings_from slices before (line ∷ lines) =
+    meaning slices before line ∷ meanings_from slices (before ++ line ∷ []) lines
 
 abbrev pub meanings : ℕ → List Line → List Meaning
 meanings slices lines = meanings_from slices [] lines

@@ -42,7 +42,8 @@ carried moment index payload = carried_where moment index payload (ip_fault payl
 
 -- a G-PDU is for the slot of its TEID, where that is a bearer's
 abbrev pub tunnelled_to : Option (ℕ × ℕ) → ℕ → ℕ → List ℕ → Asked
-tunnelled_to (Some (number, index)) moment teid payload = of (slot number) (carried moment index payload) (unknown_note teid)
+tunnelled_to (Some (number, index)) moment teid payload =
+    of (slot number) (carried moment index payload) (unknown_note teid)
 tunnelled_to None moment teid payload = note (unknown_note teid)
 
 unfoldable pub tunnelled : ℕ → ℕ → List ℕ → Asked

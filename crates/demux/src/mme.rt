@@ -47,7 +47,8 @@ pub fn decide_mme<'a>(
 #[tactic(auto, unfolding(crate::specs::Resolved::resolved))]
 fn decide_refused<'a>(alloc: Global, octets: &[u8], bad: &CBad) -> Result<Decision<'a>, NoMemory>
     requires { IsRefusal octets.now bad.now }
-    ensures { (slices : ℕ) (book : List (List ℕ)) → IfOk result (λ decision. decision ≡ resolved slices book (mme_asked octets.now)) }
+    ensures { (slices : ℕ) (book : List (List ℕ)) → IfOk result (λ decision. decision
+        ≡ resolved slices book (mme_asked octets.now)) }
 {
     if is_no_memory(bad) {
         return Err(NoMemory);
@@ -89,7 +90,8 @@ fn decide_creation<'a>(
     book: &AddressBook,
     message: &Msg,
 ) -> Result<Decision<'a>, NoMemory>
-    ensures { (slices : ℕ) → IfOk result (λ decision. decision ≡ resolved slices book.now (create_or_unexpected message.now)) }
+    ensures { (slices : ℕ) → IfOk result (λ decision. decision
+        ≡ resolved slices book.now (create_or_unexpected message.now)) }
 {
     let (Some(imsi), Some(mme), Some(command)) = (
         imsi_in(message),
@@ -111,7 +113,8 @@ fn decide_session<'a>(
     book: &AddressBook,
     message: &Msg,
 ) -> Result<Decision<'a>, NoMemory>
-    ensures { (slices : ℕ) → IfOk result (λ decision. decision ≡ resolved slices book.now (session_or_unexpected message.now)) }
+    ensures { (slices : ℕ) → IfOk result (λ decision. decision
+        ≡ resolved slices book.now (session_or_unexpected message.now)) }
 {
     let Some(command) = session_command(alloc, message)? else {
         return Ok(Decision::Note(words(alloc, "s11 unexpected")?));

@@ -24,7 +24,8 @@ pub fn decide_tunnel<'a>(
     moment: Moment,
     octets: &'a [u8],
 ) -> Result<Decision<'a>, NoMemory>
-    ensures { (slices : ℕ) → IfOk result (λ decision. decision ≡ resolved slices book.now (tunnel_asked moment octets.now)) }
+    ensures { (slices : ℕ) → IfOk result (λ decision. decision
+        ≡ resolved slices book.now (tunnel_asked moment octets.now)) }
 {
     match read(octets) {
         Ok((head, body)) => match head.kind {
@@ -50,7 +51,8 @@ fn decide_tunnelled<'a>(
     teid: Teid,
     payload: &'a [u8],
 ) -> Result<Decision<'a>, NoMemory>
-    ensures { (slices : ℕ) → IfOk result (λ decision. decision ≡ resolved slices book.now (tunnelled moment teid payload.now)) }
+    ensures { (slices : ℕ) → IfOk result (λ decision. decision
+        ≡ resolved slices book.now (tunnelled moment teid payload.now)) }
 {
     match bearer_in_book(book, teid) {
         Some((slot, index)) => decide_carried(alloc, moment, slot, index, payload),
@@ -75,7 +77,8 @@ fn decide_carried<'a>(
     index: u8,
     payload: &'a [u8],
 ) -> Result<Decision<'a>, NoMemory>
-    ensures { (slices : ℕ) → IfOk result (λ decision. decision ≡ granted slices slot (carried moment index payload.now)) }
+    ensures { (slices : ℕ) → IfOk result (λ decision. decision
+        ≡ granted slices slot (carried moment index payload.now)) }
 {
     match Ip4::read(payload) {
         Ok(ip) => Ok(Decision::Packet {
@@ -98,7 +101,8 @@ pub fn decide_packet<'a>(
     moment: Moment,
     octets: &'a [u8],
 ) -> Result<Decision<'a>, NoMemory>
-    ensures { (slices : ℕ) → IfOk result (λ decision. decision ≡ resolved slices book.now (packet_asked moment octets.now)) }
+    ensures { (slices : ℕ) → IfOk result (λ decision. decision
+        ≡ resolved slices book.now (packet_asked moment octets.now)) }
 {
     match Ip4::read(octets) {
         Ok(ip) => {

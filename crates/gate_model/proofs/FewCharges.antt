@@ -43,7 +43,8 @@ record Grows (before after : Past) : Type 0 where
 pushed : {X : Type 0} (xs : List X) (x : X) → length (xs ++ x ∷ []) ≡ length xs + 1
 pushed xs x = omega (arith, length-append xs (x ∷ []))
 
-row_grows : (past : Past) (b : ActiveBearer) (way : Bool) (octets : ℕ) → Grows past (with_row past (row_for past b way octets))
+row_grows : (past : Past) (b : ActiveBearer) (way : Bool) (octets : ℕ)
+    → Grows past (with_row past (row_for past b way octets))
 row_grows past b way octets = record {
   held = λ few. few;
   charged = omega (arith, pushed past.charged (happening_for (row_for past b way octets)));
@@ -59,7 +60,8 @@ tried_if past b way octets sent false = stays past
 
 up_if : (past : Past) (octets : List ℕ) (b : ActiveBearer) (own : Bool)
     → Grows past (either own (tried past b true (length octets) (verdict.Up b.life octets)) (past, verdict.Spoof)).0
-up_if past octets b true = tried_if past b true (length octets) (verdict.Up b.life octets) (passes past b true (length octets))
+up_if past octets b true =
+    tried_if past b true (length octets) (verdict.Up b.life octets) (passes past b true (length octets))
 up_if past octets b false = stays past
 
 up_grows : (past : Past) (octets : List ℕ) (found : Option ActiveBearer) → Grows past (judged_up past octets found).0
@@ -77,13 +79,17 @@ waiting_if past row idle held false is = record {
   charged = omega arith;
 }
 
-to_grows : (past : Past) (packet : Packet) (b : ActiveBearer) (enb : Option Peer) → Grows past (judged_to past packet b enb).0
+to_grows : (past : Past) (packet : Packet) (b : ActiveBearer) (enb : Option Peer)
+    → Grows past (judged_to past packet b enb).0
 to_grows past packet b None =
-    waiting_if past (record { packet = packet; life = b.life }) (verdict.Idle b.life) (verdict.Held b.life (notice past packet.number b.ebi)) (nat_le 16 (length past.held)) refl
+    waiting_if past (record { packet = packet; life = b.life }) (verdict.Idle b.life)
+        (verdict.Held b.life (notice past packet.number b.ebi)) (nat_le 16 (length past.held)) refl
 to_grows past packet b (Some peer) =
-    tried_if past b false (length packet.octets) (verdict.Down b.life peer.addr (gpdu peer packet.octets)) (passes past b false (length packet.octets))
+    tried_if past b false (length packet.octets) (verdict.Down b.life peer.addr (gpdu peer packet.octets))
+        (passes past b false (length packet.octets))
 
-down_grows : (past : Past) (packet : Packet) (found : Option ActiveBearer) → Grows past (judged_down past packet found).0
+down_grows : (past : Past) (packet : Packet) (found : Option ActiveBearer)
+    → Grows past (judged_down past packet found).0
 down_grows past packet None = stays past
 down_grows past packet (Some b) = to_grows past packet b b.enb
 
@@ -91,7 +97,8 @@ way_grows : (past : Past) (packet : Packet) (way : Way) → Grows past (judged_b
 way_grows past packet (Up index) = up_grows past packet.octets (bearer_at past.version.bearers index)
 way_grows past packet Down = down_grows past packet (bearer_for past.version packet.octets)
 
-now_if : (past : Past) (packet : Packet) (may : Bool) → Grows past (either may (judged_by_way past packet packet.way) (past, verdict.NoBearer)).0
+now_if : (past : Past) (packet : Packet) (may : Bool)
+    → Grows past (either may (judged_by_way past packet packet.way) (past, verdict.NoBearer)).0
 now_if past packet true = way_grows past packet packet.way
 now_if past packet false = stays past
 
@@ -103,30 +110,37 @@ judged_grows past packet =
 -- held packets that are looked at: each charges at most one thing
 released_if : (so_far : Past × List Effect) (row : HeldRow) (b : ActiveBearer) (peer : Peer) (fits : Bool)
     → length (either fits
-    (fated (with_row so_far.0 (row_for so_far.0 b false (length row.packet.octets)), so_far.1) row (fate.Down row.life peer.addr (gpdu peer row.packet.octets)))
+    (fated (with_row so_far.0 (row_for so_far.0 b false (length row.packet.octets)), so_far.1) row
+        (fate.Down row.life peer.addr (gpdu peer row.packet.octets)))
     (fated so_far row (fate.Policed row.life))).0.charged ≤ length so_far.0.charged + 1
-released_if so_far row b peer true = omega (arith, pushed so_far.0.charged (happening_for (row_for so_far.0 b false (length row.packet.octets))))
+released_if so_far row b peer true =
+    omega (arith, pushed so_far.0.charged (happening_for (row_for so_far.0 b false (length row.packet.octets))))
 released_if so_far row b peer false = omega arith
 
 released_to_grows : (so_far : Past × List Effect) (row : HeldRow) (b : ActiveBearer) (enb : Option Peer)
     → length (released_to so_far row b enb).0.charged ≤ length so_far.0.charged + 1
 released_to_grows so_far row b None = omega arith
-released_to_grows so_far row b (Some peer) = released_if so_far row b peer (passes so_far.0 b false (length row.packet.octets))
+released_to_grows so_far row b (Some peer) =
+    released_if so_far row b peer (passes so_far.0 b false (length row.packet.octets))
 
 released_by_grows : (so_far : Past × List Effect) (row : HeldRow) (found : Option ActiveBearer)
     → length (released_by so_far row found).0.charged ≤ length so_far.0.charged + 1
 released_by_grows so_far row None = omega arith
 released_by_grows so_far row (Some b) = released_to_grows so_far row b b.enb
 
-all_grow : (so_far : Past × List Effect) (rows : List HeldRow) → length (fold released so_far rows).0.charged ≤ length so_far.0.charged + length rows
+all_grow : (so_far : Past × List Effect) (rows : List HeldRow)
+    → length (fold released so_far rows).0.charged ≤ length so_far.0.charged + length rows
 all_grow so_far [] = omega arith
 all_grow so_far (row ∷ rows) =
-    let here : length (released so_far row).0.charged ≤ length so_far.0.charged + 1 = released_by_grows so_far row (bearer_of so_far.0.version.bearers row.life) in
-    let behind : length (fold released (released so_far row) rows).0.charged ≤ length (released so_far row).0.charged + length rows = all_grow (released so_far row) rows in
+    let here : length (released so_far row).0.charged ≤ length so_far.0.charged + 1 =
+        released_by_grows so_far row (bearer_of so_far.0.version.bearers row.life) in
+    let behind : length (fold released (released so_far row) rows).0.charged
+        ≤ length (released so_far row).0.charged + length rows = all_grow (released so_far row) rows in
     omega arith
 
 -- what is filtered is no longer
-filter_if : {X : Type 0} (fits : Bool) (x : X) (xs : List X) (most : ℕ) → length xs ≤ most → length (if fits then x ∷ xs else xs) ≤ most + 1
+filter_if : {X : Type 0} (fits : Bool) (x : X) (xs : List X) (most : ℕ) → length xs ≤ most
+    → length (if fits then x ∷ xs else xs) ≤ most + 1
 filter_if true x xs most few = omega arith
 filter_if false x xs most few = omega arith
 
@@ -139,7 +153,8 @@ few_mapped : {X Y : Type 0} (f : X → Y) (test : X → Bool) (xs : List X) → 
 few_mapped f test xs = omega (arith, length-map (filter test xs) f, filter_few test xs)
 
 few_ended : (before after : List ActiveBearer) → length (ended before after) ≤ length before
-few_ended before after = few_mapped (λ (b : ActiveBearer). closed b.life Gone) (λ (b : ActiveBearer). not (has_life after b.life)) before
+few_ended before after =
+    few_mapped (λ (b : ActiveBearer). closed b.life Gone) (λ (b : ActiveBearer). not (has_life after b.life)) before
 
 few_cut : (was_set : Bool) (before after : List ActiveBearer) → length (cut was_set before after) ≤ length before
 few_cut true before after =
@@ -151,9 +166,11 @@ few_cut true before after =
 few_cut false before after = omega arith
 
 few_begun : (before after : List ActiveBearer) → length (begun before after) ≤ length after
-few_begun before after = few_mapped (λ (b : ActiveBearer). started b.life b.ebi b.qos.qci) (λ (b : ActiveBearer). not (has_life before b.life)) after
+few_begun before after = few_mapped (λ (b : ActiveBearer). started b.life b.ebi b.qos.qci)
+    (λ (b : ActiveBearer). not (has_life before b.life)) after
 
-few_marks : (was_set : Bool) (before after : List ActiveBearer) → length before ≤ 11 → length after ≤ 11 → length (marks_between was_set before after) ≤ 33
+few_marks : (was_set : Bool) (before after : List ActiveBearer) → length before ≤ 11 → length after ≤ 11
+    → length (marks_between was_set before after) ≤ 33
 few_marks was_set before after few few_after =
     omega (
       arith,
@@ -169,14 +186,18 @@ record Learns (past : Past) (after : VersionState) : Type 0 where
   held : length (learnt past after).0.held ≤ length past.held
   charged : length (learnt past after).0.charged ≤ length past.charged + 33 + length past.held
 
-learns : (past : Past) (after : VersionState) → length past.version.bearers ≤ 11 → length after.bearers ≤ 11 → Learns past after
+learns : (past : Past) (after : VersionState) → length past.version.bearers ≤ 11 → length after.bearers ≤ 11
+    → Learns past after
 learns past after few few_after =
     let start : Past × List Effect = (marked past after, markers past.version after) in
     let waiting : HeldRow → Bool = λ (row : HeldRow). waits after.bearers row.life in
     let held : (learnt past after).0.held ≡ filter waiting past.held = held_all start past.held in
-    let all : length (learnt past after).0.charged ≤ length (marked past after).charged + length past.held = all_grow start past.held in
-    let marked_are : length (marked past after).charged ≡ length past.charged + length (marks past.version after) = length-append past.charged (marks past.version after) in
-    let marks_are : length (marks past.version after) ≤ 33 = few_marks (nat_lt past.version.rates after.rates) past.version.bearers after.bearers few few_after in
+    let all : length (learnt past after).0.charged ≤ length (marked past after).charged + length past.held =
+        all_grow start past.held in
+    let marked_are : length (marked past after).charged ≡ length past.charged + length (marks past.version after) =
+        length-append past.charged (marks past.version after) in
+    let marks_are : length (marks past.version after) ≤ 33 =
+        few_marks (nat_lt past.version.rates after.rates) past.version.bearers after.bearers few few_after in
     record {
       held = rw held (filter_few waiting past.held);
       charged = omega arith;
@@ -190,13 +211,16 @@ record AreFewAfter (count : ℕ) (past : SlotPast) : Type 0 where
   charged : length past.packets.charged ≤ 49 * count
 
 few_bearers : (past : SlotPast) → IsSound past → Rise 0 past.session.bearers → length past.packets.version.bearers ≤ 11
-few_bearers past sound rise = subst (λ (v : VersionState). length v.bearers ≤ 11) (sym sound.version) (few_active past.session.bearers rise)
+few_bearers past sound rise =
+    subst (λ (v : VersionState). length v.bearers ≤ 11) (sym sound.version) (few_active past.session.bearers rise)
 
-few_commanded : (count : ℕ) (past : SlotPast) (command : CommandKind) → AreFewAfter count past → AreFewAfter (count + 1) (commanded past command)
+few_commanded : (count : ℕ) (past : SlotPast) (command : CommandKind) → AreFewAfter count past
+    → AreFewAfter (count + 1) (commanded past command)
 unfolding happens
 few_commanded count past command few =
     let rise : Rise 0 (next_session past command).bearers = bearers_rise past.session command few.rise in
-    let learning = learns past.packets (next_version past command) (few_bearers past few.sound few.rise) (few_active (next_session past command).bearers rise) in
+    let learning = learns past.packets (next_version past command) (few_bearers past few.sound few.rise)
+        (few_active (next_session past command).bearers rise) in
     record {
       sound = behind_sound past (event.Command command) few.sound;
       rise = rise;
@@ -204,7 +228,8 @@ few_commanded count past command few =
       charged = omega (arith, learning.charged, few.charged, few.held);
     }
 
-few_met : (count : ℕ) (past : SlotPast) (packet : Packet) → AreFewAfter count past → AreFewAfter (count + 1) (met past packet)
+few_met : (count : ℕ) (past : SlotPast) (packet : Packet) → AreFewAfter count past
+    → AreFewAfter (count + 1) (met past packet)
 unfolding happens
 few_met count past packet few =
     let grown = judged_grows past.packets packet in
@@ -215,14 +240,17 @@ few_met count past packet few =
       charged = omega (arith, grown.charged, few.charged);
     }
 
-few_behind : (count : ℕ) (past : SlotPast) (now : Event) → AreFewAfter count past → AreFewAfter (count + 1) (behind past now)
+few_behind : (count : ℕ) (past : SlotPast) (now : Event) → AreFewAfter count past
+    → AreFewAfter (count + 1) (behind past now)
 unfolding happens
 few_behind count past (event.Command command) few = few_commanded count past command few
 few_behind count past (event.Packet packet) few = few_met count past packet few
 
-all_few : (count all : ℕ) (past : SlotPast) (events : List Event) → count + length events ≡ all → AreFewAfter count past → AreFewAfter all (fold behind past events)
+all_few : (count all : ℕ) (past : SlotPast) (events : List Event) → count + length events ≡ all
+    → AreFewAfter count past → AreFewAfter all (fold behind past events)
 all_few count all past [] is few = subst (λ n. AreFewAfter n past) (let same : count ≡ all = omega arith in same) few
-all_few count all past (now ∷ later) is few = all_few (count + 1) all (behind past now) later (omega arith) (few_behind count past now few)
+all_few count all past (now ∷ later) is few =
+    all_few (count + 1) all (behind past now) later (omega arith) (few_behind count past now few)
 
 few_after : (slot : ℕ) (events : List Event) → AreFewAfter (length events) (past_of slot events)
 few_after slot events =

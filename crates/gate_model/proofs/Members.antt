@@ -45,7 +45,8 @@ in_map f x [] there = absurd there
 in_map f x (y ∷ xs) (inl here) = inl (ap f here)
 in_map f x (y ∷ xs) (inr there) = inr (in_map f x xs there)
 
-of_cond : {X : Type 0} (passes : Bool) (x y : X) (xs : List X) → In x (cond passes (y ∷ xs) xs) → ((y ≡ x) × (passes ≡ true)) ⊎ In x xs
+of_cond : {X : Type 0} (passes : Bool) (x y : X) (xs : List X) → In x (cond passes (y ∷ xs) xs)
+    → ((y ≡ x) × (passes ≡ true)) ⊎ In x xs
 of_cond true x y xs (inl here) = inl (here, refl)
 of_cond true x y xs (inr there) = inr there
 of_cond false x y xs there = inr there
@@ -61,7 +62,8 @@ in_cond : {X : Type 0} (passes : Bool) (x y : X) (xs : List X) → In x xs → I
 in_cond true x y xs there = inr there
 in_cond false x y xs there = there
 
-in_cond_here : {X : Type 0} (passes : Bool) (x y : X) (xs : List X) → y ≡ x → passes ≡ true → In x (cond passes (y ∷ xs) xs)
+in_cond_here : {X : Type 0} (passes : Bool) (x y : X) (xs : List X) → y ≡ x → passes ≡ true
+    → In x (cond passes (y ∷ xs) xs)
 in_cond_here true x y xs here passed = inl here
 in_cond_here false x y xs here passed = absurd (false≢true passed)
 
@@ -75,7 +77,8 @@ of_option y None ys there = inr there
 of_option y (Some x) ys (inl here) = inl (ap (λ z. Some z) here)
 of_option y (Some x) ys (inr there) = inr there
 
-pub of_filter_map : {X Y : Type 0} (f : X → Option Y) (y : Y) (xs : List X) → In y (filter_map f xs) → (x : X) × In x xs × (f x ≡ Some y)
+pub of_filter_map : {X Y : Type 0} (f : X → Option Y) (y : Y) (xs : List X) → In y (filter_map f xs) → (x : X)
+    × In x xs × (f x ≡ Some y)
 of_filter_map f y [] there = absurd there
 of_filter_map f y (x ∷ xs) there = elim (of_option y (f x) (filter_map f xs) there) [
   | inl here ↦ (x, inl refl, here)
@@ -90,13 +93,15 @@ in_option_here : {X : Type 0} (y : X) (o : Option X) (ys : List X) → o ≡ Som
 in_option_here y None ys is = absurd (cc)
 in_option_here y (Some x) ys is = inl (cc)
 
-pub in_filter_map : {X Y : Type 0} (f : X → Option Y) (x : X) (y : Y) (xs : List X) → In x xs → f x ≡ Some y → In y (filter_map f xs)
+pub in_filter_map : {X Y : Type 0} (f : X → Option Y) (x : X) (y : Y) (xs : List X) → In x xs → f x ≡ Some y
+    → In y (filter_map f xs)
 in_filter_map f x y [] there is = absurd there
 in_filter_map f x y (z ∷ xs) (inl here) is = in_option_here y (f z) (filter_map f xs) (ap f here ∙ is)
 in_filter_map f x y (z ∷ xs) (inr there) is = in_option y (f z) (filter_map f xs) (in_filter_map f x y xs there is)
 
 -- what is found is in the list, and passes · what is in the list is found
-found_cond : {X : Type 0} (passes : Bool) (x y : X) (rest : Option X) → cond passes (Some y) rest ≡ Some x → ((y ≡ x) × (passes ≡ true)) ⊎ (rest ≡ Some x)
+found_cond : {X : Type 0} (passes : Bool) (x y : X) (rest : Option X) → cond passes (Some y) rest ≡ Some x
+    → ((y ≡ x) × (passes ≡ true)) ⊎ (rest ≡ Some x)
 found_cond true x y rest is = inl (cc, refl)
 found_cond false x y rest is = inr is
 
@@ -107,12 +112,14 @@ of_find test x (y ∷ xs) is = elim (found_cond (test y) x y (find test xs) is) 
   | inr more ↦ let found = of_find test x xs more in (inr found.0, found.1)
 ]
 
-any_from : {X : Type 0} (test : X → Bool) (y : X) (ys : List X) → (test y ≡ true) ⊎ (list_any test ys ≡ true) → (list_any test ys ≡ true → (x : X) × In x ys × (test x ≡ true))
+any_from : {X : Type 0} (test : X → Bool) (y : X) (ys : List X) → (test y ≡ true) ⊎ (list_any test ys ≡ true)
+    → (list_any test ys ≡ true → (x : X) × In x ys × (test x ≡ true))
     → (x : X) × In x (y ∷ ys) × (test x ≡ true)
 any_from test y ys (inl here) behind = (y, inl refl, here)
 any_from test y ys (inr more) behind = let found = behind more in (found.0, inr found.1, found.2)
 
-pub of_any : {X : Type 0} (test : X → Bool) (xs : List X) → list_any test xs ≡ true → (x : X) × In x xs × (test x ≡ true)
+pub of_any : {X : Type 0} (test : X → Bool) (xs : List X) → list_any test xs ≡ true → (x : X) × In x xs
+    × (test x ≡ true)
 of_any test [] any = absurd (false≢true any)
 of_any test (y ∷ ys) any = any_from test y ys (or_cases (test y) (list_any test ys) any) (λ more. of_any test ys more)
 
@@ -140,7 +147,8 @@ other_if n [] differs = tt
 other_if n (m ∷ ns) differs = (differs m (inl refl), other_if n ns (λ k there. differs k (inr there)))
 
 -- of two elements with one number where numbers differ, there is one
-pub one_of : {X : Type 0} (number : X → ℕ) (x y : X) (xs : List X) → AreDistinct (map number xs) → In x xs → In y xs → number x ≡ number y → x ≡ y
+pub one_of : {X : Type 0} (number : X → ℕ) (x y : X) (xs : List X) → AreDistinct (map number xs) → In x xs
+    → In y xs → number x ≡ number y → x ≡ y
 one_of number x y [] apart a b same = absurd a
 one_of number x y (z ∷ xs) apart (inl a) (inl b) same = sym a ∙ b
 one_of number x y (z ∷ xs) apart (inl a) (inr b) same =
@@ -150,30 +158,36 @@ one_of number x y (z ∷ xs) apart (inr a) (inl b) same =
 one_of number x y (z ∷ xs) apart (inr a) (inr b) same = one_of number x y xs apart.1 a b same
 
 -- numbers of a part of a list differ too
-pub other_kept : {X : Type 0} (number : X → ℕ) (n : ℕ) (passes : Bool) (x : X) (xs : List X) → IsOther n (map number (x ∷ xs)) → IsOther n (map number xs)
+pub other_kept : {X : Type 0} (number : X → ℕ) (n : ℕ) (passes : Bool) (x : X) (xs : List X)
+    → IsOther n (map number (x ∷ xs)) → IsOther n (map number xs)
 other_kept number n passes x xs other = other.1
 
-other_filter : {X : Type 0} (number : X → ℕ) (n : ℕ) (test : X → Bool) (xs : List X) → IsOther n (map number xs) → IsOther n (map number (filter test xs))
+other_filter : {X : Type 0} (number : X → ℕ) (n : ℕ) (test : X → Bool) (xs : List X) → IsOther n (map number xs)
+    → IsOther n (map number (filter test xs))
 other_filter number n test xs other = other_if n (map number (filter test xs)) (λ m there.
     let found = of_map number m (filter test xs) there in
     let inside = of_filter test found.0 xs found.1 in
     other_at n m (map number xs) other (subst (λ k. In k (map number xs)) found.2 (in_map number found.0 xs inside.0)))
 
-distinct_cond : {X : Type 0} (number : X → ℕ) (passes : Bool) (x : X) (xs : List X) → IsOther (number x) (map number xs) → AreDistinct (map number xs)
+distinct_cond : {X : Type 0} (number : X → ℕ) (passes : Bool) (x : X) (xs : List X)
+    → IsOther (number x) (map number xs) → AreDistinct (map number xs)
     → AreDistinct (map number (cond passes (x ∷ xs) xs))
 distinct_cond number true x xs other apart = (other, apart)
 distinct_cond number false x xs other apart = apart
 
-pub distinct_filter : {X : Type 0} (number : X → ℕ) (test : X → Bool) (xs : List X) → AreDistinct (map number xs) → AreDistinct (map number (filter test xs))
+pub distinct_filter : {X : Type 0} (number : X → ℕ) (test : X → Bool) (xs : List X) → AreDistinct (map number xs)
+    → AreDistinct (map number (filter test xs))
 distinct_filter number test [] apart = tt
 distinct_filter number test (x ∷ xs) apart =
-    distinct_cond number (test x) x (filter test xs) (other_filter number (number x) test xs apart.0) (distinct_filter number test xs apart.1)
+    distinct_cond number (test x) x (filter test xs) (other_filter number (number x) test xs apart.0)
+        (distinct_filter number test xs apart.1)
 
 -- between these words and those of the library
 pub contains_in : {X : Type 0} (x : X) (xs : List X) → In x xs → Contains xs x
 contains_in x [] there = absurd there
 contains_in x (y ∷ xs) (inl here) = (0, omega arith, here)
-contains_in x (y ∷ xs) (inr there) = let behind = contains_in x xs there in (suc behind.0, omega (arith, behind.1), behind.2)
+contains_in x (y ∷ xs) (inr there) =
+    let behind = contains_in x xs there in (suc behind.0, omega (arith, behind.1), behind.2)
 
 pub all_other : (n : ℕ) (ns : List ℕ) → IsOther n ns → All (λ other. other ≢ n) ns
 all_other n ns other = All-from_recursion (λ other. other ≢ n) ns (by_each n ns other)

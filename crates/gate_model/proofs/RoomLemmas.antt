@@ -31,17 +31,21 @@ within_behind most past (event.Packet packet) is = record {
   commands = omega (arith, is.commands);
 }
 
-all_within : (most all : ℕ) (past : SlotPast) (events : List Event) → most + length events ≡ all → IsWithin most past → IsWithin all (fold behind past events)
+all_within : (most all : ℕ) (past : SlotPast) (events : List Event) → most + length events ≡ all
+    → IsWithin most past → IsWithin all (fold behind past events)
 all_within most all past [] is within = record {
   sound = within.sound;
   rates = omega (arith, within.rates);
   lives = omega (arith, within.lives);
   commands = omega (arith, within.commands);
 }
-all_within most all past (now ∷ later) is within = all_within (most + 1) all (behind past now) later (omega arith) (within_behind most past now within)
+all_within most all past (now ∷ later) is within =
+    all_within (most + 1) all (behind past now) later (omega arith) (within_behind most past now within)
 
 pub room_left : FewEventsLeaveRoom
 room_left slot events few =
-    let start : IsWithin 0 (new_slot slot) = record { sound = new_sound slot; rates = omega arith; lives = omega arith; commands = omega arith } in
+    let start : IsWithin 0 (new_slot slot) = record { sound = new_sound slot; rates = omega arith;
+        lives = omega arith; commands = omega arith } in
     let is = all_within 0 (length events) (new_slot slot) events (omega arith) start in
-    record { session = record { rates = omega (arith, is.rates); lives = omega (arith, is.lives) }; commands = omega (arith, is.commands) }
+    record { session = record { rates = omega (arith, is.rates); lives = omega (arith, is.lives) };
+        commands = omega (arith, is.commands) }

@@ -72,14 +72,17 @@ stay : (lives : ℕ) (bearers : List Bearer) → AreLived lives bearers → Beco
 stay lives bearers lived = record { from = λ bearer there. inl (bearer, there, goes_on bearer); lived = lived }
 
 -- all bearers change, and go on
-lives_mapped : (change : Bearer → Bearer) → ((b : Bearer) → Continues b (change b)) → (bearers : List Bearer) → lives_in (map change bearers) ≡ lives_in bearers
+lives_mapped : (change : Bearer → Bearer) → ((b : Bearer) → Continues b (change b)) → (bearers : List Bearer)
+    → lives_in (map change bearers) ≡ lives_in bearers
 lives_mapped change on [] = refl
 lives_mapped change on (b ∷ bs) = let here = (on b).life in let behind = lives_mapped change on bs in cc
 
-all_change : (lives : ℕ) (change : Bearer → Bearer) → ((b : Bearer) → Continues b (change b)) → (bearers : List Bearer) → AreLived lives bearers
+all_change : (lives : ℕ) (change : Bearer → Bearer) → ((b : Bearer) → Continues b (change b))
+    → (bearers : List Bearer) → AreLived lives bearers
     → Become lives lives bearers (map change bearers)
 all_change lives change on bearers lived = record {
-  from = λ b there. let old = of_map change b bearers there in inl (old.0, old.1, subst (Continues old.0) old.2 (on old.0));
+  from = λ b there. let old = of_map change b bearers there in inl (old.0, old.1,
+      subst (Continues old.0) old.2 (on old.0));
   lived = record {
     apart = rw (lives_mapped change on bearers) lived.apart;
     below = λ b there. let old = of_map change b bearers there in
@@ -89,9 +92,11 @@ all_change lives change on bearers lived = record {
 }
 
 -- the first one that passes changes
-of_first : {X : Type 0} (passes : Bool) (test : X → Bool) (change : X → X) (y x : X) (xs rest : List X) → test x ≡ passes
+of_first : {X : Type 0} (passes : Bool) (test : X → Bool) (change : X → X) (y x : X) (xs rest : List X)
+    → test x ≡ passes
     → (In y rest → In y xs ⊎ ((z : X) × In z xs × (test z ≡ true) × (change z ≡ y)))
-    → In y (if passes then change x ∷ xs else x ∷ rest) → In y (x ∷ xs) ⊎ ((z : X) × In z (x ∷ xs) × (test z ≡ true) × (change z ≡ y))
+    → In y (if passes then change x ∷ xs else x ∷ rest) → In y (x ∷ xs)
+    ⊎ ((z : X) × In z (x ∷ xs) × (test z ≡ true) × (change z ≡ y))
 of_first true test change y x xs rest is behind (inl here) = inr (x, inl refl, is, here)
 of_first true test change y x xs rest is behind (inr there) = inl (inr there)
 of_first false test change y x xs rest is behind (inl here) = inl (inl here)
@@ -102,20 +107,24 @@ of_with_first : {X : Type 0} (test : X → Bool) (change : X → X) (y : X) (xs 
     → In y xs ⊎ ((z : X) × In z xs × (test z ≡ true) × (change z ≡ y))
 of_with_first test change y [] there = absurd there
 of_with_first test change y (x ∷ xs) there =
-    of_first (test x) test change y x xs (with_first test change xs) refl (λ behind. of_with_first test change y xs behind) there
+    of_first (test x) test change y x xs (with_first test change xs) refl
+        (λ behind. of_with_first test change y xs behind) there
 
-lives_first : (passes : Bool) (change : Bearer → Bearer) (b : Bearer) (bs rest : List Bearer) → (change b).life ≡ b.life → lives_in rest ≡ lives_in bs
+lives_first : (passes : Bool) (change : Bearer → Bearer) (b : Bearer) (bs rest : List Bearer)
+    → (change b).life ≡ b.life → lives_in rest ≡ lives_in bs
     → lives_in (if passes then change b ∷ bs else b ∷ rest) ≡ lives_in (b ∷ bs)
 lives_first true change b bs rest here behind = cc
 lives_first false change b bs rest here behind = cc
 
-lives_with_first : (test : Bearer → Bool) (change : Bearer → Bearer) → ((b : Bearer) → (change b).life ≡ b.life) → (bearers : List Bearer)
+lives_with_first : (test : Bearer → Bool) (change : Bearer → Bearer) → ((b : Bearer) → (change b).life ≡ b.life)
+    → (bearers : List Bearer)
     → lives_in (with_first test change bearers) ≡ lives_in bearers
 lives_with_first test change same [] = refl
 lives_with_first test change same (b ∷ bs) =
     lives_first (test b) change b bs (with_first test change bs) (same b) (lives_with_first test change same bs)
 
-first_changes : (lives : ℕ) (test : Bearer → Bool) (change : Bearer → Bearer) → ((b : Bearer) → (change b).life ≡ b.life)
+first_changes : (lives : ℕ) (test : Bearer → Bool) (change : Bearer → Bearer)
+    → ((b : Bearer) → (change b).life ≡ b.life)
     → ((b : Bearer) → test b ≡ true → Continues b (change b)) → (bearers : List Bearer) → AreLived lives bearers
     → Become lives lives bearers (with_first test change bearers)
 first_changes lives test change same on bearers lived = record {
@@ -127,38 +136,47 @@ first_changes lives test change same on bearers lived = record {
     apart = rw (lives_with_first test change same bearers) lived.apart;
     below = λ b there. elim (of_with_first test change b bearers there) [
       | inl old ↦ lived.below b old
-      | inr new ↦ let kept : b.life ≡ new.0.life = ap life_of (sym new.3) ∙ same new.0 in omega (arith, lived.below new.0 new.1)
+      | inr new ↦ let kept : b.life ≡ new.0.life = ap life_of (sym new.3)
+          ∙ same new.0 in omega (arith, lived.below new.0 new.1)
     ];
   };
 }
 
 -- the first one that passes goes
-of_left : {X : Type 0} (passes : Bool) (y x : X) (xs rest : List X) → (In y rest → In y xs) → In y (if passes then xs else x ∷ rest) → In y (x ∷ xs)
+of_left : {X : Type 0} (passes : Bool) (y x : X) (xs rest : List X) → (In y rest → In y xs)
+    → In y (if passes then xs else x ∷ rest) → In y (x ∷ xs)
 of_left true y x xs rest behind there = inr there
 of_left false y x xs rest behind (inl here) = inl here
 of_left false y x xs rest behind (inr there) = inr (behind there)
 
 of_without_first : {X : Type 0} (test : X → Bool) (y : X) (xs : List X) → In y (without_first test xs) → In y xs
 of_without_first test y [] there = absurd there
-of_without_first test y (x ∷ xs) there = of_left (test x) y x xs (without_first test xs) (λ behind. of_without_first test y xs behind) there
+of_without_first test y (x ∷ xs) there =
+    of_left (test x) y x xs (without_first test xs) (λ behind. of_without_first test y xs behind) there
 
-other_without : (n : ℕ) (test : Bearer → Bool) (bearers : List Bearer) → IsOther n (lives_in bearers) → IsOther n (lives_in (without_first test bearers))
+other_without : (n : ℕ) (test : Bearer → Bool) (bearers : List Bearer) → IsOther n (lives_in bearers)
+    → IsOther n (lives_in (without_first test bearers))
 other_without n test bearers other = other_if n (lives_in (without_first test bearers)) (λ m there.
     let found = of_map life_of m (without_first test bearers) there in
     other_at n m (lives_in bearers) other
-    (subst (λ k. In k (lives_in bearers)) found.2 (in_map life_of found.0 bearers (of_without_first test found.0 bearers found.1))))
+    (subst (λ k. In k (lives_in bearers)) found.2 (in_map life_of found.0 bearers
+        (of_without_first test found.0 bearers found.1))))
 
-distinct_left : (passes : Bool) (b : Bearer) (bs rest : List Bearer) → AreDistinct (lives_in bs) → IsOther b.life (lives_in rest) → AreDistinct (lives_in rest)
+distinct_left : (passes : Bool) (b : Bearer) (bs rest : List Bearer) → AreDistinct (lives_in bs)
+    → IsOther b.life (lives_in rest) → AreDistinct (lives_in rest)
     → AreDistinct (lives_in (if passes then bs else b ∷ rest))
 distinct_left true b bs rest apart other behind = apart
 distinct_left false b bs rest apart other behind = (other, behind)
 
-distinct_without : (test : Bearer → Bool) (bearers : List Bearer) → AreDistinct (lives_in bearers) → AreDistinct (lives_in (without_first test bearers))
+distinct_without : (test : Bearer → Bool) (bearers : List Bearer) → AreDistinct (lives_in bearers)
+    → AreDistinct (lives_in (without_first test bearers))
 distinct_without test [] apart = tt
 distinct_without test (b ∷ bs) apart =
-    distinct_left (test b) b bs (without_first test bs) apart.1 (other_without b.life test bs apart.0) (distinct_without test bs apart.1)
+    distinct_left (test b) b bs (without_first test bs) apart.1 (other_without b.life test bs apart.0)
+        (distinct_without test bs apart.1)
 
-first_goes : (lives : ℕ) (test : Bearer → Bool) (bearers : List Bearer) → AreLived lives bearers → Become lives lives bearers (without_first test bearers)
+first_goes : (lives : ℕ) (test : Bearer → Bool) (bearers : List Bearer) → AreLived lives bearers
+    → Become lives lives bearers (without_first test bearers)
 first_goes lives test bearers lived = record {
   from = λ b there. inl (b, of_without_first test b bearers there, goes_on b);
   lived = record {
@@ -181,26 +199,32 @@ of_placed y new [] (inr there) = absurd there
 of_placed y new (b ∷ bs) there =
     of_place (nat_lt (index_of new) (index_of b)) y new b bs (placed new bs) (λ behind. of_placed y new bs behind) there
 
-other_placed : (n : ℕ) (new : Bearer) (bearers : List Bearer) → n ≢ new.life → IsOther n (lives_in bearers) → IsOther n (lives_in (placed new bearers))
+other_placed : (n : ℕ) (new : Bearer) (bearers : List Bearer) → n ≢ new.life → IsOther n (lives_in bearers)
+    → IsOther n (lives_in (placed new bearers))
 other_placed n new bearers differs other = other_if n (lives_in (placed new bearers)) (λ m there.
     let found = of_map life_of m (placed new bearers) there in
     elim (of_placed found.0 new bearers found.1) [
       | inl is ↦ λ same. differs (same ∙ sym found.2 ∙ ap life_of (sym is))
-      | inr old ↦ other_at n m (lives_in bearers) other (subst (λ k. In k (lives_in bearers)) found.2 (in_map life_of found.0 bearers old))
+      | inr old ↦ other_at n m (lives_in bearers) other
+          (subst (λ k. In k (lives_in bearers)) found.2 (in_map life_of found.0 bearers old))
     ])
 
-distinct_place : (below : Bool) (new b : Bearer) (bs rest : List Bearer) → IsOther new.life (lives_in (b ∷ bs)) → AreDistinct (lives_in (b ∷ bs))
-    → IsOther b.life (lives_in rest) → AreDistinct (lives_in rest) → AreDistinct (lives_in (if below then new ∷ b ∷ bs else b ∷ rest))
+distinct_place : (below : Bool) (new b : Bearer) (bs rest : List Bearer) → IsOther new.life (lives_in (b ∷ bs))
+    → AreDistinct (lives_in (b ∷ bs))
+    → IsOther b.life (lives_in rest) → AreDistinct (lives_in rest)
+    → AreDistinct (lives_in (if below then new ∷ b ∷ bs else b ∷ rest))
 distinct_place true new b bs rest other apart other_rest behind = (other, apart)
 distinct_place false new b bs rest other apart other_rest behind = (other_rest, behind)
 
-distinct_placed : (new : Bearer) (bearers : List Bearer) → IsOther new.life (lives_in bearers) → AreDistinct (lives_in bearers) → AreDistinct (lives_in (placed new bearers))
+distinct_placed : (new : Bearer) (bearers : List Bearer) → IsOther new.life (lives_in bearers)
+    → AreDistinct (lives_in bearers) → AreDistinct (lives_in (placed new bearers))
 distinct_placed new [] other apart = (tt, tt)
 distinct_placed new (b ∷ bs) other apart =
     distinct_place (nat_lt (index_of new) (index_of b)) new b bs (placed new bs) other apart
     (other_placed b.life new bs (λ same. other.0 (sym same)) apart.0) (distinct_placed new bs other.1 apart.1)
 
-one_more : (new : Bearer) (lives : ℕ) (bearers : List Bearer) → new.life ≡ lives → AreLived lives bearers → Become lives (lives + 1) bearers (placed new bearers)
+one_more : (new : Bearer) (lives : ℕ) (bearers : List Bearer) → new.life ≡ lives → AreLived lives bearers
+    → Become lives (lives + 1) bearers (placed new bearers)
 one_more new lives bearers is lived =
     let other : IsOther new.life (lives_in bearers) = other_if new.life (lives_in bearers) (λ m there same.
     let found = of_map life_of m bearers there in
@@ -209,7 +233,8 @@ one_more new lives bearers is lived =
     omega arith) in
     record {
       from = λ b there. elim (of_placed b new bearers there) [
-        | inl here ↦ let new_life : new.life ≡ b.life = ap life_of here in let above : lives ≤ b.life = omega arith in inr above
+        | inl here ↦ let new_life : new.life ≡ b.life = ap life_of here in let above : lives ≤ b.life =
+            omega arith in inr above
         | inr old ↦ inl (b, old, goes_on b)
       ];
       lived = record {
@@ -222,10 +247,12 @@ one_more new lives bearers is lived =
     }
 
 -- only the default bearer, of the next life
-default_alone : (new : Bearer) (lives : ℕ) (bearers : List Bearer) → new.life ≡ lives → Become lives (lives + 1) bearers (new ∷ [])
+default_alone : (new : Bearer) (lives : ℕ) (bearers : List Bearer) → new.life ≡ lives
+    → Become lives (lives + 1) bearers (new ∷ [])
 default_alone new lives bearers is = record {
   from = λ b there. elim there [
-    | inl here ↦ let new_life : new.life ≡ b.life = ap life_of here in let above : lives ≤ b.life = omega arith in inr above
+    | inl here ↦ let new_life : new.life ≡ b.life = ap life_of here in let above : lives ≤ b.life =
+        omega arith in inr above
     | inr more ↦ absurd more
   ];
   lived = record {
@@ -238,7 +265,8 @@ default_alone new lives bearers is = record {
 }
 
 none_left : (lives : ℕ) (bearers : List Bearer) → Become lives lives bearers []
-none_left lives bearers = record { from = λ b there. absurd there; lived = record { apart = tt; below = λ b there. absurd there } }
+none_left lives bearers =
+    record { from = λ b there. absurd there; lived = record { apart = tt; below = λ b there. absurd there } }
 
 -- a count stays, or rises by one
 record RisesByOne (before after : ℕ) : Type 0 where
@@ -246,8 +274,10 @@ record RisesByOne (before after : ℕ) : Type 0 where
   most : after ≤ before + 1
 
 -- a session whose rates stay
-keeps_rates : (before after : SessionState) → after.slot ≡ before.slot → after.rates ≡ before.rates → after.up ≡ before.up → after.down ≡ before.down
-    → RisesByOne before.lives after.lives → Become before.lives after.lives before.bearers after.bearers → GoesTo before after
+keeps_rates : (before after : SessionState) → after.slot ≡ before.slot → after.rates ≡ before.rates
+    → after.up ≡ before.up → after.down ≡ before.down
+    → RisesByOne before.lives after.lives → Become before.lives after.lives before.bearers after.bearers
+    → GoesTo before after
 keeps_rates before after slot rates up down lives become = record {
   slot = slot;
   rates = omega arith;
@@ -262,7 +292,8 @@ keeps_rates before after slot rates up down lives become = record {
 
 -- a session whose rates are set
 sets_rates : (before after : SessionState) → after.slot ≡ before.slot → after.rates ≡ before.rates + 1
-    → RisesByOne before.lives after.lives → Become before.lives after.lives before.bearers after.bearers → GoesTo before after
+    → RisesByOne before.lives after.lives → Become before.lives after.lives before.bearers after.bearers
+    → GoesTo before after
 sets_rates before after slot rates lives become = record {
   slot = slot;
   rates = omega arith;
@@ -276,64 +307,89 @@ sets_rates before after slot rates lives become = record {
 }
 
 nothing_changes : (session : SessionState) → AreLived session.lives session.bearers → GoesTo session session
-nothing_changes session lived = keeps_rates session session refl refl refl refl (record { least = omega arith; most = omega arith }) (stay session.lives session.bearers lived)
+nothing_changes session lived = keeps_rates session session refl refl refl refl
+    (record { least = omega arith; most = omega arith }) (stay session.lives session.bearers lived)
 
 asked_advances : (seq : ℕ) (phase after : Phase) → is_asked_as seq phase ≡ true → Advances phase after
 asked_advances seq (Asked own) after is = tt
 asked_advances seq (Active ebi) after is = absurd (false≢true is)
 
-bearer_goes : (session : SessionState) (seq : ℕ) (qos : Qos) (index : Option ℕ) (filters : Option (List Filter)) → AreLived session.lives session.bearers
+bearer_goes : (session : SessionState) (seq : ℕ) (qos : Qos) (index : Option ℕ) (filters : Option (List Filter))
+    → AreLived session.lives session.bearers
     → GoesTo session (with_bearer session seq qos index filters)
 bearer_goes session seq qos None filters lived = nothing_changes session lived
 bearer_goes session seq qos (Some index) None lived = nothing_changes session lived
 bearer_goes session seq qos (Some index) (Some filters) lived =
-    keeps_rates session (changes.with_asked session index seq qos filters) refl refl refl refl (record { least = omega arith; most = omega arith })
+    keeps_rates session (changes.with_asked session index seq qos filters) refl refl refl refl
+        (record { least = omega arith; most = omega arith })
     (one_more (changes.asked_bearer session.lives index seq qos filters) session.lives session.bearers refl lived)
 
-filters_go : (session : SessionState) (ebi : ℕ) (filters : Option (List Filter)) → AreLived session.lives session.bearers
+filters_go : (session : SessionState) (ebi : ℕ) (filters : Option (List Filter))
+    → AreLived session.lives session.bearers
     → GoesTo session (with_filters session ebi filters)
 filters_go session ebi None lived = nothing_changes session lived
 filters_go session ebi (Some filters) lived =
-    keeps_rates session (changes.refiltered session ebi filters) refl refl refl refl (record { least = omega arith; most = omega arith })
+    keeps_rates session (changes.refiltered session ebi filters) refl refl refl refl
+        (record { least = omega arith; most = omega arith })
     (first_changes session.lives (is_active ebi) (changes.filtered filters) (λ b. refl)
     (λ b is. record { life = refl; qos = refl; index = refl; phase = same_phase b.phase }) session.bearers lived)
 
-enb_goes : (session : SessionState) (seq ebi : ℕ) (enb : Option Peer) → AreLived session.lives session.bearers → GoesTo session (with_enb session seq ebi enb)
+enb_goes : (session : SessionState) (seq ebi : ℕ) (enb : Option Peer) → AreLived session.lives session.bearers
+    → GoesTo session (with_enb session seq ebi enb)
 enb_goes session seq ebi None lived = nothing_changes session lived
 enb_goes session seq ebi (Some enb) lived =
-    keeps_rates session (changes.granted session seq ebi enb) refl refl refl refl (record { least = omega arith; most = omega arith })
+    keeps_rates session (changes.granted session seq ebi enb) refl refl refl refl
+        (record { least = omega arith; most = omega arith })
     (first_changes session.lives (is_asked seq) (changes.granted_bearer ebi enb) (λ b. refl)
-    (λ b is. record { life = refl; qos = refl; index = refl; phase = asked_advances seq b.phase (Active ebi) is }) session.bearers lived)
+    (λ b is. record { life = refl; qos = refl; index = refl; phase = asked_advances seq b.phase (Active ebi) is })
+        session.bearers lived)
 
-pub effect_goes : (row : Row) (session : SessionState) (command : CommandKind) → AreLived session.lives session.bearers → GoesTo session (effect row session command)
+pub effect_goes : (row : Row) (session : SessionState) (command : CommandKind)
+    → AreLived session.lives session.bearers → GoesTo session (effect row session command)
 effect_goes created session (Create seq mme pdn ebi qos enb up down) lived =
-    sets_rates session (changes.attached session (Some mme) up down ebi qos enb) refl refl (record { least = omega arith; most = omega arith })
+    sets_rates session (changes.attached session (Some mme) up down ebi qos enb) refl refl
+        (record { least = omega arith; most = omega arith })
     (default_alone (changes.default_bearer session.lives ebi qos enb) session.lives session.bearers refl)
 effect_goes attached session (Attach enb up down) lived =
-    sets_rates session (changes.attached session None up down ordered_ebi ordered_qos (Some enb)) refl refl (record { least = omega arith; most = omega arith })
-    (default_alone (changes.default_bearer session.lives ordered_ebi ordered_qos (Some enb)) session.lives session.bearers refl)
+    sets_rates session (changes.attached session None up down ordered_ebi ordered_qos (Some enb)) refl refl
+        (record { least = omega arith; most = omega arith })
+    (default_alone (changes.default_bearer session.lives ordered_ebi ordered_qos (Some enb)) session.lives
+        session.bearers refl)
 effect_goes modified session (Modify seq mme asks) lived =
-    keeps_rates session (effect modified session (Modify seq mme asks)) refl refl refl refl (record { least = omega arith; most = omega arith })
-    (all_change session.lives (changes.rebound_bearer asks) (λ b. record { life = refl; qos = refl; index = refl; phase = same_phase b.phase }) session.bearers lived)
+    keeps_rates session (effect modified session (Modify seq mme asks)) refl refl refl refl
+        (record { least = omega arith; most = omega arith })
+    (all_change session.lives (changes.rebound_bearer asks)
+        (λ b. record { life = refl; qos = refl; index = refl; phase = same_phase b.phase }) session.bearers lived)
 effect_goes released session command lived =
-    keeps_rates session (changes.released session) refl refl refl refl (record { least = omega arith; most = omega arith })
-    (all_change session.lives changes.unbound (λ b. record { life = refl; qos = refl; index = refl; phase = same_phase b.phase }) session.bearers lived)
+    keeps_rates session (changes.released session) refl refl refl refl
+        (record { least = omega arith; most = omega arith })
+    (all_change session.lives changes.unbound (λ b. record { life = refl; qos = refl; index = refl;
+        phase = same_phase b.phase }) session.bearers lived)
 effect_goes deleted session command lived =
-    keeps_rates session (changes.detached session) refl refl refl refl (record { least = omega arith; most = omega arith }) (none_left session.lives session.bearers)
+    keeps_rates session (changes.detached session) refl refl refl refl
+        (record { least = omega arith; most = omega arith }) (none_left session.lives session.bearers)
 effect_goes asked session (AddBearer seq qci mbr_up mbr_down gbr_up gbr_down tft) lived =
-    bearer_goes session seq (qos_asked session.bearers qci mbr_up mbr_down gbr_up gbr_down) (least_free session.bearers) (filters_given tft) lived
-effect_goes refiltered session (Filters seq ebi tft) lived = filters_go session ebi (filters_made session.bearers ebi tft) lived
+    bearer_goes session seq (qos_asked session.bearers qci mbr_up mbr_down gbr_up gbr_down)
+        (least_free session.bearers) (filters_given tft) lived
+effect_goes refiltered session (Filters seq ebi tft) lived =
+    filters_go session ebi (filters_made session.bearers ebi tft) lived
 effect_goes dropped session (Drop seq ebi) lived =
-    keeps_rates session (changes.dropped session ebi) refl refl refl refl (record { least = omega arith; most = omega arith }) (first_goes session.lives (is_dedicated ebi) session.bearers lived)
+    keeps_rates session (changes.dropped session ebi) refl refl refl refl
+        (record { least = omega arith; most = omega arith })
+        (first_goes session.lives (is_dedicated ebi) session.bearers lived)
 effect_goes rerated session (Ambr seq up down) lived =
-    sets_rates session (changes.rerated session up down) refl refl (record { least = omega arith; most = omega arith }) (stay session.lives session.bearers lived)
+    sets_rates session (changes.rerated session up down) refl refl
+        (record { least = omega arith; most = omega arith }) (stay session.lives session.bearers lived)
 effect_goes granted session (CreateAns seq cause ebi row_cause enb) lived = enb_goes session seq ebi enb lived
 effect_goes denied session (CreateAns seq cause ebi row_cause enb) lived =
-    keeps_rates session (changes.denied session seq) refl refl refl refl (record { least = omega arith; most = omega arith }) (first_goes session.lives (is_asked seq) session.bearers lived)
+    keeps_rates session (changes.denied session seq) refl refl refl refl
+        (record { least = omega arith; most = omega arith })
+        (first_goes session.lives (is_asked seq) session.bearers lived)
 effect_goes row session command lived = nothing_changes session lived
 
 -- but for the answer that is kept
-pub session_goes : (session : SessionState) (command : CommandKind) → AreLived session.lives session.bearers → GoesTo session (controlled session command).0
+pub session_goes : (session : SessionState) (command : CommandKind) → AreLived session.lives session.bearers
+    → GoesTo session (controlled session command).0
 session_goes session command lived =
     let goes = effect_goes (row_of session command) session command lived in
     record {

@@ -7,7 +7,8 @@ use Rattle.gate_model.specs.SlotPast.{past_of, next_version}
 
 -- behind fewer than 2^40 events each count of what is charged may rise
 abbrev pub FewEventsAreFew : Type 0
-FewEventsAreFew = (slot : ℕ) (events : List Event) → length events < 2 ^ 40 → AreFew (past_of slot events).packets.charged
+FewEventsAreFew = (slot : ℕ) (events : List Event) → length events < 2 ^ 40
+    → AreFew (past_of slot events).packets.charged
 
 -- and the version that one command more leaves may follow
 abbrev pub FewCommandsFollow : Type 0

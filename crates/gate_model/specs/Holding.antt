@@ -52,4 +52,5 @@ waiting number rows = count_by (λ (row : HeldRow). row.packet.number == number)
 abbrev pub EachHeldPacketOnce : Type 0
 EachHeldPacketOnce = (slot : ℕ) (events : List Event) (number : ℕ)
     → count_by (holds number) (story_of slot events)
-    ≡ sum_by (λ (told : Told). fates_at number told.happened) (story_of slot events) + waiting number (past_of slot events).packets.held
+    ≡ sum_by (λ (told : Told). fates_at number told.happened) (story_of slot events)
+        + waiting number (past_of slot events).packets.held

@@ -68,16 +68,19 @@ rows_of_life life rows = filter (λ (row : ForwardedRow). row.life == life) rows
 
 -- What is remembered as forwarded is what the story tells, packet by packet.
 abbrev pub ForwardedIsTold : Type 0
-ForwardedIsTold = (slot : ℕ) (events : List Event) → map sent_as (forwarded_after slot events) ≡ sent_in (story_of slot events)
+ForwardedIsTold = (slot : ℕ) (events : List Event) → map sent_as (forwarded_after slot events)
+    ≡ sent_in (story_of slot events)
 
 -- The pieces of a life, one behind another, are the packets that were forwarded for it, each in one piece.
 pub record IsCharged (slot : ℕ) (events : List Event) (life : ℕ) : Type 0 where
   pub partition : IsPartition life (past_of slot events).packets.charged
-  pub packets : packets_of life (past_of slot events).packets.charged ≡ map charged_as (rows_of_life life (forwarded_after slot events))
+  pub packets : packets_of life (past_of slot events).packets.charged
+      ≡ map charged_as (rows_of_life life (forwarded_after slot events))
 
 abbrev pub EachPacketInOnePiece : Type 0
 EachPacketInOnePiece = (slot : ℕ) (events : List Event) (life : ℕ) → IsCharged slot events life
 
 -- Records are never taken back: the events behind others make some more.
 abbrev pub RecordsAreAdded : Type 0
-RecordsAreAdded = (slot : ℕ) (before now : List Event) → records_after slot (before ++ now) ≡ records_after slot before ++ records_made slot before now
+RecordsAreAdded = (slot : ℕ) (before now : List Event)
+    → records_after slot (before ++ now) ≡ records_after slot before ++ records_made slot before now

@@ -49,7 +49,8 @@ met past packet = record past { packets = (judged past.packets packet).0 }
 
 -- what becomes of them: a reply with its effects, and a verdict
 abbrev pub command_happens : SlotPast → CommandKind → Happened
-command_happens past command = Replied (controlled past.session command).1 (learnt past.packets (next_version past command)).1
+command_happens past command =
+    Replied (controlled past.session command).1 (learnt past.packets (next_version past command)).1
 
 abbrev pub packet_happens : SlotPast → Packet → Happened
 packet_happens past packet = Judged (judged past.packets packet).1
@@ -82,7 +83,8 @@ abbrev pub reply_after : ℕ → List Event → CommandKind → Reply
 reply_after slot before command = (controlled (session_after slot before) command).1
 
 abbrev pub effects_after : ℕ → List Event → CommandKind → List Effect
-effects_after slot before command = (learnt (past_of slot before).packets (next_version (past_of slot before) command)).1
+effects_after slot before command =
+    (learnt (past_of slot before).packets (next_version (past_of slot before) command)).1
 
 abbrev pub verdict_after : ℕ → List Event → Packet → Verdict
 verdict_after slot before packet = (judged (past_of slot before).packets packet).1

@@ -10,7 +10,8 @@ pub record Told : Type 0 where
 
 abbrev pub told_from : SlotPast → List Event → List Told
 told_from past [] = []
-told_from past (now ∷ later) = record { event = now; happened = (happens past now).1 } ∷ told_from (happens past now).0 later
+told_from past (now ∷ later) =
+    record { event = now; happened = (happens past now).1 } ∷ told_from (happens past now).0 later
 
 -- the whole story of a slot
 abbrev pub story_of : ℕ → List Event → List Told

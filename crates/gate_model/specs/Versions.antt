@@ -14,22 +14,26 @@ use Rattle.gate_model.specs.SlotPast.{past_of, session_after, version_after, nex
 
 -- the control table folded over commands
 abbrev pub controlled_by : SessionState → List CommandKind → SessionState
-controlled_by session commands = fold (λ (s : SessionState) (command : CommandKind). (controlled s command).0) session commands
+controlled_by session commands =
+    fold (λ (s : SessionState) (command : CommandKind). (controlled s command).0) session commands
 
 -- packets change nothing of a session, which depends on the commands alone
 abbrev pub SessionsAreOfCommands : Type 0
-SessionsAreOfCommands = (slot : ℕ) (events : List Event) → session_after slot events ≡ controlled_by (new_session slot) (commands_of events)
+SessionsAreOfCommands = (slot : ℕ) (events : List Event)
+    → session_after slot events ≡ controlled_by (new_session slot) (commands_of events)
 
 -- packets go by the session's version, under the number of commands so far
 abbrev pub VersionsAreOfCommands : Type 0
 VersionsAreOfCommands = (slot : ℕ) (events : List Event)
-    → version_after slot events ≡ version_of (controlled_by (new_session slot) (commands_of events)) (length (commands_of events))
+    → version_after slot events ≡ version_of (controlled_by (new_session slot) (commands_of events))
+        (length (commands_of events))
 
 -- the version that a command leaves may follow on the past before it, as long as few things happened
 abbrev pub EachVersionFollows : Type 0
 EachVersionFollows = (slot : ℕ) (events : List Event) (command : CommandKind)
     → let past = past_of slot events in
-    AreFew (learnt past.packets (next_version past command)).0.charged → Follows past.packets (next_version past command)
+    AreFew (learnt past.packets (next_version past command)).0.charged
+        → Follows past.packets (next_version past command)
 
 -- the lives that are open in the book are those of the active bearers
 abbrev pub OpenLivesAreActive : Type 0

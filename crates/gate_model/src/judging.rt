@@ -25,14 +25,16 @@ impl Memory {
 
     /// What becomes of a packet at a version.
     pub(crate) fn judge(&mut self, version: &Version, packet: &Packet) -> Result<Verdict, NoMemory>
-        ensures { IfOk result (λ verdict. judged (past_at version.now self.old) packet.now ≡ (past_at version.now self.new, verdict)) }
+        ensures { IfOk result (λ verdict. judged (past_at version.now self.old) packet.now
+            ≡ (past_at version.now self.new, verdict)) }
     {
         self.come(packet.moment);
         self.judge_now(version, packet)
     }
 
     fn judge_now(&mut self, version: &Version, packet: &Packet) -> Result<Verdict, NoMemory>
-        ensures { IfOk result (λ verdict. judged_now (past_at version.now self.old) packet.now ≡ (past_at version.now self.new, verdict)) }
+        ensures { IfOk result (λ verdict. judged_now (past_at version.now self.old) packet.now
+            ≡ (past_at version.now self.new, verdict)) }
     {
         if !version.live {
             return Ok(Verdict::NoBearer);
@@ -47,7 +49,8 @@ impl Memory {
     }
 
     fn judge_up(&mut self, version: &Version, index: u8, ip: &Ip4<'_>) -> Result<Verdict, NoMemory>
-        ensures { IfOk result (λ verdict. judged_up (past_at version.now self.old) ip.now (bearer_at version.now.bearers index) ≡ (past_at version.now self.new, verdict)) }
+        ensures { IfOk result (λ verdict. judged_up (past_at version.now self.old) ip.now
+            (bearer_at version.now.bearers index) ≡ (past_at version.now self.new, verdict)) }
     {
         let Some(bearer) = version.bearer_at(index) else {
             return Ok(Verdict::NoBearer);
@@ -72,7 +75,8 @@ impl Memory {
         ip: &Ip4<'_>,
     ) -> Result<Verdict, NoMemory>
         requires { packet.now.octets ≡ ip.now }
-        ensures { IfOk result (λ verdict. judged_down (past_at version.now self.old) packet.now (bearer_for version.now ip.now) ≡ (past_at version.now self.new, verdict)) }
+        ensures { IfOk result (λ verdict. judged_down (past_at version.now self.old) packet.now
+            (bearer_for version.now ip.now) ≡ (past_at version.now self.new, verdict)) }
     {
         let Some(bearer) = taking(version, ip) else {
             return Ok(Verdict::NoBearer);
@@ -95,7 +99,8 @@ impl Memory {
         requires len { len ≡ length ip.now }
         requires short { len < 2 ^ 16 }
         ensures { (packet : Packet) → packet.octets ≡ ip.now
-            → IfOk result (λ verdict. judged_to (past_at version.now self.old) packet bearer.now (Some peer) ≡ (past_at version.now self.new, verdict)) }
+            → IfOk result (λ verdict. judged_to (past_at version.now self.old) packet bearer.now (Some peer)
+                ≡ (past_at version.now self.new, verdict)) }
     {
         let octets = ip.octets();
         if !self.forward(version, bearer, false, len)? {
@@ -116,7 +121,8 @@ impl Memory {
     ) -> Result<Verdict, NoMemory>
         requires short { length packet.now.octets < 2 ^ 16 }
         requires ebi { IsEbi bearer.now.ebi }
-        ensures { IfOk result (λ verdict. judged_waiting (past_at version.now self.old) packet.now bearer.now ≡ (past_at version.now self.new, verdict)) }
+        ensures { IfOk result (λ verdict. judged_waiting (past_at version.now self.old) packet.now bearer.now
+            ≡ (past_at version.now self.new, verdict)) }
     {
         if self.held().len() >= MOST_HELD {
             return Ok(Verdict::Idle { life: bearer.life });

@@ -18,7 +18,8 @@ impl Memory {
 
     /// What a version brings that follows on another one.
     pub(crate) fn learn(&mut self, before: &Version, after: &Version) -> Result<Effects, NoMemory>
-        ensures { IfOk result (λ effects. learnt (past_at before.now self.old) after.now ≡ (past_at after.now self.new, effects)) }
+        ensures { IfOk result (λ effects. learnt (past_at before.now self.old) after.now
+            ≡ (past_at after.now self.new, effects)) }
     {
         let alloc = self.allocator();
         let postings = marks(alloc, before, after)?;
@@ -36,7 +37,8 @@ impl Memory {
         rows: &[HeldPacket],
         effects: &mut Vec<Effect>,
     ) -> Result<(), NoMemory>
-        ensures { OnOk result (fold released (past_at version.now self.old, effects.old.items) rows.now ≡ (past_at version.now self.new, effects.new.items)) }
+        ensures { OnOk result (fold released (past_at version.now self.old, effects.old.items) rows.now
+            ≡ (past_at version.now self.new, effects.new.items)) }
     {
         for row in rows {
             self.release(version, row, effects)?;
@@ -50,7 +52,8 @@ impl Memory {
         row: &HeldPacket,
         effects: &mut Vec<Effect>,
     ) -> Result<(), NoMemory>
-        ensures { OnOk result (released (past_at version.now self.old, effects.old.items) row.now ≡ (past_at version.now self.new, effects.new.items)) }
+        ensures { OnOk result (released (past_at version.now self.old, effects.old.items) row.now
+            ≡ (past_at version.now self.new, effects.new.items)) }
     {
         let Some(bearer) = bearer_of(version.bearers(), row.life) else {
             return tell(effects, row, Fate::Gone { life: row.life });
@@ -69,7 +72,8 @@ impl Memory {
         bearer: &ActiveBearer,
         peer: Peer,
     ) -> Result<(), NoMemory>
-        ensures { OnOk result (released_to (past_at version.now self.old, effects.old.items) row.now bearer.now (Some peer) ≡ (past_at version.now self.new, effects.new.items)) }
+        ensures { OnOk result (released_to (past_at version.now self.old, effects.old.items) row.now bearer.now
+            (Some peer) ≡ (past_at version.now self.new, effects.new.items)) }
     {
         let octets = row.packet.octets.as_slice();
         if !self.forward(version, bearer, false, octets.len() as u32)? {

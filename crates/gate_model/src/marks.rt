@@ -50,7 +50,8 @@ fn ended(
     before: &[ActiveBearer],
     after: &[ActiveBearer],
 ) -> Result<Vec<Posting>, NoMemory>
-    ensures { IfOk result (λ postings. postings.items ≡ map (λ bearer. Posting.Close bearer.life Why.Gone) (lacking_in after.now before.now)) }
+    ensures { IfOk result (λ postings. postings.items ≡ map (λ bearer. Posting.Close bearer.life Why.Gone)
+        (lacking_in after.now before.now)) }
 {
     before
         .iter()

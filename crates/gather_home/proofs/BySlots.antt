@@ -30,11 +30,13 @@ module _ {N : Type 0} (slot_of : N → ℕ) where
       let e : first + suc k ≡ first + 1 + k = omega arith in
       subst (λ (n : ℕ). slot_at slot_of n (get_or names k None) ≡ n) e (from (suc k))
 
-  slot_there : (first : ℕ) (names : List (Option N)) → From first names → (n : N) (k : ℕ) → get_or names k None ≡ Some n → slot_of n ≡ first + k
+  slot_there : (first : ℕ) (names : List (Option N)) → From first names → (n : N) (k : ℕ)
+      → get_or names k None ≡ Some n → slot_of n ≡ first + k
   slot_there first names from n k is = sym (ap (slot_at slot_of (first + k)) is) ∙ from k
 
 module _ {N : Type 0} (coded : Coded N) where
-  stands_or : (m n : N) (names : List (Option N)) (w : ℕ) → only coded n m ≡ w → (1 ≤ sum_by (weight_at (only coded n)) names → Stands names n)
+  stands_or : (m n : N) (names : List (Option N)) (w : ℕ) → only coded n m ≡ w
+      → (1 ≤ sum_by (weight_at (only coded n)) names → Stands names n)
       → 1 ≤ sum_by (weight_at (only coded n)) (Some m ∷ names) → Stands (Some m ∷ names) n
   stands_or m n names zero e later some =
       let s = sum_by-cons (weight_at (only coded n)) (Some m) names in
@@ -53,24 +55,28 @@ module _ {N : Type 0} (coded : Coded N) where
     abbrev pub Among : List H → N → Type 0
     Among halves n = (k : ℕ) × (k < length halves) × ((d : H) → name (get_or halves k d) ≡ n)
 
-    among_or : (half : H) (halves : List H) (n : N) (w : ℕ) → only coded n (name half) ≡ w → (1 ≤ weight name (only coded n) halves → Among halves n)
+    among_or : (half : H) (halves : List H) (n : N) (w : ℕ) → only coded n (name half) ≡ w
+        → (1 ≤ weight name (only coded n) halves → Among halves n)
         → 1 ≤ weight name (only coded n) (half ∷ halves) → Among (half ∷ halves) n
     among_or half halves n zero e later some =
         let f : H → ℕ = λ half. only coded n (name half) in
         let s = sum_by-cons f half halves in
         let there = later (omega arith) in (suc there.0, (let a = there.1 in omega arith), there.2)
-    among_or half halves n (suc w) e later some = (0, (omega arith), λ d. sym (only_one coded n (name half) (omega arith)))
+    among_or half halves n (suc w) e later some = (0, (omega arith),
+        λ d. sym (only_one coded n (name half) (omega arith)))
 
     among : (halves : List H) (n : N) → 1 ≤ weight name (only coded n) halves → Among halves n
     among [] n some = absurd (omega arith)
     among (half ∷ halves) n some = among_or half halves n (only coded n (name half)) refl (among halves n) some
 
     module _ (slot_of : N → ℕ) where
-      climbs_next : (half : H) (halves : List H) → IsNonDecreasingBy (λ x. slot_of (name x)) (half ∷ halves) → IsNonDecreasingBy (λ x. slot_of (name x)) halves
+      climbs_next : (half : H) (halves : List H) → IsNonDecreasingBy (λ x. slot_of (name x)) (half ∷ halves)
+          → IsNonDecreasingBy (λ x. slot_of (name x)) halves
       climbs_next half halves climbs i j d low within = climbs (suc i) (suc j) d (omega arith) (omega arith)
 
       pub by_slot_from : (first : ℕ) (names : List (Option N)) (halves : List H) → From slot_of first names
-          → IsNonDecreasingBy (λ x. slot_of (name x)) halves → ((h : N → ℕ) → weight name h halves ≡ sum_by (weight_at h) names)
+          → IsNonDecreasingBy (λ x. slot_of (name x)) halves
+          → ((h : N → ℕ) → weight name h halves ≡ sum_by (weight_at h) names)
           → map name halves ≡ somes names
       by_slot_from first [] [] from climbs same = refl
       by_slot_from first [] (half ∷ halves) from climbs same = absurd (
@@ -84,7 +90,8 @@ module _ {N : Type 0} (coded : Coded N) where
           let one : N → ℕ = λ _. 1 in
           let a = same one in let b = sum_by-cons (weight_at one) (Some n) names in omega arith)
       by_slot_from first (Some n ∷ names) (half ∷ halves) from climbs same =
-          (λ i. is i ∷ by_slot_from (first + 1) names halves (from_next slot_of first (Some n) names from) (climbs_next half halves climbs) less i) where
+          (λ i. is i ∷ by_slot_from (first + 1) names halves (from_next slot_of first (Some n) names from)
+              (climbs_next half halves climbs) less i) where
             here : Stands (Some n ∷ names) (name half)
             here =
                 let f : H → ℕ = λ x. only coded (name half) (name x) in
@@ -109,7 +116,8 @@ module _ {N : Type 0} (coded : Coded N) where
 
             is : name half ≡ n
             is =
-                let e : Some n ≡ Some (name half) = subst (λ (k : ℕ). get_or (Some n ∷ names) k None ≡ Some (name half)) first_one here.1 in
+                let e : Some n ≡ Some (name half) = subst (λ (k : ℕ). get_or (Some n ∷ names) k None
+                    ≡ Some (name half)) first_one here.1 in
                 sym (ap (some_out n) e)
 
             less : (h : N → ℕ) → weight name h halves ≡ sum_by (weight_at h) names
@@ -120,22 +128,27 @@ module _ {N : Type 0} (coded : Coded N) where
                 let c = sum_by-cons (weight_at h) (Some n) names in
                 let d = ap h is in omega arith
 
-      pub by_slot : (names : List (Option N)) (halves : List H) → BySlot slot_of names → IsNonDecreasingBy (λ x. slot_of (name x)) halves
+      pub by_slot : (names : List (Option N)) (halves : List H) → BySlot slot_of names
+          → IsNonDecreasingBy (λ x. slot_of (name x)) halves
           → ((h : N → ℕ) → weight name h halves ≡ sum_by (weight_at h) names) → map name halves ≡ somes names
       by_slot names halves slots climbs same = by_slot_from 0 names halves from_zero climbs same where
         from_zero : From slot_of 0 names
-        from_zero k = let e : k ≡ 0 + k = omega arith in subst (λ (n : ℕ). slot_at slot_of n (get_or names k None) ≡ n) e (slots k)
+        from_zero k = let e : k ≡ 0 + k = omega arith in subst (λ (n : ℕ). slot_at slot_of n (get_or names k None)
+            ≡ n) e (slots k)
 
 -- halves whose names are those of a list stand there
 module _ {H N : Type 0} (name : H → N) where
-  each_stands : (names : List (Option N)) (halves : List H) → map name halves ≡ somes names → All (λ half. Stands names (name half)) halves
+  each_stands : (names : List (Option N)) (halves : List H) → map name halves ≡ somes names
+      → All (λ half. Stands names (name half)) halves
   each_stands names [] same = All-nil (λ half. Stands names (name half))
   each_stands [] (half ∷ halves) same = absurd (let e = ap length same in omega arith)
   each_stands (None ∷ names) (half ∷ halves) same =
-      All-weaker (λ x. Stands names (name x)) (λ x. Stands (None ∷ names) (name x)) (λ x at. (suc at.0, at.1)) (half ∷ halves) (each_stands names (half ∷ halves) same)
+      All-weaker (λ x. Stands names (name x)) (λ x. Stands (None ∷ names) (name x)) (λ x at. (suc at.0, at.1))
+          (half ∷ halves) (each_stands names (half ∷ halves) same)
   each_stands (Some n ∷ names) (half ∷ halves) same =
       All-cons (λ x. Stands (Some n ∷ names) (name x)) half halves (0, ap Some (sym (ap (first n) same)))
-      (All-weaker (λ x. Stands names (name x)) (λ x. Stands (Some n ∷ names) (name x)) (λ x at. (suc at.0, at.1)) halves (each_stands names halves (ap later same))) where
+      (All-weaker (λ x. Stands names (name x)) (λ x. Stands (Some n ∷ names) (name x))
+          (λ x at. (suc at.0, at.1)) halves (each_stands names halves (ap later same))) where
         first : {X : Type 0} → X → List X → X
         first d [] = d
         first d (x ∷ xs) = x
@@ -144,7 +157,8 @@ module _ {H N : Type 0} (name : H → N) where
         later [] = []
         later (x ∷ xs) = xs
 
-  pub each_at_slot : (slot_of : N → ℕ) (names : List (Option N)) (halves : List H) → BySlot slot_of names → map name halves ≡ somes names
+  pub each_at_slot : (slot_of : N → ℕ) (names : List (Option N)) (halves : List H) → BySlot slot_of names
+      → map name halves ≡ somes names
       → All (λ half. get_or names (slot_of (name half)) None ≡ Some (name half)) halves
   each_at_slot slot_of names halves slots same =
       All-weaker (λ x. Stands names (name x)) (λ x. get_or names (slot_of (name x)) None ≡ Some (name x))

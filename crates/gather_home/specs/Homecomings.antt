@@ -39,9 +39,11 @@ module _ {H N : Type 0} (name : H → N) (h : N → ℕ) where
   opened_taken (Some lane) = weight name h (taken lane.rx)
 
 -- each name that was admitted is found, or is where it is still to be found, as often
-abbrev pub IsWhole : {H N : Type 0} → (H → N) → List (Option (Place H)) → List (Option (Place H)) → List H → List (Order H) → List H → Option (HomeLane H) → List (Desk H)
+abbrev pub IsWhole : {H N : Type 0} → (H → N) → List (Option (Place H)) → List (Option (Place H)) → List H
+    → List (Order H) → List H → Option (HomeLane H) → List (Desk H)
     → Type 0
 IsWhole {H} {N} name admitted places found left held opened desks =
-    (h : N → ℕ) → sum_by (front_at name h) places + weight name h found + weight name h (arrivals left) + weight name h held
+    (h : N → ℕ) → sum_by (front_at name h) places + weight name h found + weight name h (arrivals left)
+        + weight name h held
     + opened_sent name h opened + sum_by (sent_weight name h) desks
     ≡ sum_by (weight_at h) (names_of name admitted) + opened_taken name h opened + sum_by (home_weight name h) desks

@@ -77,7 +77,8 @@ impl<H: Traveller> Parts<H> {
 
     // The halves by slot, once all are found.
     fn sorted(self) -> Vec<H>
-        requires { (h : H.Name → ℕ) → weight H.name h self.found.items ≡ sum_by (weight_at h) (names_of H.name (admitted_of self)) }
+        requires { (h : H.Name → ℕ) → weight H.name h self.found.items
+            ≡ sum_by (weight_at h) (names_of H.name (admitted_of self)) }
         ensures { map H.name result.items ≡ somes (names_of H.name (admitted_of self)) }
     {
         let Parts { mut found, .. } = self;
@@ -88,7 +89,8 @@ impl<H: Traveller> Parts<H> {
     // Finds all halves.
     fn collect<R: Wait>(&mut self, rt: &R) -> Result<(), NoMemory>
         ensures same { admitted_of self.new ≡ admitted_of self.old }
-        ensures found { OnOk result ((h : H.Name → ℕ) → weight H.name h self.new.found.items ≡ sum_by (weight_at h) (names_of H.name (admitted_of self.new))) }
+        ensures found { OnOk result ((h : H.Name → ℕ) → weight H.name h self.new.found.items
+            ≡ sum_by (weight_at h) (names_of H.name (admitted_of self.new))) }
     {
         self.empty_out()?;
         self.close_home(rt)?;
@@ -102,10 +104,12 @@ impl<H: Traveller> Parts<H> {
     // Finds the halves of the last slice.
     fn collect_one<R: Wait>(&mut self, rt: &R) -> Result<(), NoMemory>
         requires some { 0 < vec_len self.old.desks }
-        requires empty { (self.old.places.items ≡ []) × (self.old.left.items ≡ []) × (self.old.held.items ≡ []) × (self.old.opened ≡ None) }
+        requires empty { (self.old.places.items ≡ []) × (self.old.left.items ≡ []) × (self.old.held.items ≡ [])
+            × (self.old.opened ≡ None) }
         ensures same { admitted_of self.new ≡ admitted_of self.old }
         ensures one { OnOk result (vec_len self.new.desks + 1 ≡ vec_len self.old.desks) }
-        ensures empty { OnOk result ((self.new.places.items ≡ []) × (self.new.left.items ≡ []) × (self.new.held.items ≡ []) × (self.new.opened ≡ None)) }
+        ensures empty { OnOk result ((self.new.places.items ≡ []) × (self.new.left.items ≡ [])
+            × (self.new.held.items ≡ []) × (self.new.opened ≡ None)) }
     {
         self.close_orders(rt)?;
         self.empty_out()?;
@@ -118,7 +122,8 @@ impl<H: Traveller> Parts<H> {
         ensures same { admitted_of self.new ≡ admitted_of self.old }
         ensures desks { vec_len self.new.desks ≡ vec_len self.old.desks }
         ensures opened { self.new.opened ≡ self.old.opened }
-        ensures empty { OnOk result ((self.new.places.items ≡ []) × (self.new.left.items ≡ []) × (self.new.held.items ≡ [])) }
+        ensures empty { OnOk result ((self.new.places.items ≡ []) × (self.new.left.items ≡ [])
+            × (self.new.held.items ≡ [])) }
     {
         steps::take_fronts(&mut self.places, &mut self.found)?;
         steps::take_left(&mut self.left, &mut self.found)?;

@@ -46,7 +46,8 @@ places-alone done (c ∷ commands) = places-alone (done + 1) commands
 places-behind : (done : ℕ) (commands : List CommandKind) (events : List Event)
     → places done (map event.Command commands ++ events) ≡ places (done + length commands) events
 places-behind done [] events = ap (λ k. places k events) (omega arith)
-places-behind done (c ∷ commands) events = places-behind (done + 1) commands events ∙ ap (λ k. places k events) (omega arith)
+places-behind done (c ∷ commands) events =
+    places-behind (done + 1) commands events ∙ ap (λ k. places k events) (omega arith)
 
 take-drop : {X : Type 0} (n : ℕ) (xs : List X) → take n xs ++ drop n xs ≡ xs
 take-drop zero xs = refl
@@ -65,7 +66,8 @@ length-drop (suc n) [] within = absurd (omega (arith, within))
 length-drop (suc n) (x ∷ xs) within = let rest = length-drop n xs (omega (arith, within)) in omega (arith, rest)
 
 -- in their order commands are the commands, and packets the packets
-pub ordered-commands : (done next : ℕ) (commands : List CommandKind) (packets : List Placed) → commands_of (ordered done next commands packets) ≡ commands
+pub ordered-commands : (done next : ℕ) (commands : List CommandKind) (packets : List Placed)
+    → commands_of (ordered done next commands packets) ≡ commands
 ordered-commands done next commands [] = commands-alone commands
 ordered-commands done next commands (p ∷ packets) =
     filter_map-append _ (map event.Command (take (p.commands - done) commands)) _
@@ -82,7 +84,8 @@ ordered-packets done next commands (p ∷ packets) =
     ++ (numbered next p.packet ∷ ordered-packets p.commands (next + 1) (drop (p.commands - done) commands) packets i))
 
 -- and before each packet stand as many commands as it tells, where counts rise and none is above all commands
-pub ordered-places : (done next : ℕ) (commands : List CommandKind) (packets : List Placed) → Rises done (counts_of packets)
+pub ordered-places : (done next : ℕ) (commands : List CommandKind) (packets : List Placed)
+    → Rises done (counts_of packets)
     → NoneAbove (done + length commands) (counts_of packets)
     → places done (ordered done next commands packets) ≡ counts_of packets
 ordered-places done next commands [] rises within = places-alone done commands
@@ -91,15 +94,18 @@ ordered-places done next commands (p ∷ packets) rises within =
     let front = length-take (p.commands - done) commands few in
     let rest = length-drop (p.commands - done) commands few in
     let here : done + length (take (p.commands - done) commands) ≡ p.commands = omega (arith, front, rises.0) in
-    let most : done + length commands ≡ p.commands + length (drop (p.commands - done) commands) = omega (arith, rest, rises.0) in
+    let most : done + length commands ≡ p.commands + length (drop (p.commands - done) commands) =
+        omega (arith, rest, rises.0) in
     places-behind done (take (p.commands - done) commands) _
-    ∙ ap (λ k. places k (event.Packet (numbered next p.packet) ∷ ordered p.commands (next + 1) (drop (p.commands - done) commands) packets)) here
+    ∙ ap (λ k. places k (event.Packet (numbered next p.packet)
+        ∷ ordered p.commands (next + 1) (drop (p.commands - done) commands) packets)) here
     ∙ ap (λ counts. p.commands ∷ counts)
     (ordered-places p.commands (next + 1) (drop (p.commands - done) commands) packets rises.1
     (subst (λ k. NoneAbove k (counts_of packets)) most within.1))
 
 -- no packet meets more commands than its slot has
-fewer_with : (test : Bool) (slot : ℕ) (now : LineTold) (lines some : List LineTold) → command_count slot some ≤ command_count slot lines
+fewer_with : (test : Bool) (slot : ℕ) (now : LineTold) (lines some : List LineTold)
+    → command_count slot some ≤ command_count slot lines
     → command_count slot (cond test [] (now ∷ some)) ≤ command_count slot (now ∷ lines)
 fewer_with false slot now lines some fewer =
     let parts : command_count slot ((now ∷ []) ++ lines) ≡ command_count slot (now ∷ []) + command_count slot lines =
@@ -109,7 +115,8 @@ fewer_with false slot now lines some fewer =
     omega (arith, fewer, parts, others)
 fewer_with true slot now lines some fewer = omega arith
 
-fewer_before_move : (slot other : ℕ) (lines : List LineTold) → command_count slot (before_next_move other lines) ≤ command_count slot lines
+fewer_before_move : (slot other : ℕ) (lines : List LineTold)
+    → command_count slot (before_next_move other lines) ≤ command_count slot lines
 fewer_before_move slot other [] = omega arith
 fewer_before_move slot other (now ∷ later) =
     fewer_with (moves other now) slot now later (before_next_move other later) (fewer_before_move slot other later)
@@ -118,14 +125,17 @@ pub met_at_most : (job : Job) (start : Histories) (slot : ℕ) (front later : Li
     → MayMeet job start slot front later count
     → count ≤ count_before start slot + command_count slot (front ++ now ∷ later)
 met_at_most solo start slot front later now count meets =
-    let parts : command_count slot (front ++ now ∷ later) ≡ command_count slot front + command_count slot (now ∷ later) =
+    let parts : command_count slot (front ++ now ∷ later) ≡ command_count slot front
+        + command_count slot (now ∷ later) =
     simp (filter_map-append, length-append) in
     omega (arith, meets, parts)
 met_at_most (sliced slices room lane) start slot front later now count meets =
     let fewer = fewer_before_move slot slot later in
-    let parts : command_count slot (front ++ now ∷ later) ≡ command_count slot front + command_count slot (now ∷ later) =
+    let parts : command_count slot (front ++ now ∷ later) ≡ command_count slot front
+        + command_count slot (now ∷ later) =
     simp (filter_map-append, length-append) in
-    let some : command_count slot (front ++ before_next_move slot later) ≡ command_count slot front + command_count slot (before_next_move slot later) =
+    let some : command_count slot (front ++ before_next_move slot later) ≡ command_count slot front
+        + command_count slot (before_next_move slot later) =
     simp (filter_map-append, length-append) in
     let own : command_count slot ((now ∷ []) ++ later) ≡ command_count slot (now ∷ []) + command_count slot later =
     simp (filter_map-append, length-append) in
@@ -136,38 +146,51 @@ above_first : (test : Bool) (count most : ℕ) (counts : List ℕ) → (test ≡
 above_first true count most counts own none = (own refl, none)
 above_first false count most counts own none = none
 
-by_entry : (slot : ℕ) (job : Job) (start : Histories) (front : List LineTold) (now : Meaning) (entry : LineEntry) (later : List LineTold)
+by_entry : (slot : ℕ) (job : Job) (start : Histories) (front : List LineTold) (now : Meaning) (entry : LineEntry)
+    (later : List LineTold)
     (counts : List ℕ) → MeetsAs job start front entry later
-    → NoneAbove (count_before start slot + command_count slot (front ++ record { meaning = now; entry = entry } ∷ later)) counts
-    → NoneAbove (count_before start slot + command_count slot (front ++ record { meaning = now; entry = entry } ∷ later))
+    → NoneAbove (count_before start slot + command_count slot (front ++ record { meaning = now; entry = entry }
+        ∷ later)) counts
+    → NoneAbove (count_before start slot + command_count slot (front ++ record { meaning = now; entry = entry }
+        ∷ later))
     (cons_option (commands_told slot entry) counts)
 by_entry slot job start front now (line.N noted) later counts meets none = none
 by_entry slot job start front now (line.C answered) later counts meets none = none
 by_entry slot job start front now (line.P judged) later counts meets none =
     above_first (judged.slot == slot) judged.commands
-    (count_before start slot + command_count slot (front ++ record { meaning = now; entry = line.P judged } ∷ later)) counts
-    (λ own. subst (λ s. judged.commands ≤ count_before start s + command_count s (front ++ record { meaning = now; entry = line.P judged } ∷ later))
+    (count_before start slot + command_count slot (front ++ record { meaning = now; entry = line.P judged }
+        ∷ later)) counts
+    (λ own. subst (λ s. judged.commands ≤ count_before start s
+        + command_count s (front ++ record { meaning = now; entry = line.P judged } ∷ later))
     (eqb-true judged.slot slot own)
-    (met_at_most job start judged.slot front later (record { meaning = now; entry = line.P judged }) judged.commands meets)) none
+    (met_at_most job start judged.slot front later (record { meaning = now; entry = line.P judged })
+        judged.commands meets)) none
 by_entry slot job start front now (line.F refused) later counts meets none = none
 
-none_above : (slot n : ℕ) (job : Job) (start : Histories) (front : List LineTold) (made : List Meaning) (entries : List LineEntry)
+none_above : (slot n : ℕ) (job : Job) (start : Histories) (front : List LineTold) (made : List Meaning)
+    (entries : List LineEntry)
     → AnswersAll n made entries → EachFrom (MeetsBounds job start) front (lines_told made entries)
-    → NoneAbove (count_before start slot + command_count slot (front ++ lines_told made entries)) (filter_map (commands_told slot) entries)
+    → NoneAbove (count_before start slot + command_count slot (front ++ lines_told made entries))
+        (filter_map (commands_told slot) entries)
 none_above slot n job start front [] [] answers each = tt
 none_above slot n job start front [] (entry ∷ entries) answers each = absurd answers
 none_above slot n job start front (now ∷ made) [] answers each = absurd answers
 none_above slot n job start front (now ∷ made) (entry ∷ entries) answers each =
     let told : LineTold = record { meaning = now; entry = entry } in
-    let rest = subst (λ lines. NoneAbove (count_before start slot + command_count slot lines) (filter_map (commands_told slot) entries))
+    let rest = subst (λ lines. NoneAbove (count_before start slot + command_count slot lines)
+        (filter_map (commands_told slot) entries))
     (append_assoc front (told ∷ []) (lines_told made entries))
     (none_above slot (n + 1) job start (front ++ told ∷ []) made entries answers.1 each.1) in
-    by_entry slot job start front now entry (lines_told made entries) (filter_map (commands_told slot) entries) each.0 rest
+    by_entry slot job start front now entry (lines_told made entries)
+        (filter_map (commands_told slot) entries) each.0 rest
 
-pub counts_within : (job : Job) (slots first : ℕ) (before : Histories) (made : List Meaning) (told : EpochReport) (slot : ℕ)
+pub counts_within : (job : Job) (slots first : ℕ) (before : Histories) (made : List Meaning) (told : EpochReport)
+    (slot : ℕ)
     → IsEpochRun job slots first before made told
-    → NoneAbove (length (commands_of (before slot)) + length (commands_accepted slot (told_in made told))) (filter_map (commands_told slot) told.lines)
-counts_within job slots first before made told slot run = none_above slot first job before [] made told.lines run.one_each run.bounds
+    → NoneAbove (length (commands_of (before slot)) + length (commands_accepted slot (told_in made told)))
+        (filter_map (commands_told slot) told.lines)
+counts_within job slots first before made told slot run =
+    none_above slot first job before [] made told.lines run.one_each run.bounds
 
 pub stand_as_told : EventsStandAsTold
 stand_as_told job slots first before made told slot run =
@@ -178,7 +201,9 @@ stand_as_told job slots first before made told slot run =
     record {
       commands = ordered-commands done (length (packets_of (before slot))) commands packets;
       packets = ordered-packets done (length (packets_of (before slot))) commands packets;
-      counts = ordered-places done (length (packets_of (before slot))) commands packets (subst (Rises done) (sym placed) (run.counts_rise slot))
-          (subst (NoneAbove (done + length commands)) (sym placed) (counts_within job slots first before made told slot run))
+      counts = ordered-places done (length (packets_of (before slot))) commands packets
+          (subst (Rises done) (sym placed) (run.counts_rise slot))
+          (subst (NoneAbove (done + length commands)) (sym placed)
+              (counts_within job slots first before made told slot run))
           ∙ placed;
     }

@@ -43,7 +43,8 @@ command_count-push slot front now = simp (filter_map-append, length-append)
 
 -- the commands of a slot behind a line are those before it and its own
 with_command : (test : Bool) (events : List Event) (c : CommandKind)
-    → length (commands_of (cond test (events ++ event.Command c ∷ []) events)) ≡ length (commands_of events) + some_count (cond test (Some c) None)
+    → length (commands_of (cond test (events ++ event.Command c ∷ []) events)) ≡ length (commands_of events)
+        + some_count (cond test (Some c) None)
 with_command true events c = commands-command events c
 with_command false events c = omega arith
 
@@ -53,22 +54,26 @@ with_packet true events p = commands-packet events p
 with_packet false events p = refl
 
 pub commands-line : (slot : ℕ) (events : List Event) (made : Meaning)
-    → length (commands_of (with_line slot events made)) ≡ length (commands_of events) + some_count (command_for slot made)
+    → length (commands_of (with_line slot events made)) ≡ length (commands_of events)
+        + some_count (command_for slot made)
 commands-line slot events (note text) = omega arith
 commands-line slot events (move own slice text) = omega arith
 commands-line slot events (command own c) = with_command (own == slot) events c
-commands-line slot events (packet own p) = omega (arith, with_packet (own == slot) events (numbered (length (packets_of events)) p))
+commands-line slot events (packet own p) =
+    omega (arith, with_packet (own == slot) events (numbered (length (packets_of events)) p))
 
 -- the count at a line, where the line isn't refused
 abbrev pub IsCounted : Histories → ℕ → List LineTold → List Event → Type 0
 IsCounted start slot front events = length (commands_of events) ≡ count_at_once start slot front
 
-pub counted_on : (start : Histories) (slot : ℕ) (front : List LineTold) (events : List Event) (made : Meaning) (entry : LineEntry)
+pub counted_on : (start : Histories) (slot : ℕ) (front : List LineTold) (events : List Event) (made : Meaning)
+    (entry : LineEntry)
     → accepted_command slot (record { meaning = made; entry = entry }) ≡ command_for slot made
     → IsCounted start slot front events
     → IsCounted start slot (front ++ record { meaning = made; entry = entry } ∷ []) (with_line slot events made)
 counted_on start slot front events made entry taken counts =
     let more = command_count-push slot front (record { meaning = made; entry = entry }) in
     let brought = commands-line slot events made in
-    let one : some_count (accepted_command slot (record { meaning = made; entry = entry })) ≡ some_count (command_for slot made) = ap some_count taken in
+    let one : some_count (accepted_command slot (record { meaning = made; entry = entry }))
+        ≡ some_count (command_for slot made) = ap some_count taken in
     omega (arith, counts, more, brought, one)

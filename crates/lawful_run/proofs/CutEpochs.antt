@@ -11,9 +11,12 @@ abbrev pub AreWhole : List (List Line) → Type 0
 AreWhole closed = All (λ epoch. is_whole [] epoch ≡ true) closed
 
 -- behind a whole epoch the others go on
-behind_whole : (slices : ℕ) (before epoch : List Line) (epochs : List (List Line)) (noted : List Meaning) → is_whole [] epoch ≡ true
-    → epochs_from slices before (epoch ∷ epochs) noted ≡ meant_from slices before epoch ∷ epochs_from slices (before ++ epoch) epochs noted
-behind_whole slices before epoch [] noted whole = ap (λ test. with_noted test (meant_from slices before epoch) noted) whole
+behind_whole : (slices : ℕ) (before epoch : List Line) (epochs : List (List Line)) (noted : List Meaning)
+    → is_whole [] epoch ≡ true
+    → epochs_from slices before (epoch ∷ epochs) noted ≡ meant_from slices before epoch
+        ∷ epochs_from slices (before ++ epoch) epochs noted
+behind_whole slices before epoch [] noted whole =
+    ap (λ test. with_noted test (meant_from slices before epoch) noted) whole
 behind_whole slices before epoch (next ∷ epochs) noted whole = refl
 
 open_last : (slices : ℕ) (before open_ : List Line) (noted : List Meaning) → is_whole [] open_ ≡ false
@@ -23,7 +26,8 @@ open_last slices before (line ∷ lines) noted unfinished =
     ap (λ test. with_noted test (meant_from slices before (line ∷ lines)) noted) unfinished
 
 -- lines in whole epochs and an open one mean this, with what is noted behind them
-pub cut_means : (slices : ℕ) (before : List Line) (closed : List (List Line)) (open_ : List Line) (noted : List Meaning) → AreWhole closed
+pub cut_means : (slices : ℕ) (before : List Line) (closed : List (List Line)) (open_ : List Line)
+    (noted : List Meaning) → AreWhole closed
     → is_whole [] open_ ≡ false
     → epochs_from slices before (closed ++ open_epoch open_) noted
     ≡ meant_epochs slices before closed
@@ -32,17 +36,21 @@ cut_means slices before [] open_ noted whole unfinished =
     open_last slices before open_ noted unfinished
     ∙ ap (λ lines. own_epoch (meant_from slices lines open_ ++ noted)) (sym (append-nil before))
 cut_means slices before (epoch ∷ closed) open_ noted whole unfinished =
-    behind_whole slices before epoch (closed ++ open_epoch open_) noted (All-head (λ e. is_whole [] e ≡ true) epoch closed whole)
+    behind_whole slices before epoch (closed ++ open_epoch open_) noted
+        (All-head (λ e. is_whole [] e ≡ true) epoch closed whole)
     ∙ ap (λ rest. meant_from slices before epoch ∷ rest)
-    (cut_means slices (before ++ epoch) closed open_ noted (All-tail (λ e. is_whole [] e ≡ true) epoch closed whole) unfinished
+    (cut_means slices (before ++ epoch) closed open_ noted
+        (All-tail (λ e. is_whole [] e ≡ true) epoch closed whole) unfinished
     ∙ ap (λ lines. meant_epochs slices (before ++ epoch) closed ++ own_epoch (meant_from slices lines open_ ++ noted))
     (append_assoc before epoch (flat_map (λ (e : List Line). e) closed)))
 
 -- what lines mean, some behind others
 pub meant_from-append : (slices : ℕ) (before lines more : List Line)
-    → meant_from slices before (lines ++ more) ≡ meant_from slices before lines ++ meant_from slices (before ++ lines) more
+    → meant_from slices before (lines ++ more) ≡ meant_from slices before lines
+    ++ meant_from slices (before ++ lines) more
 meant_from-append slices before [] more = ap (λ done. meant_from slices done more) (sym (append-nil before))
 meant_from-append slices before (line ∷ lines) more =
     ap (λ rest. settled_by slices before (meaning slices before line) ∷ rest)
     (meant_from-append slices (before ++ line ∷ []) lines more
-    ∙ ap (λ done. meant_from slices (before ++ line ∷ []) lines ++ meant_from slices done more) (append_assoc before (line ∷ []) lines))
+    ∙ ap (λ done. meant_from slices (before ++ line ∷ []) lines ++ meant_from slices done more)
+        (append_assoc before (line ∷ []) lines))

@@ -19,11 +19,13 @@ use Rattle.lawful_run.proofs.Meets.{at_once_meets}
 use Rattle.lawful_run.proofs.Lawful.{within, not_refused, not_parked}
 
 -- the events that a line brings stand behind those before it
-with_brings : (slot : ℕ) (events : List Event) (now : Meaning) → events ++ brings slot events now ≡ with_line slot events now
+with_brings : (slot : ℕ) (events : List Event) (now : Meaning)
+    → events ++ brings slot events now ≡ with_line slot events now
 with_brings slot events (note text) = append-nil events
 with_brings slot events (move own slice text) = append-nil events
 with_brings slot events (command own c) = by_test (own == slot) where
-  by_test : (test : Bool) → events ++ cond test (event.Command c ∷ []) [] ≡ cond test (events ++ event.Command c ∷ []) events
+  by_test : (test : Bool) → events ++ cond test (event.Command c ∷ []) []
+      ≡ cond test (events ++ event.Command c ∷ []) events
   by_test true = refl
   by_test false = append-nil events
 with_brings slot events (packet own p) = by_test (own == slot) where
@@ -32,7 +34,8 @@ with_brings slot events (packet own p) = by_test (own == slot) where
   by_test true = refl
   by_test false = append-nil events
 
-pub with_brought : (slot : ℕ) (events : List Event) (made : List Meaning) → events ++ brought slot events made ≡ events_after slot events made
+pub with_brought : (slot : ℕ) (events : List Event) (made : List Meaning)
+    → events ++ brought slot events made ≡ events_after slot events made
 with_brought slot events [] = append-nil events
 with_brought slot events (now ∷ made) =
     sym (append_assoc events (brings slot events now) (brought slot (with_line slot events now) made))
@@ -49,18 +52,22 @@ module _ (slots first : ℕ) (before : Histories) (made : List Meaning) where
 
   in_order : (slot : ℕ) → InLineOrder slot (before slot) made (entries_from first before made)
   in_order slot =
-      met_slot slot first before [] (before slot) made (entries_from first before made) (answered_each first before made)
+      met_slot slot first before [] (before slot) made (entries_from first before made)
+          (answered_each first before made)
       (at_once_meets before [] (lines_told made (entries_from first before made)) at_once) (counted_none before slot)
 
-  pub answered_epoch_lawful : (job : Job) → IsEpochRun job slots first before made (answered_epoch slots first before made)
+  pub answered_epoch_lawful : (job : Job) → IsEpochRun job slots first before made
+      (answered_epoch slots first before made)
   answered_epoch_lawful job = record {
     one_each = answered_each first before made;
     command_numbers = λ slot. (answered_slot slot first before made).command_numbers;
     packet_numbers = λ slot. (answered_slot slot first before made).packet_numbers;
     counts_rise = λ slot. (in_order slot).rises;
     bounds = within job before (lines_told made (entries_from first before made)) at_once;
-    replies = λ slot. (answered_slot slot first before made).replies ∙ sym (ap (made_of.replies slot (before slot)) (in_order slot).events);
-    verdicts = λ slot. (answered_slot slot first before made).verdicts ∙ sym (ap (made_of.verdicts slot (before slot)) (in_order slot).events);
+    replies = λ slot. (answered_slot slot first before made).replies
+        ∙ sym (ap (made_of.replies slot (before slot)) (in_order slot).events);
+    verdicts = λ slot. (answered_slot slot first before made).verdicts
+        ∙ sym (ap (made_of.verdicts slot (before slot)) (in_order slot).events);
     effects = λ i. by_slot slots (λ slot. made_of.effects slot (before slot) (sym (in_order slot).events i));
     rows = λ i. by_slot slots (λ slot. made_of.rows slot (before slot) (sym (in_order slot).events i));
     refusals = not_refused job before (lines_told made (entries_from first before made)) at_once;
@@ -72,15 +79,18 @@ module _ (slots first : ℕ) (before : Histories) (made : List Meaning) where
 
   -- the events behind it are those that its lines bring
   pub behind_answered : behind before (told_in made (answered_epoch slots first before made)) ≡ behind_lines before made
-  behind_answered = λ i slot. (ap (λ events. before slot ++ events) (in_order slot).events ∙ with_brought slot (before slot) made) i
+  behind_answered = λ i slot. (ap (λ events. before slot ++ events) (in_order slot).events
+      ∙ with_brought slot (before slot) made) i
 
 pub answered_from_lawful : (job : Job) (slots first : ℕ) (before : Histories) (epochs : List (List Meaning))
     → AreEpochRuns job slots first before epochs (answered_from slots first before epochs)
 answered_from_lawful job slots first before [] = tt
 answered_from_lawful job slots first before (made ∷ epochs) = (
   answered_epoch_lawful slots first before made job,
-  subst (λ h. AreEpochRuns job slots (first + length made) h epochs (answered_from slots (first + length made) (behind_lines before made) epochs))
-      (sym (behind_answered slots first before made)) (answered_from_lawful job slots (first + length made) (behind_lines before made) epochs),
+  subst (λ h. AreEpochRuns job slots (first + length made) h epochs
+      (answered_from slots (first + length made) (behind_lines before made) epochs))
+      (sym (behind_answered slots first before made)) (answered_from_lawful job slots (first + length made)
+          (behind_lines before made) epochs),
 )
 
 pub answered_from_at_once : (slots first : ℕ) (before : Histories) (epochs : List (List Meaning))
@@ -89,17 +99,20 @@ answered_from_at_once slots first before [] = tt
 answered_from_at_once slots first before (made ∷ epochs) = (
   answered_epoch_at_once slots first before made,
   subst (λ h. EpochsAtOnce h epochs (answered_from slots (first + length made) (behind_lines before made) epochs))
-      (sym (behind_answered slots first before made)) (answered_from_at_once slots (first + length made) (behind_lines before made) epochs),
+      (sym (behind_answered slots first before made)) (answered_from_at_once slots (first + length made)
+          (behind_lines before made) epochs),
 )
 
 pub behind_all_answered : (slots first : ℕ) (before : Histories) (epochs : List (List Meaning))
     → behind_all before epochs (answered_from slots first before epochs) ≡ behind_epochs before epochs
 behind_all_answered slots first before [] = refl
 behind_all_answered slots first before (made ∷ epochs) =
-    ap (λ h. behind_all h epochs (answered_from slots (first + length made) (behind_lines before made) epochs)) (behind_answered slots first before made)
+    ap (λ h. behind_all h epochs (answered_from slots (first + length made) (behind_lines before made) epochs))
+        (behind_answered slots first before made)
     ∙ behind_all_answered slots (first + length made) (behind_lines before made) epochs
 
-pub answered_is_run : (job : Job) (slots : ℕ) (made : List (List Meaning)) → IsRun job slots made (answered_run slots made)
+pub answered_is_run : (job : Job) (slots : ℕ) (made : List (List Meaning))
+    → IsRun job slots made (answered_run slots made)
 answered_is_run job slots made = record {
   epochs = answered_from_lawful job slots 1 no_events made;
   opens = λ i. by_slot slots (λ slot. made_of.opens slot (sym (behind_all_answered slots 1 no_events made) i slot));

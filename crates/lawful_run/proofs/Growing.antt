@@ -18,15 +18,18 @@ use Rattle.lawful_run.specs.Telling.{counted}
 
 -- one line more
 pub entries_from-push : (n : ℕ) (before : Histories) (made : List Meaning) (now : Meaning)
-    → entries_from n before (made ++ now ∷ []) ≡ entries_from n before made ++ entry_after (n + length made) (behind_lines before made) now ∷ []
+    → entries_from n before (made ++ now ∷ []) ≡ entries_from n before made
+    ++ entry_after (n + length made) (behind_lines before made) now ∷ []
 entries_from-push n before [] now = ap (λ k. entry_after k before now ∷ []) (omega arith)
 entries_from-push n before (first ∷ made) now =
     ap (λ rest. entry_after n before first ∷ rest)
     (entries_from-push (n + 1) (behind_line before first) made now
-    ∙ ap (λ k. entries_from (n + 1) (behind_line before first) made ++ entry_after k (behind_lines before (first ∷ made)) now ∷ []) (omega arith))
+    ∙ ap (λ k. entries_from (n + 1) (behind_line before first) made
+    ++ entry_after k (behind_lines before (first ∷ made)) now ∷ []) (omega arith))
 
 pub brought-push : (slot : ℕ) (events : List Event) (made : List Meaning) (now : Meaning)
-    → brought slot events (made ++ now ∷ []) ≡ brought slot events made ++ brings slot (events_after slot events made) now
+    → brought slot events (made ++ now ∷ []) ≡ brought slot events made
+    ++ brings slot (events_after slot events made) now
 brought-push slot events [] now = append-nil (brings slot events now)
 brought-push slot events (first ∷ made) now =
     ap (λ rest. brings slot events first ++ rest) (brought-push slot (with_line slot events first) made now)
@@ -42,7 +45,8 @@ events_after-push slot events (first ∷ made) now = events_after-push slot (wit
 pub answered_from-push : (slots first : ℕ) (before : Histories) (epochs : List (List Meaning)) (made : List Meaning)
     → answered_from slots first before (epochs ++ made ∷ [])
     ≡ answered_from slots first before epochs
-    ++ answered_epoch slots (first + length (flat_map (λ (lines : List Meaning). lines) epochs)) (behind_epochs before epochs) made ∷ []
+    ++ answered_epoch slots (first + length (flat_map (λ (lines : List Meaning). lines) epochs))
+        (behind_epochs before epochs) made ∷ []
 answered_from-push slots first before [] made = ap (λ k. answered_epoch slots k before made ∷ []) (omega arith)
 answered_from-push slots first before (done ∷ epochs) made =
     ap (λ rest. answered_epoch slots first before done ∷ rest)
@@ -57,7 +61,8 @@ behind_epochs-push before [] made = refl
 behind_epochs-push before (done ∷ epochs) made = behind_epochs-push (behind_lines before done) epochs made
 
 -- further slots that have nothing change nothing
-counted_none : {X : Type 0} (first n : ℕ) (has : ℕ → List X) → ((s : ℕ) → first ≤ s → has s ≡ []) → flat_map has (counted first n) ≡ []
+counted_none : {X : Type 0} (first n : ℕ) (has : ℕ → List X) → ((s : ℕ) → first ≤ s → has s ≡ [])
+    → flat_map has (counted first n) ≡ []
 counted_none first zero has none = refl
 counted_none first (suc n) has none =
     ap (λ xs. xs ++ flat_map has (counted (first + 1) n)) (none first (omega arith))
@@ -77,14 +82,17 @@ by_slot-more slots more has none = counted_more 0 slots more has (λ s above. no
 
 -- outcomes of events, one behind another
 pub effects-append : (slot : ℕ) (before events more : List Event)
-    → made_of.effects slot before (events ++ more) ≡ made_of.effects slot before events ++ made_of.effects slot (before ++ events) more
+    → made_of.effects slot before (events ++ more) ≡ made_of.effects slot before events
+    ++ made_of.effects slot (before ++ events) more
 effects-append slot before [] more = ap (λ done. made_of.effects slot done more) (sym (append-nil before))
 effects-append slot before (event.Command c ∷ events) more =
-    let now : List Effected = map (made_of.effect_entry slot (length (commands_of before))) (effects_after slot before c) in
+    let now : List Effected = map (made_of.effect_entry slot (length (commands_of before)))
+        (effects_after slot before c) in
     ap (λ rest. now ++ rest) (effects-append slot (before ++ event.Command c ∷ []) events more)
     ∙ sym (append_assoc now (made_of.effects slot (before ++ event.Command c ∷ []) events)
     (made_of.effects slot ((before ++ event.Command c ∷ []) ++ events) more))
-    ∙ ap (λ done. (now ++ made_of.effects slot (before ++ event.Command c ∷ []) events) ++ made_of.effects slot done more)
+    ∙ ap (λ done. (now ++ made_of.effects slot (before ++ event.Command c ∷ []) events)
+    ++ made_of.effects slot done more)
     (append_assoc before (event.Command c ∷ []) events)
 effects-append slot before (event.Packet p ∷ events) more =
     effects-append slot (before ++ event.Packet p ∷ []) events more
@@ -92,7 +100,8 @@ effects-append slot before (event.Packet p ∷ events) more =
     (append_assoc before (event.Packet p ∷ []) events)
 
 pub records-append : (slot : ℕ) (before events more : List Event)
-    → records_made slot before (events ++ more) ≡ records_made slot before events ++ records_made slot (before ++ events) more
+    → records_made slot before (events ++ more) ≡ records_made slot before events
+    ++ records_made slot (before ++ events) more
 records-append slot before events more =
     append_cancel_left (records_after slot before) (records_made slot before (events ++ more))
     (records_made slot before events ++ records_made slot (before ++ events) more)
@@ -100,10 +109,12 @@ records-append slot before events more =
     ∙ ap (records_after slot) (sym (append_assoc before events more))
     ∙ records_added slot (before ++ events) more
     ∙ ap (λ rows. rows ++ records_made slot (before ++ events) more) (records_added slot before events)
-    ∙ append_assoc (records_after slot before) (records_made slot before events) (records_made slot (before ++ events) more))
+    ∙ append_assoc (records_after slot before) (records_made slot before events)
+        (records_made slot (before ++ events) more))
 
 pub rows-append : (slot : ℕ) (before events more : List Event)
-    → made_of.rows slot before (events ++ more) ≡ made_of.rows slot before events ++ made_of.rows slot (before ++ events) more
+    → made_of.rows slot before (events ++ more) ≡ made_of.rows slot before events
+    ++ made_of.rows slot (before ++ events) more
 rows-append slot before events more =
     ap (map (R slot)) (records-append slot before events more)
     ∙ map-append (R slot) (records_made slot before events) (records_made slot (before ++ events) more)
@@ -118,7 +129,8 @@ no_rows slot before events first none = λ i. made_of.rows slot (first i) (none 
 no_opens : (slot : ℕ) (events : List Event) → events ≡ [] → made_of.opens slot events ≡ []
 no_opens slot events none = ap (made_of.opens slot) none
 
-pub epoch_slots : (slots more first : ℕ) (before : Histories) (made : List Meaning) → ((slot : ℕ) → slots ≤ slot → before slot ≡ [])
+pub epoch_slots : (slots more first : ℕ) (before : Histories) (made : List Meaning)
+    → ((slot : ℕ) → slots ≤ slot → before slot ≡ [])
     → ((slot : ℕ) → slots ≤ slot → brought slot (before slot) made ≡ [])
     → answered_epoch (slots + more) first before made ≡ answered_epoch slots first before made
 epoch_slots slots more first before made unknown none =
@@ -129,5 +141,7 @@ epoch_slots slots more first before made unknown none =
     λ i. record { lines = entries_from first before made; effects = effects i; rows = rows i }
 
 pub open_slots : (slots more : ℕ) (events : Histories) → ((slot : ℕ) → slots ≤ slot → events slot ≡ [])
-    → by_slot (slots + more) (λ slot. made_of.opens slot (events slot)) ≡ by_slot slots (λ slot. made_of.opens slot (events slot))
-open_slots slots more events none = by_slot-more slots more (λ slot. made_of.opens slot (events slot)) (λ s above. no_opens s (events s) (none s above))
+    → by_slot (slots + more) (λ slot. made_of.opens slot (events slot))
+        ≡ by_slot slots (λ slot. made_of.opens slot (events slot))
+open_slots slots more events none = by_slot-more slots more (λ slot. made_of.opens slot (events slot))
+    (λ s above. no_opens s (events s) (none s above))

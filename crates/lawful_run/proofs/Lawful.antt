@@ -18,16 +18,19 @@ pub each_gives : (P Q : List LineTold → LineTold → List LineTold → Type 0)
     → ((front : List LineTold) (now : LineTold) (later : List LineTold) → P front now later → Q front now later)
     → (front lines : List LineTold) → EachFrom P front lines → EachFrom Q front lines
 each_gives P Q gives front [] each = tt
-each_gives P Q gives front (now ∷ later) each = (gives front now later each.0, each_gives P Q gives (front ++ now ∷ []) later each.1)
+each_gives P Q gives front (now ∷ later) each =
+    (gives front now later each.0, each_gives P Q gives (front ++ now ∷ []) later each.1)
 
 -- the commands before a last move are some of all, and those behind are more
-commands-front : (slot : ℕ) (now : LineTold) (lines : List LineTold) → command_count slot lines ≤ command_count slot (now ∷ lines)
+commands-front : (slot : ℕ) (now : LineTold) (lines : List LineTold)
+    → command_count slot lines ≤ command_count slot (now ∷ lines)
 commands-front slot now lines =
     let parts : command_count slot ((now ∷ []) ++ lines) ≡ command_count slot (now ∷ []) + command_count slot lines =
     simp (filter_map-append, length-append) in
     omega (arith, parts)
 
-before_last_move_fewer : (test : Bool) (slot : ℕ) (now : LineTold) (lines moved : List LineTold) → command_count slot moved ≤ command_count slot lines
+before_last_move_fewer : (test : Bool) (slot : ℕ) (now : LineTold) (lines moved : List LineTold)
+    → command_count slot moved ≤ command_count slot lines
     → command_count slot (cond test (now ∷ moved) []) ≤ command_count slot (now ∷ lines)
 before_last_move_fewer true slot now lines moved fewer =
     let parts : command_count slot ((now ∷ []) ++ lines) ≡ command_count slot (now ∷ []) + command_count slot lines =
@@ -37,18 +40,22 @@ before_last_move_fewer true slot now lines moved fewer =
     omega (arith, fewer, parts, others)
 before_last_move_fewer false slot now lines moved fewer = omega arith
 
-pub before_last_move-count : (slot : ℕ) (lines : List LineTold) → command_count slot (before_last_move slot lines) ≤ command_count slot lines
+pub before_last_move-count : (slot : ℕ) (lines : List LineTold)
+    → command_count slot (before_last_move slot lines) ≤ command_count slot lines
 before_last_move-count slot [] = omega arith
 before_last_move-count slot (now ∷ later) =
-    before_last_move_fewer (is_moved slot later) slot now later (before_last_move slot later) (before_last_move-count slot later)
+    before_last_move_fewer (is_moved slot later) slot now later (before_last_move slot later)
+        (before_last_move-count slot later)
 
 -- what meets just the commands before it is within the bounds of any job
-pub meets_at_once : (job : Job) (start : Histories) (slot : ℕ) (front later : List LineTold) (count : ℕ) → count ≡ count_at_once start slot front
+pub meets_at_once : (job : Job) (start : Histories) (slot : ℕ) (front later : List LineTold) (count : ℕ)
+    → count ≡ count_at_once start slot front
     → MayMeet job start slot front later count
 meets_at_once solo start slot front later count is = is
 meets_at_once (sliced slices room lane) start slot front later count is =
     let some_before = before_last_move-count slot front in
-    let some_more : command_count slot (front ++ before_next_move slot later) ≡ command_count slot front + command_count slot (before_next_move slot later) =
+    let some_more : command_count slot (front ++ before_next_move slot later) ≡ command_count slot front
+        + command_count slot (before_next_move slot later) =
     simp (filter_map-append, length-append) in
     (omega (arith, is, some_before), omega (arith, is, some_more))
 
@@ -56,7 +63,8 @@ pub entry_within : (job : Job) (start : Histories) (front : List LineTold) (entr
     → EntryAtOnce start front entry → MeetsAs job start front entry later
 entry_within job start front (line.N noted) later once = tt
 entry_within job start front (line.C answered) later once = tt
-entry_within job start front (line.P judged) later once = meets_at_once job start judged.slot front later judged.commands once.commands
+entry_within job start front (line.P judged) later once =
+    meets_at_once job start judged.slot front later judged.commands once.commands
 entry_within job start front (line.F refused) later once = absurd once
 
 -- nothing is refused, and nothing is parked
@@ -67,20 +75,25 @@ entry_not_refused job start front now (line.C answered) once = tt
 entry_not_refused job start front now (line.P judged) once = tt
 entry_not_refused job start front now (line.F refused) once = absurd once
 
-pub entry_not_parked : (start : Histories) (front : List LineTold) (entry : LineEntry) → EntryAtOnce start front entry → ParkedAs front entry
+pub entry_not_parked : (start : Histories) (front : List LineTold) (entry : LineEntry)
+    → EntryAtOnce start front entry → ParkedAs front entry
 entry_not_parked start front (line.N noted) once = tt
 entry_not_parked start front (line.C answered) once = tt
-entry_not_parked start front (line.P judged) once = subst (λ parked. MayPark parked judged.slot front) (sym once.parked) tt
+entry_not_parked start front (line.P judged) once =
+    subst (λ parked. MayPark parked judged.slot front) (sym once.parked) tt
 entry_not_parked start front (line.F refused) once = absurd once
 
 module _ (job : Job) (start : Histories) (lines : List LineTold) (once : EachFrom (LineAtOnce start) [] lines) where
   pub within : EachFrom (MeetsBounds job start) [] lines
   within =
-      each_gives (LineAtOnce start) (MeetsBounds job start) (λ front now later here. entry_within job start front now.entry later here) [] lines once
+      each_gives (LineAtOnce start) (MeetsBounds job start)
+          (λ front now later here. entry_within job start front now.entry later here) [] lines once
 
   pub not_refused : EachFrom (RefusedWhereFull job) [] lines
   not_refused =
-      each_gives (LineAtOnce start) (RefusedWhereFull job) (λ front now later here. entry_not_refused job start front now now.entry here) [] lines once
+      each_gives (LineAtOnce start) (RefusedWhereFull job)
+          (λ front now later here. entry_not_refused job start front now now.entry here) [] lines once
 
   pub not_parked : EachFrom ParkedBehindMoves [] lines
-  not_parked = each_gives (LineAtOnce start) ParkedBehindMoves (λ front now later here. entry_not_parked start front now.entry here) [] lines once
+  not_parked = each_gives (LineAtOnce start) ParkedBehindMoves
+      (λ front now later here. entry_not_parked start front now.entry here) [] lines once

@@ -18,19 +18,22 @@ MeetsOnce start front (line.F refused) = ⊥
 abbrev pub LineMeets : Histories → List LineTold → LineTold → List LineTold → Type 0
 LineMeets start front now later = MeetsOnce start front now.entry
 
-once_meets : (start : Histories) (front : List LineTold) (entry : LineEntry) → EntryAtOnce start front entry → MeetsOnce start front entry
+once_meets : (start : Histories) (front : List LineTold) (entry : LineEntry) → EntryAtOnce start front entry
+    → MeetsOnce start front entry
 once_meets start front (line.N noted) once = tt
 once_meets start front (line.C answered) once = tt
 once_meets start front (line.P judged) once = once.commands
 once_meets start front (line.F refused) once = absurd once
 
 -- what is answered at once meets so
-pub at_once_meets : (start : Histories) (front lines : List LineTold) → EachFrom (LineAtOnce start) front lines → EachFrom (LineMeets start) front lines
+pub at_once_meets : (start : Histories) (front lines : List LineTold) → EachFrom (LineAtOnce start) front lines
+    → EachFrom (LineMeets start) front lines
 at_once_meets start front [] each = tt
 at_once_meets start front (now ∷ later) each =
     (once_meets start front now.entry each.0, at_once_meets start (front ++ now ∷ []) later each.1)
 
-solo_entry_meets : (start : Histories) (front : List LineTold) (now : LineTold) (entry : LineEntry) (later : List LineTold)
+solo_entry_meets : (start : Histories) (front : List LineTold) (now : LineTold) (entry : LineEntry)
+    (later : List LineTold)
     → MeetsAs solo start front entry later → RefusedAs solo front now entry → MeetsOnce start front entry
 solo_entry_meets start front now (line.N noted) later within refused = tt
 solo_entry_meets start front now (line.C answered) later within refused = tt
@@ -42,4 +45,5 @@ pub solo_meets : (start : Histories) (front lines : List LineTold) → EachFrom 
     → EachFrom (RefusedWhereFull solo) front lines → EachFrom (LineMeets start) front lines
 solo_meets start front [] within refused = tt
 solo_meets start front (now ∷ later) within refused =
-    (solo_entry_meets start front now now.entry later within.0 refused.0, solo_meets start (front ++ now ∷ []) later within.1 refused.1)
+    (solo_entry_meets start front now now.entry later within.0 refused.0,
+        solo_meets start (front ++ now ∷ []) later within.1 refused.1)

@@ -53,7 +53,8 @@ record FirstIsOne (entry other : LineEntry) (entries others : List LineEntry) : 
   more : EachTellsTheSame entries others
 
 one_note : (noted other : Noted) (entries others : List LineEntry) → noted ≡ other
-    → EachTellsTheSame (line.N noted ∷ entries) (line.N other ∷ others) → FirstIsOne (line.N noted) (line.N other) entries others
+    → EachTellsTheSame (line.N noted ∷ entries) (line.N other ∷ others)
+    → FirstIsOne (line.N noted) (line.N other) entries others
 one_note noted other entries others is same = record {
   first = ap line.N is;
   more = λ slot. record {
@@ -65,55 +66,74 @@ one_note noted other entries others is same = record {
   };
 }
 
-one_answer : (answered other : Answered) (entries others : List LineEntry) → answered.line ≡ other.line → answered.slot ≡ other.slot
-    → EachTellsTheSame (line.C answered ∷ entries) (line.C other ∷ others) → FirstIsOne (line.C answered) (line.C other) entries others
+one_answer : (answered other : Answered) (entries others : List LineEntry) → answered.line ≡ other.line
+    → answered.slot ≡ other.slot
+    → EachTellsTheSame (line.C answered ∷ entries) (line.C other ∷ others)
+    → FirstIsOne (line.C answered) (line.C other) entries others
 one_answer answered other entries others lines slots same =
     let own : (answered.slot == answered.slot) ≡ true = eqb_same answered.slot in
     let other_own : (other.slot == answered.slot) ≡ true = ap (λ s. other.slot == s) slots ∙ eqb_same other.slot in
-    let numbers = item_is_one (answered.slot == answered.slot) (other.slot == answered.slot) answered.number other.number _ _ own other_own (same answered.slot).command_numbers in
-    let replies = item_is_one (answered.slot == answered.slot) (other.slot == answered.slot) answered.reply other.reply _ _ own other_own (same answered.slot).replies in
+    let numbers = item_is_one (answered.slot == answered.slot)
+        (other.slot == answered.slot) answered.number other.number _ _ own other_own
+        (same answered.slot).command_numbers in
+    let replies = item_is_one (answered.slot == answered.slot)
+        (other.slot == answered.slot) answered.reply other.reply _ _ own other_own (same answered.slot).replies in
     record {
       first = λ i. line.C (record { line = lines i; slot = slots i; number = numbers i; reply = replies i });
       more = λ slot. record {
-        command_numbers = rest_is_one (answered.slot == slot) (other.slot == slot) answered.number other.number _ _ (ap (λ s. s == slot) slots) (same slot).command_numbers;
-        replies = rest_is_one (answered.slot == slot) (other.slot == slot) answered.reply other.reply _ _ (ap (λ s. s == slot) slots) (same slot).replies;
+        command_numbers = rest_is_one (answered.slot == slot) (other.slot == slot) answered.number other.number _ _
+            (ap (λ s. s == slot) slots) (same slot).command_numbers;
+        replies = rest_is_one (answered.slot == slot) (other.slot == slot) answered.reply other.reply _ _
+            (ap (λ s. s == slot) slots) (same slot).replies;
         packet_numbers = (same slot).packet_numbers;
         counts = (same slot).counts;
         verdicts = (same slot).verdicts;
       };
     }
 
-one_judgement : (judged other : Judged) (entries others : List LineEntry) → judged.line ≡ other.line → judged.slot ≡ other.slot
-    → EachTellsTheSame (line.P judged ∷ entries) (line.P other ∷ others) → FirstIsOne (line.P judged) (line.P other) entries others
+one_judgement : (judged other : Judged) (entries others : List LineEntry) → judged.line ≡ other.line
+    → judged.slot ≡ other.slot
+    → EachTellsTheSame (line.P judged ∷ entries) (line.P other ∷ others)
+    → FirstIsOne (line.P judged) (line.P other) entries others
 one_judgement judged other entries others lines slots same =
     let own : (judged.slot == judged.slot) ≡ true = eqb_same judged.slot in
     let other_own : (other.slot == judged.slot) ≡ true = ap (λ s. other.slot == s) slots ∙ eqb_same other.slot in
-    let numbers = item_is_one (judged.slot == judged.slot) (other.slot == judged.slot) judged.number other.number _ _ own other_own (same judged.slot).packet_numbers in
-    let counts = item_is_one (judged.slot == judged.slot) (other.slot == judged.slot) judged.commands other.commands _ _ own other_own (same judged.slot).counts in
-    let verdicts = item_is_one (judged.slot == judged.slot) (other.slot == judged.slot) judged.verdict other.verdict _ _ own other_own (same judged.slot).verdicts in
+    let numbers = item_is_one (judged.slot == judged.slot)
+        (other.slot == judged.slot) judged.number other.number _ _ own other_own (same judged.slot).packet_numbers in
+    let counts = item_is_one (judged.slot == judged.slot)
+        (other.slot == judged.slot) judged.commands other.commands _ _ own other_own (same judged.slot).counts in
+    let verdicts = item_is_one (judged.slot == judged.slot)
+        (other.slot == judged.slot) judged.verdict other.verdict _ _ own other_own (same judged.slot).verdicts in
     record {
-      first = λ i. line.P (record { line = lines i; slot = slots i; number = numbers i; commands = counts i; verdict = verdicts i; place = None; parked = false });
+      first = λ i. line.P (record { line = lines i; slot = slots i; number = numbers i; commands = counts i;
+          verdict = verdicts i; place = None; parked = false });
       more = λ slot. record {
         command_numbers = (same slot).command_numbers;
         replies = (same slot).replies;
-        packet_numbers = rest_is_one (judged.slot == slot) (other.slot == slot) judged.number other.number _ _ (ap (λ s. s == slot) slots) (same slot).packet_numbers;
-        counts = rest_is_one (judged.slot == slot) (other.slot == slot) judged.commands other.commands _ _ (ap (λ s. s == slot) slots) (same slot).counts;
-        verdicts = rest_is_one (judged.slot == slot) (other.slot == slot) judged.verdict other.verdict _ _ (ap (λ s. s == slot) slots) (same slot).verdicts;
+        packet_numbers = rest_is_one (judged.slot == slot) (other.slot == slot) judged.number other.number _ _
+            (ap (λ s. s == slot) slots) (same slot).packet_numbers;
+        counts = rest_is_one (judged.slot == slot) (other.slot == slot) judged.commands other.commands _ _
+            (ap (λ s. s == slot) slots) (same slot).counts;
+        verdicts = rest_is_one (judged.slot == slot) (other.slot == slot) judged.verdict other.verdict _ _
+            (ap (λ s. s == slot) slots) (same slot).verdicts;
       };
     }
 
 -- two entries for one line are one but for their places, where each slot tells the same from there on
-first_is_one : (n : ℕ) (now : Meaning) (entry other : LineEntry) (entries others : List LineEntry) → Answers n now entry → Answers n now other
+first_is_one : (n : ℕ) (now : Meaning) (entry other : LineEntry) (entries others : List LineEntry)
+    → Answers n now entry → Answers n now other
     → NotRefused entry → NotRefused other
     → EachTellsTheSame (entry ∷ entries) (other ∷ others) → FirstIsOne entry other entries others
-first_is_one n (note text) (line.N noted) (line.N told) entries others a b taken also same = one_note noted told entries others (a ∙ sym b) same
+first_is_one n (note text) (line.N noted) (line.N told) entries others a b taken also same =
+    one_note noted told entries others (a ∙ sym b) same
 first_is_one n (note text) (line.N noted) (line.C told) entries others a b taken also same = absurd b
 first_is_one n (note text) (line.N noted) (line.P told) entries others a b taken also same = absurd b
 first_is_one n (note text) (line.N noted) (line.F told) entries others a b taken also same = absurd b
 first_is_one n (note text) (line.C answered) other entries others a b taken also same = absurd a
 first_is_one n (note text) (line.P judged) other entries others a b taken also same = absurd a
 first_is_one n (note text) (line.F refused) other entries others a b taken also same = absurd a
-first_is_one n (move slot slice text) (line.N noted) (line.N told) entries others a b taken also same = one_note noted told entries others (a ∙ sym b) same
+first_is_one n (move slot slice text) (line.N noted) (line.N told) entries others a b taken also same =
+    one_note noted told entries others (a ∙ sym b) same
 first_is_one n (move slot slice text) (line.N noted) (line.C told) entries others a b taken also same = absurd b
 first_is_one n (move slot slice text) (line.N noted) (line.P told) entries others a b taken also same = absurd b
 first_is_one n (move slot slice text) (line.N noted) (line.F told) entries others a b taken also same = absurd b
@@ -138,7 +158,8 @@ first_is_one n (packet slot p) (line.P judged) (line.F told) entries others a b 
 first_is_one n (packet slot p) (line.F refused) other entries others a b taken also same = absurd taken
 
 -- two lists of entries for the same lines are one but for their places, where those of each slot tell the same
-pub one_list : (n : ℕ) (made : List Meaning) (entries others : List LineEntry) → AnswersAll n made entries → AnswersAll n made others
+pub one_list : (n : ℕ) (made : List Meaning) (entries others : List LineEntry) → AnswersAll n made entries
+    → AnswersAll n made others
     → NoneRefused entries → NoneRefused others
     → EachTellsTheSame entries others → map line_without_place entries ≡ map line_without_place others
 one_list n [] [] [] answers other_answers taken also same = refl

@@ -22,13 +22,15 @@ use Rattle.lawful_run.proofs.Meets.{LineMeets, MeetsOnce, at_once_meets, solo_me
 use Rattle.lawful_run.proofs.OneList.{TellTheSame, NotRefused, NoneRefused, one_list}
 
 -- no line is refused
-not_refused : (start : Histories) (front : List LineTold) (entry : LineEntry) → MeetsOnce start front entry → NotRefused entry
+not_refused : (start : Histories) (front : List LineTold) (entry : LineEntry) → MeetsOnce start front entry
+    → NotRefused entry
 not_refused start front (line.N noted) meets = tt
 not_refused start front (line.C answered) meets = tt
 not_refused start front (line.P judged) meets = tt
 not_refused start front (line.F refused) meets = absurd meets
 
-none_refused : (n : ℕ) (start : Histories) (front : List LineTold) (made : List Meaning) (entries : List LineEntry) → AnswersAll n made entries
+none_refused : (n : ℕ) (start : Histories) (front : List LineTold) (made : List Meaning) (entries : List LineEntry)
+    → AnswersAll n made entries
     → EachFrom (LineMeets start) front (lines_told made entries) → NoneRefused entries
 none_refused n start front [] [] answers each = tt
 none_refused n start front [] (entry ∷ entries) answers each = absurd answers
@@ -38,7 +40,8 @@ none_refused n start front (now ∷ made) (entry ∷ entries) answers each =
 
 -- an epoch
 module _ (job : Job) (slots first : ℕ) (before : Histories) (made : List Meaning) (told : EpochReport)
-    (run : IsEpochRun job slots first before made told) (each : EachFrom (LineMeets before) [] (told_in made told)) where
+    (run : IsEpochRun job slots first before made told)
+        (each : EachFrom (LineMeets before) [] (told_in made told)) where
   order : (slot : ℕ) → InLineOrder slot (before slot) made told.lines
   order slot = met_slot slot first before [] (before slot) made told.lines run.one_each each (counted_none before slot)
 
@@ -52,7 +55,8 @@ module _ (job : Job) (slots first : ℕ) (before : Histories) (made : List Meani
   known_each = at_once_meets before [] _ (answered_epoch_at_once slots first before made)
 
   known_order : (slot : ℕ) → InLineOrder slot (before slot) made (entries_from first before made)
-  known_order slot = met_slot slot first before [] (before slot) made (entries_from first before made) known_run.one_each known_each (counted_none before slot)
+  known_order slot = met_slot slot first before [] (before slot) made
+      (entries_from first before made) known_run.one_each known_each (counted_none before slot)
 
   -- the events are those that the lines bring
   pub events_are_one : (slot : ℕ) → events_in (before slot) (told_in made told) slot ≡ brought slot (before slot) made
@@ -61,15 +65,19 @@ module _ (job : Job) (slots first : ℕ) (before : Histories) (made : List Meani
   same : (slot : ℕ) → TellTheSame slot told.lines (entries_from first before made)
   same slot = record {
     command_numbers = run.command_numbers slot
-        ∙ ap (λ cs. counted (length (commands_of (before slot))) (length cs)) ((order slot).commands ∙ sym (known_order slot).commands)
+        ∙ ap (λ cs. counted (length (commands_of (before slot))) (length cs)) ((order slot).commands
+        ∙ sym (known_order slot).commands)
         ∙ sym (known_run.command_numbers slot);
-    replies = run.replies slot ∙ ap (made_of.replies slot (before slot)) ((order slot).events ∙ sym (known_order slot).events)
+    replies = run.replies slot ∙ ap (made_of.replies slot (before slot)) ((order slot).events
+        ∙ sym (known_order slot).events)
         ∙ sym (known_run.replies slot);
     packet_numbers = run.packet_numbers slot
-        ∙ ap (λ n. counted (length (packets_of (before slot))) n) ((order slot).packets ∙ sym (known_order slot).packets)
+        ∙ ap (λ n. counted (length (packets_of (before slot))) n) ((order slot).packets
+        ∙ sym (known_order slot).packets)
         ∙ sym (known_run.packet_numbers slot);
     counts = (order slot).counts ∙ sym (known_order slot).counts;
-    verdicts = run.verdicts slot ∙ ap (made_of.verdicts slot (before slot)) ((order slot).events ∙ sym (known_order slot).events)
+    verdicts = run.verdicts slot ∙ ap (made_of.verdicts slot (before slot)) ((order slot).events
+        ∙ sym (known_order slot).events)
         ∙ sym (known_run.verdicts slot);
   }
 
@@ -81,13 +89,15 @@ module _ (job : Job) (slots first : ℕ) (before : Histories) (made : List Meani
       (none_refused first before [] made (entries_from first before made) known_run.one_each known_each) same
 
   pub effects_are_one : told.effects ≡ (answered_epoch slots first before made).effects
-  effects_are_one = run.effects ∙ (λ i. by_slot slots (λ slot. made_of.effects slot (before slot) (events_are_one slot i)))
+  effects_are_one = run.effects ∙ (λ i. by_slot slots
+      (λ slot. made_of.effects slot (before slot) (events_are_one slot i)))
 
   pub rows_are_one : told.rows ≡ (answered_epoch slots first before made).rows
   rows_are_one = run.rows ∙ (λ i. by_slot slots (λ slot. made_of.rows slot (before slot) (events_are_one slot i)))
 
   pub behind_is_one : behind before (told_in made told) ≡ behind_lines before made
-  behind_is_one = λ i slot. (ap (λ events. before slot ++ events) (events_are_one slot) ∙ with_brought slot (before slot) made) i
+  behind_is_one = λ i slot. (ap (λ events. before slot ++ events) (events_are_one slot)
+      ∙ with_brought slot (before slot) made) i
 
 -- an entry that was made at once is known from what it tells without its place
 settled : LineEntry → LineEntry
@@ -105,8 +115,10 @@ settled_entry start front (line.P judged) once =
     λ i. line.P (record judged { place = sym once.place i; parked = sym once.parked i })
 settled_entry start front (line.F refused) once = absurd once
 
-settled_lines : (n : ℕ) (start : Histories) (front : List LineTold) (made : List Meaning) (entries : List LineEntry) → AnswersAll n made entries
-    → EachFrom (LineAtOnce start) front (lines_told made entries) → map settled (map line_without_place entries) ≡ entries
+settled_lines : (n : ℕ) (start : Histories) (front : List LineTold) (made : List Meaning)
+    (entries : List LineEntry) → AnswersAll n made entries
+    → EachFrom (LineAtOnce start) front (lines_told made entries)
+    → map settled (map line_without_place entries) ≡ entries
 settled_lines n start front [] [] answers each = refl
 settled_lines n start front [] (entry ∷ entries) answers each = absurd answers
 settled_lines n start front (now ∷ made) [] answers each = absurd answers
@@ -124,13 +136,15 @@ epoch_is_one job slots first before made told run once =
     let lines : told.lines ≡ entries_from first before made =
     sym (settled_lines first before [] made told.lines run.one_each once)
     ∙ ap (map settled) (lines_are_one job slots first before made told run each)
-    ∙ settled_lines first before [] made (entries_from first before made) (answered_epoch_lawful slots first before made job).one_each
+    ∙ settled_lines first before [] made (entries_from first before made)
+        (answered_epoch_lawful slots first before made job).one_each
     (answered_epoch_at_once slots first before made) in
     let effects = effects_are_one job slots first before made told run each in
     let rows = rows_are_one job slots first before made told run each in
     λ i. record { lines = lines i; effects = effects i; rows = rows i }
 
-pub epochs_are_one : (job : Job) (slots first : ℕ) (before : Histories) (epochs : List (List Meaning)) (others : List EpochReport)
+pub epochs_are_one : (job : Job) (slots first : ℕ) (before : Histories) (epochs : List (List Meaning))
+    (others : List EpochReport)
     → AreEpochRuns job slots first before epochs others → EpochsAtOnce before epochs others
     → others ≡ answered_from slots first before epochs
 epochs_are_one job slots first before [] [] run once = refl
@@ -138,9 +152,11 @@ epochs_are_one job slots first before [] (told ∷ others) run once = absurd run
 epochs_are_one job slots first before (made ∷ epochs) [] run once = absurd run
 epochs_are_one job slots first before (made ∷ epochs) (told ∷ others) run once =
     let head = epoch_is_one job slots first before made told run.0 once.0 in
-    let same = behind_is_one job slots first before made told run.0 (at_once_meets before [] (told_in made told) once.0) in
+    let same = behind_is_one job slots first before made told run.0
+        (at_once_meets before [] (told_in made told) once.0) in
     let tail = epochs_are_one job slots (first + length made) (behind_lines before made) epochs others
-    (subst (λ h. AreEpochRuns job slots (first + length made) h epochs others) same run.1) (subst (λ h. EpochsAtOnce h epochs others) same once.1) in
+    (subst (λ h. AreEpochRuns job slots (first + length made) h epochs others) same run.1)
+        (subst (λ h. EpochsAtOnce h epochs others) same once.1) in
     λ i. head i ∷ tail i
 
 -- what stands behind a run in which each line meets the commands before it
@@ -150,12 +166,14 @@ EpochsMeet before (made ∷ epochs) [] = Unit {0}
 EpochsMeet before (made ∷ epochs) (told ∷ others) =
     EachFrom (LineMeets before) [] (told_in made told) × EpochsMeet (behind before (told_in made told)) epochs others
 
-pub at_once_epochs_meet : (before : Histories) (epochs : List (List Meaning)) (others : List EpochReport) → EpochsAtOnce before epochs others
+pub at_once_epochs_meet : (before : Histories) (epochs : List (List Meaning)) (others : List EpochReport)
+    → EpochsAtOnce before epochs others
     → EpochsMeet before epochs others
 at_once_epochs_meet before [] others once = tt
 at_once_epochs_meet before (made ∷ epochs) [] once = tt
 at_once_epochs_meet before (made ∷ epochs) (told ∷ others) once =
-    (at_once_meets before [] (told_in made told) once.0, at_once_epochs_meet (behind before (told_in made told)) epochs others once.1)
+    (at_once_meets before [] (told_in made told) once.0,
+        at_once_epochs_meet (behind before (told_in made told)) epochs others once.1)
 
 pub solo_epochs_meet : (slots first : ℕ) (before : Histories) (epochs : List (List Meaning)) (others : List EpochReport)
     → AreEpochRuns solo slots first before epochs others → EpochsMeet before epochs others
@@ -166,7 +184,8 @@ solo_epochs_meet slots first before (made ∷ epochs) (told ∷ others) runs = (
   solo_epochs_meet slots (first + length made) (behind before (told_in made told)) epochs others runs.1,
 )
 
-pub events_behind : (job : Job) (slots first : ℕ) (before : Histories) (epochs : List (List Meaning)) (others : List EpochReport)
+pub events_behind : (job : Job) (slots first : ℕ) (before : Histories) (epochs : List (List Meaning))
+    (others : List EpochReport)
     → AreEpochRuns job slots first before epochs others → EpochsMeet before epochs others
     → behind_all before epochs others ≡ behind_epochs before epochs
 events_behind job slots first before [] others runs meet = refl
@@ -175,14 +194,17 @@ events_behind job slots first before (made ∷ epochs) (told ∷ others) runs me
     let same = behind_is_one job slots first before made told runs.0 meet.0 in
     ap (λ h. behind_all h epochs others) same
     ∙ events_behind job slots (first + length made) (behind_lines before made) epochs others
-    (subst (λ h. AreEpochRuns job slots (first + length made) h epochs others) same runs.1) (subst (λ h. EpochsMeet h epochs others) same meet.1)
+    (subst (λ h. AreEpochRuns job slots (first + length made) h epochs others) same runs.1)
+        (subst (λ h. EpochsMeet h epochs others) same meet.1)
 
 -- the run that answers at once is one
-pub run_is_one : (job : Job) (slots : ℕ) (made : List (List Meaning)) (report : Report) → IsRun job slots made report → AnswersAtOnce made report
+pub run_is_one : (job : Job) (slots : ℕ) (made : List (List Meaning)) (report : Report)
+    → IsRun job slots made report → AnswersAtOnce made report
     → report ≡ answered_run slots made
 run_is_one job slots made report run once =
     let epochs = epochs_are_one job slots 1 no_events made report.epochs run.epochs once in
-    let events = events_behind job slots 1 no_events made report.epochs run.epochs (at_once_epochs_meet no_events made report.epochs once) in
+    let events = events_behind job slots 1 no_events made report.epochs run.epochs
+        (at_once_epochs_meet no_events made report.epochs once) in
     let opens : report.opens ≡ by_slot slots (λ slot. made_of.opens slot (behind_epochs no_events made slot)) =
     run.opens ∙ (λ i. by_slot slots (λ slot. made_of.opens slot (events i slot))) in
     λ i. record { epochs = epochs i; opens = opens i }

@@ -21,17 +21,21 @@ module _ (life : ℕ) (happened : List Happening) where
       rw (ne_eqb x life (λ same. none (inl same))) (none_there xs (λ there. none (inr there)))
 
   -- one that is there once has one
-  one_there : (xs : List ℕ) → AreDistinct xs → In life xs → opens_for life (map (open_at happened) xs) ≡ open_at happened life ∷ []
+  one_there : (xs : List ℕ) → AreDistinct xs → In life xs
+      → opens_for life (map (open_at happened) xs) ≡ open_at happened life ∷ []
   one_there [] distinct there = absurd there
   one_there (x ∷ xs) distinct there = elim (cases_eq x life) [
     | inl same ↦
         rw (eq-eqb x life same)
-        (ap (λ opens. open_at happened x ∷ opens) (none_there xs (λ later. other_at x life xs distinct.0 later same)) ∙ ap (λ y. open_at happened y ∷ []) same)
-    | inr other ↦ rw (ne_eqb x life other) (one_there xs distinct.1 (elim there [ inl here ↦ absurd (other here) | inr later ↦ later ]))
+        (ap (λ opens. open_at happened x ∷ opens) (none_there xs
+            (λ later. other_at x life xs distinct.0 later same)) ∙ ap (λ y. open_at happened y ∷ []) same)
+    | inr other ↦ rw (ne_eqb x life other) (one_there xs distinct.1
+        (elim there [ inl here ↦ absurd (other here) | inr later ↦ later ]))
   ]
 
   -- and so has one that is there at all, where its counters tell a last piece
-  first_there : (xs : List ℕ) → In life xs → (rest : List Counters) × (opens_for life (map (open_at happened) xs) ≡ open_at happened life ∷ rest)
+  first_there : (xs : List ℕ) → In life xs → (rest : List Counters)
+      × (opens_for life (map (open_at happened) xs) ≡ open_at happened life ∷ rest)
   first_there [] there = absurd there
   first_there (x ∷ xs) there = elim (cases_eq x life) [
     | inl same ↦ (
@@ -43,7 +47,8 @@ module _ (life : ℕ) (happened : List Happening) where
         (later.0, rw (ne_eqb x life other) later.1)
   ]
 
-  only_one : (counters : Counters) (rest : List Counters) (last : List Forwarded) → TellLast (counters ∷ rest) last → rest ≡ []
+  only_one : (counters : Counters) (rest : List Counters) (last : List Forwarded) → TellLast (counters ∷ rest) last
+      → rest ≡ []
   only_one counters [] last tells = refl
   only_one counters (other ∷ rest) last tells = absurd tells
 
@@ -64,14 +69,16 @@ module _ (life : ℕ) (happened : List Happening) where
   same_opens xs last distinct to from tells = elim (there_or_not xs) [
     | inl there ↦
         let first = first_there (lives_of happened) (to there) in
-        let told : TellLast (open_at happened life ∷ first.0) last = subst (λ opens. TellLast opens last) first.1 tells in
+        let told : TellLast (open_at happened life ∷ first.0) last =
+            subst (λ opens. TellLast opens last) first.1 tells in
         one_there xs distinct there
         ∙ sym (first.1 ∙ ap (λ rest. open_at happened life ∷ rest) (only_one (open_at happened life) first.0 last told))
     | inr none ↦ none_there xs none ∙ sym (none_there (lives_of happened) (λ there. none (from there)))
   ]
 
 map_map : (happened : List Happening) (bearers : List ActiveBearer)
-    → map (λ (bearer : ActiveBearer). open_at happened bearer.life) bearers ≡ map (open_at happened) (active_lives bearers)
+    → map (λ (bearer : ActiveBearer). open_at happened bearer.life) bearers
+        ≡ map (open_at happened) (active_lives bearers)
 map_map happened [] = refl
 map_map happened (b ∷ bearers) = ap (λ rest. open_at happened b.life ∷ rest) (map_map happened bearers)
 
@@ -84,4 +91,5 @@ counters_of_life slot life events last tells =
     let happened : List Happening = (past_of slot events).packets.charged in
     let bearers : List ActiveBearer = (past_of slot events).packets.version.bearers in
     ap (opens_for life) (map_map happened bearers)
-    ∙ same_opens life happened (active_lives bearers) last sound.apart (sound.opened.opened life) (sound.opened.active life) tells
+    ∙ same_opens life happened (active_lives bearers) last sound.apart (sound.opened.opened life)
+        (sound.opened.active life) tells

@@ -58,7 +58,8 @@ abbrev pub brings : ℕ → List Event → Meaning → List Event
 brings slot events (note text) = []
 brings slot events (move own slice text) = []
 brings slot events (command own c) = if own == slot then event.Command c ∷ [] else []
-brings slot events (packet own p) = if own == slot then event.Packet (numbered (length (packets_of events)) p) ∷ [] else []
+brings slot events (packet own p) =
+    if own == slot then event.Packet (numbered (length (packets_of events)) p) ∷ [] else []
 
 abbrev pub brought : ℕ → List Event → List Meaning → List Event
 brought slot events [] = []

@@ -36,7 +36,8 @@ abbrev pub is_of_life : ℕ → Sent → Bool
 is_of_life life sent = sent.life == life
 
 abbrev pub packets_told : ℕ → ℕ → Report → List Sent
-packets_told slot life report = filter (is_of_life life) (lines_sent slot report.epochs ++ effects_sent slot report.epochs)
+packets_told slot life report =
+    filter (is_of_life life) (lines_sent slot report.epochs ++ effects_sent slot report.epochs)
 
 -- the charging records of a slot · its open counters
 abbrev pub row_by : ℕ → ChargeEntry → Option Charged
@@ -64,7 +65,8 @@ pub record IsPartition (slot life : ℕ) (report : Report) : Type 0 where
   pub last : List Forwarded
   pub records : TellPieces (rows_for life (rows_told slot report)) pieces
   pub counters : TellLast (opens_for life (opens_told slot report)) last
-  pub packets : IsPermutation (map (sent_for life) (flat_map (λ done. done.piece) pieces ++ last)) (packets_told slot life report)
+  pub packets : IsPermutation (map (sent_for life) (flat_map (λ done. done.piece) pieces ++ last))
+      (packets_told slot life report)
 
 abbrev pub ReportsArePartitions : Type 0
 ReportsArePartitions = (job : Job) (slots : ℕ) (made : List (List Meaning)) (report : Report) (slot life : ℕ)

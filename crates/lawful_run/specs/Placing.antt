@@ -28,10 +28,12 @@ numbered_from next (first ∷ packets) = numbered next first.packet ∷ numbered
 -- stand just as many commands as its entry tells.
 pub record StandAsTold (before events : List Event) (slot : ℕ) (made : List Meaning) (told : EpochReport) : Type 0 where
   pub commands : commands_of events ≡ commands_accepted slot (told_in made told)
-  pub packets : packets_of events ≡ numbered_from (length (packets_of before)) (packets_accepted slot (told_in made told))
+  pub packets : packets_of events ≡ numbered_from (length (packets_of before))
+      (packets_accepted slot (told_in made told))
   pub counts : places (length (commands_of before)) events ≡ filter_map (commands_told slot) told.lines
 
 abbrev pub EventsStandAsTold : Type 0
-EventsStandAsTold = (job : Job) (slots first : ℕ) (before : Histories) (made : List Meaning) (told : EpochReport) (slot : ℕ)
+EventsStandAsTold = (job : Job) (slots first : ℕ) (before : Histories) (made : List Meaning) (told : EpochReport)
+    (slot : ℕ)
     → IsEpochRun job slots first before made told
     → StandAsTold (before slot) (events_in (before slot) (told_in made told) slot) slot made told

@@ -29,7 +29,8 @@ events_now before made told slot = events_in (before slot) (told_in made told) s
 
 -- Which entries an epoch may have: by the job, the number of its first line, the events of each slot before it, and what
 -- its lines mean. Behind it as many slots are known.
-pub record IsEpochRun (job : Job) (slots first : ℕ) (before : Histories) (made : List Meaning) (told : EpochReport) : Type 0 where
+pub record IsEpochRun (job : Job) (slots first : ℕ) (before : Histories) (made : List Meaning)
+    (told : EpochReport) : Type 0 where
   -- each line has one entry, in line order and in the line's words
   pub one_each : AnswersAll first made told.lines
   -- the commands of a slot are numbered on in line order
@@ -49,7 +50,8 @@ pub record IsEpochRun (job : Job) (slots first : ℕ) (before : Histories) (made
   pub verdicts : (slot : ℕ) → filter_map (verdict_told slot) told.lines
       ≡ made_of.verdicts slot (before slot) (events_now before made told slot)
   -- effects are those of the epoch's commands, by slot, each with its command's number
-  pub effects : told.effects ≡ by_slot slots (λ slot. made_of.effects slot (before slot) (events_now before made told slot))
+  pub effects : told.effects ≡ by_slot slots (λ slot.
+      made_of.effects slot (before slot) (events_now before made told slot))
   -- charging records are those that the epoch's events make, by slot
   pub rows : told.rows ≡ by_slot slots (λ slot. made_of.rows slot (before slot) (events_now before made told slot))
   -- a line is refused only where its queue or lane could be full

@@ -40,7 +40,8 @@ is_whole before (line ∷ next ∷ lines) = is_whole (before ++ line ∷ []) (ne
 -- what whole epochs mean, behind these lines
 abbrev pub meant_epochs : ℕ → List Line → List (List Line) → List (List Meaning)
 meant_epochs slices before [] = []
-meant_epochs slices before (epoch ∷ epochs) = meant_from slices before epoch ∷ meant_epochs slices (before ++ epoch) epochs
+meant_epochs slices before (epoch ∷ epochs) =
+    meant_from slices before epoch ∷ meant_epochs slices (before ++ epoch) epochs
 
 -- what epochs mean, behind these lines; a bad line stands in the last one, or in one of its own where that is whole
 abbrev pub own_epoch : List Meaning → List (List Meaning)

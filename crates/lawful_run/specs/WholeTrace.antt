@@ -169,7 +169,8 @@ third_epoch = epoch
     ∷ noted 16 (codes "fence") ∷ []) []
 
 abbrev pub fourth_epoch : EpochReport
-fourth_epoch = epoch (answered 17 0 5 (Some session_deleted) ∷ []) (gone 0 5 9 40 0 2 0 70 100 ∷ gone 1 6 1 0 28 0 1 80 80 ∷ [])
+fourth_epoch = epoch (answered 17 0 5 (Some session_deleted) ∷ []) (gone 0 5 9 40 0 2 0 70 100
+    ∷ gone 1 6 1 0 28 0 1 80 80 ∷ [])
 
 abbrev pub left_open : List ChargeEntry
 left_open = O 1 (record {

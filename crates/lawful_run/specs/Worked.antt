@@ -35,7 +35,8 @@ rerate = command 0 (order.Ambr 1 500 500)
 
 -- the entry of an order that was done
 abbrev pub attached : ℕ → ℕ → ℕ → LineEntry
-attached n slot number = line.C (record { line = n; slot = slot; number = number; reply = record { outcome = Done; message = None } })
+attached n slot number =
+    line.C (record { line = n; slot = slot; number = number; reply = record { outcome = Done; message = None } })
 
 -- of the packet of this number behind so many commands, parked or not
 abbrev pub judged : Bool → ℕ → ℕ → ℕ → LineEntry
@@ -118,7 +119,8 @@ report_of epochs opens = record { epochs = epochs; opens = opens }
 
 -- Two bearers are asked for, and the second one's answer comes first: the open counters stand by index all the same.
 abbrev pub filter_of : ℕ → Tft
-filter_of precedence = Create (record { id = 0; direction = 3; precedence = precedence; components = Protocol 17 ∷ [] } ∷ [])
+filter_of precedence =
+    Create (record { id = 0; direction = 3; precedence = precedence; components = Protocol 17 ∷ [] } ∷ [])
 
 abbrev pub answered_late : List Meaning
 answered_late =

@@ -16,7 +16,8 @@ ghost use Rattle.trace_lines.specs.Input.{Input};
 
 /// Every trace has a lawful run that answers at once, whatever the job.
 pub fn every_trace_has_a_run()
-    ensures lawful { (job : Job) (slots : ℕ) (made : List (List Meaning)) → IsRun job slots made (answered_run slots made) }
+    ensures lawful { (job : Job) (slots : ℕ) (made : List (List Meaning))
+        → IsRun job slots made (answered_run slots made) }
     ensures at_once { (slots : ℕ) (made : List (List Meaning)) → AnswersAtOnce made (answered_run slots made) }
 
     // So has each input, whatever its octets say and wherever it stops.
@@ -60,7 +61,8 @@ pub fn runs_grow()
 
     // Slots without events add nothing.
     ensures slots { (slots more first : ℕ) (before : Histories) (made : List Meaning)
-        → ((slot : ℕ) → slots ≤ slot → before slot ≡ []) → ((slot : ℕ) → slots ≤ slot → brought slot (before slot) made ≡ [])
+        → ((slot : ℕ) → slots ≤ slot → before slot ≡ [])
+        → ((slot : ℕ) → slots ≤ slot → brought slot (before slot) made ≡ [])
         → answered_epoch (slots + more) first before made ≡ answered_epoch slots first before made }
     ensures opens { (slots more : ℕ) (events : Histories) → ((slot : ℕ) → slots ≤ slot → events slot ≡ [])
         → by_slot (slots + more) (λ slot. opens slot (events slot)) ≡ by_slot slots (λ slot. opens slot (events slot)) }

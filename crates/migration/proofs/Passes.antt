@@ -29,12 +29,16 @@ module _ {H : Type 0} where
   )
 
   -- no other place changed
-  falls_set : (places : List (Option (Place H))) (slot : ℕ) (place : Option (Place H)) → slot < length places → Falls (place_at places slot) place
+  falls_set : (places : List (Option (Place H))) (slot : ℕ) (place : Option (Place H)) → slot < length places
+      → Falls (place_at places slot) place
       → (k : ℕ) → Falls (place_at places k) (place_at (set places slot place) k)
-  falls_set places slot place within falls k = elim (nat_eq k slot) as (λ b. nat_eq k slot ≡ b → Falls (place_at places k) (place_at (set places slot place) k)) [
-    | true ↦ λ e. subst (λ (n : ℕ). Falls (place_at places n) (place_at (set places slot place) n)) (sym (eqb-true k slot e))
+  falls_set places slot place within falls k = elim (nat_eq k slot) as (λ b. nat_eq k slot ≡ b
+      → Falls (place_at places k) (place_at (set places slot place) k)) [
+    | true ↦ λ e. subst (λ (n : ℕ). Falls (place_at places n) (place_at (set places slot place) n))
+        (sym (eqb-true k slot e))
         (subst (Falls (place_at places slot)) (sym (get_or-set_same places slot place None within)) falls)
-    | false ↦ λ e. subst (Falls (place_at places k)) (sym (get_or-set_other places slot k place None (eqb-false k slot e))) (falls_same (place_at places k))
+    | false ↦ λ e. subst (Falls (place_at places k)) (sym
+        (get_or-set_other places slot k place None (eqb-false k slot e))) (falls_same (place_at places k))
   ] refl
 
   -- a half that isn't awaited
@@ -45,10 +49,12 @@ module _ {H : Type 0} where
   not_leaving (Leaving from to) not = absurd (true≢false not)
 
 module _ {H : Type 0} (hop_of : H → ℕ) where
-  gave_none : (places : List (Option (Place H))) (slice : ℕ) (before now : List (Order H)) → now ≡ before → Gave hop_of places slice before now
+  gave_none : (places : List (Option (Place H))) (slice : ℕ) (before now : List (Order H)) → now ≡ before
+      → Gave hop_of places slice before now
   gave_none places slice before now same = ([], same ∙ sym (append-nil before), All-nil (Lawful hop_of places slice))
 
-  lawful_since : (places new : List (Option (Place H))) → ((slot : ℕ) → Falls (place_at places slot) (place_at new slot)) → (slice : ℕ) (order : Order H)
+  lawful_since : (places new : List (Option (Place H)))
+      → ((slot : ℕ) → Falls (place_at places slot) (place_at new slot)) → (slice : ℕ) (order : Order H)
       → Lawful hop_of new slice order → Lawful hop_of places slice order
   lawful_since places new falls slice (Arrive half) lawful = (lawful.0, lawful.1 ∙ (falls lawful.0).2)
   lawful_since places new falls slice (Leave slot until) lawful = (falls slot).1 slice until lawful
@@ -56,12 +62,14 @@ module _ {H : Type 0} (hop_of : H → ℕ) where
 module _ {H : Type 0} (slot_of hop_of : H → ℕ) where
   -- one after another
   pub passes_then : (p0 p1 p2 : List (Option (Place H))) (a0 a1 a2 : List H) (d0 d1 d2 : List (Desk H))
-      → Passes slot_of hop_of p0 p1 a0 a1 d0 d1 → Passes slot_of hop_of p1 p2 a1 a2 d1 d2 → Passes slot_of hop_of p0 p2 a0 a2 d0 d2
+      → Passes slot_of hop_of p0 p1 a0 a1 d0 d1 → Passes slot_of hop_of p1 p2 a1 a2 d1 d2
+      → Passes slot_of hop_of p0 p2 a0 a2 d0 d2
   passes_then p0 p1 p2 a0 a1 a2 d0 d1 d2 first second =
       let Fits : List (Option (Place H)) → List (Option (Place H)) → H → Type 0 =
       λ old new half. (stage_at (place_at new (slot_of half)) ≡ 0) ⊎ (2 ≤ stage_at (place_at old (slot_of half))) in
       record {
-        falls = λ slot. falls_then (place_at p0 slot) (place_at p1 slot) (place_at p2 slot) (first.falls slot) (second.falls slot);
+        falls = λ slot. falls_then (place_at p0 slot) (place_at p1 slot) (place_at p2 slot) (first.falls slot)
+            (second.falls slot);
         more = first.more ++ second.more;
         kept = second.kept ∙ ap (λ l. l ++ second.more) first.kept ∙ append_assoc a0 first.more second.more;
         unawaited = All-append (Fits p0 p2) first.more second.more
@@ -77,98 +85,131 @@ module _ {H : Type 0} (slot_of hop_of : H → ℕ) where
           a.0 ++ b.0,
           b.1 ∙ ap (λ l. l ++ b.0) a.1 ∙ append_assoc (sent_at d0 slice) a.0 b.0,
           All-append (Lawful hop_of p0 slice) a.0 b.0 a.2
-              (All-weaker (Lawful hop_of p1 slice) (Lawful hop_of p0 slice) (lawful_since hop_of p0 p1 first.falls slice) b.0 b.2),
+              (All-weaker (Lawful hop_of p1 slice) (Lawful hop_of p0 slice)
+                  (lawful_since hop_of p0 p1 first.falls slice) b.0 b.2),
         );
       }
 
   -- neither places nor what is aside nor orders changed
-  pub passes_same : (places new : List (Option (Place H))) (aside new_aside : List H) (desks now : List (Desk H)) → new ≡ places → new_aside ≡ aside
-      → ((slice : ℕ) → sent_at now slice ≡ sent_at desks slice) → Passes slot_of hop_of places new aside new_aside desks now
+  pub passes_same : (places new : List (Option (Place H))) (aside new_aside : List H) (desks now : List (Desk H))
+      → new ≡ places → new_aside ≡ aside
+      → ((slice : ℕ) → sent_at now slice ≡ sent_at desks slice)
+      → Passes slot_of hop_of places new aside new_aside desks now
   passes_same places new aside new_aside desks now same alike orders = record {
-    falls = λ slot. subst (λ (l : List (Option (Place H))). Falls (place_at places slot) (place_at l slot)) (sym same) (falls_same (place_at places slot));
+    falls = λ slot. subst (λ (l : List (Option (Place H))). Falls (place_at places slot) (place_at l slot))
+        (sym same) (falls_same (place_at places slot));
     more = [];
     kept = alike ∙ sym (append-nil aside);
-    unawaited = All-nil (λ half. (stage_at (place_at new (slot_of half)) ≡ 0) ⊎ (2 ≤ stage_at (place_at places (slot_of half))));
+    unawaited = All-nil (λ half. (stage_at (place_at new (slot_of half)) ≡ 0)
+        ⊎ (2 ≤ stage_at (place_at places (slot_of half))));
     orders = λ slice. gave_none hop_of places slice (sent_at desks slice) (sent_at now slice) (orders slice);
   }
 
   -- none came home
-  pub passes_empty : (slice : ℕ) (places : List (Option (Place H))) (aside : List H) (desks now : List (Desk H)) → Empty slice desks now
+  pub passes_empty : (slice : ℕ) (places : List (Option (Place H))) (aside : List H) (desks now : List (Desk H))
+      → Empty slice desks now
       → Passes slot_of hop_of places places aside aside desks now
   passes_empty slice places aside desks now none = passes_same places places aside aside desks now refl refl
-      (λ other. ap (λ l. get_or l other []) (changed_map slice none.before none.now desks now none.desk (λ (desk : Desk H). sent desk.orders) (ap sent none.orders)))
+      (λ other. ap (λ l. get_or l other []) (changed_map slice none.before none.now desks now none.desk
+          (λ (desk : Desk H). sent desk.orders) (ap sent none.orders)))
 
   -- a half came home
-  pub passes_home : (slice slot : ℕ) (half : H) (place : Option (Place H)) (places new : List (Option (Place H))) (aside : List H) (desks now : List (Desk H))
-      → Taken slice half desks now → slot < length places → new ≡ set places slot place → Welcomes half (place_at places slot) place None
+  pub passes_home : (slice slot : ℕ) (half : H) (place : Option (Place H)) (places new : List (Option (Place H)))
+      (aside : List H) (desks now : List (Desk H))
+      → Taken slice half desks now → slot < length places → new ≡ set places slot place
+      → Welcomes half (place_at places slot) place None
       → Passes slot_of hop_of places new aside aside desks now
   passes_home slice slot half place places new aside desks now took within is welcomes = record {
     falls = λ k. subst (λ (l : List (Option (Place H))). Falls (place_at places k) (place_at l k)) (sym is)
         (falls_set places slot place within (
           (let a = ap stage_at welcomes.3 ∙ ap stage welcomes.6.3 in omega arith),
-          (λ at until told. absurd (subst (IsRecall at until) welcomes.6.3 (subst (IsRecallAt at until) welcomes.3 told))),
+          (λ at until told. absurd (subst (IsRecall at until) welcomes.6.3
+              (subst (IsRecallAt at until) welcomes.3 told))),
           ap hop_at welcomes.3 ∙ welcomes.4 ∙ sym (ap hop_at welcomes.2),
         ) k);
     more = [];
     kept = sym (append-nil aside);
-    unawaited = All-nil (λ half. (stage_at (place_at new (slot_of half)) ≡ 0) ⊎ (2 ≤ stage_at (place_at places (slot_of half))));
+    unawaited = All-nil (λ half. (stage_at (place_at new (slot_of half)) ≡ 0)
+        ⊎ (2 ≤ stage_at (place_at places (slot_of half))));
     orders = λ other. gave_none hop_of places other (sent_at desks other) (sent_at now other)
-        (ap (λ l. get_or l other []) (changed_map slice took.before took.now desks now took.desk (λ (desk : Desk H). sent desk.orders) (ap sent took.orders)));
+        (ap (λ l. get_or l other []) (changed_map slice took.before took.now desks now took.desk
+            (λ (desk : Desk H). sent desk.orders) (ap sent took.orders)));
   }
 
   -- a half that wasn't awaited is kept aside
-  pub passes_aside : (slice : ℕ) (half : H) (places new : List (Option (Place H))) (aside new_aside : List H) (desks now : List (Desk H))
-      → Taken slice half desks now → new ≡ places → new_aside ≡ aside ++ half ∷ [] → Unawaited (place_at places (slot_of half))
+  pub passes_aside : (slice : ℕ) (half : H) (places new : List (Option (Place H))) (aside new_aside : List H)
+      (desks now : List (Desk H))
+      → Taken slice half desks now → new ≡ places → new_aside ≡ aside ++ half ∷ []
+      → Unawaited (place_at places (slot_of half))
       → Passes slot_of hop_of places new aside new_aside desks now
   passes_aside slice half places new aside new_aside desks now took same more far =
-      subst (λ (l : List (Option (Place H))). Passes slot_of hop_of places l aside new_aside desks now) (sym same) (record {
+      subst (λ (l : List (Option (Place H))). Passes slot_of hop_of places l aside new_aside desks now) (sym same)
+          (record {
         falls = λ slot. falls_same (place_at places slot);
         more = half ∷ [];
         kept = more;
-        unawaited = All-push (λ half. (stage_at (place_at places (slot_of half)) ≡ 0) ⊎ (2 ≤ stage_at (place_at places (slot_of half)))) [] half
-            (All-nil (λ half. (stage_at (place_at places (slot_of half)) ≡ 0) ⊎ (2 ≤ stage_at (place_at places (slot_of half))))) far;
+        unawaited = All-push (λ half. (stage_at (place_at places (slot_of half)) ≡ 0)
+            ⊎ (2 ≤ stage_at (place_at places (slot_of half)))) [] half
+            (All-nil (λ half. (stage_at (place_at places (slot_of half)) ≡ 0)
+                ⊎ (2 ≤ stage_at (place_at places (slot_of half))))) far;
         orders = λ other. gave_none hop_of places other (sent_at desks other) (sent_at now other)
-            (ap (λ l. get_or l other []) (changed_map slice took.before took.now desks now took.desk (λ (desk : Desk H). sent desk.orders) (ap sent took.orders)));
+            (ap (λ l. get_or l other []) (changed_map slice took.before took.now desks now took.desk
+                (λ (desk : Desk H). sent desk.orders) (ap sent took.orders)));
       })
 
-  given_gave : (places : List (Option (Place H))) (slice : ℕ) (order : Order H) (desks now : List (Desk H)) → Given slice order desks now
-      → Lawful hop_of places slice order → (other : ℕ) → Gave hop_of places other (sent_at desks other) (sent_at now other)
+  given_gave : (places : List (Option (Place H))) (slice : ℕ) (order : Order H) (desks now : List (Desk H))
+      → Given slice order desks now
+      → Lawful hop_of places slice order → (other : ℕ) → Gave hop_of places other (sent_at desks other)
+          (sent_at now other)
   given_gave places slice order desks now given lawful other =
       let f : Desk H → List (Order H) = λ desk. sent desk.orders in
-      let as_set : map f now ≡ set (map f desks) slice (f given.now) = ap (map f) given.desk.changed ∙ map-set f desks slice given.now in
+      let as_set : map f now ≡ set (map f desks) slice (f given.now) =
+          ap (map f) given.desk.changed ∙ map-set f desks slice given.now in
       let within : slice < length (map f desks) = rw length-map given.desk.within in
-      let was : get_or (map f desks) slice [] ≡ f given.before = get_or-map f desks slice given.before [] given.desk.within ∙ ap f (sym given.desk.there) in
-      elim (nat_eq other slice) as (λ b. nat_eq other slice ≡ b → Gave hop_of places other (sent_at desks other) (sent_at now other)) [
-        | true ↦ λ e. subst (λ (n : ℕ). Gave hop_of places n (sent_at desks n) (sent_at now n)) (sym (eqb-true other slice e)) (
+      let was : get_or (map f desks) slice [] ≡ f given.before =
+          get_or-map f desks slice given.before [] given.desk.within ∙ ap f (sym given.desk.there) in
+      elim (nat_eq other slice) as (λ b. nat_eq other slice ≡ b
+          → Gave hop_of places other (sent_at desks other) (sent_at now other)) [
+        | true ↦ λ e. subst (λ (n : ℕ). Gave hop_of places n (sent_at desks n) (sent_at now n))
+            (sym (eqb-true other slice e)) (
           order ∷ [],
-          ap (λ l. get_or l slice []) as_set ∙ get_or-set_same (map f desks) slice (f given.now) [] within ∙ given.sent ∙ ap (λ l. l ++ order ∷ []) (sym was),
+          ap (λ l. get_or l slice []) as_set ∙ get_or-set_same (map f desks) slice (f given.now) [] within
+              ∙ given.sent ∙ ap (λ l. l ++ order ∷ []) (sym was),
           All-push (Lawful hop_of places slice) [] order (All-nil (Lawful hop_of places slice)) lawful,
         )
         | false ↦ λ e. gave_none hop_of places other (sent_at desks other) (sent_at now other)
-            (ap (λ l. get_or l other []) as_set ∙ get_or-set_other (map f desks) slice other (f given.now) [] (eqb-false other slice e))
+            (ap (λ l. get_or l other []) as_set ∙ get_or-set_other (map f desks) slice other (f given.now) []
+                (eqb-false other slice e))
       ] refl
 
   refused_gave : (places : List (Option (Place H))) (slice : ℕ) (desks now : List (Desk H)) → Refused slice desks now
       → (other : ℕ) → Gave hop_of places other (sent_at desks other) (sent_at now other)
-  refused_gave places slice desks now refused other = gave_none hop_of places other (sent_at desks other) (sent_at now other)
-      (ap (λ l. get_or l other []) (changed_map slice refused.before refused.now desks now refused.desk (λ (desk : Desk H). sent desk.orders) refused.sent))
+  refused_gave places slice desks now refused other =
+      gave_none hop_of places other (sent_at desks other) (sent_at now other)
+      (ap (λ l. get_or l other []) (changed_map slice refused.before refused.now desks now refused.desk
+          (λ (desk : Desk H). sent desk.orders) refused.sent))
 
   -- what a state becomes as its order is offered, and the orders given
-  pub record StatePasses (places : List (Option (Place H))) (old new : State H) (desks now : List (Desk H)) : Type 0 where
+  pub record StatePasses (places : List (Option (Place H))) (old new : State H)
+      (desks now : List (Desk H)) : Type 0 where
     pub lower : stage new ≤ stage old
     pub told : (slice until : ℕ) → IsRecall slice until new → IsRecall slice until old
     pub gave : (slice : ℕ) → Gave hop_of places slice (sent_at desks slice) (sent_at now slice)
 
-  state_same : (places : List (Option (Place H))) (old new : State H) (desks now : List (Desk H)) → new ≡ old → now ≡ desks → StatePasses places old new desks now
+  state_same : (places : List (Option (Place H))) (old new : State H) (desks now : List (Desk H)) → new ≡ old
+      → now ≡ desks → StatePasses places old new desks now
   state_same places old new desks now same alike = record {
     lower = let a = ap stage same in omega arith;
     told = λ slice until. subst (IsRecall slice until) same;
-    gave = λ slice. gave_none hop_of places slice (sent_at desks slice) (sent_at now slice) (ap (λ l. sent_at l slice) alike);
+    gave = λ slice. gave_none hop_of places slice (sent_at desks slice) (sent_at now slice)
+        (ap (λ l. sent_at l slice) alike);
   }
 
   module _ {N : Type 0} (name : H → N) where
-    serves_passes : (places : List (Option (Place H))) (slot hop : ℕ) (old new : State H) (desks now : List (Desk H)) → hop ≡ hop_at (place_at places slot)
-        → ((slice until : ℕ) → IsRecall slice until old → IsRecallAt slice until (place_at places slot)) → Serves name hop_of slot hop old new desks now
+    serves_passes : (places : List (Option (Place H))) (slot hop : ℕ) (old new : State H)
+        (desks now : List (Desk H)) → hop ≡ hop_at (place_at places slot)
+        → ((slice until : ℕ) → IsRecall slice until old → IsRecallAt slice until (place_at places slot))
+        → Serves name hop_of slot hop old new desks now
         → StatePasses places old new desks now
     serves_passes places slot hop (Front half to) new desks now hopped recall serves = elim serves.outcome [
       | inl put ↦ record {
@@ -182,7 +223,8 @@ module _ {H : Type 0} (slot_of hop_of : H → ℕ) where
         gave = refused_gave places to desks now kept.1;
       }
     ]
-    serves_passes places slot hop (Placed at) new desks now hopped recall serves = state_same places (Placed at) new desks now serves.0 serves.1
+    serves_passes places slot hop (Placed at) new desks now hopped recall serves =
+        state_same places (Placed at) new desks now serves.0 serves.1
     serves_passes places slot hop (Recall at until to) new desks now hopped recall serves = elim serves [
       | inl put ↦ record {
         lower = let a = ap stage put.0 in omega arith;
@@ -195,14 +237,17 @@ module _ {H : Type 0} (slot_of hop_of : H → ℕ) where
         gave = refused_gave places at desks now kept.1;
       }
     ]
-    serves_passes places slot hop (Leaving from to) new desks now hopped recall serves = state_same places (Leaving from to) new desks now serves.0 serves.1
+    serves_passes places slot hop (Leaving from to) new desks now hopped recall serves =
+        state_same places (Leaving from to) new desks now serves.0 serves.1
 
-    served_passes : (places : List (Option (Place H))) (slot : ℕ) (old place : Option (Place H)) (aside : List H) (desks now : List (Desk H))
+    served_passes : (places : List (Option (Place H))) (slot : ℕ) (old place : Option (Place H)) (aside : List H)
+        (desks now : List (Desk H))
         → old ≡ place_at places slot → slot < length places → PlaceServed name hop_of slot old place desks now
         → Passes slot_of hop_of places (set places slot place) aside aside desks now
     served_passes places slot None place aside desks now is within served =
         passes_same places (set places slot place) aside aside desks now
-        (ap (set places slot) (served.0 ∙ is) ∙ set-get_or places slot None) refl (λ slice. ap (λ l. sent_at l slice) served.1)
+        (ap (set places slot) (served.0 ∙ is) ∙ set-get_or places slot None) refl
+            (λ slice. ap (λ l. sent_at l slice) served.1)
     served_passes places slot (Some before) place aside desks now is within served =
         let after = served.0 in
         let step = serves_passes places slot before.hop before.state after.state desks now (ap hop_at is)
@@ -214,14 +259,17 @@ module _ {H : Type 0} (slot_of hop_of : H → ℕ) where
           ));
           more = [];
           kept = sym (append-nil aside);
-          unawaited = All-nil (λ half. (stage_at (place_at (set places slot place) (slot_of half)) ≡ 0) ⊎ (2 ≤ stage_at (place_at places (slot_of half))));
+          unawaited = All-nil (λ half. (stage_at (place_at (set places slot place) (slot_of half)) ≡ 0)
+              ⊎ (2 ≤ stage_at (place_at places (slot_of half))));
           orders = step.gave;
         }
 
     -- the order of a slot was offered
-    pub passes_served : (places new : List (Option (Place H))) (slot : ℕ) (waits : Bool) (aside new_aside : List H) (desks now : List (Desk H))
+    pub passes_served : (places new : List (Option (Place H))) (slot : ℕ) (waits : Bool) (aside new_aside : List H)
+        (desks now : List (Desk H))
         → slot < length places → new_aside ≡ aside → ServedAt name hop_of slot waits places new desks now
         → Passes slot_of hop_of places new aside new_aside desks now
     passes_served places new slot waits aside new_aside desks now within same served =
-        subst (λ (p : List (Option (Place H)) × List H). Passes slot_of hop_of places p.0 aside p.1 desks now) (λ i. (sym served.1 i, sym same i))
+        subst (λ (p : List (Option (Place H)) × List H). Passes slot_of hop_of places p.0 aside p.1 desks now)
+            (λ i. (sym served.1 i, sym same i))
         (served_passes places slot (place_at places slot) served.0 aside desks now refl within served.3)

@@ -22,14 +22,17 @@ use Rattle.migration.proofs.SideSteps.{at_slot, wait_weight_is}
 
 module _ {N : Type 0} where
   abbrev pub roll : List (Option N) → List ℕ → List Lanes → ℕ → ℕ → Roll N
-  roll names hops lanes admitted asked = record { names = names; hops = hops; lanes = lanes; admitted = admitted; asked = asked }
+  roll names hops lanes admitted asked = record { names = names; hops = hops; lanes = lanes; admitted = admitted;
+      asked = asked }
 
-  pub roll_same : (names was : List (Option N)) (hops were : List ℕ) (lanes before : List Lanes) (admitted asked : ℕ) → names ≡ was → hops ≡ were → lanes ≡ before
+  pub roll_same : (names was : List (Option N)) (hops were : List ℕ) (lanes before : List Lanes)
+      (admitted asked : ℕ) → names ≡ was → hops ≡ were → lanes ≡ before
       → roll names hops lanes admitted asked ≡ roll was were before admitted asked
   roll_same names was hops were lanes before admitted asked n h l i = roll (n i) (h i) (l i) admitted asked
 
 module _ {H N : Type 0} (name : H → N) (places : List (Option (Place H))) (place : Option (Place H)) (slot : ℕ) where
-  pub names_set : name_at name place ≡ name_at name (place_at places slot) → names_of name (set places slot place) ≡ names_of name places
+  pub names_set : name_at name place ≡ name_at name (place_at places slot)
+      → names_of name (set places slot place) ≡ names_of name places
   names_set same = map-set_same (name_at name) places slot place None same
 
   pub hops_set : hop_at place ≡ hop_at (place_at places slot) → hops_of (set places slot place) ≡ hops_of places
@@ -48,7 +51,8 @@ abbrev pub Serving : {H : Type 0} → List ℕ → List (Option (Place H)) → L
 Serving serving places desks now = (slot slice : ℕ) → waits_at (place_at places slot) ≡ Some slice
     → (0 < sum_by (on slot) serving) ⊎ Rose (fulls_at desks slice) (fulls_at now slice)
 
-waits_true : {H : Type 0} (place : Option (Place H)) (slice : ℕ) → waits_at place ≡ Some slice → is_waiting_at place ≡ true
+waits_true : {H : Type 0} (place : Option (Place H)) (slice : ℕ) → waits_at place ≡ Some slice
+    → is_waiting_at place ≡ true
 waits_true None slice waits = absurd (let no : ⊥ = cc in no)
 waits_true (Some place) slice waits = by_state place.state waits where
   by_state : {H : Type 0} (state : _) → waits_for {H = H} state ≡ Some slice → is_waiting state ≡ true
@@ -59,14 +63,17 @@ waits_true (Some place) slice waits = by_state place.state waits where
 
 module _ {H N : Type 0} (name : H → N) (slot_of : N → ℕ) where
   -- all that wait are to be served
-  pub serving_all : (places : List (Option (Place H))) (aside : List H) (desks : List (Desk H)) (waiting serving : List ℕ) (admitted asked : ℕ)
-      → IsSide name slot_of places aside desks waiting serving admitted asked → waiting ≡ [] → Serving serving places desks desks
+  pub serving_all : (places : List (Option (Place H))) (aside : List H) (desks : List (Desk H))
+      (waiting serving : List ℕ) (admitted asked : ℕ)
+      → IsSide name slot_of places aside desks waiting serving admitted asked → waiting ≡ []
+      → Serving serving places desks desks
   serving_all places aside desks waiting serving admitted asked side none slot slice waits =
       let f : Option (Place H) → ℕ = wait_weight name slot_of (on slot) in
       let true_here = waits_true (place_at places slot) slice waits in
       let within = waiting_within name slot_of places slot true_here in
       let a = get_or-le-sum_by f places slot None within in
-      let b = wait_weight_is name slot_of (on slot) slot (place_at places slot) (at_slot name slot_of places side.slots slot) in
+      let b = wait_weight_is name slot_of (on slot) slot (place_at places slot)
+          (at_slot name slot_of places side.slots slot) in
       let c = ap (λ t. cond t (on slot slot) 0) true_here in
       let d : on slot slot ≡ 1 = ap (λ t. cond t 1 0) (eq-eqb slot slot refl) in
       let q = side.queued (on slot) in
@@ -95,12 +102,15 @@ rose_since first before now earlier again = elim earlier [
 ]
 
 module _ {H : Type 0} where
-  pub serving_more : (serving new_serving : List ℕ) (places new_places : List (Option (Place H))) (first desks now : List (Desk H))
-      → ((slice : ℕ) → (fulls_at desks slice ≡ fulls_at first slice) ⊎ Rose (fulls_at first slice) (fulls_at desks slice))
+  pub serving_more : (serving new_serving : List ℕ) (places new_places : List (Option (Place H)))
+      (first desks now : List (Desk H))
+      → ((slice : ℕ) → (fulls_at desks slice ≡ fulls_at first slice)
+      ⊎ Rose (fulls_at first slice) (fulls_at desks slice))
       → Serving serving places first desks → ServedNext serving new_serving places new_places desks now
       → Serving new_serving new_places first now
   serving_more serving new_serving places new_places first desks now earlier so_far served slot slice waits =
-      elim (nat_eq slot served.slot) as (λ b. nat_eq slot served.slot ≡ b → (0 < sum_by (on slot) new_serving) ⊎ Rose (fulls_at first slice) (fulls_at now slice)) [
+      elim (nat_eq slot served.slot) as (λ b. nat_eq slot served.slot ≡ b → (0 < sum_by (on slot) new_serving)
+          ⊎ Rose (fulls_at first slice) (fulls_at now slice)) [
         | true ↦ λ e.
             let same : slot ≡ served.slot = eqb-true slot served.slot e in
             inr (rose_since (fulls_at first slice) (fulls_at desks slice) (fulls_at now slice) (earlier slice)
@@ -111,9 +121,11 @@ module _ {H : Type 0} where
               | inl queued ↦ inl (
                   let a = ap (sum_by (on slot)) served.next in
                   let b = sum_by_push (on slot) new_serving served.slot in
-                  let c : on slot served.slot ≡ 0 = ap (λ t. cond t 1 0) (ne_eqb served.slot slot (λ q. apart (sym q))) in
+                  let c : on slot served.slot ≡ 0 = ap (λ t. cond t 1 0)
+                      (ne_eqb served.slot slot (λ q. apart (sym q))) in
                   omega arith)
-              | inr rose ↦ inr (rose_later (fulls_at first slice) (fulls_at desks slice) (fulls_at now slice) rose (served.later slice))
+              | inr rose ↦ inr (rose_later (fulls_at first slice) (fulls_at desks slice) (fulls_at now slice) rose
+                  (served.later slice))
             ]
       ] refl
 
@@ -129,14 +141,16 @@ module _ {H : Type 0} where
     | inr again ↦ inr (rose_since (fulls_at first slice) (fulls_at desks slice) (fulls_at now slice) earlier again)
   ]
 
-  pub serving_none : (serving : List ℕ) (places : List (Option (Place H))) (desks now : List (Desk H)) → serving ≡ [] → Serving serving places desks now
+  pub serving_none : (serving : List ℕ) (places : List (Option (Place H))) (desks now : List (Desk H))
+      → serving ≡ [] → Serving serving places desks now
       → AllMetFull places desks now
   serving_none serving places desks now none so_far slot slice waits = elim (so_far slot slice waits) [
     | inl queued ↦ absurd (let a = ap (sum_by (on slot)) none in omega arith)
     | inr rose ↦ rose
   ]
 
-  pub met_full_since : (places : List (Option (Place H))) (first desks now : List (Desk H)) → ((slice : ℕ) → fulls_at desks slice ≡ fulls_at first slice)
+  pub met_full_since : (places : List (Option (Place H))) (first desks now : List (Desk H))
+      → ((slice : ℕ) → fulls_at desks slice ≡ fulls_at first slice)
       → AllMetFull places desks now → AllMetFull places first now
   met_full_since places first desks now same met slot slice waits =
       subst (λ (n : ℕ). Rose n (fulls_at now slice)) (same slice) (met slot slice waits)
@@ -146,8 +160,10 @@ none_left [] none = refl
 none_left (x ∷ xs) none = absurd (omega arith)
 
 -- how the lanes home ended stays, while orders are given
-pub ended_since : {H : Type 0} (admitted was : ℕ) (aside old_aside : List H) (slice : ℕ) (first desks now : List (Desk H)) → homes_of now ≡ homes_of desks
-    → aside ≡ old_aside → admitted ≡ was → HomeEnded (length old_aside) was slice first desks → HomeEnded (length aside) admitted slice first now
+pub ended_since : {H : Type 0} (admitted was : ℕ) (aside old_aside : List H) (slice : ℕ)
+    (first desks now : List (Desk H)) → homes_of now ≡ homes_of desks
+    → aside ≡ old_aside → admitted ≡ was → HomeEnded (length old_aside) was slice first desks
+    → HomeEnded (length aside) admitted slice first now
 ended_since {H} admitted was aside old_aside slice first desks now homes same alike ended = elim ended [
   | inl rose ↦ inl (subst (Rose (empties_at first slice)) (sym (by_homes empty_answers)) rose)
   | inr more ↦ elim more [
@@ -159,6 +175,8 @@ ended_since {H} admitted was aside old_aside slice first desks now homes same al
   map_map f g [] = refl
   map_map f g (x ∷ xs) = ap (λ l. g (f x) ∷ l) (map_map f g xs)
 
-  by_homes : (count : Receiver H → ℕ) → get_or (map (λ (desk : Desk H). count desk.home) now) slice 0 ≡ get_or (map (λ (desk : Desk H). count desk.home) desks) slice 0
+  by_homes : (count : Receiver H → ℕ) → get_or (map (λ (desk : Desk H). count desk.home) now) slice 0
+      ≡ get_or (map (λ (desk : Desk H). count desk.home) desks) slice 0
   by_homes count = ap (λ l. get_or l slice 0)
-      (map_map (λ (desk : Desk H). desk.home) count now ∙ ap (map count) homes ∙ sym (map_map (λ (desk : Desk H). desk.home) count desks))
+      (map_map (λ (desk : Desk H). desk.home) count now ∙ ap (map count) homes
+          ∙ sym (map_map (λ (desk : Desk H). desk.home) count desks))

@@ -29,8 +29,10 @@ same_default (x ∷ xs) zero d e within = refl
 same_default (x ∷ xs) (suc k) d e within = same_default xs k d e (omega arith)
 
 -- a half that came home, and the places
-pub welcomed_at : {H : Type 0} (half : H) (slot : ℕ) (places new : List (Option (Place H))) (place : Option (Place H)) (back : Option H)
-    → slot < length places → new ≡ set places slot place → Welcomes half (place_at places slot) place back → WelcomesAt half slot places new back
+pub welcomed_at : {H : Type 0} (half : H) (slot : ℕ) (places new : List (Option (Place H)))
+    (place : Option (Place H)) (back : Option H)
+    → slot < length places → new ≡ set places slot place → Welcomes half (place_at places slot) place back
+    → WelcomesAt half slot places new back
 welcomed_at half slot places new place None within is welcomes = (place, within, is, welcomes)
 welcomed_at half slot places new place (Some back) within is welcomes =
     (welcomes.0, is ∙ ap (set places slot) welcomes.1 ∙ set-get_or places slot None, welcomes.2)
@@ -47,13 +49,15 @@ module _ {H N : Type 0} (name : H → N) (slot_of : N → ℕ) where
   by_slot places slots slot = ap (slot_at slot_of slot) (index_map (name_at name) places slot None) ∙ slots slot
 
   -- what a place weighs that stands at its slot
-  pub wait_weight_is : (w : ℕ → ℕ) (slot : ℕ) (place : Option (Place H)) → slot_at slot_of slot (name_at name place) ≡ slot
+  pub wait_weight_is : (w : ℕ → ℕ) (slot : ℕ) (place : Option (Place H))
+      → slot_at slot_of slot (name_at name place) ≡ slot
       → wait_weight name slot_of w place ≡ cond (is_waiting_at place) (w slot) 0
   wait_weight_is w slot None at = refl
   wait_weight_is w slot (Some place) at = ap (λ n. cond (is_waiting_at (Some place)) (w n) 0) at
 
   -- what one step at a place, the desks and the lists may change
-  pub record Change (places : List (Option (Place H))) (place : Option (Place H)) (slot : ℕ) (aside new_aside : List H) (desks now : List (Desk H))
+  pub record Change (places : List (Option (Place H))) (place : Option (Place H)) (slot : ℕ)
+      (aside new_aside : List H) (desks now : List (Desk H))
       (waiting new_waiting serving new_serving : List ℕ) (admitted new_admitted asked new_asked : ℕ) : Type 0 where
     pub within : slot < length places
     pub balance : (h : N → ℕ) → front_at name h place + weight name h new_aside + sum_by (sent_weight name h) now
@@ -61,7 +65,8 @@ module _ {H N : Type 0} (name : H → N) (slot_of : N → ℕ) where
         ≡ front_at name h (place_at places slot) + weight name h aside + sum_by (sent_weight name h) desks
         + weight_at h (name_at name place) + sum_by (home_weight name h) now
     pub at : slot_at slot_of slot (name_at name place) ≡ slot
-    pub waits : (w : ℕ → ℕ) → sum_by w new_waiting + sum_by w new_serving + wait_weight name slot_of w (place_at places slot)
+    pub waits : (w : ℕ → ℕ) → sum_by w new_waiting + sum_by w new_serving
+        + wait_weight name slot_of w (place_at places slot)
         ≡ sum_by w waiting + sum_by w serving + wait_weight name slot_of w place
     pub long : length now ≡ length desks
     pub fits : PlaceFits (length desks) new_asked place
@@ -72,15 +77,19 @@ module _ {H N : Type 0} (name : H → N) (slot_of : N → ℕ) where
     pub counted : new_admitted + cond (is_admitted (place_at places slot)) 1 0 ≡ admitted + cond (is_admitted place) 1 0
     pub aside_few : length new_aside ≤ new_admitted
 
-  fits_later : (n asked later : ℕ) → asked ≤ later → (place : Option (Place H)) → PlaceFits n asked place → PlaceFits n later place
+  fits_later : (n asked later : ℕ) → asked ≤ later → (place : Option (Place H)) → PlaceFits n asked place
+      → PlaceFits n later place
   fits_later n asked later more place fits = (fits.0, fits.1, (let e = fits.2 in omega arith))
 
-  pub set_side : (places : List (Option (Place H))) (place : Option (Place H)) (slot : ℕ) (aside new_aside : List H) (desks now : List (Desk H))
+  pub set_side : (places : List (Option (Place H))) (place : Option (Place H)) (slot : ℕ)
+      (aside new_aside : List H) (desks now : List (Desk H))
       (waiting new_waiting serving new_serving : List ℕ) (admitted new_admitted asked new_asked : ℕ)
       → IsSide name slot_of places aside desks waiting serving admitted asked
-      → Change places place slot aside new_aside desks now waiting new_waiting serving new_serving admitted new_admitted asked new_asked
+      → Change places place slot aside new_aside desks now waiting new_waiting serving new_serving admitted
+          new_admitted asked new_asked
       → IsSide name slot_of (set places slot place) new_aside now new_waiting new_serving new_admitted new_asked
-  set_side places place slot aside new_aside desks now waiting new_waiting serving new_serving admitted new_admitted asked new_asked side change =
+  set_side places place slot aside new_aside desks now waiting new_waiting serving new_serving admitted
+      new_admitted asked new_asked side change =
       let new : List (Option (Place H)) = set places slot place in
       let slots = at_slot places side.slots in
       record {
@@ -93,10 +102,14 @@ module _ {H N : Type 0} (name : H → N) (slot_of : N → ℕ) where
             let e = sum_by-through (name_at name) (weight_at h) places in
             let f = sum_by-through (name_at name) (weight_at h) new in
             omega arith;
-        slots = by_slot new (λ k. elim (nat_eq k slot) as (λ b. nat_eq k slot ≡ b → slot_at slot_of k (name_at name (place_at new k)) ≡ k) [
-          | true ↦ λ e. subst (λ (n : ℕ). slot_at slot_of n (name_at name (place_at new n)) ≡ n) (sym (eqb-true k slot e))
-              (ap (λ x. slot_at slot_of slot (name_at name x)) (get_or-set_same places slot place None change.within) ∙ change.at)
-          | false ↦ λ e. ap (λ x. slot_at slot_of k (name_at name x)) (get_or-set_other places slot k place None (eqb-false k slot e)) ∙ slots k
+        slots = by_slot new (λ k. elim (nat_eq k slot) as (λ b. nat_eq k slot ≡ b
+            → slot_at slot_of k (name_at name (place_at new k)) ≡ k) [
+          | true ↦ λ e. subst (λ (n : ℕ). slot_at slot_of n (name_at name (place_at new n)) ≡ n)
+              (sym (eqb-true k slot e))
+              (ap (λ x. slot_at slot_of slot (name_at name x))
+                  (get_or-set_same places slot place None change.within) ∙ change.at)
+          | false ↦ λ e. ap (λ x. slot_at slot_of k (name_at name x))
+              (get_or-set_other places slot k place None (eqb-false k slot e)) ∙ slots k
         ] refl);
         queued = λ w.
             let a = side.queued w in
@@ -105,7 +118,8 @@ module _ {H N : Type 0} (name : H → N) (slot_of : N → ℕ) where
             omega arith;
         fits = subst (λ (n : ℕ). All (PlaceFits n new_asked) new) (sym change.long)
             (All-set (PlaceFits (length desks) new_asked) places slot place change.fits
-            (All-weaker (PlaceFits (length desks) asked) (PlaceFits (length desks) new_asked) (fits_later (length desks) asked new_asked change.later) places side.fits));
+            (All-weaker (PlaceFits (length desks) asked) (PlaceFits (length desks) new_asked)
+                (fits_later (length desks) asked new_asked change.later) places side.fits));
         few = let a = side.few in let b = change.count in
             let c = sum_by-set (pending_at {H = H}) places slot place None change.within in omega arith;
         asked_few = change.few;
@@ -117,13 +131,16 @@ module _ {H N : Type 0} (name : H → N) (slot_of : N → ℕ) where
 
   -- no place changed
   pub same_places : (places : List (Option (Place H))) (aside new_aside : List H) (desks now : List (Desk H))
-      (waiting new_waiting serving new_serving : List ℕ) (admitted asked : ℕ) → IsSide name slot_of places aside desks waiting serving admitted asked
+      (waiting new_waiting serving new_serving : List ℕ) (admitted asked : ℕ)
+          → IsSide name slot_of places aside desks waiting serving admitted asked
       → ((h : N → ℕ) → weight name h new_aside + sum_by (sent_weight name h) now + sum_by (home_weight name h) desks
       ≡ weight name h aside + sum_by (sent_weight name h) desks + sum_by (home_weight name h) now)
       → ((w : ℕ → ℕ) → sum_by w new_waiting + sum_by w new_serving ≡ sum_by w waiting + sum_by w serving)
-      → length now ≡ length desks → sum_by (order_count {H = H}) now ≤ sum_by (order_count {H = H}) desks → length new_aside ≤ admitted
+      → length now ≡ length desks → sum_by (order_count {H = H}) now ≤ sum_by (order_count {H = H}) desks
+      → length new_aside ≤ admitted
       → IsSide name slot_of places new_aside now new_waiting new_serving admitted asked
-  same_places places aside new_aside desks now waiting new_waiting serving new_serving admitted asked side balance waits long count few = record {
+  same_places places aside new_aside desks now waiting new_waiting serving new_serving admitted asked side balance
+      waits long count few = record {
     balanced = λ h. let a = side.balanced h in let b = balance h in omega arith;
     slots = side.slots;
     queued = λ w. let a = side.queued w in let b = waits w in omega arith;
@@ -139,7 +156,8 @@ module _ {H N : Type 0} (name : H → N) (slot_of : N → ℕ) where
   place_none (suc more) zero = refl
   place_none (suc more) (suc k) = place_none more k
 
-  pub place_grown : (places : List (Option (Place H))) (more k : ℕ) → place_at (places ++ replicate more None) k ≡ place_at places k
+  pub place_grown : (places : List (Option (Place H))) (more k : ℕ)
+      → place_at (places ++ replicate more None) k ≡ place_at places k
   place_grown [] more k = place_none more k
   place_grown (place ∷ places) more zero = refl
   place_grown (place ∷ places) more (suc k) = place_grown places more k
@@ -152,7 +170,8 @@ module _ {H N : Type 0} (name : H → N) (slot_of : N → ℕ) where
       let c : more * f None ≡ 0 = ap (λ n. more * n) zero_there ∙ (omega arith) in omega arith
 
   -- some free places more
-  pub grown_side : (places : List (Option (Place H))) (more : ℕ) (aside : List H) (desks : List (Desk H)) (waiting serving : List ℕ) (admitted asked : ℕ)
+  pub grown_side : (places : List (Option (Place H))) (more : ℕ) (aside : List H) (desks : List (Desk H))
+      (waiting serving : List ℕ) (admitted asked : ℕ)
       → IsSide name slot_of places aside desks waiting serving admitted asked
       → IsSide name slot_of (places ++ replicate more None) aside desks waiting serving admitted asked
   grown_side places more aside desks waiting serving admitted asked side =
@@ -166,8 +185,10 @@ module _ {H N : Type 0} (name : H → N) (slot_of : N → ℕ) where
             let e = sum_by-through (name_at name) (weight_at h) places in
             let f = sum_by-through (name_at name) (weight_at h) new in
             omega arith;
-        slots = by_slot new (λ k. ap (λ x. slot_at slot_of k (name_at name x)) (place_grown places more k) ∙ at_slot places side.slots k);
-        queued = λ w. let a = side.queued w in let c = grown_sum (wait_weight name slot_of w) places more refl in omega arith;
+        slots = by_slot new (λ k. ap (λ x. slot_at slot_of k (name_at name x)) (place_grown places more k)
+            ∙ at_slot places side.slots k);
+        queued = λ w. let a = side.queued w in let c = grown_sum
+            (wait_weight name slot_of w) places more refl in omega arith;
         fits = All-append (PlaceFits (length desks) asked) places (replicate more None) side.fits
             (All-replicate (PlaceFits (length desks) asked) more None (omega arith, omega arith, omega arith));
         few = let a = side.few in let c = grown_sum (pending_at {H = H}) places more refl in omega arith;
@@ -187,20 +208,23 @@ module _ {H : Type 0} where
   pub grown_same : (places old new : List (Option (Place H))) → Grown places old → new ≡ old → Grown places new
   grown_same places old new grown same = (grown.0, same ∙ grown.1)
 
-  pub grown_more : (places old new : List (Option (Place H))) → Grown places old → new ≡ old ++ None ∷ [] → Grown places new
+  pub grown_more : (places old new : List (Option (Place H))) → Grown places old → new ≡ old ++ None ∷ []
+      → Grown places new
   grown_more places old new grown more =
       (suc grown.0, more ∙ ap (λ l. l ++ None ∷ []) grown.1 ∙ one_more places grown.0) where
         pushed : (n : ℕ) → replicate {A = Option (Place H)} n None ++ None ∷ [] ≡ replicate (suc n) None
         pushed zero = refl
         pushed (suc n) = ap (λ l. None ∷ l) (pushed n)
 
-        one_more : (xs : List (Option (Place H))) (n : ℕ) → (xs ++ replicate n None) ++ None ∷ [] ≡ xs ++ replicate (suc n) None
+        one_more : (xs : List (Option (Place H))) (n : ℕ)
+            → (xs ++ replicate n None) ++ None ∷ [] ≡ xs ++ replicate (suc n) None
         one_more [] n = pushed n
         one_more (x ∷ xs) n = ap (λ l. x ∷ l) (one_more xs n)
 
 module _ {H N : Type 0} (name : H → N) (slot_of : N → ℕ) where
   -- what a place of a side has fits
-  pub place_fits : (places : List (Option (Place H))) (slot : ℕ) (aside : List H) (desks : List (Desk H)) (waiting serving : List ℕ) (admitted asked : ℕ)
+  pub place_fits : (places : List (Option (Place H))) (slot : ℕ) (aside : List H) (desks : List (Desk H))
+      (waiting serving : List ℕ) (admitted asked : ℕ)
       → IsSide name slot_of places aside desks waiting serving admitted asked → slot < length places
       → PlaceFits (length desks) (2 ^ 48) (place_at places slot)
   place_fits places slot aside desks waiting serving admitted asked side within =
@@ -209,10 +233,12 @@ module _ {H N : Type 0} (name : H → N) (slot_of : N → ℕ) where
 
   -- room was made
   pub roomy_side : (places new : List (Option (Place H))) (aside new_aside : List H) (desks : List (Desk H))
-      (waiting new_waiting serving new_serving : List ℕ) (admitted asked : ℕ) → IsSide name slot_of places aside desks waiting serving admitted asked
+      (waiting new_waiting serving new_serving : List ℕ) (admitted asked : ℕ)
+          → IsSide name slot_of places aside desks waiting serving admitted asked
       → Grown places new → new_aside ≡ aside → new_waiting ≡ waiting → new_serving ≡ serving
       → IsSide name slot_of new new_aside desks new_waiting new_serving admitted asked
   roomy_side places new aside new_aside desks waiting new_waiting serving new_serving admitted asked side grown a w s =
-      subst (λ (p : List (Option (Place H)) × List H × List ℕ × List ℕ). IsSide name slot_of p.0 p.1 desks p.2 p.3 admitted asked)
+      subst (λ (p : List (Option (Place H)) × List H × List ℕ
+          × List ℕ). IsSide name slot_of p.0 p.1 desks p.2 p.3 admitted asked)
       (λ i. (sym grown.1 i, sym a i, sym w i, sym s i))
       (grown_side name slot_of places grown.0 aside desks waiting serving admitted asked side)

@@ -53,12 +53,15 @@ module _ {H : Type 0} where
 
   -- the orders that were sent since are lawful
   abbrev pub Gave : (H → ℕ) → List (Option (Place H)) → ℕ → List (Order H) → List (Order H) → Type 0
-  Gave hop_of places slice before now = (more : List (Order H)) × (now ≡ before ++ more) × All (Lawful hop_of places slice) more
+  Gave hop_of places slice before now = (more : List (Order H)) × (now ≡ before ++ more)
+      × All (Lawful hop_of places slice) more
 
 -- each half that was newly kept aside had not been told to leave, and each order that was given is what its slot asked for
-pub record Passes {H : Type 0} (slot_of hop_of : H → ℕ) (places new_places : List (Option (Place H))) (aside new_aside : List H) (old new : List (Desk H)) : Type 0 where
+pub record Passes {H : Type 0} (slot_of hop_of : H → ℕ) (places new_places : List (Option (Place H)))
+    (aside new_aside : List H) (old new : List (Desk H)) : Type 0 where
   pub falls : (slot : ℕ) → Falls (place_at places slot) (place_at new_places slot)
   pub more : List H
   pub kept : new_aside ≡ aside ++ more
-  pub unawaited : All (λ half. (stage_at (place_at new_places (slot_of half)) ≡ 0) ⊎ (2 ≤ stage_at (place_at places (slot_of half)))) more
+  pub unawaited : All (λ half. (stage_at (place_at new_places (slot_of half)) ≡ 0)
+      ⊎ (2 ≤ stage_at (place_at places (slot_of half)))) more
   pub orders : (slice : ℕ) → Gave hop_of places slice (sent_at old slice) (sent_at new slice)

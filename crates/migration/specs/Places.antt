@@ -92,7 +92,8 @@ module _ {H : Type 0} where
 
   -- the slices of a place are below this number, and its slot moved less than so often
   abbrev pub PlaceFits : ℕ → ℕ → Option (Place H) → Type 0
-  PlaceFits slices asked place = (at_end_at place ≤ slices) × (to_end_at place ≤ slices) × (hop_at place ≤ 2 ^ 60 + asked)
+  PlaceFits slices asked place = (at_end_at place ≤ slices) × (to_end_at place ≤ slices)
+      × (hop_at place ≤ 2 ^ 60 + asked)
 
   abbrev pub is_admitted : Option (Place H) → Bool
   is_admitted None = false

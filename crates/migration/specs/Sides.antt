@@ -23,7 +23,8 @@ abbrev pub BySlot : {N : Type 0} → (N → ℕ) → List (Option N) → Type 0
 BySlot slot_of names = (slot : ℕ) → slot_at slot_of slot (slice_index_or names slot None) ≡ slot
 
 -- what a side keeps: each name in one place, each at its slot, the slots with an order to give in one of two lists, and few enough orders
-pub record IsSide {H N : Type 0} (name : H → N) (slot_of : N → ℕ) (places : List (Option (Place H))) (aside : List H) (desks : List (Desk H))
+pub record IsSide {H N : Type 0} (name : H → N) (slot_of : N
+    → ℕ) (places : List (Option (Place H))) (aside : List H) (desks : List (Desk H))
     (waiting serving : List ℕ) (admitted asked : ℕ) : Type 0 where
   pub balanced : Balanced name places aside desks
   pub slots : BySlot slot_of (names_of name places)
@@ -40,7 +41,8 @@ Rose old new = (old < new) ⊎ (2 ^ 64 - 1 ≤ new)
 
 -- each slot that still waits for a slice met a full lane of orders there
 abbrev pub AllMetFull : {H : Type 0} → List (Option (Place H)) → List (Desk H) → List (Desk H) → Type 0
-AllMetFull places old new = (slot slice : ℕ) → waits_at (place_at places slot) ≡ Some slice → Rose (fulls_at old slice) (fulls_at new slice)
+AllMetFull places old new =
+    (slot slice : ℕ) → waits_at (place_at places slot) ≡ Some slice → Rose (fulls_at old slice) (fulls_at new slice)
 
 -- the lane home of a slice was empty, or 64 halves were taken from it, or no more may be kept aside
 abbrev pub HomeEnded : {H : Type 0} → ℕ → ℕ → ℕ → List (Desk H) → List (Desk H) → Type 0

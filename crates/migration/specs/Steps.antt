@@ -10,7 +10,8 @@ use Rattle.migration.specs.Places.{place_at, is_waiting_at, is_leaving}
 use Rattle.migration.specs.Passes.{Unawaited}
 
 -- a half is told the hop of its slot, and then it was sent to a slice, or is at the front since that lane was full
-pub record Sends {H N : Type 0} (name : H → N) (hop_of : H → ℕ) (hop to : ℕ) (half : H) (state : State H) (old new : List (Desk H)) : Type 0 where
+pub record Sends {H N : Type 0} (name : H → N) (hop_of : H
+    → ℕ) (hop to : ℕ) (half : H) (state : State H) (old new : List (Desk H)) : Type 0 where
   pub told : H
   pub named : name told ≡ name half
   pub hopped : hop_of told ≡ hop
@@ -19,7 +20,8 @@ pub record Sends {H N : Type 0} (name : H → N) (hop_of : H → ℕ) (hop to : 
 -- a slice was told that the half of a slot is to leave, or will be, since that lane was full
 abbrev pub Recalls : {H : Type 0} → ℕ → ℕ → ℕ → ℕ → State H → List (Desk H) → List (Desk H) → Type 0
 Recalls slot at until to state old new =
-    ((state ≡ Leaving at to) × Given at (Leave slot until) old new) ⊎ ((state ≡ Recall at until to) × Refused at old new)
+    ((state ≡ Leaving at to) × Given at (Leave slot until) old new)
+        ⊎ ((state ≡ Recall at until to) × Refused at old new)
 
 module _ {H N : Type 0} (name : H → N) (hop_of : H → ℕ) where
   -- the order that a slot's state waits to give is offered once
@@ -37,7 +39,8 @@ module _ {H N : Type 0} (name : H → N) (hop_of : H → ℕ) where
       × Serves slot before.hop before.state now.state old new
 
   -- the same at the place of a slot, and whether it waits still
-  abbrev pub ServedAt : ℕ → Bool → List (Option (Place H)) → List (Option (Place H)) → List (Desk H) → List (Desk H) → Type 0
+  abbrev pub ServedAt : ℕ → Bool → List (Option (Place H)) → List (Option (Place H)) → List (Desk H)
+      → List (Desk H) → Type 0
   ServedAt slot waits places new_places old new =
       (place : Option (Place H)) × (new_places ≡ slice_set places slot place) × (waits ≡ is_waiting_at place)
       × PlaceServed slot (place_at places slot) place old new
@@ -54,7 +57,8 @@ Goes slot slice until (Recall at count _) state old new = (state ≡ Recall at c
 Goes slot slice until (Leaving from _) state old new = (state ≡ Leaving from slice) × (new ≡ old)
 
 -- the slot moved once more
-pub record Moves {H : Type 0} (slot slice until : ℕ) (place new_place : Option (Place H)) (old new : List (Desk H)) : Type 0 where
+pub record Moves {H : Type 0} (slot slice until : ℕ) (place new_place : Option (Place H))
+    (old new : List (Desk H)) : Type 0 where
   pub before : Place H
   pub now : Place H
   pub was : place ≡ Some before
@@ -79,10 +83,12 @@ Welcomes {H} half place new_place None =
 abbrev pub WelcomesAt : {H : Type 0} → H → ℕ → List (Option (Place H)) → List (Option (Place H)) → Option H → Type 0
 WelcomesAt half slot places new (Some back) = (back ≡ half) × (new ≡ places) × Unawaited (place_at places slot)
 WelcomesAt {H} half slot places new None =
-    (place : Option (Place H)) × (slot < length places) × (new ≡ slice_set places slot place) × Welcomes half (place_at places slot) place None
+    (place : Option (Place H)) × (slot < length places) × (new ≡ slice_set places slot place)
+        × Welcomes half (place_at places slot) place None
 
 -- the place of a slot moved, and no other one changed
-abbrev pub MovesAt : {H : Type 0} → ℕ → ℕ → ℕ → List (Option (Place H)) → List (Option (Place H)) → List (Desk H) → List (Desk H) → Type 0
+abbrev pub MovesAt : {H : Type 0} → ℕ → ℕ → ℕ → List (Option (Place H)) → List (Option (Place H)) → List (Desk H)
+    → List (Desk H) → Type 0
 MovesAt {H} slot slice until places new_places old new =
     (place : Option (Place H)) × (slot < length places) × (new_places ≡ slice_set places slot place)
     × Moves slot slice until (place_at places slot) place old new
@@ -92,7 +98,8 @@ abbrev pub Grown : {H : Type 0} → List (Option (Place H)) → List (Option (Pl
 Grown old new = (more : ℕ) × (new ≡ old ++ replicate more None)
 
 -- a half was admitted at its slot under this hop, and sent to a slice or kept at the front, and no other slot changed
-pub record Admits {H N : Type 0} (name : H → N) (hop_of : H → ℕ) (slot slice hop : ℕ) (half : H) (places new_places : List (Option (Place H)))
+pub record Admits {H N : Type 0} (name : H → N) (hop_of : H
+    → ℕ) (slot slice hop : ℕ) (half : H) (places new_places : List (Option (Place H)))
     (old new : List (Desk H)) : Type 0 where
   pub now : Place H
   pub more : ℕ

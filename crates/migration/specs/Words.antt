@@ -50,24 +50,31 @@ module _ {H N : Type 0} {g : Ghosts H N} where
   }
 
 -- a look at the lane home of a slice: a half was taken, or none, since the lane was empty or no more may be kept aside
-pub record TookOne {H : Type 0} (went : Bool) (slice admitted : ℕ) (aside new_aside : List H) (old new : List (Desk H)) : Type 0 where
-  pub others : (other : ℕ) → other ≢ slice → (home_count new other ≡ home_count old other) × (empties_at new other ≡ empties_at old other)
-  pub more : went ≡ true → (home_count new slice ≡ home_count old slice + 1) × (empties_at new slice ≡ empties_at old slice)
+pub record TookOne {H : Type 0} (went : Bool) (slice admitted : ℕ) (aside new_aside : List H)
+    (old new : List (Desk H)) : Type 0 where
+  pub others : (other : ℕ) → other ≢ slice → (home_count new other ≡ home_count old other)
+      × (empties_at new other ≡ empties_at old other)
+  pub more : went ≡ true → (home_count new slice ≡ home_count old slice + 1)
+      × (empties_at new slice ≡ empties_at old slice)
   pub ended : went ≡ false → Rose (empties_at old slice) (empties_at new slice) ⊎ (length new_aside ≡ admitted)
   pub aside_grows : length aside ≤ length new_aside
   pub fulls : (other : ℕ) → fulls_at new other ≡ fulls_at old other
 
 -- the lane home of a slice was emptied as far as it may be at once
-pub record TookFrom {H : Type 0} (slice admitted : ℕ) (aside new_aside : List H) (old new : List (Desk H)) : Type 0 where
-  pub others : (other : ℕ) → other ≢ slice → (home_count new other ≡ home_count old other) × (empties_at new other ≡ empties_at old other)
+pub record TookFrom {H : Type 0} (slice admitted : ℕ) (aside new_aside : List H)
+    (old new : List (Desk H)) : Type 0 where
+  pub others : (other : ℕ) → other ≢ slice → (home_count new other ≡ home_count old other)
+      × (empties_at new other ≡ empties_at old other)
   pub ended : HomeEnded (length new_aside) admitted slice old new
   pub aside_grows : length aside ≤ length new_aside
   pub fulls : (other : ℕ) → fulls_at new other ≡ fulls_at old other
 
 -- the order of the slot that is served next was offered
-pub record ServedNext {H : Type 0} (serving new_serving : List ℕ) (places new_places : List (Option (Place H))) (old new : List (Desk H)) : Type 0 where
+pub record ServedNext {H : Type 0} (serving new_serving : List ℕ) (places new_places : List (Option (Place H)))
+    (old new : List (Desk H)) : Type 0 where
   pub slot : ℕ
   pub next : serving ≡ new_serving ++ slot ∷ []
   pub others : (other : ℕ) → other ≢ slot → place_at new_places other ≡ place_at places other
-  pub again : (slice : ℕ) → waits_at (place_at new_places slot) ≡ Some slice → Rose (fulls_at old slice) (fulls_at new slice)
+  pub again : (slice : ℕ) → waits_at (place_at new_places slot) ≡ Some slice
+      → Rose (fulls_at old slice) (fulls_at new slice)
   pub later : (slice : ℕ) → (fulls_at new slice ≡ fulls_at old slice) ⊎ Rose (fulls_at old slice) (fulls_at new slice)

@@ -117,7 +117,8 @@ impl<H: Traveller> Side<H> {
         requires asked { asked_of self.old < 2 ^ 48 }
 
         // A half that was placed waits to be recalled only where the lane of its slice was full.
-        ensures moves { MovesAt slot slice until (places_of self.old) (places_of self.new) (desks_of self.old) (desks_of self.new) }
+        ensures moves { MovesAt slot slice until (places_of self.old) (places_of self.new) (desks_of self.old)
+            (desks_of self.new) }
         ensures asked { asked_of self.new ≡ asked_of self.old + 1 }
         ensures names { names_of H.name (places_of self.new) ≡ names_of H.name (places_of self.old) }
         ensures lanes { lanes_of (desks_of self.new) ≡ lanes_of (desks_of self.old) }
@@ -131,11 +132,13 @@ impl<H: Traveller> Side<H> {
     /// by slot.
     pub fn pump<R: Wait>(&mut self, rt: &R)
         ensures roll { roll_of H.name self.new ≡ roll_of H.name self.old }
-        ensures passed { Passes (λ half. H.slot_of (H.name half)) H.hop_of (places_of self.old) (places_of self.new) (aside_of self.old) (aside_of self.new)
+        ensures passed { Passes (λ half. H.slot_of (H.name half)) H.hop_of (places_of self.old)
+            (places_of self.new) (aside_of self.old) (aside_of self.new)
             (desks_of self.old) (desks_of self.new) }
         ensures full { AllMetFull (places_of self.new) (desks_of self.old) (desks_of self.new) }
         ensures home { (slice : ℕ) → slice < length (desks_of self.old)
-            → HomeEnded (length (aside_of self.new)) (admitted_of self.new) slice (desks_of self.old) (desks_of self.new) }
+            → HomeEnded (length (aside_of self.new)) (admitted_of self.new) slice (desks_of self.old)
+                (desks_of self.new) }
     {
         self.take_all(rt);
         self.line_up();
@@ -200,8 +203,10 @@ impl<H: Traveller> Side<H> {
         ensures grown { Grown (places_of self.old) (places_of self.new) }
         ensures desks { desks_of self.new ≡ desks_of self.old }
         ensures counts { (admitted_of self.new ≡ admitted_of self.old) × (asked_of self.new ≡ asked_of self.old) }
-        ensures enough { OnOk result ((slot < vec_len self.new.places) × (admitted_of self.new < vec_capacity self.new.aside)
-            × (admitted_of self.new < vec_capacity self.new.waiting) × (admitted_of self.new < vec_capacity self.new.serving)) }
+        ensures enough { OnOk result ((slot < vec_len self.new.places)
+            × (admitted_of self.new < vec_capacity self.new.aside)
+            × (admitted_of self.new < vec_capacity self.new.waiting)
+            × (admitted_of self.new < vec_capacity self.new.serving)) }
     {
         steps::grow(&mut self.places, slot.0 as usize + 1)?;
         steps::widen(&mut self.aside, self.admitted + 1)?;
@@ -212,10 +217,12 @@ impl<H: Traveller> Side<H> {
     // Takes home what came, from each slice.
     fn take_all<R: Wait>(&mut self, rt: &R)
         ensures roll { roll_of H.name self.new ≡ roll_of H.name self.old }
-        ensures passed { Passes (λ half. H.slot_of (H.name half)) H.hop_of (places_of self.old) (places_of self.new) (aside_of self.old) (aside_of self.new)
+        ensures passed { Passes (λ half. H.slot_of (H.name half)) H.hop_of (places_of self.old)
+            (places_of self.new) (aside_of self.old) (aside_of self.new)
             (desks_of self.old) (desks_of self.new) }
         ensures home { (slice : ℕ) → slice < length (desks_of self.old)
-            → HomeEnded (length (aside_of self.new)) (admitted_of self.new) slice (desks_of self.old) (desks_of self.new) }
+            → HomeEnded (length (aside_of self.new)) (admitted_of self.new) slice (desks_of self.old)
+                (desks_of self.new) }
         ensures fulls { (slice : ℕ) → fulls_at (desks_of self.new) slice ≡ fulls_at (desks_of self.old) slice }
     {
         for slice in 0..self.desks.len() {
@@ -227,10 +234,12 @@ impl<H: Traveller> Side<H> {
     fn take_from<R: Wait>(&mut self, rt: &R, slice: usize)
         requires { slice < vec_len self.old.desks }
         ensures roll { roll_of H.name self.new ≡ roll_of H.name self.old }
-        ensures passed { Passes (λ half. H.slot_of (H.name half)) H.hop_of (places_of self.old) (places_of self.new) (aside_of self.old) (aside_of self.new)
+        ensures passed { Passes (λ half. H.slot_of (H.name half)) H.hop_of (places_of self.old)
+            (places_of self.new) (aside_of self.old) (aside_of self.new)
             (desks_of self.old) (desks_of self.new) }
         ensures len { vec_len self.new.desks ≡ vec_len self.old.desks }
-        ensures took { TookFrom slice (admitted_of self.new) (aside_of self.old) (aside_of self.new) (desks_of self.old) (desks_of self.new) }
+        ensures took { TookFrom slice (admitted_of self.new) (aside_of self.old) (aside_of self.new)
+            (desks_of self.old) (desks_of self.new) }
     {
         for _ in 0..HOME {
             if !self.take_one(rt, slice) {
@@ -243,10 +252,12 @@ impl<H: Traveller> Side<H> {
     fn take_one<R: Wait>(&mut self, rt: &R, slice: usize) -> bool
         requires { slice < vec_len self.old.desks }
         ensures roll { roll_of H.name self.new ≡ roll_of H.name self.old }
-        ensures passed { Passes (λ half. H.slot_of (H.name half)) H.hop_of (places_of self.old) (places_of self.new) (aside_of self.old) (aside_of self.new)
+        ensures passed { Passes (λ half. H.slot_of (H.name half)) H.hop_of (places_of self.old)
+            (places_of self.new) (aside_of self.old) (aside_of self.new)
             (desks_of self.old) (desks_of self.new) }
         ensures len { vec_len self.new.desks ≡ vec_len self.old.desks }
-        ensures took { TookOne result slice (admitted_of self.new) (aside_of self.old) (aside_of self.new) (desks_of self.old) (desks_of self.new) }
+        ensures took { TookOne result slice (admitted_of self.new) (aside_of self.old) (aside_of self.new)
+            (desks_of self.old) (desks_of self.new) }
     {
         if self.aside.len() >= self.admitted {
             return false;
@@ -270,7 +281,8 @@ impl<H: Traveller> Side<H> {
     // All that wait are to be served.
     fn line_up(&mut self)
         ensures roll { roll_of H.name self.new ≡ roll_of H.name self.old }
-        ensures passed { Passes (λ half. H.slot_of (H.name half)) H.hop_of (places_of self.old) (places_of self.new) (aside_of self.old) (aside_of self.new)
+        ensures passed { Passes (λ half. H.slot_of (H.name half)) H.hop_of (places_of self.old)
+            (places_of self.new) (aside_of self.old) (aside_of self.new)
             (desks_of self.old) (desks_of self.new) }
         ensures none { waiting_of self.new ≡ [] }
         ensures desks { desks_of self.new ≡ desks_of self.old }
@@ -283,7 +295,8 @@ impl<H: Traveller> Side<H> {
     fn serve_all<R: Wait>(&mut self, rt: &R)
         requires { waiting_of self.old ≡ [] }
         ensures roll { roll_of H.name self.new ≡ roll_of H.name self.old }
-        ensures passed { Passes (λ half. H.slot_of (H.name half)) H.hop_of (places_of self.old) (places_of self.new) (aside_of self.old) (aside_of self.new)
+        ensures passed { Passes (λ half. H.slot_of (H.name half)) H.hop_of (places_of self.old)
+            (places_of self.new) (aside_of self.old) (aside_of self.new)
             (desks_of self.old) (desks_of self.new) }
         ensures homes { homes_of (desks_of self.new) ≡ homes_of (desks_of self.old) }
         ensures aside { aside_of self.new ≡ aside_of self.old }
@@ -298,11 +311,13 @@ impl<H: Traveller> Side<H> {
     fn serve_next<R: Wait>(&mut self, rt: &R)
         requires { 0 < vec_len self.old.serving }
         ensures roll { roll_of H.name self.new ≡ roll_of H.name self.old }
-        ensures passed { Passes (λ half. H.slot_of (H.name half)) H.hop_of (places_of self.old) (places_of self.new) (aside_of self.old) (aside_of self.new)
+        ensures passed { Passes (λ half. H.slot_of (H.name half)) H.hop_of (places_of self.old)
+            (places_of self.new) (aside_of self.old) (aside_of self.new)
             (desks_of self.old) (desks_of self.new) }
         ensures homes { homes_of (desks_of self.new) ≡ homes_of (desks_of self.old) }
         ensures aside { aside_of self.new ≡ aside_of self.old }
-        ensures served { ServedNext (serving_of self.old) (serving_of self.new) (places_of self.old) (places_of self.new)
+        ensures served { ServedNext (serving_of self.old) (serving_of self.new) (places_of self.old)
+            (places_of self.new)
             (desks_of self.old) (desks_of self.new) }
     {
         let Some(slot) = self.serving.pop() else {

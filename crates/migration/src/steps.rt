@@ -158,7 +158,8 @@ pub fn serve_at<H: Traveller, R: Wait>(
     requires within { slot < length places.old.items }
     requires fits { PlaceFits (length desks.old.items) (2 ^ 48) (place_at places.old.items slot) }
     requires few { sum_by order_count desks.old.items < 2 ^ 50 }
-    ensures served { ServedAt H.name H.hop_of slot result places.old.items places.new.items desks.old.items desks.new.items }
+    ensures served { ServedAt H.name H.hop_of slot result places.old.items places.new.items desks.old.items
+        desks.new.items }
 {
     serve(rt, desks, &mut places[slot.0 as usize], slot)
 }

@@ -26,7 +26,8 @@ pub record Conforms (rate : ℕ) (passed : List Cost) (cost : Cost) : Type 0 whe
 abbrev pub fits_each : ℕ → List Cost → Cost → Bool
 fits_each rate [] cost = true
 fits_each rate (earlier ∷ after) cost =
-    nat_le (cost.millibits + volume (earlier ∷ after)) (burst rate + rate * (cost.at - earlier.at)) && fits_each rate after cost
+    nat_le (cost.millibits + volume (earlier ∷ after)) (burst rate + rate * (cost.at - earlier.at))
+        && fits_each rate after cost
 
 -- whether a cost conforms
 unfoldable pub conforms : ℕ → List Cost → Cost → Bool
@@ -34,7 +35,8 @@ conforms rate passed cost = nat_le cost.millibits (burst rate) && fits_each rate
 
 -- the test answers what conforming is
 abbrev pub ConformingIsTested : Type 0
-ConformingIsTested = (rate : ℕ) (passed : List Cost) (cost : Cost) → IsTrue (conforms rate passed cost) ↔ Conforms rate passed cost
+ConformingIsTested =
+    (rate : ℕ) (passed : List Cost) (cost : Cost) → IsTrue (conforms rate passed cost) ↔ Conforms rate passed cost
 
 -- each cost conformed to those that passed before it
 abbrev pub ArePoliced : ℕ → List Cost → Type 0

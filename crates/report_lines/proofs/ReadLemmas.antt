@@ -9,7 +9,8 @@ use Rattle.report_lines.specs.Reading.{entry_of}
 use Rattle.report_lines.specs.Text.{entry_text}
 use Rattle.report_lines.proofs.TextLemmas.{entry_given, entry_read}
 
-found_at : (read : Option Entry) (text : List ℕ) → read ≡ entry_of text → IfSome read (λ entry. (text ≡ entry_text entry) × IsEntry entry)
+found_at : (read : Option Entry) (text : List ℕ) → read ≡ entry_of text
+    → IfSome read (λ entry. (text ≡ entry_text entry) × IsEntry entry)
 found_at None text is = tt
 found_at (Some entry) text is = entry_given text entry (sym is)
 

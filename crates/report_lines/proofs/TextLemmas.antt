@@ -49,7 +49,8 @@ differs : (octet : ℕ) → not (octet == 32) ≡ true → octet ≢ 32
 differs octet test same = grind (arith, nat_tests)
 
 word_lacks : (word : List ℕ) → list_all (λ octet. not (octet == 32)) word ≡ true → Lacks word
-word_lacks word test k d inside = differs (get_or word k d) (AllPass-from_list_all (λ octet. not (octet == 32)) word test k d inside)
+word_lacks word test k d inside =
+    differs (get_or word k d) (AllPass-from_list_all (λ octet. not (octet == 32)) word test k d inside)
 
 field_lacks : (text : List ℕ) → IsField text → Lacks text
 field_lacks text field k d inside = (field.plain k d inside).0
@@ -82,7 +83,8 @@ moment_lacks None is = word_lacks (codes "-") refl
 moment_lacks (Some at) is = number_lacks at (omega (arith, is))
 
 place_lacks : (place : Place) → IsPlace place → Lacks (place_word place)
-place_lacks (At slice) is = All-cons (λ o. o ≢ 32) 64 (decimal slice) (λ same. omega (arith, same)) (number_lacks slice (omega (arith, is)))
+place_lacks (At slice) is =
+    All-cons (λ o. o ≢ 32) 64 (decimal slice) (λ same. omega (arith, same)) (number_lacks slice (omega (arith, is)))
 place_lacks Closing is = word_lacks (codes "@-") refl
 
 refused_lacks : (packet : Bool) → Lacks (refused_word packet)
@@ -94,10 +96,13 @@ places_lack None parked is = tt
 places_lack (Some place) true is = (place_lacks place is, (word_lacks (codes "p") refl, tt))
 places_lack (Some place) false is = (place_lacks place is, tt)
 
-verdict_lacks : (told : Verdict) (rest : List (List ℕ)) → IsVerdict told → AllLack space rest → AllLack space (verdict_fields told rest)
-verdict_lacks (verdict.Up life octets) rest is lack = (word_lacks (codes "up") refl, (number_lacks life is.0, (octets_lack octets is.1, lack)))
+verdict_lacks : (told : Verdict) (rest : List (List ℕ)) → IsVerdict told → AllLack space rest
+    → AllLack space (verdict_fields told rest)
+verdict_lacks (verdict.Up life octets) rest is lack =
+    (word_lacks (codes "up") refl, (number_lacks life is.0, (octets_lack octets is.1, lack)))
 verdict_lacks (verdict.Down life peer octets) rest is lack =
-    (word_lacks (codes "down") refl, (number_lacks life is.0, (address_lacks peer is.1, (octets_lack octets is.2, lack))))
+    (word_lacks (codes "down") refl, (number_lacks life is.0,
+        (address_lacks peer is.1, (octets_lack octets is.2, lack))))
 verdict_lacks verdict.NoBearer rest is lack = (word_lacks (codes "nobearer") refl, lack)
 verdict_lacks verdict.Spoof rest is lack = (word_lacks (codes "spoof") refl, lack)
 verdict_lacks (verdict.Idle life) rest is lack = (word_lacks (codes "idle") refl, (number_lacks life is, lack))
@@ -142,7 +147,8 @@ effect_lacks slot command (effect.Marker life peer octets) is_slot is_command is
   word_lacks (codes "M") refl,
   (
     number_lacks slot (omega (arith, is_slot)),
-    (number_lacks life is.0, (number_lacks command is_command, (address_lacks peer is.1, (octets_lack octets is.2, tt)))),
+    (number_lacks life is.0, (number_lacks command is_command,
+        (address_lacks peer is.1, (octets_lack octets is.2, tt)))),
   ),
 )
 effect_lacks slot command (effect.Fate packet its_fate) is_slot is_command is = (
@@ -166,7 +172,8 @@ charge_lacks (charge.O slot counters) is =
     (word_lacks (codes "O") refl, (number_lacks slot (omega (arith, is.0)), counters_lack counters [] is.1 tt))
 
 -- fields come apart again
-apart : (first : List ℕ) (texts : List (List ℕ)) → AllLack space (first ∷ texts) → entry_of (joined (first ∷ texts)) ≡ entry_of_fields (first ∷ texts)
+apart : (first : List ℕ) (texts : List (List ℕ)) → AllLack space (first ∷ texts)
+    → entry_of (joined (first ∷ texts)) ≡ entry_of_fields (first ∷ texts)
 apart first texts lack = ap entry_of_fields (pieces-joined space first texts lack)
 
 is_other : (octet : ℕ) → octet ≢ 32 → (octet == 32) ≡ false
@@ -174,16 +181,20 @@ is_other octet other = grind (arith, nat_tests)
 
 pieces_front : (first rest : List ℕ) → Lacks first → fields_of (first ++ 32 ∷ rest) ≡ first ∷ fields_of rest
 pieces_front first rest lacks =
-    slice_split_at (λ octet. octet == 32) first 32 rest (λ k d inside. is_other (get_or first k d) (lacks k d inside)) refl
+    slice_split_at (λ octet. octet == 32) first 32 rest
+        (λ k d inside. is_other (get_or first k d) (lacks k d inside)) refl
 
-note_read : (told : Noted) → IsEntry (entry.Line (line.N told)) → entry_of (joined (line_fields (line.N told))) ≡ Some (entry.Line (line.N told))
+note_read : (told : Noted) → IsEntry (entry.Line (line.N told))
+    → entry_of (joined (line_fields (line.N told))) ≡ Some (entry.Line (line.N told))
 note_read told is =
     let rest = fields_of told.note in
     let cut = pieces_front (codes "N") (joined (decimal told.line ∷ told.note ∷ [])) (word_lacks (codes "N") refl) in
     let again = pieces_front (decimal told.line) told.note (number_lacks told.line is.0) in
-    let fields : fields_of (joined (line_fields (line.N told))) ≡ codes "N" ∷ decimal told.line ∷ rest = cut ∙ ap (λ t. codes "N" ∷ t) again in
+    let fields : fields_of (joined (line_fields (line.N told))) ≡ codes "N" ∷ decimal told.line ∷ rest =
+        cut ∙ ap (λ t. codes "N" ∷ t) again in
     ap entry_of_fields fields
-    ∙ ap (λ noted. option_map (λ n. entry.Line (line.N n)) noted) (note_taken told.line rest told.note is.0 (joined-pieces space told.note) is.1)
+    ∙ ap (λ noted. option_map (λ n. entry.Line (line.N n)) noted)
+        (note_taken told.line rest told.note is.0 (joined-pieces space told.note) is.1)
 
 answer_lacks : (told : Answered) → IsAnswered told → AllLack space (line_fields (line.C told))
 answer_lacks told is = (
@@ -211,7 +222,8 @@ judgement_lacks told is = (
         number_lacks told.number is.number,
         (
           number_lacks told.commands is.commands,
-          verdict_lacks told.verdict (place_fields told.place told.parked) is.verdict (places_lack told.place told.parked is.place),
+          verdict_lacks told.verdict (place_fields told.place told.parked) is.verdict
+              (places_lack told.place told.parked is.place),
         ),
       ),
     ),
@@ -225,7 +237,8 @@ refusal_lacks told is_line is_slot = (
 )
 
 effect_read : (its_slot command : ℕ) (told : Effect) → IsSlot its_slot → IsNumber command → IsEffect told
-    → entry_of (joined (effect_fields its_slot command told)) ≡ Some (entry.Effect (record { slot = its_slot; command = command; effect = told }))
+    → entry_of (joined (effect_fields its_slot command told))
+        ≡ Some (entry.Effect (record { slot = its_slot; command = command; effect = told }))
 effect_read its_slot command (effect.Marker life peer octets) is_slot is_command is =
     apart (codes "M") (decimal its_slot ∷ decimal life ∷ decimal command ∷ dotted peer ∷ encode_lower octets ∷ [])
     (effect_lacks its_slot command (effect.Marker life peer octets) is_slot is_command is)
@@ -241,7 +254,8 @@ pub entry_read : (told : Entry) → IsEntry told → entry_of (entry_text told) 
 entry_read (entry.Line (line.N told)) is = note_read told is
 entry_read (entry.Line (line.C told)) is =
     apart (codes "C")
-    (decimal told.line ∷ decimal told.slot ∷ decimal told.number ∷ outcome_word told.reply.outcome ∷ message_word told.reply.message ∷ [])
+    (decimal told.line ∷ decimal told.slot ∷ decimal told.number ∷ outcome_word told.reply.outcome
+        ∷ message_word told.reply.message ∷ [])
     (answer_lacks told is)
     ∙ ap (λ answered. option_map (λ a. entry.Line (line.C a)) answered) (answered_taken told is)
 entry_read (entry.Line (line.P told)) is =
@@ -251,7 +265,8 @@ entry_read (entry.Line (line.P told)) is =
     (judgement_lacks told is)
     ∙ ap (λ judged. option_map (λ j. entry.Line (line.P j)) judged) (judged_taken told is)
 entry_read (entry.Line (line.F told)) is =
-    apart (codes "F") (decimal told.line ∷ decimal told.slot ∷ refused_word told.packet ∷ []) (refusal_lacks told is.0 is.1)
+    apart (codes "F") (decimal told.line ∷ decimal told.slot ∷ refused_word told.packet ∷ [])
+        (refusal_lacks told is.0 is.1)
     ∙ ap (λ refused. option_map (λ r. entry.Line (line.F r)) refused) (refusal_taken told is.0 is.1)
 entry_read (entry.Effect told) is = effect_read told.slot told.command told.effect is.slot is.command is.effect
 entry_read (entry.Charge (charge.R slot row)) is =
@@ -269,15 +284,19 @@ pub record Told (texts : List (List ℕ)) (told : Entry) : Type 0 where
 same_entry : (one other : Entry) → Some one ≡ Some other → one ≡ other
 same_entry one other same = cc
 
-mapped : {A : Type 0} (f : A → Entry) (value : Option A) (told : Entry) → option_map f value ≡ Some told → (x : A) × (value ≡ Some x) × (f x ≡ told)
+mapped : {A : Type 0} (f : A → Entry) (value : Option A) (told : Entry) → option_map f value ≡ Some told → (x : A)
+    × (value ≡ Some x) × (f x ≡ told)
 mapped f (Some x) told read = (x, refl, same_entry (f x) told read)
 mapped f None told read = cc
 
-told_by : (letter word : List ℕ) (texts : List (List ℕ)) (told : Entry) → letter ≡ word → joined (word ∷ texts) ≡ entry_text told → IsEntry told
+told_by : (letter word : List ℕ) (texts : List (List ℕ)) (told : Entry) → letter ≡ word
+    → joined (word ∷ texts) ≡ entry_text told → IsEntry told
     → Told (letter ∷ texts) told
-told_by letter word texts told is text is_entry = record { text = ap (λ l. joined (l ∷ texts)) is ∙ text; is_entry = is_entry }
+told_by letter word texts told is text is_entry =
+    record { text = ap (λ l. joined (l ∷ texts)) is ∙ text; is_entry = is_entry }
 
-letter_is : (letter known : List ℕ) (texts : List (List ℕ)) (told : Entry) (b : Bool) (here others : Option Entry) → bytes_eq letter known ≡ b
+letter_is : (letter known : List ℕ) (texts : List (List ℕ)) (told : Entry) (b : Bool) (here others : Option Entry)
+    → bytes_eq letter known ≡ b
     → (here ≡ Some told → Told (known ∷ texts) told) → (others ≡ Some told → Told (letter ∷ texts) told)
     → (if b then here else others) ≡ Some told → Told (letter ∷ texts) told
 letter_is letter known texts told true here others test known_then rest read =
@@ -291,7 +310,8 @@ joined_note : (at : ℕ) (rest : List (List ℕ)) (note : List ℕ) → joined r
 joined_note at [] note same some = absurd (omega (arith, ap length same))
 joined_note at (text ∷ rest) note same some = ap (λ n. codes "N" ++ 32 ∷ (decimal at ++ 32 ∷ n)) same
 
-n_told : (texts : List (List ℕ)) (told : Entry) → option_map (λ n. entry.Line (line.N n)) (note_of texts) ≡ Some told → Told (codes "N" ∷ texts) told
+n_told : (texts : List (List ℕ)) (told : Entry) → option_map (λ n. entry.Line (line.N n)) (note_of texts)
+    ≡ Some told → Told (codes "N" ∷ texts) told
 n_told texts told read =
     let some = mapped (λ n. entry.Line (line.N n)) (note_of texts) told read in
     let is = note_given texts some.0 some.1 in
@@ -301,49 +321,56 @@ n_told texts told read =
       is_entry = (is.is_line, is.is_note);
     })
 
-c_told : (texts : List (List ℕ)) (told : Entry) → option_map (λ a. entry.Line (line.C a)) (answered_of texts) ≡ Some told → Told (codes "C" ∷ texts) told
+c_told : (texts : List (List ℕ)) (told : Entry) → option_map (λ a. entry.Line (line.C a)) (answered_of texts)
+    ≡ Some told → Told (codes "C" ∷ texts) told
 c_told texts told read =
     let some = mapped (λ a. entry.Line (line.C a)) (answered_of texts) told read in
     let is = answered_given texts some.0 some.1 in
     let same = some.2 in
     rw (← same) (record { text = ap joined is.0; is_entry = is.1 })
 
-p_told : (texts : List (List ℕ)) (told : Entry) → option_map (λ j. entry.Line (line.P j)) (judged_of texts) ≡ Some told → Told (codes "P" ∷ texts) told
+p_told : (texts : List (List ℕ)) (told : Entry) → option_map (λ j. entry.Line (line.P j)) (judged_of texts)
+    ≡ Some told → Told (codes "P" ∷ texts) told
 p_told texts told read =
     let some = mapped (λ j. entry.Line (line.P j)) (judged_of texts) told read in
     let is = judged_given texts some.0 some.1 in
     let same = some.2 in
     rw (← same) (record { text = ap joined is.0; is_entry = is.1 })
 
-f_told : (texts : List (List ℕ)) (told : Entry) → option_map (λ r. entry.Line (line.F r)) (refusal_of texts) ≡ Some told → Told (codes "F" ∷ texts) told
+f_told : (texts : List (List ℕ)) (told : Entry) → option_map (λ r. entry.Line (line.F r)) (refusal_of texts)
+    ≡ Some told → Told (codes "F" ∷ texts) told
 f_told texts told read =
     let some = mapped (λ r. entry.Line (line.F r)) (refusal_of texts) told read in
     let is = refusal_given texts some.0 some.1 in
     let same = some.2 in
     rw (← same) (record { text = ap joined is.0; is_entry = (is.1, is.2) })
 
-m_told : (texts : List (List ℕ)) (told : Entry) → option_map (λ e. entry.Effect e) (marker_of texts) ≡ Some told → Told (codes "M" ∷ texts) told
+m_told : (texts : List (List ℕ)) (told : Entry) → option_map (λ e. entry.Effect e) (marker_of texts) ≡ Some told
+    → Told (codes "M" ∷ texts) told
 m_told texts told read =
     let some = mapped (λ (e : Effected). entry.Effect e) (marker_of texts) told read in
     let is = marker_given texts some.0 some.1 in
     let same = some.2 in
     rw (← same) (record { text = ap joined is.0; is_entry = is.1 })
 
-h_told : (texts : List (List ℕ)) (told : Entry) → option_map (λ e. entry.Effect e) (settlement_of texts) ≡ Some told → Told (codes "H" ∷ texts) told
+h_told : (texts : List (List ℕ)) (told : Entry) → option_map (λ e. entry.Effect e) (settlement_of texts)
+    ≡ Some told → Told (codes "H" ∷ texts) told
 h_told texts told read =
     let some = mapped (λ (e : Effected). entry.Effect e) (settlement_of texts) told read in
     let is = settlement_given texts some.0 some.1 in
     let same = some.2 in
     rw (← same) (record { text = ap joined is.0; is_entry = is.1 })
 
-r_told : (texts : List (List ℕ)) (told : Entry) → option_map (λ r. entry.Charge (charge.R r.0 r.1)) (slot_row texts) ≡ Some told → Told (codes "R" ∷ texts) told
+r_told : (texts : List (List ℕ)) (told : Entry) → option_map (λ r. entry.Charge (charge.R r.0 r.1))
+    (slot_row texts) ≡ Some told → Told (codes "R" ∷ texts) told
 r_told texts told read =
     let some = mapped (λ r. entry.Charge (charge.R r.0 r.1)) (slot_row texts) told read in
     let is = slot_row_given texts some.0 some.1 in
     let same = some.2 in
     rw (← same) (record { text = ap joined is.0; is_entry = is.1 })
 
-o_told : (texts : List (List ℕ)) (told : Entry) → option_map (λ c. entry.Charge (charge.O c.0 c.1)) (slot_open texts) ≡ Some told → Told (codes "O" ∷ texts) told
+o_told : (texts : List (List ℕ)) (told : Entry) → option_map (λ c. entry.Charge (charge.O c.0 c.1))
+    (slot_open texts) ≡ Some told → Told (codes "O" ∷ texts) told
 o_told texts told read =
     let some = mapped (λ c. entry.Charge (charge.O c.0 c.1)) (slot_open texts) told read in
     let is = slot_open_given texts some.0 some.1 in
@@ -363,7 +390,8 @@ fields_told (letter ∷ texts) told read =
     (letter_is letter (codes "M") texts told (bytes_eq letter (codes "M")) _ _ refl (m_told texts told)
     (letter_is letter (codes "H") texts told (bytes_eq letter (codes "H")) _ _ refl (h_told texts told)
     (letter_is letter (codes "R") texts told (bytes_eq letter (codes "R")) _ _ refl (r_told texts told)
-    (letter_is letter (codes "O") texts told (bytes_eq letter (codes "O")) _ _ refl (o_told texts told) (λ none. no_letter told none)))))))) read
+    (letter_is letter (codes "O") texts told (bytes_eq letter (codes "O")) _ _ refl (o_told texts told)
+        (λ none. no_letter told none)))))))) read
 
 pub entry_given : (text : List ℕ) (told : Entry) → entry_of text ≡ Some told → (text ≡ entry_text told) × IsEntry told
 entry_given text told read =
@@ -371,7 +399,8 @@ entry_given text told read =
     (sym (joined-pieces space text) ∙ is.text, is.is_entry)
 
 pub text_tells : (one other : Entry) → IsEntry one → IsEntry other → entry_text one ≡ entry_text other → one ≡ other
-text_tells one other is also same = same_entry one other (sym (entry_read one is) ∙ ap entry_of same ∙ entry_read other also)
+text_tells one other is also same =
+    same_entry one other (sym (entry_read one is) ∙ ap entry_of same ∙ entry_read other also)
 
 -- an entry without its place
 line_shown_is : (told : LineEntry) (places : Bool) → IsLineEntry told → IsLineEntry (line_shown places told)

@@ -38,8 +38,10 @@ pub bytes_differ : (text word : List ℕ) → (text ≡ word → ⊥) → bytes_
 bytes_differ text word other = differ_at (bytes_eq text word) (bytes_eq-Decides text word).0 other
 
 -- one word of several
-one_of : {A : Type 0} (word : A → List ℕ) (text known : List ℕ) (b : Bool) (here told : A) (others : Option A) → bytes_eq text known ≡ b
-    → word here ≡ known → (others ≡ Some told → text ≡ word told) → (if b then Some here else others) ≡ Some told → text ≡ word told
+one_of : {A : Type 0} (word : A → List ℕ) (text known : List ℕ) (b : Bool) (here told : A) (others : Option A)
+    → bytes_eq text known ≡ b
+    → word here ≡ known → (others ≡ Some told → text ≡ word told) → (if b then Some here else others) ≡ Some told
+    → text ≡ word told
 one_of word text known true here told others test is rest read =
     let same : here ≡ told = some_same here told read in
     (bytes_eq-Decides text known).0 test ∙ sym is ∙ ap word same
@@ -80,7 +82,8 @@ refused_taken false = refl
 dash_or : {A : Type 0} (text : List ℕ) (b : Bool) (value : Option A) (told : Option A) → bytes_eq text (codes "-") ≡ b
     → (if b then Some None else option_map (λ x. Some x) value) ≡ Some told
     → ((text ≡ codes "-") × (told ≡ None)) ⊎ ((x : A) × (value ≡ Some x) × (told ≡ Some x))
-dash_or text true value told test read = inl ((bytes_eq-Decides text (codes "-")).0 test, sym (some_same None told read))
+dash_or text true value told test read =
+    inl ((bytes_eq-Decides text (codes "-")).0 test, sym (some_same None told read))
 dash_or text false (Some x) told test read = inr (x, refl, sym (some_same (Some x) told read))
 dash_or text false None told test read = none_is told read
 
@@ -98,7 +101,8 @@ number_no_dash : (n : ℕ) → n < 2 ^ 64 → decimal n ≡ codes "-" → ⊥
 number_no_dash n fits same =
     digits_lack n 45 fits (omega arith) 0 0 (decimal_nonempty n fits) (ap (λ text. get_or text 0 0) same)
 
-pub message_given : (text : List ℕ) (told : Option (List ℕ)) → message_of text ≡ Some told → (text ≡ message_word told) × IfSome told IsOctets
+pub message_given : (text : List ℕ) (told : Option (List ℕ)) → message_of text ≡ Some told
+    → (text ≡ message_word told) × IfSome told IsOctets
 message_given text told read =
     elim (dash_or text (bytes_eq text (codes "-")) (lower_octets_of text) told refl read) [
       | inl none ↦ rw none.1 (none.0, tt)
@@ -107,13 +111,15 @@ message_given text told read =
           rw some.2 (only.0, (only.1, only.2))
     ]
 
-pub message_taken : (message : Option (List ℕ)) → IfSome message IsOctets → message_of (message_word message) ≡ Some message
+pub message_taken : (message : Option (List ℕ)) → IfSome message IsOctets
+    → message_of (message_word message) ≡ Some message
 message_taken None is = refl
 message_taken (Some octets) is =
     something (encode_lower octets) (lower_octets_of (encode_lower octets)) octets (octets_no_dash octets)
     (lower_octets_read octets is.0 is.1)
 
-pub moment_given : (text : List ℕ) (told : Option ℕ) → moment_of text ≡ Some told → (text ≡ moment_word told) × IfSome told IsMoment
+pub moment_given : (text : List ℕ) (told : Option ℕ) → moment_of text ≡ Some told → (text ≡ moment_word told)
+    × IfSome told IsMoment
 moment_given text told read =
     elim (dash_or text (bytes_eq text (codes "-")) (number_in 0 (2 ^ 50 - 1) text) told refl read) [
       | inl none ↦ rw none.1 (none.0, tt)
@@ -133,7 +139,8 @@ moment_taken (Some at) is =
 slice_given_at : (text : List ℕ) (b : Bool) (value : Option ℕ) (told : Place) → bytes_eq text (codes "-") ≡ b
     → (if b then Some Closing else option_map (λ slice. At slice) value) ≡ Some told
     → ((text ≡ codes "-") × (Closing ≡ told)) ⊎ ((slice : ℕ) × (value ≡ Some slice) × (At slice ≡ told))
-slice_given_at text true value told test read = inl ((bytes_eq-Decides text (codes "-")).0 test, some_same Closing told read)
+slice_given_at text true value told test read =
+    inl ((bytes_eq-Decides text (codes "-")).0 test, some_same Closing told read)
 slice_given_at text false (Some slice) told test read = inr (slice, refl, some_same (At slice) told read)
 slice_given_at text false None told test read = none_is told read
 
@@ -147,7 +154,8 @@ slice_given text told read =
           rw (← same) (ap (λ t. 64 ∷ t) only.0, only.2)
     ]
 
-first_is : (octet : ℕ) (text : List ℕ) (b : Bool) (told : Place) → (octet == 64) ≡ b → (if b then slice_at text else None) ≡ Some told
+first_is : (octet : ℕ) (text : List ℕ) (b : Bool) (told : Place) → (octet == 64) ≡ b
+    → (if b then slice_at text else None) ≡ Some told
     → (octet ≡ 64) × (slice_at text ≡ Some told)
 first_is octet text true told test read = (grind (arith, nat_tests), read)
 first_is octet text false told test read = none_is told read

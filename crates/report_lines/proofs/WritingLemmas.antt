@@ -16,9 +16,11 @@ joined-behind first (text ∷ texts) = ap (λ rest. first ++ 32 ∷ rest) (joine
 behind-append : (texts more : List (List ℕ)) → behind (texts ++ more) ≡ behind texts ++ behind more
 behind-append [] more = refl
 behind-append (text ∷ texts) more =
-    ap (λ rest. 32 ∷ text ++ rest) (behind-append texts more) ∙ ap (λ rest. 32 ∷ rest) (sym (append_assoc text (behind texts) (behind more)))
+    ap (λ rest. 32 ∷ text ++ rest) (behind-append texts more)
+        ∙ ap (λ rest. 32 ∷ rest) (sym (append_assoc text (behind texts) (behind more)))
 
-verdict_fields-append : (told : Verdict) (more : List (List ℕ)) → verdict_fields told more ≡ verdict_fields told [] ++ more
+verdict_fields-append : (told : Verdict) (more : List (List ℕ))
+    → verdict_fields told more ≡ verdict_fields told [] ++ more
 verdict_fields-append (verdict.Up life octets) more = refl
 verdict_fields-append (verdict.Down life peer octets) more = refl
 verdict_fields-append verdict.NoBearer more = refl
@@ -33,13 +35,15 @@ counted told = decimal told.line ∷ decimal told.slot ∷ decimal told.number �
 
 -- a judgement, and what stands behind its verdict
 judged-behind : (told : Judged) (more : List (List ℕ))
-    → joined (codes "P" ∷ decimal told.line ∷ decimal told.slot ∷ decimal told.number ∷ decimal told.commands ∷ verdict_fields told.verdict more)
+    → joined (codes "P" ∷ decimal told.line ∷ decimal told.slot ∷ decimal told.number ∷ decimal told.commands
+        ∷ verdict_fields told.verdict more)
     ≡ joined (line_fields (line.P (without_place told))) ++ behind more
 judged-behind told more =
     joined-behind (codes "P") (counted told ++ verdict_fields told.verdict more)
     ∙ ap (λ fields. codes "P" ++ behind (counted told ++ fields)) (verdict_fields-append told.verdict more)
     ∙ ap (λ text. codes "P" ++ text) (behind-append (counted told ++ verdict_fields told.verdict []) more)
-    ∙ ap (λ text. text ++ behind more) (sym (joined-behind (codes "P") (counted told ++ verdict_fields told.verdict [])))
+    ∙ ap (λ text. text ++ behind more) (sym (joined-behind (codes "P") (counted told
+    ++ verdict_fields told.verdict [])))
 
 judged_shown : (told : Judged) (places : Bool) → places ≡ true
     → joined (line_fields (line_shown places (line.P told)))
@@ -53,9 +57,11 @@ judged_alone told true is = cc
 judged_alone told false is = refl
 
 -- what was appended behind a judgement, or the judgement alone
-pub shown_by : (told : Judged) (places : Bool) (answer : Result (Unit {0}) AllocError) (old mid new : List ℕ) (fields : List (List ℕ)) → places ≡ true
+pub shown_by : (told : Judged) (places : Bool) (answer : Result (Unit {0}) AllocError) (old mid new : List ℕ)
+    (fields : List (List ℕ)) → places ≡ true
     → mid ≡ old ++ joined (line_fields (line.P (without_place told))) → fields ≡ place_fields told.place told.parked
-    → OnOk answer (new ≡ mid ++ behind fields) → OnOk answer (new ≡ old ++ joined (line_fields (line_shown places (line.P told))))
+    → OnOk answer (new ≡ mid ++ behind fields) → OnOk answer (new ≡ old
+    ++ joined (line_fields (line_shown places (line.P told))))
 shown_by told places (Ok done) old mid new fields is front same appended =
     let alone : List ℕ = joined (line_fields (line.P (without_place told))) in
     appended ∙ ap (λ text. text ++ behind fields) front ∙ append_assoc old alone (behind fields)

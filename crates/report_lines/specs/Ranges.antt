@@ -92,7 +92,8 @@ pub record IsEffected (effected : Effected) : Type 0 where
   pub effect : IsEffect effected.effect
 
 abbrev pub IsChargeEntry : ChargeEntry → Type 0
-IsChargeEntry (charge.R slot row) = IsSlot slot × AreCounters (counters_of row) × IfSome row.first IsMoment × IfSome row.last IsMoment
+IsChargeEntry (charge.R slot row) =
+    IsSlot slot × AreCounters (counters_of row) × IfSome row.first IsMoment × IfSome row.last IsMoment
 IsChargeEntry (charge.O slot counters) = IsSlot slot × AreCounters counters
 
 abbrev pub IsEntry : Entry → Type 0

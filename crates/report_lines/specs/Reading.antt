@@ -84,7 +84,8 @@ refused_of text =
     else None
 
 abbrev pub message_of : List ℕ → Option (Option (List ℕ))
-message_of text = if bytes_eq text (codes "-") then Some None else option_map (λ octets. Some octets) (lower_octets_of text)
+message_of text = if bytes_eq text (codes "-") then Some None
+    else option_map (λ octets. Some octets) (lower_octets_of text)
 
 abbrev pub moment_of : List ℕ → Option (Option ℕ)
 moment_of text =
@@ -193,7 +194,8 @@ abbrev pub is_note : List ℕ → Bool
 is_note text = nat_lt 0 (length text) && is_printable text
 
 abbrev pub note_of : List (List ℕ) → Option Noted
-note_of texts = any_number texts >>= (λ at. if is_note (joined at.1) then Some (record { line = at.0; note = joined at.1 }) else None)
+note_of texts = any_number texts >>= (λ at. if is_note (joined at.1)
+    then Some (record { line = at.0; note = joined at.1 }) else None)
 
 abbrev pub answered_of : List (List ℕ) → Option Answered
 answered_of texts = do
@@ -201,7 +203,8 @@ answered_of texts = do
   outcome ← next outcome_of head.1
   message ← next message_of outcome.1
   at_end
-      (record { line = head.0.0; slot = head.0.1; number = head.0.2; reply = record { outcome = outcome.0; message = message.0 } })
+      (record { line = head.0.0; slot = head.0.1; number = head.0.2;
+          reply = record { outcome = outcome.0; message = message.0 } })
       message.1
 
 abbrev pub judged_of : List (List ℕ) → Option Judged
@@ -287,7 +290,8 @@ entry_at letter texts =
     else if bytes_eq letter (codes "M") then option_map (λ effected. entry.Effect effected) (marker_of texts)
     else if bytes_eq letter (codes "H") then option_map (λ effected. entry.Effect effected) (settlement_of texts)
     else if bytes_eq letter (codes "R") then option_map (λ row. entry.Charge (charge.R row.0 row.1)) (slot_row texts)
-    else if bytes_eq letter (codes "O") then option_map (λ counters. entry.Charge (charge.O counters.0 counters.1)) (slot_open texts)
+    else if bytes_eq letter (codes "O") then option_map (λ counters. entry.Charge (charge.O counters.0 counters.1))
+        (slot_open texts)
     else None
 
 abbrev pub entry_of_fields : List (List ℕ) → Option Entry

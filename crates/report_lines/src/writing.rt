@@ -81,7 +81,8 @@ pub fn push_answer(
 }
 
 fn push_judgement(out: &mut Vec<u8>, judgement: &Judgement, places: bool) -> Result<(), NoMemory>
-    ensures { OnOk result (out.new.items ≡ out.old.items ++ joined (line_fields (line_shown places (line_entry.P judgement.now)))) }
+    ensures { OnOk result (out.new.items ≡ out.old.items
+        ++ joined (line_fields (line_shown places (line_entry.P judgement.now)))) }
 {
     push_unplaced(out, judgement)?;
     if places {

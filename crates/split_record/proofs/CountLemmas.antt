@@ -38,13 +38,16 @@ packets_more (event.Command command ∷ later) packet = packets_more later packe
 packets_more (event.Packet first ∷ later) packet = omega (arith, packets_more later packet)
 
 -- a packet is no command
-pub commands_same : (events : List Event) (packet : Packet) → commands_of (events ++ event.Packet packet ∷ []) ≡ commands_of events
+pub commands_same : (events : List Event) (packet : Packet)
+    → commands_of (events ++ event.Packet packet ∷ []) ≡ commands_of events
 commands_same [] packet = refl
-commands_same (event.Command command ∷ later) packet = ap (λ (rest : List CommandKind). command ∷ rest) (commands_same later packet)
+commands_same (event.Command command ∷ later) packet =
+    ap (λ (rest : List CommandKind). command ∷ rest) (commands_same later packet)
 commands_same (event.Packet first ∷ later) packet = commands_same later packet
 
 -- a past counts its commands
-counts_from : (past : SlotPast) (events : List Event) → (fold behind past events).commands ≡ past.commands + length (commands_of events)
+counts_from : (past : SlotPast) (events : List Event)
+    → (fold behind past events).commands ≡ past.commands + length (commands_of events)
 unfolding happens
 counts_from past [] = omega arith
 counts_from past (event.Command command ∷ later) = omega (arith, counts_from (commanded past command) later)
@@ -54,10 +57,12 @@ pub past_counts : (slot : ℕ) (events : List Event) → (past_of slot events).c
 past_counts slot events = omega (arith, counts_from (new_slot slot) events)
 
 -- so few events that the counts may rise
-pub counts_are_few : (subscriber : SubscriberState) → HasRoom subscriber → commands_met subscriber + subscriber.packets < 2 ^ 40
+pub counts_are_few : (subscriber : SubscriberState) → HasRoom subscriber
+    → commands_met subscriber + subscriber.packets < 2 ^ 40
 counts_are_few subscriber room = omega (arith, all_counted room.1, room.3.commands, room.3.packets, room.4)
 
-pub events_are_few : (subscriber : SubscriberState) (slot : ℕ) (events : List Event) (taken : ℕ) → HasRoom subscriber → StandsFor subscriber slot events taken
+pub events_are_few : (subscriber : SubscriberState) (slot : ℕ) (events : List Event) (taken : ℕ)
+    → HasRoom subscriber → StandsFor subscriber slot events taken
     → length events < 2 ^ 40
 events_are_few subscriber slot events taken room stands =
     let few = counts_are_few subscriber room in

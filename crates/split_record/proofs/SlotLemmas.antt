@@ -18,7 +18,8 @@ of_bearer : (session : SessionState) (seq : ℕ) (qos : Qos) (index : Option ℕ
 of_bearer session seq qos (Some index) (Some filters) = refl
 of_bearer session seq qos index filters = refl
 
-of_filters : (session : SessionState) (ebi : ℕ) (filters : Option (List Filter)) → (with_filters session ebi filters).slot ≡ session.slot
+of_filters : (session : SessionState) (ebi : ℕ) (filters : Option (List Filter))
+    → (with_filters session ebi filters).slot ≡ session.slot
 of_filters session ebi None = refl
 of_filters session ebi (Some filters) = refl
 
@@ -26,12 +27,14 @@ of_enb : (session : SessionState) (seq ebi : ℕ) (enb : Option Peer) → (with_
 of_enb session seq ebi None = refl
 of_enb session seq ebi (Some enb) = refl
 
-of_effect : (row : Row) (session : SessionState) (command : CommandKind) → (effect row session command).slot ≡ session.slot
+of_effect : (row : Row) (session : SessionState) (command : CommandKind)
+    → (effect row session command).slot ≡ session.slot
 of_effect created session (Create seq mme pdn ebi qos enb up down) = refl
 of_effect attached session (Attach enb up down) = refl
 of_effect modified session (Modify seq mme asks) = refl
 of_effect asked session (AddBearer seq qci mbr_up mbr_down gbr_up gbr_down tft) =
-    of_bearer session seq (qos_asked session.bearers qci mbr_up mbr_down gbr_up gbr_down) (least_free session.bearers) (filters_given tft)
+    of_bearer session seq (qos_asked session.bearers qci mbr_up mbr_down gbr_up gbr_down)
+        (least_free session.bearers) (filters_given tft)
 of_effect refiltered session (Filters seq ebi tft) = of_filters session ebi (filters_made session.bearers ebi tft)
 of_effect dropped session (Drop seq ebi) = refl
 of_effect rerated session (Ambr seq up down) = refl
@@ -45,7 +48,8 @@ of_command session command = of_effect (row_of session command) session command
 of_events : (past : SlotPast) (events : List Event) → (fold behind past events).session.slot ≡ past.session.slot
 unfolding happens
 of_events past [] = refl
-of_events past (event.Command command ∷ later) = of_events (commanded past command) later ∙ of_command past.session command
+of_events past (event.Command command ∷ later) =
+    of_events (commanded past command) later ∙ of_command past.session command
 of_events past (event.Packet packet ∷ later) = of_events (met past packet) later
 
 pub slot_stays : (slot : ℕ) (events : List Event) → (session_after slot events).slot ≡ slot

@@ -19,7 +19,8 @@ use Rattle.trace_lines.specs.Refusal.{Form, an_imsi, an_address, a_teid, a_numbe
 
 -- an argument is read, or its refusal is the fault
 read_or : {A B : Type 0} (value : Option A) (why : LineBad) (f : A → Result B LineBad) (fault : Option LineBad)
-    → ((x : A) → result_err (f x) ≡ fault) → result_err (ok_or value why >>= f) ≡ (if is_some value then fault else Some why)
+    → ((x : A) → result_err (f x) ≡ fault) → result_err (ok_or value why >>= f)
+        ≡ (if is_some value then fault else Some why)
 read_or (Some x) why f fault rest = rest x
 read_or None why f fault rest = refl
 
@@ -35,34 +36,44 @@ attach_fault : (texts : List (List ℕ))
     ≡ kind_fault (Some (an_imsi ∷ an_address ∷ a_teid ∷ a_session_rate ∷ a_session_rate ∷ [])) texts
 attach_fault (a ∷ b ∷ c ∷ d ∷ e ∷ []) =
     read_or (imsi_of a) Number _ _ (λ imsi. read_or (address_of b) Number _ _ (λ addr. read_or (teid_of c) Number _ _
-    (λ teid. read_or (number_in 0 (2 ^ 32 - 1) d) Number _ _ (λ up. read_or (number_in 0 (2 ^ 32 - 1) e) Number _ _ (λ down. refl)))))
+    (λ teid. read_or (number_in 0 (2 ^ 32 - 1) d) Number _ _
+        (λ up. read_or (number_in 0 (2 ^ 32 - 1) e) Number _ _ (λ down. refl)))))
 attach_fault _ = refl
 
 bearer_fault : (texts : List (List ℕ))
     → result_err (bearer_meaning texts)
-    ≡ kind_fault (Some (an_imsi ∷ a_number 1 255 ∷ a_bearer_rate ∷ a_bearer_rate ∷ a_bearer_rate ∷ a_bearer_rate ∷ some_octets ∷ [])) texts
+    ≡ kind_fault (Some (an_imsi ∷ a_number 1 255 ∷ a_bearer_rate ∷ a_bearer_rate ∷ a_bearer_rate ∷ a_bearer_rate
+        ∷ some_octets ∷ [])) texts
 bearer_fault (a ∷ b ∷ c ∷ d ∷ e ∷ f ∷ g ∷ []) =
-    read_or (imsi_of a) Number _ _ (λ imsi. read_or (number_in 1 255 b) Number _ _ (λ qci. read_or (number_in 0 (2 ^ 40 - 1) c) Number _ _
-    (λ mbr_up. read_or (number_in 0 (2 ^ 40 - 1) d) Number _ _ (λ mbr_down. read_or (number_in 0 (2 ^ 40 - 1) e) Number _ _
-    (λ gbr_up. read_or (number_in 0 (2 ^ 40 - 1) f) Number _ _ (λ gbr_down. read_or (octets_of g) Hex _ _ (λ tft. refl)))))))
+    read_or (imsi_of a) Number _ _ (λ imsi. read_or (number_in 1 255 b) Number _ _
+        (λ qci. read_or (number_in 0 (2 ^ 40 - 1) c) Number _ _
+    (λ mbr_up. read_or (number_in 0 (2 ^ 40 - 1) d) Number _ _
+        (λ mbr_down. read_or (number_in 0 (2 ^ 40 - 1) e) Number _ _
+    (λ gbr_up. read_or (number_in 0 (2 ^ 40 - 1) f) Number _ _
+        (λ gbr_down. read_or (octets_of g) Hex _ _ (λ tft. refl)))))))
 bearer_fault _ = refl
 
-filters_fault : (texts : List (List ℕ)) → result_err (filters_meaning texts) ≡ kind_fault (Some (an_imsi ∷ an_ebi ∷ some_octets ∷ [])) texts
+filters_fault : (texts : List (List ℕ)) → result_err (filters_meaning texts)
+    ≡ kind_fault (Some (an_imsi ∷ an_ebi ∷ some_octets ∷ [])) texts
 filters_fault (a ∷ b ∷ c ∷ []) =
-    read_or (imsi_of a) Number _ _ (λ imsi. read_or (number_in 5 15 b) Number _ _ (λ ebi. read_or (octets_of c) Hex _ _ (λ tft. refl)))
+    read_or (imsi_of a) Number _ _ (λ imsi. read_or (number_in 5 15 b) Number _ _
+        (λ ebi. read_or (octets_of c) Hex _ _ (λ tft. refl)))
 filters_fault _ = refl
 
 drop_fault : (texts : List (List ℕ)) → result_err (drop_meaning texts) ≡ kind_fault (Some (an_imsi ∷ an_ebi ∷ [])) texts
 drop_fault (a ∷ b ∷ []) = read_or (imsi_of a) Number _ _ (λ imsi. read_or (number_in 5 15 b) Number _ _ (λ ebi. refl))
 drop_fault _ = refl
 
-ambr_fault : (texts : List (List ℕ)) → result_err (ambr_meaning texts) ≡ kind_fault (Some (an_imsi ∷ a_session_rate ∷ a_session_rate ∷ [])) texts
+ambr_fault : (texts : List (List ℕ)) → result_err (ambr_meaning texts)
+    ≡ kind_fault (Some (an_imsi ∷ a_session_rate ∷ a_session_rate ∷ [])) texts
 ambr_fault (a ∷ b ∷ c ∷ []) =
-    read_or (imsi_of a) Number _ _ (λ imsi. read_or (number_in 0 (2 ^ 32 - 1) b) Number _ _ (λ up. read_or (number_in 0 (2 ^ 32 - 1) c) Number _ _
+    read_or (imsi_of a) Number _ _ (λ imsi. read_or (number_in 0 (2 ^ 32 - 1) b) Number _ _
+        (λ up. read_or (number_in 0 (2 ^ 32 - 1) c) Number _ _
     (λ down. refl)))
 ambr_fault _ = refl
 
-move_fault : (texts : List (List ℕ)) → result_err (move_meaning texts) ≡ kind_fault (Some (an_imsi ∷ a_number 0 63 ∷ [])) texts
+move_fault : (texts : List (List ℕ)) → result_err (move_meaning texts)
+    ≡ kind_fault (Some (an_imsi ∷ a_number 0 63 ∷ [])) texts
 move_fault (a ∷ b ∷ []) = read_or (imsi_of a) Number _ _ (λ imsi. read_or (number_in 0 63 b) Number _ _ (λ slice. refl))
 move_fault _ = refl
 
@@ -77,7 +88,8 @@ either : (texts : List (List ℕ)) (b : Bool) (here there : Result LineKind Line
 either texts true here there forms others same other = same
 either texts false here there forms others same other = other
 
-kinds_fault : (word : List ℕ) (texts : List (List ℕ)) → result_err (kind_meaning word texts) ≡ kind_fault (forms_of word) texts
+kinds_fault : (word : List ℕ) (texts : List (List ℕ))
+    → result_err (kind_meaning word texts) ≡ kind_fault (forms_of word) texts
 kinds_fault word texts =
     either texts (bytes_eq word (codes "S1U")) _ _ _ _ (message_fault kind.S1u texts)
     (either texts (bytes_eq word (codes "SGI")) _ _ _ _ (message_fault kind.Sgi texts)
@@ -92,7 +104,8 @@ kinds_fault word texts =
 
 -- a kind, then the moment
 moment_fault : (back : Bool) (kind : LineKind) (number moment : ℕ)
-    → result_err {T = Line} (if back then Err MomentBack else Ok (record { number = number; moment = moment; kind = kind }))
+    → result_err {T = Line} (if back then Err MomentBack
+        else Ok (record { number = number; moment = moment; kind = kind }))
     ≡ (if back then Some MomentBack else None)
 moment_fault true kind number moment = refl
 moment_fault false kind number moment = refl
@@ -103,16 +116,20 @@ behind_kind : (said : Result LineKind LineBad) (least number moment : ℕ)
 behind_kind (Err why) least number moment = refl
 behind_kind (Ok kind) least number moment = moment_fault (nat_lt moment least) kind number moment
 
-behind_moment : (moment : Option ℕ) (least number : ℕ) (said : Result LineKind LineBad) (fault : Option LineBad) → result_err said ≡ fault
+behind_moment : (moment : Option ℕ) (least number : ℕ) (said : Result LineKind LineBad) (fault : Option LineBad)
+    → result_err said ≡ fault
     → result_err (ok_or moment Number >>= (λ at. said >>= (λ kind. moment_meaning least number at kind)))
-    ≡ (if is_none moment then Some Number else or_else fault (if nat_lt (unwrap_or moment 0) least then Some MomentBack else None))
+    ≡ (if is_none moment then Some Number else or_else fault (if nat_lt (unwrap_or moment 0) least
+        then Some MomentBack else None))
 behind_moment None least number said fault same = refl
 behind_moment (Some at) least number said fault same =
     behind_kind said least number at ∙ ap (λ why. or_else why (if nat_lt at least then Some MomentBack else None)) same
 
-faults_of_fields : (least number : ℕ) (texts : List (List ℕ)) → result_err (line_of_fields least number texts) ≡ fields_fault least texts
+faults_of_fields : (least number : ℕ) (texts : List (List ℕ))
+    → result_err (line_of_fields least number texts) ≡ fields_fault least texts
 faults_of_fields least number (moment ∷ word ∷ texts) =
-    behind_moment (moment_of moment) least number (kind_meaning word texts) (kind_fault (forms_of word) texts) (kinds_fault word texts)
+    behind_moment (moment_of moment) least number (kind_meaning word texts) (kind_fault (forms_of word) texts)
+        (kinds_fault word texts)
 faults_of_fields least number [] = refl
 faults_of_fields least number (moment ∷ []) = refl
 

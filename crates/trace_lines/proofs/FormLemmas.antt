@@ -24,10 +24,12 @@ use Rattle.trace_lines.specs.Arguments.{imsi_of, teid_of}
 use Rattle.trace_lines.specs.Line.{IsOctets}
 
 -- numbers
-pub number_taken : (least last n : ℕ) (text : List ℕ) → n < 2 ^ 64 → least ≤ n → n ≤ last → in_lower_case text ≡ decimal n
+pub number_taken : (least last n : ℕ) (text : List ℕ) → n < 2 ^ 64 → least ≤ n → n ≤ last
+    → in_lower_case text ≡ decimal n
     → number_in least last text ≡ Some n
 number_taken least last n text fits low high same =
-    ap (number_in least last) (from_lowered text (decimal n) same (low_decimal n fits)) ∙ number_read least last n fits low high
+    ap (number_in least last) (from_lowered text (decimal n) same (low_decimal n fits))
+        ∙ number_read least last n fits low high
 
 pub number_given : (least last n : ℕ) (text : List ℕ) → last < 2 ^ 64 → number_in least last text ≡ Some n
     → (in_lower_case text ≡ decimal n) × (least ≤ n) × (n ≤ last)
@@ -50,27 +52,32 @@ digit_is : (c : ℕ) → is_ascii_digit c ≡ true → IsAsciiDigit c
 digit_is c digit = grind (arith, nat_tests)
 
 all_digits : (text : List ℕ) → All IsAsciiDigit text → list_all is_ascii_digit text ≡ true
-all_digits text digits = list_all-from_AllPass is_ascii_digit text (λ k d inside. is_digit (get_or text k d) (digits k d inside))
+all_digits text digits =
+    list_all-from_AllPass is_ascii_digit text (λ k d inside. is_digit (get_or text k d) (digits k d inside))
 
 pub imsi_is : (text : List ℕ) → IsImsi text → imsi_of text ≡ Some text
-imsi_is text imsi = let all = all_digits text imsi.2 in let low = imsi.0 in let high = imsi.1 in grind (arith, nat_tests)
+imsi_is text imsi = let all =
+    all_digits text imsi.2 in let low = imsi.0 in let high = imsi.1 in grind (arith, nat_tests)
 
 pub imsi_taken : (text digits : List ℕ) → IsImsi digits → in_lower_case text ≡ digits → imsi_of text ≡ Some digits
-imsi_taken text digits imsi same = ap imsi_of (from_lowered text digits same (low_imsi digits imsi)) ∙ imsi_is digits imsi
+imsi_taken text digits imsi same =
+    ap imsi_of (from_lowered text digits same (low_imsi digits imsi)) ∙ imsi_is digits imsi
 
 -- a test that chose the value
 chosen : {A : Type 0} (b : Bool) (value x : A) → cond b (Some value) None ≡ Some x → (b ≡ true) × (value ≡ x)
 chosen true value x read = (refl, cc)
 chosen false value x read = cc
 
-imsi_from_tests : (text : List ℕ) → list_all is_ascii_digit text ≡ true → 6 ≤ length text → length text ≤ 15 → IsImsi text
+imsi_from_tests : (text : List ℕ) → list_all is_ascii_digit text ≡ true → 6 ≤ length text → length text ≤ 15
+    → IsImsi text
 imsi_from_tests text digits low high =
     let all = AllPass-from_list_all is_ascii_digit text digits in
     (low, high, λ k d inside. digit_is (get_or text k d) (all k d inside))
 
 pub imsi_given : (text digits : List ℕ) → imsi_of text ≡ Some digits → (in_lower_case text ≡ digits) × IsImsi digits
 imsi_given text digits read =
-    let test = chosen (list_all is_ascii_digit text && (nat_le 6 (length text) && nat_le (length text) 15)) text digits read in
+    let test = chosen (list_all is_ascii_digit text && (nat_le 6 (length text) && nat_le (length text) 15)) text
+        digits read in
     let passed = test.0 in
     let all : list_all is_ascii_digit text ≡ true = grind (arith, nat_tests) in
     let low : 6 ≤ length text = grind (arith, nat_tests) in
@@ -81,7 +88,8 @@ imsi_given text digits read =
     rw (← same) (lowered, imsi)
 
 -- an address
-pub address_taken : (text : List ℕ) (address : ℕ) → address < 2 ^ 32 → in_lower_case text ≡ dotted address → address_of text ≡ Some address
+pub address_taken : (text : List ℕ) (address : ℕ) → address < 2 ^ 32 → in_lower_case text ≡ dotted address
+    → address_of text ≡ Some address
 address_taken text address fits same =
     ap address_of (from_lowered text (dotted address) same (low_address address fits)) ∙ address_read address fits
 
@@ -92,10 +100,12 @@ address_given text address read =
     (ap in_lower_case only.0 ∙ kept (dotted address) (all_plain (dotted address) (low_address address only.1)), only.1)
 
 -- octets
-pub octets_taken : (text octets : List ℕ) → IsOctets octets → in_lower_case text ≡ encode_lower octets → octets_of text ≡ Some octets
+pub octets_taken : (text octets : List ℕ) → IsOctets octets → in_lower_case text ≡ encode_lower octets
+    → octets_of text ≡ Some octets
 octets_taken text octets is same = octets_read text octets is.0 is.1 same
 
-pub octets_given : (text octets : List ℕ) → octets_of text ≡ Some octets → (in_lower_case text ≡ encode_lower octets) × IsOctets octets
+pub octets_given : (text octets : List ℕ) → octets_of text ≡ Some octets
+    → (in_lower_case text ≡ encode_lower octets) × IsOctets octets
 octets_given text octets read = let only = octets_only text octets read in (only.0, (only.1, only.2))
 
 -- a TEID
@@ -115,7 +125,8 @@ are_octets teid = (
 pub field-teid : (teid : ℕ) → IsField (encode_lower (to_be_bytes w32 teid))
 field-teid teid = field-encode_lower (to_be_bytes w32 teid) (are_octets teid).0 (are_octets teid).1
 
-teid_from : (text octets : List ℕ) → length text ≡ 8 → octets_of text ≡ Some octets → teid_of text ≡ Some (from_be_bytes w32 octets)
+teid_from : (text octets : List ℕ) → length text ≡ 8 → octets_of text ≡ Some octets
+    → teid_of text ≡ Some (from_be_bytes w32 octets)
 teid_from text octets eight read =
     ap (λ n. cond (n == 8) (option_map (λ o. from_be_bytes w32 o) (octets_of text)) None) eight
     ∙ ap (λ (o : Option (List ℕ)). option_map (λ o. from_be_bytes w32 o) o) read
@@ -125,11 +136,13 @@ pub teid_taken : (text : List ℕ) (teid : ℕ) → teid < 2 ^ 32 → in_lower_c
 teid_taken text teid fits same =
     let read = octets_taken text (to_be_bytes w32 teid) (are_octets teid) same in
     let lengths = ap length same in
-    let eight : length text ≡ 8 = omega (arith, length-map text lower, length-encode_with lower_digits (to_be_bytes w32 teid), lengths) in
+    let eight : length text ≡ 8 = omega (arith, length-map text lower,
+        length-encode_with lower_digits (to_be_bytes w32 teid), lengths) in
     teid_from text (to_be_bytes w32 teid) eight read ∙ ap Some (from_be_bytes-to_be_bytes_4 teid fits)
 
 -- four octets and the number that they are
-word_fits : (octets : List ℕ) → length octets ≡ 4 → All (λ octet. octet < 256) octets → from_be_bytes w32 octets < 2 ^ 32
+word_fits : (octets : List ℕ) → length octets ≡ 4 → All (λ octet. octet < 256) octets
+    → from_be_bytes w32 octets < 2 ^ 32
 word_fits (a ∷ b ∷ c ∷ d ∷ []) four all =
     let first = all 0 0 (omega arith) in
     let second = all 1 0 (omega arith) in

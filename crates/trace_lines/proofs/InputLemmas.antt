@@ -22,7 +22,8 @@ all_differ : (octets : List ℕ) → NoNewline octets → All (λ octet. ends_li
 all_differ octets no_newline k d inside = differs (get_or octets k d) (no_newline k d inside)
 
 -- one whole line in front of further pieces
-line_first : (full : Bool) (number least : ℕ) (line : List ℕ) (pieces : List (List ℕ)) → length line ≤ line_max → 0 < length pieces
+line_first : (full : Bool) (number least : ℕ) (line : List ℕ) (pieces : List (List ℕ)) → length line ≤ line_max
+    → 0 < length pieces
     → pieces_meaning full number least (line ∷ pieces)
     ≡ line_then number (line_meaning least number line) (λ l. pieces_meaning full (number + 1) l.moment pieces)
 line_first full number least line [] short some = absurd (omega arith)
@@ -38,7 +39,8 @@ long_first full number least line (next ∷ pieces) too_long =
     let passes : nat_lt line_max (length line) ≡ true = grind (arith, nat_tests) in rw passes
 
 -- the octets up to a newline and behind it, as far as there is room
-taken_line : (room : ℕ) (line rest : List ℕ) → take (length line + 1 + room) (line ++ newline ∷ rest) ≡ line ++ newline ∷ take room rest
+taken_line : (room : ℕ) (line rest : List ℕ) → take (length line + 1 + room) (line ++ newline ∷ rest) ≡ line
+    ++ newline ∷ take room rest
 taken_line room line rest =
     let regrouped : length line + 1 + room ≡ length line + suc room = omega arith in
     ap (λ n. take n (line ++ newline ∷ rest)) regrouped ∙ take-append-add line (newline ∷ rest) (suc room)
@@ -52,7 +54,8 @@ whole_line room number least line rest no_newline short =
     let octets = line ++ newline ∷ rest in
     let long_octets : length octets ≡ length line + suc (length rest) = length-append line (newline ∷ rest) in
     let full : nat_le (length line + 1 + room) (length octets) ≡ nat_le room (length rest) = grind (arith, nat_tests) in
-    let pieces : slice_split ends_line (take (length line + 1 + room) octets) ≡ line ∷ slice_split ends_line (take room rest) =
+    let pieces : slice_split ends_line (take (length line + 1 + room) octets) ≡ line
+        ∷ slice_split ends_line (take room rest) =
     ap (slice_split ends_line) (taken_line room line rest)
     ∙ slice_split_at ends_line line newline (take room rest) (all_differ line no_newline) refl
     in
@@ -77,7 +80,8 @@ last_piece number least (octet ∷ line) short some =
     let fits : nat_lt line_max (length (octet ∷ line)) ≡ false = grind (arith, nat_tests) in rw fits
 
 -- the octets are a last line without newline, and there is room for more
-pub last_line : (room number least : ℕ) (line : List ℕ) → NoNewline line → length line ≤ line_max → 0 < length line → 0 < room
+pub last_line : (room number least : ℕ) (line : List ℕ) → NoNewline line → length line ≤ line_max → 0 < length line
+    → 0 < room
     → input_within (length line + room) number least line
     ≡ line_then number (line_meaning least number line) (λ l. input_within room (number + 1) l.moment [])
 unfolding input_within
@@ -93,15 +97,19 @@ last_line room number least line no_newline short some more =
     ∙ ap (line_then number (line_meaning least number line)) (λ i l. sym (at_end room (number + 1) l.moment more) i)
 
 -- the first piece begins with the octets before any newline
-first_piece : (front octets piece : List ℕ) (pieces : List (List ℕ)) → NoNewline front → slice_split ends_line octets ≡ piece ∷ pieces
+first_piece : (front octets piece : List ℕ) (pieces : List (List ℕ)) → NoNewline front
+    → slice_split ends_line octets ≡ piece ∷ pieces
     → slice_split ends_line (front ++ octets) ≡ (front ++ piece) ∷ pieces
 first_piece [] octets piece pieces no_newline first = first
 first_piece (octet ∷ front) octets piece pieces no_newline first =
-    slice_split-cons_no ends_line octet (front ++ octets) (differs octet (All-head (λ o. o ≢ newline) octet front no_newline))
-    ∙ ap (onto_first octet) (first_piece front octets piece pieces (All-tail (λ o. o ≢ newline) octet front no_newline) first)
+    slice_split-cons_no ends_line octet (front ++ octets)
+        (differs octet (All-head (λ o. o ≢ newline) octet front no_newline))
+    ∙ ap (onto_first octet) (first_piece front octets piece pieces
+        (All-tail (λ o. o ≢ newline) octet front no_newline) first)
 
 -- a list of pieces that isn't empty has a first one
-long_pieces : (full : Bool) (number least : ℕ) (front octets : List ℕ) (pieces : List (List ℕ)) → NoNewline front → line_max < length front
+long_pieces : (full : Bool) (number least : ℕ) (front octets : List ℕ) (pieces : List (List ℕ)) → NoNewline front
+    → line_max < length front
     → slice_split ends_line octets ≡ pieces → 0 < length pieces
     → pieces_meaning full number least (slice_split ends_line (front ++ octets)) ≡ stopped (long number)
 long_pieces full number least front octets [] no_newline too_long is some = absurd (omega arith)
@@ -110,7 +118,8 @@ long_pieces full number least front octets (piece ∷ pieces) no_newline too_lon
     ∙ long_first full number least (front ++ piece) pieces (omega (arith, length-append front piece))
 
 -- more octets than a line may have came without newline
-pub line_long : (room number least : ℕ) (front rest : List ℕ) → NoNewline front → line_max < length front → length front ≤ room
+pub line_long : (room number least : ℕ) (front rest : List ℕ) → NoNewline front → line_max < length front
+    → length front ≤ room
     → input_within room number least (front ++ rest) ≡ stopped (long number)
 unfolding input_within
 line_long room number least front rest no_newline too_long within =
@@ -121,7 +130,8 @@ line_long room number least front rest no_newline too_long within =
     in
     let full = nat_le room (length (front ++ rest)) in
     ap (λ octets. pieces_meaning full number least (slice_split ends_line octets)) taken
-    ∙ long_pieces full number least front (take beyond rest) (slice_split ends_line (take beyond rest)) no_newline too_long refl
+    ∙ long_pieces full number least front (take beyond rest)
+        (slice_split ends_line (take beyond rest)) no_newline too_long refl
     (omega (arith, length-slice_split ends_line (take beyond rest)))
 
 -- the octets that are looked at end with an unfinished line
@@ -134,7 +144,8 @@ input_big number least front rest no_newline short =
     in
     let fits : nat_lt line_max (length front) ≡ false = grind (arith, nat_tests) in
     let pieces : slice_split ends_line (take (length front) (front ++ rest)) ≡ front ∷ [] =
-    ap (slice_split ends_line) (take-append_seam front rest) ∙ slice_split_none ends_line front (all_differ front no_newline)
+    ap (slice_split ends_line) (take-append_seam front rest)
+        ∙ slice_split_none ends_line front (all_differ front no_newline)
     in
     ap (λ b. pieces_meaning b number least (slice_split ends_line (take (length front) (front ++ rest)))) full
     ∙ ap (pieces_meaning true number least) pieces
@@ -143,7 +154,8 @@ input_big number least front rest no_newline short =
 -- one line more behind those that were read
 pub one_line_more : (done : List Line) (number : ℕ) (line : Line) (behind : Line → Input)
     → after_lines done (line_then number (Ok line) behind) ≡ after_lines (done ++ line ∷ []) (behind line)
-one_line_more done number line behind = ap (λ lines. record { lines = lines; stop = (behind line).stop }) (sym (append_assoc done (line ∷ []) (behind line).lines))
+one_line_more done number line behind = ap (λ lines. record { lines = lines; stop = (behind line).stop })
+    (sym (append_assoc done (line ∷ []) (behind line).lines))
 
 -- the stop behind the lines that were read
 pub stop_behind : (done : List Line) (stop : Stop) → (after_lines done (stopped stop)).lines ≡ done

@@ -27,7 +27,8 @@ pub record Says (word : List ℕ) (texts : List (List ℕ)) (said : LineKind) : 
   pub is_kind : IsKind said
 
 -- the argument that was read, and what was made of it
-pub taken : {A B : Type 0} (value : Option A) (why : LineBad) (f : A → Result B LineBad) (y : B) → (ok_or value why >>= f) ≡ Ok y
+pub taken : {A B : Type 0} (value : Option A) (why : LineBad) (f : A → Result B LineBad) (y : B)
+    → (ok_or value why >>= f) ≡ Ok y
     → (x : A) × (value ≡ Some x) × (f x ≡ Ok y)
 taken (Some x) why f y is = (x, refl, is)
 taken None why f y is = cc
@@ -42,16 +43,22 @@ some_from_ok (Some y) why x is = let same : y ≡ x = cc in ap Some same
 some_from_ok None why x is = cc
 
 -- numbers of the ranges that lines have
-session_given : (n : ℕ) (text : List ℕ) → number_in 0 (2 ^ 32 - 1) text ≡ Some n → (in_lower_case text ≡ decimal n) × (n < 2 ^ 32)
-session_given n text read = let given = number_given 0 (2 ^ 32 - 1) n text (lit< tt) read in (given.0, omega (arith, given.2))
+session_given : (n : ℕ) (text : List ℕ) → number_in 0 (2 ^ 32 - 1) text ≡ Some n → (in_lower_case text ≡ decimal n)
+    × (n < 2 ^ 32)
+session_given n text read =
+    let given = number_given 0 (2 ^ 32 - 1) n text (lit< tt) read in (given.0, omega (arith, given.2))
 
-session_taken : (n : ℕ) (text : List ℕ) → n < 2 ^ 32 → in_lower_case text ≡ decimal n → number_in 0 (2 ^ 32 - 1) text ≡ Some n
+session_taken : (n : ℕ) (text : List ℕ) → n < 2 ^ 32 → in_lower_case text ≡ decimal n
+    → number_in 0 (2 ^ 32 - 1) text ≡ Some n
 session_taken n text fits same = number_taken 0 (2 ^ 32 - 1) n text (omega arith) (omega arith) (omega arith) same
 
-bearer_given : (n : ℕ) (text : List ℕ) → number_in 0 (2 ^ 40 - 1) text ≡ Some n → (in_lower_case text ≡ decimal n) × (n < 2 ^ 40)
-bearer_given n text read = let given = number_given 0 (2 ^ 40 - 1) n text (lit< tt) read in (given.0, omega (arith, given.2))
+bearer_given : (n : ℕ) (text : List ℕ) → number_in 0 (2 ^ 40 - 1) text ≡ Some n → (in_lower_case text ≡ decimal n)
+    × (n < 2 ^ 40)
+bearer_given n text read =
+    let given = number_given 0 (2 ^ 40 - 1) n text (lit< tt) read in (given.0, omega (arith, given.2))
 
-bearer_taken : (n : ℕ) (text : List ℕ) → n < 2 ^ 40 → in_lower_case text ≡ decimal n → number_in 0 (2 ^ 40 - 1) text ≡ Some n
+bearer_taken : (n : ℕ) (text : List ℕ) → n < 2 ^ 40 → in_lower_case text ≡ decimal n
+    → number_in 0 (2 ^ 40 - 1) text ≡ Some n
 bearer_taken n text fits same = number_taken 0 (2 ^ 40 - 1) n text (omega arith) (omega arith) (omega arith) same
 
 -- messages
@@ -63,7 +70,8 @@ message_given (text ∷ []) octets read =
 message_given [] octets read = cc
 message_given (text ∷ other ∷ texts) octets read = cc
 
-message_taken : (texts : List (List ℕ)) (octets : List ℕ) → IsOctets octets → map in_lower_case texts ≡ encode_lower octets ∷ []
+message_taken : (texts : List (List ℕ)) (octets : List ℕ) → IsOctets octets
+    → map in_lower_case texts ≡ encode_lower octets ∷ []
     → message_meaning texts ≡ Ok octets
 message_taken (text ∷ []) octets is same =
     let field : in_lower_case text ≡ encode_lower octets = cc in
@@ -71,50 +79,59 @@ message_taken (text ∷ []) octets is same =
 message_taken [] octets is same = cc
 message_taken (text ∷ other ∷ texts) octets is same = cc
 
-as_kind_given : (kind_of : List ℕ → LineKind) (texts : List (List ℕ)) (said : LineKind) → as_kind kind_of (message_meaning texts) ≡ Ok said
-    → (octets : List ℕ) × (kind_of octets ≡ said) × (map in_lower_case texts ≡ encode_lower octets ∷ []) × IsOctets octets
+as_kind_given : (kind_of : List ℕ → LineKind) (texts : List (List ℕ)) (said : LineKind)
+    → as_kind kind_of (message_meaning texts) ≡ Ok said
+    → (octets : List ℕ) × (kind_of octets ≡ said) × (map in_lower_case texts ≡ encode_lower octets ∷ [])
+    × IsOctets octets
 as_kind_given kind_of texts said read =
     let got = bound (message_meaning texts) (λ octets. Ok (kind_of octets)) said read in
     let given = message_given texts got.0 got.1 in
     let same : kind_of got.0 ≡ said = cc (got.2) in
     (got.0, same, given.0, given.1)
 
-s1u_given : (texts : List (List ℕ)) (said : LineKind) → as_kind kind.S1u (message_meaning texts) ≡ Ok said → Says (codes "S1U") texts said
+s1u_given : (texts : List (List ℕ)) (said : LineKind) → as_kind kind.S1u (message_meaning texts) ≡ Ok said
+    → Says (codes "S1U") texts said
 s1u_given texts said read =
     let got = as_kind_given kind.S1u texts said read in
     let same : kind.S1u got.0 ≡ said = got.1 in
     rw (← same) (record { is_word = refl; are_arguments = got.2; is_kind = got.3 })
 
-sgi_given : (texts : List (List ℕ)) (said : LineKind) → as_kind kind.Sgi (message_meaning texts) ≡ Ok said → Says (codes "SGI") texts said
+sgi_given : (texts : List (List ℕ)) (said : LineKind) → as_kind kind.Sgi (message_meaning texts) ≡ Ok said
+    → Says (codes "SGI") texts said
 sgi_given texts said read =
     let got = as_kind_given kind.Sgi texts said read in
     let same : kind.Sgi got.0 ≡ said = got.1 in
     rw (← same) (record { is_word = refl; are_arguments = got.2; is_kind = got.3 })
 
-s11_given : (texts : List (List ℕ)) (said : LineKind) → as_kind kind.S11 (message_meaning texts) ≡ Ok said → Says (codes "S11") texts said
+s11_given : (texts : List (List ℕ)) (said : LineKind) → as_kind kind.S11 (message_meaning texts) ≡ Ok said
+    → Says (codes "S11") texts said
 s11_given texts said read =
     let got = as_kind_given kind.S11 texts said read in
     let same : kind.S11 got.0 ≡ said = got.1 in
     rw (← same) (record { is_word = refl; are_arguments = got.2; is_kind = got.3 })
 
 -- orders: each argument in its text
-two_fields : (a b a' b' : List ℕ) → in_lower_case a ≡ a' → in_lower_case b ≡ b' → map in_lower_case (a ∷ b ∷ []) ≡ a' ∷ b' ∷ []
+two_fields : (a b a' b' : List ℕ) → in_lower_case a ≡ a' → in_lower_case b ≡ b'
+    → map in_lower_case (a ∷ b ∷ []) ≡ a' ∷ b' ∷ []
 two_fields a b a' b' is_a is_b = cc
 
 three_fields : (a b c a' b' c' : List ℕ) → in_lower_case a ≡ a' → in_lower_case b ≡ b' → in_lower_case c ≡ c'
     → map in_lower_case (a ∷ b ∷ c ∷ []) ≡ a' ∷ b' ∷ c' ∷ []
 three_fields a b c a' b' c' is_a is_b is_c = cc
 
-five_fields : (a b c d e a' b' c' d' e' : List ℕ) → in_lower_case a ≡ a' → in_lower_case b ≡ b' → in_lower_case c ≡ c' → in_lower_case d ≡ d'
+five_fields : (a b c d e a' b' c' d' e' : List ℕ) → in_lower_case a ≡ a' → in_lower_case b ≡ b'
+    → in_lower_case c ≡ c' → in_lower_case d ≡ d'
     → in_lower_case e ≡ e' → map in_lower_case (a ∷ b ∷ c ∷ d ∷ e ∷ []) ≡ a' ∷ b' ∷ c' ∷ d' ∷ e' ∷ []
 five_fields a b c d e a' b' c' d' e' is_a is_b is_c is_d is_e = cc
 
-seven_fields : (a b c d e f g a' b' c' d' e' f' g' : List ℕ) → in_lower_case a ≡ a' → in_lower_case b ≡ b' → in_lower_case c ≡ c'
+seven_fields : (a b c d e f g a' b' c' d' e' f' g' : List ℕ) → in_lower_case a ≡ a' → in_lower_case b ≡ b'
+    → in_lower_case c ≡ c'
     → in_lower_case d ≡ d' → in_lower_case e ≡ e' → in_lower_case f ≡ f' → in_lower_case g ≡ g'
     → map in_lower_case (a ∷ b ∷ c ∷ d ∷ e ∷ f ∷ g ∷ []) ≡ a' ∷ b' ∷ c' ∷ d' ∷ e' ∷ f' ∷ g' ∷ []
 seven_fields a b c d e f g a' b' c' d' e' f' g' is_a is_b is_c is_d is_e is_f is_g = cc
 
-attach_given : (texts : List (List ℕ)) (said : LineKind) → attach_meaning texts ≡ Ok said → Says (codes "ATTACH") texts said
+attach_given : (texts : List (List ℕ)) (said : LineKind) → attach_meaning texts ≡ Ok said
+    → Says (codes "ATTACH") texts said
 attach_given (a ∷ b ∷ c ∷ d ∷ e ∷ []) said read =
     let imsi = taken (imsi_of a) Number _ said read in
     let addr = taken (address_of b) Number _ said imsi.2 in
@@ -134,7 +151,8 @@ attach_given (a ∷ b ∷ c ∷ d ∷ e ∷ []) said read =
     })
 attach_given _ said read = cc
 
-bearer_kind_given : (texts : List (List ℕ)) (said : LineKind) → bearer_meaning texts ≡ Ok said → Says (codes "BEARER") texts said
+bearer_kind_given : (texts : List (List ℕ)) (said : LineKind) → bearer_meaning texts ≡ Ok said
+    → Says (codes "BEARER") texts said
 bearer_kind_given (a ∷ b ∷ c ∷ d ∷ e ∷ f ∷ g ∷ []) said read =
     let imsi = taken (imsi_of a) Number _ said read in
     let qci = taken (number_in 1 255 b) Number _ said imsi.2 in
@@ -153,12 +171,14 @@ bearer_kind_given (a ∷ b ∷ c ∷ d ∷ e ∷ f ∷ g ∷ []) said read =
     let same : kind.Bearer imsi.0 qci.0 mbr_up.0 mbr_down.0 gbr_up.0 gbr_down.0 tft.0 ≡ said = cc (tft.2) in
     rw (← same) (record {
       is_word = refl;
-      are_arguments = seven_fields a b c d e f g _ _ _ _ _ _ _ is_imsi.0 is_qci.0 is_mbr_up.0 is_mbr_down.0 is_gbr_up.0 is_gbr_down.0 is_tft.0;
+      are_arguments = seven_fields a b c d e f g _ _ _ _ _ _ _ is_imsi.0 is_qci.0 is_mbr_up.0 is_mbr_down.0
+          is_gbr_up.0 is_gbr_down.0 is_tft.0;
       is_kind = (is_imsi.1, (is_qci.1, is_qci.2), is_mbr_up.1, is_mbr_down.1, is_gbr_up.1, is_gbr_down.1, is_tft.1);
     })
 bearer_kind_given _ said read = cc
 
-filters_given : (texts : List (List ℕ)) (said : LineKind) → filters_meaning texts ≡ Ok said → Says (codes "FILTERS") texts said
+filters_given : (texts : List (List ℕ)) (said : LineKind) → filters_meaning texts ≡ Ok said
+    → Says (codes "FILTERS") texts said
 filters_given (a ∷ b ∷ c ∷ []) said read =
     let imsi = taken (imsi_of a) Number _ said read in
     let ebi = taken (number_in 5 15 b) Number _ said imsi.2 in
@@ -218,25 +238,29 @@ move_given (a ∷ b ∷ []) said read =
     })
 move_given _ said read = cc
 
-fence_given : (texts : List (List ℕ)) (said : LineKind) → fence_meaning texts ≡ Ok said → Says (codes "FENCE") texts said
+fence_given : (texts : List (List ℕ)) (said : LineKind) → fence_meaning texts ≡ Ok said
+    → Says (codes "FENCE") texts said
 fence_given [] said read =
     let same : kind.Fence ≡ said = cc in
     rw (← same) (record { is_word = refl; are_arguments = refl; is_kind = tt })
 fence_given _ said read = cc
 
 -- the word decides
-at_word : (word known : List ℕ) (texts : List (List ℕ)) (said : LineKind) → bytes_eq word known ≡ true → Says known texts said → Says word texts said
+at_word : (word known : List ℕ) (texts : List (List ℕ)) (said : LineKind) → bytes_eq word known ≡ true
+    → Says known texts said → Says word texts said
 at_word word known texts said test says =
     let same : word ≡ known = (bytes_eq-Decides word known).0 test in
     record { is_word = says.is_word ∙ sym same; are_arguments = says.are_arguments; is_kind = says.is_kind }
 
-either : (word known : List ℕ) (texts : List (List ℕ)) (said : LineKind) (b : Bool) (here there : Result LineKind LineBad)
+either : (word known : List ℕ) (texts : List (List ℕ)) (said : LineKind) (b : Bool)
+    (here there : Result LineKind LineBad)
     → bytes_eq word known ≡ b → (here ≡ Ok said → Says known texts said) → (there ≡ Ok said → Says word texts said)
     → (if b then here else there) ≡ Ok said → Says word texts said
 either word known texts said true here there test says others read = at_word word known texts said test (says read)
 either word known texts said false here there test says others read = others read
 
-pub kind_given : (word : List ℕ) (texts : List (List ℕ)) (said : LineKind) → kind_meaning word texts ≡ Ok said → Says word texts said
+pub kind_given : (word : List ℕ) (texts : List (List ℕ)) (said : LineKind) → kind_meaning word texts ≡ Ok said
+    → Says word texts said
 kind_given word texts said =
     either word (codes "S1U") texts said _ _ _ refl (s1u_given texts said)
     (either word (codes "SGI") texts said _ _ _ refl (sgi_given texts said)
@@ -250,8 +274,10 @@ kind_given word texts said =
     (either word (codes "FENCE") texts said _ _ _ refl (fence_given texts said) (λ none. cc none))))))))))
 
 -- the other way round
-attach_taken : (texts : List (List ℕ)) (imsi : List ℕ) (enb : Peer) (up down : ℕ) → IsKind (kind.Attach imsi enb up down)
-    → map in_lower_case texts ≡ arguments (kind.Attach imsi enb up down) → attach_meaning texts ≡ Ok (kind.Attach imsi enb up down)
+attach_taken : (texts : List (List ℕ)) (imsi : List ℕ) (enb : Peer) (up down : ℕ)
+    → IsKind (kind.Attach imsi enb up down)
+    → map in_lower_case texts ≡ arguments (kind.Attach imsi enb up down)
+    → attach_meaning texts ≡ Ok (kind.Attach imsi enb up down)
 attach_taken (a ∷ b ∷ c ∷ d ∷ e ∷ []) imsi enb up down is same =
     let is_imsi = imsi_taken a imsi is.0 (cc) in
     let is_addr = address_taken b enb.addr is.1 (cc) in
@@ -277,7 +303,8 @@ bearer_kind_taken (a ∷ b ∷ c ∷ d ∷ e ∷ f ∷ g ∷ []) imsi qci mbr_up
 bearer_kind_taken _ imsi qci mbr_up mbr_down gbr_up gbr_down tft is same = cc
 
 filters_taken : (texts : List (List ℕ)) (imsi : List ℕ) (ebi : ℕ) (tft : List ℕ) → IsKind (kind.Filters imsi ebi tft)
-    → map in_lower_case texts ≡ arguments (kind.Filters imsi ebi tft) → filters_meaning texts ≡ Ok (kind.Filters imsi ebi tft)
+    → map in_lower_case texts ≡ arguments (kind.Filters imsi ebi tft)
+    → filters_meaning texts ≡ Ok (kind.Filters imsi ebi tft)
 filters_taken (a ∷ b ∷ c ∷ []) imsi ebi tft is same =
     let is_imsi = imsi_taken a imsi is.0 (cc) in
     let is_ebi = number_taken 5 15 ebi b (omega (arith, is.1.1)) is.1.0 is.1.1 (cc) in

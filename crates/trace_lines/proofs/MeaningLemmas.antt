@@ -28,7 +28,8 @@ use Rattle.trace_lines.proofs.KindLemmas.{Says, taken, bound, some_from_ok, kind
 lower_other : (octet : ℕ) → octet ≢ 32 → lower octet ≢ 32
 lower_other octet other same = other (grind (arith, nat_tests))
 
-ok_same : (read also : Result Line LineBad) (line other : Line) → read ≡ Ok line → also ≡ Ok other → read ≡ also → line ≡ other
+ok_same : (read also : Result Line LineBad) (line other : Line) → read ≡ Ok line → also ≡ Ok other → read ≡ also
+    → line ≡ other
 ok_same read also line other is_line is_other same = cc
 
 -- each of the texts is a field: some, plain and in lower case
@@ -74,7 +75,8 @@ fields_of_kind kind.Fence is = tt
 -- the words of kinds are in upper case, and lack a space all the same
 lacks_from_test : (word : List ℕ) → list_all (λ octet. not (octet == 32)) word ≡ true → All (λ octet. octet ≢ 32) word
 lacks_from_test word test k d inside =
-    let passed = AllPass-from_list_all (λ octet. not (octet == 32)) word test k d inside in λ same. grind (arith, nat_tests)
+    let passed = AllPass-from_list_all (λ octet. not (octet == 32)) word test k d inside in λ same.
+        grind (arith, nat_tests)
 
 word_lacks : (said : LineKind) → All (λ octet. octet ≢ 32) (kind_word said)
 word_lacks (kind.S11 octets) = lacks_from_test (codes "S11") refl
@@ -119,7 +121,8 @@ not_empty : (text : List ℕ) → 0 < length text → is_empty text ≡ false
 not_empty [] some = absurd (omega arith)
 not_empty (octet ∷ text) some = refl
 
-none_empty : (texts others : List (List ℕ)) → AreFields others → map in_lower_case texts ≡ others → list_any is_empty texts ≡ false
+none_empty : (texts others : List (List ℕ)) → AreFields others → map in_lower_case texts ≡ others
+    → list_any is_empty texts ≡ false
 none_empty [] others fields same = refl
 none_empty (text ∷ texts) [] fields same = cc
 none_empty (text ∷ texts) (other ∷ others) fields same =
@@ -131,7 +134,8 @@ none_empty (text ∷ texts) (other ∷ others) fields same =
 
 -- lower case takes no space away and puts none there
 lower_lacks : (text : List ℕ) → All (λ octet. octet ≢ 32) text → All (λ octet. octet ≢ 32) (in_lower_case text)
-lower_lacks text lacks = All-map (λ octet. octet ≢ 32) lower text (λ k d inside. lower_other (get_or text k d) (lacks k d inside))
+lower_lacks text lacks =
+    All-map (λ octet. octet ≢ 32) lower text (λ k d inside. lower_other (get_or text k d) (lacks k d inside))
 
 all_lower_lack : (texts : List (List ℕ)) → AllLack space texts → AllLack space (map in_lower_case texts)
 all_lower_lack [] lack = tt
@@ -173,7 +177,8 @@ same_fields text line means =
     sym (text_apart text) ∙ ap fields_of means.is_text ∙ line_apart line means.is_line
 
 -- fields of a line are read as it
-composed : (moment : Option ℕ) (said : Result LineKind LineBad) (least number at : ℕ) (kind : LineKind) → moment ≡ Some at → said ≡ Ok kind
+composed : (moment : Option ℕ) (said : Result LineKind LineBad) (least number at : ℕ) (kind : LineKind)
+    → moment ≡ Some at → said ≡ Ok kind
     → nat_lt at least ≡ false
     → (ok_or moment Number >>= (λ m. said >>= (λ k. moment_meaning least number m k)))
     ≡ Ok (record { number = number; moment = at; kind = kind })
@@ -182,11 +187,13 @@ composed moment said least number at kind is_moment is_said forward = rw (is_mom
 not_below : (moment least : ℕ) → least ≤ moment → nat_lt moment least ≡ false
 not_below moment least above = grind (arith, nat_tests)
 
-moment_read : (moment : ℕ) (text : List ℕ) → moment < 2 ^ 50 → text ≡ decimal moment → number_in 0 (2 ^ 50 - 1) text ≡ Some moment
+moment_read : (moment : ℕ) (text : List ℕ) → moment < 2 ^ 50 → text ≡ decimal moment
+    → number_in 0 (2 ^ 50 - 1) text ≡ Some moment
 moment_read moment text fits same =
     ap (number_in 0 (2 ^ 50 - 1)) same ∙ number_read 0 (2 ^ 50 - 1) moment (omega arith) (omega arith) (omega arith)
 
-fields_taken : (least : ℕ) (texts : List (List ℕ)) (line : Line) → IsLine line → lowered_fields texts ≡ line_fields line → least ≤ line.moment
+fields_taken : (least : ℕ) (texts : List (List ℕ)) (line : Line) → IsLine line
+    → lowered_fields texts ≡ line_fields line → least ≤ line.moment
     → line_of_fields least line.number texts ≡ Ok line
 fields_taken least [] line is same above = cc
 fields_taken least (moment ∷ []) line is same above = cc
@@ -198,7 +205,8 @@ fields_taken least (moment ∷ word ∷ texts) line is same above =
     composed (number_in 0 (2 ^ 50 - 1) moment) (kind_meaning word texts) least line.number line.moment line.kind
     (moment_read line.moment moment is.moment first) said (not_below line.moment least above)
 
-fields_some : (texts : List (List ℕ)) (line : Line) → IsLine line → lowered_fields texts ≡ line_fields line → list_any is_empty texts ≡ false
+fields_some : (texts : List (List ℕ)) (line : Line) → IsLine line → lowered_fields texts ≡ line_fields line
+    → list_any is_empty texts ≡ false
 fields_some [] line is same = refl
 fields_some (moment ∷ []) line is same = cc
 fields_some (moment ∷ word ∷ texts) line is same =
@@ -214,7 +222,8 @@ pub meaning_taken : (least : ℕ) (text : List ℕ) (line : Line) → Means text
     → line_meaning least line.number text ≡ Ok line
 meaning_taken least text line means above =
     let same = same_fields text line means in
-    ap (λ b. cond b (Err Field) (line_of_fields least line.number (fields_of text))) (fields_some (fields_of text) line means.is_line same)
+    ap (λ b. cond b (Err Field) (line_of_fields least line.number (fields_of text)))
+        (fields_some (fields_of text) line means.is_line same)
     ∙ fields_taken least (fields_of text) line means.is_line same above
 
 -- fields that are read as a line are its fields
@@ -224,14 +233,16 @@ pub record Given (least number : ℕ) (texts : List (List ℕ)) (line : Line) : 
   pub numbered : line.number ≡ number
   pub in_order : least ≤ line.moment
 
-forward_line : (back : Bool) (line other : Line) → cond back (Err MomentBack) (Ok line) ≡ Ok other → (back ≡ false) × (line ≡ other)
+forward_line : (back : Bool) (line other : Line) → cond back (Err MomentBack) (Ok line) ≡ Ok other → (back ≡ false)
+    × (line ≡ other)
 forward_line true line other read = cc
 forward_line false line other read = (refl, cc)
 
 above_least : (moment least : ℕ) → nat_lt moment least ≡ false → least ≤ moment
 above_least moment least forward = grind (arith, nat_tests)
 
-given_fields : (moment word : List ℕ) (texts : List (List ℕ)) (at : ℕ) (said : LineKind) (least number : ℕ) → moment ≡ decimal at
+given_fields : (moment word : List ℕ) (texts : List (List ℕ)) (at : ℕ) (said : LineKind) (least number : ℕ)
+    → moment ≡ decimal at
     → at ≤ 2 ^ 50 - 1 → Says word texts said → least ≤ at
     → Given least number (moment ∷ word ∷ texts) (record { number = number; moment = at; kind = said })
 given_fields moment word texts at said least number is_moment fits says above =
@@ -244,18 +255,21 @@ given_fields moment word texts at said least number is_moment fits says above =
       in_order = above;
     }
 
-pub fields_given : (least number : ℕ) (texts : List (List ℕ)) (line : Line) → line_of_fields least number texts ≡ Ok line
+pub fields_given : (least number : ℕ) (texts : List (List ℕ)) (line : Line)
+    → line_of_fields least number texts ≡ Ok line
     → Given least number texts line
 fields_given least number [] line read = cc
 fields_given least number (moment ∷ []) line read = cc
 fields_given least number (moment ∷ word ∷ texts) line read =
     let at = taken (number_in 0 (2 ^ 50 - 1) moment) Number _ line read in
     let said = bound (kind_meaning word texts) _ line at.2 in
-    let forward = forward_line (nat_lt at.0 least) (record { number = number; moment = at.0; kind = said.0 }) line said.2 in
+    let forward = forward_line (nat_lt at.0 least) (record { number = number; moment = at.0; kind = said.0 }) line
+        said.2 in
     let is_moment = number_only 0 (2 ^ 50 - 1) at.0 moment (lit< tt) at.1 in
     let same : record { number = number; moment = at.0; kind = said.0 } ≡ line = forward.1 in
     rw (← same)
-    (given_fields moment word texts at.0 said.0 least number is_moment.0 is_moment.2 (kind_given word texts said.0 said.1) (above_least at.0 least forward.0))
+    (given_fields moment word texts at.0 said.0 least number is_moment.0 is_moment.2
+        (kind_given word texts said.0 said.1) (above_least at.0 least forward.0))
 
 if_some : (b : Bool) (read : Result Line LineBad) (line : Line) → cond b (Err Field) read ≡ Ok line → read ≡ Ok line
 if_some true read line is = cc
@@ -268,29 +282,35 @@ meaning_given least number text line read =
     (record { is_line = given.is_line; is_text = ap joined given.same }, given.numbered, given.in_order)
 
 -- where the fields are read, none is empty
-pub read_some : (least number : ℕ) (text : List ℕ) (line : Line) → line_of_fields least number (fields_of text) ≡ Ok line
+pub read_some : (least number : ℕ) (text : List ℕ) (line : Line)
+    → line_of_fields least number (fields_of text) ≡ Ok line
     → line_meaning least number text ≡ Ok line
 read_some least number text line read =
     let given = fields_given least number (fields_of text) line read in
-    ap (λ b. cond b (Err Field) (line_of_fields least number (fields_of text))) (fields_some (fields_of text) line given.is_line given.same) ∙ read
+    ap (λ b. cond b (Err Field) (line_of_fields least number (fields_of text)))
+        (fields_some (fields_of text) line given.is_line given.same) ∙ read
 
 -- the text of a line means it
 pub text_means : (line : Line) → IsLine line → Means (line_text line) line
 text_means line is = record {
   is_line = is;
   is_text = ap (λ texts. joined (lowered_fields texts)) (line_apart line is)
-      ∙ ap (λ texts. joined (decimal line.moment ∷ kind_word line.kind ∷ texts)) (fields_kept (arguments line.kind) (fields_of_kind line.kind is.kind));
+      ∙ ap (λ texts. joined (decimal line.moment ∷ kind_word line.kind ∷ texts))
+          (fields_kept (arguments line.kind) (fields_of_kind line.kind is.kind));
 }
 
-pub one_meaning : (text : List ℕ) (line other : Line) → Means text line → Means text other → line.number ≡ other.number → line ≡ other
+pub one_meaning : (text : List ℕ) (line other : Line) → Means text line → Means text other
+    → line.number ≡ other.number → line ≡ other
 one_meaning text line other means also numbers =
     let first = meaning_taken 0 text line means (omega arith) in
     let second = meaning_taken 0 text other also (omega arith) in
-    let again : line_meaning 0 line.number text ≡ line_meaning 0 other.number text = ap (λ n. line_meaning 0 n text) numbers in
+    let again : line_meaning 0 line.number text ≡ line_meaning 0 other.number text =
+        ap (λ n. line_meaning 0 n text) numbers in
     ok_same (line_meaning 0 line.number text) (line_meaning 0 other.number text) line other first second again
 
 -- a text is as long as that of the line that it means
-joined_length : (at : ℕ) (texts : List (List ℕ)) → length (join_with_byte at (map in_lower_case texts)) ≡ length (join_with_byte at texts)
+joined_length : (at : ℕ) (texts : List (List ℕ)) → length (join_with_byte at (map in_lower_case texts))
+    ≡ length (join_with_byte at texts)
 joined_length at [] = refl
 joined_length at (text ∷ []) = length-map text lower
 joined_length at (text ∷ next ∷ texts) =
@@ -328,6 +348,7 @@ pub is_line_by : (moment : ℕ) (text word : List ℕ) (texts : List (List ℕ))
     → number_meaning 0 (2 ^ 50 - 1) text ≡ Ok moment → kind_meaning word texts ≡ Ok said
     → IsLine (record { number = number; moment = moment; kind = said })
 is_line_by moment text word texts said number at is = record {
-  moment = omega (arith, (number_only 0 (2 ^ 50 - 1) moment text (lit< tt) (some_from_ok (number_in 0 (2 ^ 50 - 1) text) Number moment at)).2);
+  moment = omega (arith, (number_only 0 (2 ^ 50 - 1) moment text (lit< tt)
+      (some_from_ok (number_in 0 (2 ^ 50 - 1) text) Number moment at)).2);
   kind = (kind_given word texts said is).is_kind;
 }

@@ -16,7 +16,8 @@ use Rattle.trace_lines.specs.Meaning.{message_meaning}
 use Rattle.text_fields.proofs.PlainLemmas.{field-encode_lower}
 use Rattle.trace_lines.proofs.FormLemmas.{octets_given}
 
-lacks_before : (text other : List ℕ) → in_lower_case text ≡ other → All (λ octet. octet ≢ 32) other → All (λ octet. octet ≢ 32) text
+lacks_before : (text other : List ℕ) → in_lower_case text ≡ other → All (λ octet. octet ≢ 32) other
+    → All (λ octet. octet ≢ 32) text
 lacks_before [] other same lacks = All-nil (λ octet. octet ≢ 32)
 lacks_before (octet ∷ text) [] same lacks = cc
 lacks_before (octet ∷ text) (first ∷ other) same lacks =
@@ -37,7 +38,8 @@ some_from_ok (Some other) octets is = let same : other ≡ octets = cc in ap Som
 some_from_ok None octets is = cc
 
 -- octets stand alone
-pub message_read : (text octets : List ℕ) → ok_or (octets_of text) Hex ≡ Ok octets → message_meaning (pieces space text) ≡ Ok octets
+pub message_read : (text octets : List ℕ) → ok_or (octets_of text) Hex ≡ Ok octets
+    → message_meaning (pieces space text) ≡ Ok octets
 message_read text octets read =
     let some = some_from_ok (octets_of text) octets read in
     ap message_meaning (pieces-joined space text [] (octets_lack text octets some, tt)) ∙ read
@@ -47,7 +49,8 @@ two_or_more : (first : List ℕ) (texts : List (List ℕ)) → 0 < length texts 
 two_or_more first [] some = absurd (omega arith)
 two_or_more first (text ∷ texts) some = refl
 
-pub message_more : (text first rest : List ℕ) → pieces space text ≡ first ∷ pieces space rest → message_meaning (pieces space text) ≡ Err Field
+pub message_more : (text first rest : List ℕ) → pieces space text ≡ first ∷ pieces space rest
+    → message_meaning (pieces space text) ≡ Err Field
 message_more text first rest cut =
     ap message_meaning cut
     ∙ two_or_more first (pieces space rest) (omega (arith, length-slice_split (λ octet. octet == space) rest))
@@ -56,7 +59,8 @@ message_more text first rest cut =
 alone : (text first : List ℕ) (texts : List (List ℕ)) → pieces space text ≡ texts → texts ≡ first ∷ [] → first ≡ text
 alone text first texts is one = sym (ap (join_with_byte space) (is ∙ one)) ∙ joined-pieces space text
 
-pub message_alone : (text first : List ℕ) (why : LineBad) → pieces space text ≡ first ∷ [] → ok_or (octets_of text) Hex ≡ Err why
+pub message_alone : (text first : List ℕ) (why : LineBad) → pieces space text ≡ first ∷ []
+    → ok_or (octets_of text) Hex ≡ Err why
     → message_meaning (pieces space text) ≡ Err why
 message_alone text first why one refused =
     ap message_meaning one ∙ ap (λ t. ok_or (octets_of t) Hex) (alone text first (pieces space text) refl one) ∙ refused

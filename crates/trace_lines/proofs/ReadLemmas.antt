@@ -29,7 +29,8 @@ in_order_by (Ok line) least number text read = (meaning_given least number text 
 in_order_by (Err why) least number text read = tt
 
 pub as_long_by : (answer : Result Line LineBad) (least number : ℕ) (text : List ℕ)
-    → IfOk answer (λ line. line_meaning least number text ≡ Ok line) → IfOk answer (λ line. length (line_text line) ≡ length text)
+    → IfOk answer (λ line. line_meaning least number text ≡ Ok line)
+    → IfOk answer (λ line. length (line_text line) ≡ length text)
 as_long_by (Ok line) least number text read = length-line_text text line (meaning_given least number text line read).0
 as_long_by (Err why) least number text read = tt
 
@@ -38,7 +39,8 @@ Refuses least number text why = (why ≡ NoMemory) ⊎ (line_meaning least numbe
 
 pub only_by : (answer : Result Line LineBad) (least number : ℕ) (text : List ℕ)
     → IfOk answer (λ line. line_meaning least number text ≡ Ok line) → IfErr answer (Refuses least number text)
-    → (line : Line) → Means text line → line.number ≡ number → least ≤ line.moment → OrNoMemory answer (Ok line) NoMemory
+    → (line : Line) → Means text line → line.number ≡ number → least ≤ line.moment
+    → OrNoMemory answer (Ok line) NoMemory
 only_by (Ok other) least number text read refused line means numbered above =
     let meant = sym (ap (λ n. line_meaning least n text) numbered) ∙ meaning_taken least text line means above in
     inl (sym read ∙ meant)
@@ -46,14 +48,17 @@ only_by (Err why) least number text read refused line means numbered above =
     let meant = sym (ap (λ n. line_meaning least n text) numbered) ∙ meaning_taken least text line means above in
     elim refused [ inl none ↦ inr (ap Err none) | inr is ↦ cc ]
 
-pub refused_by : (answer : Result Line LineBad) (least number : ℕ) (text : List ℕ) → IfErr answer (Refuses least number text)
+pub refused_by : (answer : Result Line LineBad) (least number : ℕ) (text : List ℕ)
+    → IfErr answer (Refuses least number text)
     → IfErr answer (λ why. (why ≡ NoMemory) ⊎ (first_fault least text ≡ Some why))
 refused_by (Ok line) least number text refused = tt
 refused_by (Err why) least number text refused =
     elim refused [ inl none ↦ inl none | inr is ↦ inr (sym (fault_is least number text) ∙ ap result_err is) ]
 
-fault_at : (fault : Option LineBad) (answer meant : Result Line LineBad) → result_err meant ≡ fault → IfOk answer (λ line. meant ≡ Ok line)
-    → IfErr answer (λ why. (why ≡ NoMemory) ⊎ (meant ≡ Err why)) → IfSome fault (λ why. OrNoMemory answer (Err why) NoMemory)
+fault_at : (fault : Option LineBad) (answer meant : Result Line LineBad) → result_err meant ≡ fault
+    → IfOk answer (λ line. meant ≡ Ok line)
+    → IfErr answer (λ why. (why ≡ NoMemory) ⊎ (meant ≡ Err why))
+    → IfSome fault (λ why. OrNoMemory answer (Err why) NoMemory)
 fault_at None answer meant is read refused = tt
 fault_at (Some why) (Ok line) meant is read refused = let none : result_err meant ≡ None = ap result_err read in cc
 fault_at (Some why) (Err other) meant is read refused =
@@ -69,7 +74,8 @@ fault_by answer least number text read refused =
     fault_at (first_fault least text) answer (line_meaning least number text) (fault_is least number text) read refused
 
 -- where no field is empty the fields decide
-pub whole_read : (least number : ℕ) (text : List ℕ) (line : Line) → line_of_fields least number (fields_of text) ≡ Ok line
+pub whole_read : (least number : ℕ) (text : List ℕ) (line : Line)
+    → line_of_fields least number (fields_of text) ≡ Ok line
     → line_meaning least number text ≡ Ok line
 whole_read least number text line read = read_some least number text line read
 
@@ -82,7 +88,8 @@ pub whole_refused : (least number : ℕ) (text : List ℕ) (why : LineBad)
     → (why ≡ NoMemory) ⊎ (line_of_fields least number (fields_of text) ≡ Err why)
     → ((if has_empty_field text then Field else why) ≡ NoMemory)
     ⊎ (line_meaning least number text ≡ Err (if has_empty_field text then Field else why))
-whole_refused least number text why refused = refusal_at (has_empty_field text) (line_of_fields least number (fields_of text)) why refused
+whole_refused least number text why refused =
+    refusal_at (has_empty_field text) (line_of_fields least number (fields_of text)) why refused
 
 pub want_of_memory : (b : Bool) (why : LineBad) → (if b then Field else why) ≡ NoMemory → why ≡ NoMemory
 want_of_memory true why none = cc

@@ -18,14 +18,16 @@ octets_in lines = sum_by (λ line. length (line_text line)) lines
 -- one with which the lines have 67,108,864 octets or more
 abbrev pub ends_epoch : List Line → Line → Bool
 ends_epoch before line =
-    is_fence line.kind || nat_le 65536 (length before + 1) || nat_le 67108864 (octets_in before + length (line_text line))
+    is_fence line.kind || nat_le 65536 (length before + 1)
+        || nat_le 67108864 (octets_in before + length (line_text line))
 
 -- the epochs of lines, where these lines stand before them in the first one
 abbrev pub epochs_behind : List Line → List Line → List (List Line)
 epochs_behind [] [] = []
 epochs_behind (line ∷ before) [] = (line ∷ before) ∷ []
 epochs_behind before (line ∷ lines) =
-    if ends_epoch before line then (before ++ line ∷ []) ∷ epochs_behind [] lines else epochs_behind (before ++ line ∷ []) lines
+    if ends_epoch before line then (before ++ line ∷ []) ∷ epochs_behind [] lines
+        else epochs_behind (before ++ line ∷ []) lines
 
 abbrev pub epochs_of : List Line → List (List Line)
 epochs_of lines = epochs_behind [] lines
@@ -37,7 +39,8 @@ NoneEnds before (line ∷ lines) = (ends_epoch before line ≡ false) × NoneEnd
 
 -- a whole epoch: its last line ends it, and none before it does
 abbrev pub IsEpoch : List Line → Type 0
-IsEpoch epoch = (lines : List Line) × (last : Line) × (epoch ≡ lines ++ last ∷ []) × NoneEnds [] lines × (ends_epoch lines last ≡ true)
+IsEpoch epoch = (lines : List Line) × (last : Line) × (epoch ≡ lines ++ last ∷ []) × NoneEnds [] lines
+    × (ends_epoch lines last ≡ true)
 
 -- the last epoch may stop at the end of the lines before one ends it; an epoch isn't empty
 abbrev pub AreCut : List (List Line) → Type 0

@@ -118,4 +118,5 @@ line_of_fields least number _ = Err Field
 
 -- what the line of this number means, where no moment below the least one may come
 abbrev pub line_meaning : ℕ → ℕ → List ℕ → Result Line LineBad
-line_meaning least number text = if has_empty_field text then Err Field else line_of_fields least number (fields_of text)
+line_meaning least number text =
+    if has_empty_field text then Err Field else line_of_fields least number (fields_of text)

@@ -32,9 +32,11 @@ forms_of word =
     if bytes_eq word (codes "S1U") then Some (some_octets ∷ [])
     else if bytes_eq word (codes "SGI") then Some (some_octets ∷ [])
     else if bytes_eq word (codes "S11") then Some (some_octets ∷ [])
-    else if bytes_eq word (codes "ATTACH") then Some (an_imsi ∷ an_address ∷ a_teid ∷ a_session_rate ∷ a_session_rate ∷ [])
+    else if bytes_eq word (codes "ATTACH") then Some (an_imsi ∷ an_address ∷ a_teid ∷ a_session_rate
+        ∷ a_session_rate ∷ [])
     else if bytes_eq word (codes "BEARER")
-    then Some (an_imsi ∷ a_number 1 255 ∷ a_bearer_rate ∷ a_bearer_rate ∷ a_bearer_rate ∷ a_bearer_rate ∷ some_octets ∷ [])
+    then Some (an_imsi ∷ a_number 1 255 ∷ a_bearer_rate ∷ a_bearer_rate ∷ a_bearer_rate ∷ a_bearer_rate
+        ∷ some_octets ∷ [])
     else if bytes_eq word (codes "FILTERS") then Some (an_imsi ∷ an_ebi ∷ some_octets ∷ [])
     else if bytes_eq word (codes "DROP") then Some (an_imsi ∷ an_ebi ∷ [])
     else if bytes_eq word (codes "AMBR") then Some (an_imsi ∷ a_session_rate ∷ a_session_rate ∷ [])

@@ -14,7 +14,8 @@ const EPOCH_OCTETS: u64 = 67_108_864;
 /// Whether the line is the last of its epoch: `len` is the length of its text, `lines` and `octets` are
 /// how many lines stand before it in the epoch, and how many octets they have.
 pub fn ends_epoch(line: &TraceLine, len: u64, lines: u64, octets: u64) -> bool
-    ensures { (before : List Line) → len ≡ length (line_text line.now) → lines ≡ length before → octets ≡ octets_in before
+    ensures { (before : List Line) → len ≡ length (line_text line.now) → lines ≡ length before
+        → octets ≡ octets_in before
         → result ≡ ends_epoch before line.now }
 {
     is_fence(&line.kind)

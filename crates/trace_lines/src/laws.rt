@@ -21,7 +21,8 @@ pub fn lines_mean_their_texts()
         → Means text line × (line.number ≡ number) × (least ≤ line.moment) }
 
     // What isn't read is refused for the first fault.
-    ensures fault { (least number : ℕ) (text : List ℕ) → result_err (line_meaning least number text) ≡ first_fault least text }
+    ensures fault { (least number : ℕ) (text : List ℕ)
+        → result_err (line_meaning least number text) ≡ first_fault least text }
 {}
 
 /// Epochs are the lines in their order, cut just behind each line that ends one.

@@ -26,13 +26,15 @@ module _ {H : Type 0} where
   pub told_more : (came : List (Order H)) (order : Order H) (leaving : List Leaving) → All (IsTold came) leaving
       → All (IsTold (came ++ order ∷ [])) leaving
   told_more came order leaving told =
-      All-weaker (IsTold came) (IsTold (came ++ order ∷ [])) (λ x is. ordered_more came order x.slot x.until is) leaving told
+      All-weaker (IsTold came) (IsTold (came ++ order ∷ []))
+          (λ x is. ordered_more came order x.slot x.until is) leaving told
 
 same_leave : (H : Type 0) (slot until : ℕ) → is_leave {H = H} slot until (Leave slot until) ≡ true
 same_leave H slot until = ap (λ b. b && nat_eq until until) (eq-eqb slot slot refl) ∙ eq-eqb until until refl
 
 -- an order that was taken last
-pub ordered_last : {H : Type 0} (came : List (Order H)) (slot until : ℕ) → IsOrdered (came ++ Leave slot until ∷ []) slot until
+pub ordered_last : {H : Type 0} (came : List (Order H)) (slot until : ℕ)
+    → IsOrdered (came ++ Leave slot until ∷ []) slot until
 ordered_last {H} came slot until =
     let f : Order H → ℕ = λ x. cond (is_leave slot until x) 1 0 in
     let e = sum_by_push f came (Leave slot until) in
@@ -73,30 +75,35 @@ not_false_true : (a : Bool) → not a ≡ false → a ≡ true
 not_false_true true e = refl
 not_false_true false e = absurd (true≢false e)
 
-other_fails_at : (slot other done : ℕ) (x : Leaving) → other ≢ slot → nat_eq x.slot slot ≡ true → is_met other done x ≡ false
+other_fails_at : (slot other done : ℕ) (x : Leaving) → other ≢ slot → nat_eq x.slot slot ≡ true
+    → is_met other done x ≡ false
 other_fails_at slot other done x apart is =
     ap (λ b. b && nat_le x.until done) (ne_eqb x.slot other (λ e. apart (sym e ∙ eqb-true x.slot slot is)))
 
 -- what holds of a whole list holds of some of it
 pub picked_all : {X : Type 0} (P : X → Type 0) (test : X → Bool) (xs : List X) → All P xs → All P (filter test xs)
 picked_all P test [] all = All-nil P
-picked_all P test (x ∷ xs) all = elim (test x) as (λ b. test x ≡ b → All P (cond b (x ∷ filter test xs) (filter test xs))) [
+picked_all P test (x ∷ xs) all =
+    elim (test x) as (λ b. test x ≡ b → All P (cond b (x ∷ filter test xs) (filter test xs))) [
   | true ↦ λ e. All-cons P x (filter test xs) (All-head P x xs all) (picked_all P test xs (All-tail P x xs all))
   | false ↦ λ e. picked_all P test xs (All-tail P x xs all)
 ] refl
 
 -- a test of a list that a write meets
-any_set : {X : Type 0} (p : X → Bool) (xs : List X) (k : ℕ) (y : X) → k < length xs → p y ≡ true → list_any p (set xs k y) ≡ true
+any_set : {X : Type 0} (p : X → Bool) (xs : List X) (k : ℕ) (y : X) → k < length xs → p y ≡ true
+    → list_any p (set xs k y) ≡ true
 any_set p [] k y within met = absurd (omega arith)
 any_set p (x ∷ xs) zero y within met = ap (λ b. b || list_any p xs) met
 any_set p (x ∷ xs) (suc k) y within met = ap (λ b. p x || b) (any_set p xs k y (omega arith) met) ∙ or_true (p x)
 
 -- a write of what fails a test, in place of what fails it, leaves the test
-any_set_same : {X : Type 0} (p : X → Bool) (xs : List X) (k : ℕ) (y : X) → p y ≡ false → ((none : X) → k < length xs → p (get_or xs k none) ≡ false)
+any_set_same : {X : Type 0} (p : X → Bool) (xs : List X) (k : ℕ) (y : X) → p y ≡ false
+    → ((none : X) → k < length xs → p (get_or xs k none) ≡ false)
     → list_any p (set xs k y) ≡ list_any p xs
 any_set_same p [] k y fails here = refl
 any_set_same p (x ∷ xs) zero y fails here = ap (λ b. b || list_any p xs) (fails ∙ sym (here y (omega arith)))
-any_set_same p (x ∷ xs) (suc k) y fails here = ap (λ b. p x || b) (any_set_same p xs k y fails (λ none within. here none (omega arith)))
+any_set_same p (x ∷ xs) (suc k) y fails here =
+    ap (λ b. p x || b) (any_set_same p xs k y fails (λ none within. here none (omega arith)))
 
 any_push : {X : Type 0} (p : X → Bool) (xs : List X) (y : X) → list_any p (xs ++ y ∷ []) ≡ (list_any p xs || p y)
 any_push p [] y = sym (or_false (p y))
@@ -106,12 +113,14 @@ any_push p (x ∷ xs) y = ap (λ b. p x || b) (any_push p xs y) ∙ sym (or_asso
 any_filter : {X : Type 0} (p test : X → Bool) (xs : List X) → ((x : X) → test x ≡ false → p x ≡ false)
     → list_any p (filter test xs) ≡ list_any p xs
 any_filter p test [] drops = refl
-any_filter p test (x ∷ xs) drops = elim (test x) as (λ b. test x ≡ b → list_any p (cond b (x ∷ filter test xs) (filter test xs)) ≡ (p x || list_any p xs)) [
+any_filter p test (x ∷ xs) drops = elim (test x) as (λ b. test x ≡ b
+    → list_any p (cond b (x ∷ filter test xs) (filter test xs)) ≡ (p x || list_any p xs)) [
   | true ↦ λ e. ap (λ b. p x || b) (any_filter p test xs drops)
   | false ↦ λ e. any_filter p test xs drops ∙ sym (ap (λ b. b || list_any p xs) (drops x e))
 ] refl
 
-other_fails : (slot until other done : ℕ) → other ≢ slot → is_met other done (record { slot = slot; until = until }) ≡ false
+other_fails : (slot until other done : ℕ) → other ≢ slot
+    → is_met other done (record { slot = slot; until = until }) ≡ false
 other_fails slot until other done apart = ap (λ b. b && nat_le until done) (ne_eqb slot other (λ e. apart (sym e)))
 
 own_meets : (slot until : ℕ) → is_met slot until (record { slot = slot; until = until }) ≡ true
@@ -122,11 +131,13 @@ module _ {H : Type 0} (slot_at : H → ℕ) (held : List H) (slot until : ℕ) w
   note = record { slot = slot; until = until }
 
   -- the half of the slot isn't held
-  pub noted_none : (leaving : List Leaving) → is_held slot_at slot held ≡ false → IsNoted slot_at held (Leave slot until) leaving leaving
+  pub noted_none : (leaving : List Leaving) → is_held slot_at slot held ≡ false
+      → IsNoted slot_at held (Leave slot until) leaving leaving
   noted_none leaving none = ((λ some. absurd (true≢false (sym some ∙ none))), λ other done apart. refl)
 
   -- it was noted before
-  pub noted_set : (leaving looked : List Leaving) (k : ℕ) → looked ≡ leaving → Some k ≡ position (λ x. nat_eq x.slot slot) looked
+  pub noted_set : (leaving looked : List Leaving) (k : ℕ) → looked ≡ leaving
+      → Some k ≡ position (λ x. nat_eq x.slot slot) looked
       → IsNoted slot_at held (Leave slot until) leaving (set leaving k note)
   noted_set leaving looked k same found =
       let found : position (λ (x : Leaving). nat_eq x.slot slot) leaving ≡ Some k =
@@ -142,7 +153,8 @@ module _ {H : Type 0} (slot_at : H → ℕ) (held : List H) (slot until : ℕ) w
   -- it wasn't
   pub noted_push : (leaving : List Leaving) → IsNoted slot_at held (Leave slot until) leaving (leaving ++ note ∷ [])
   noted_push leaving = (
-    (λ _. any_push (is_met slot until) leaving note ∙ ap (λ b. list_any (is_met slot until) leaving || b) (own_meets slot until)
+    (λ _. any_push (is_met slot until) leaving note ∙ ap (λ b. list_any (is_met slot until) leaving || b)
+        (own_meets slot until)
         ∙ or_true (list_any (is_met slot until) leaving)),
     λ other done apart. any_push (is_met other done) leaving note
         ∙ ap (λ b. list_any (is_met other done) leaving || b) (other_fails slot until other done apart)
@@ -154,7 +166,8 @@ module _ {H : Type 0} (slot_at : H → ℕ) (held : List H) (slot until : ℕ) w
   noted_same leaving new made same noted = subst (IsNoted slot_at held (Leave slot until) leaving) (sym same) noted
 
 -- the notes of one slot go
-pub forgotten : (slot : ℕ) (leaving : List Leaving) → SameElsewhere slot leaving (filter (λ x. not (nat_eq x.slot slot)) leaving)
+pub forgotten : (slot : ℕ) (leaving : List Leaving) → SameElsewhere slot leaving
+    (filter (λ x. not (nat_eq x.slot slot)) leaving)
 forgotten slot leaving other done apart =
     any_filter (is_met other done) (λ (x : Leaving). not (nat_eq x.slot slot)) leaving
     (λ x dropped. other_fails_at slot other done x apart (not_false_true (nat_eq x.slot slot) dropped))
@@ -163,7 +176,8 @@ module _ {H N : Type 0} (name : H → N) (slot_of : N → ℕ) (done : H → ℕ
   abbrev pub due_at : List H → List Leaving → Option ℕ
   due_at held leaving = position (λ half. is_due leaving (slot_of (name half)) (done half)) held
 
-  pub none_due : (held seen : List H) (leaving looked : List Leaving) → seen ≡ held → looked ≡ leaving → None ≡ due_at seen looked
+  pub none_due : (held seen : List H) (leaving looked : List Leaving) → seen ≡ held → looked ≡ leaving
+      → None ≡ due_at seen looked
       → IsSome (due_at held leaving) → ⊥
   none_due held seen leaving looked same alike none some =
       let found : None ≡ due_at held leaving =
@@ -176,12 +190,14 @@ module _ {H N : Type 0} (name : H → N) (slot_of : N → ℕ) (done : H → ℕ
   due_here held seen leaving looked at same alike found =
       sym (subst (λ (p : List H × List Leaving). Some at ≡ due_at p.0 p.1) (λ i. (same i, alike i)) found)
 
-  pub due_within : (held : List H) (leaving : List Leaving) (at : ℕ) (half : H) → due_at held leaving ≡ Some at → at < length held
+  pub due_within : (held : List H) (leaving : List Leaving) (at : ℕ) (half : H) → due_at held leaving ≡ Some at
+      → at < length held
   due_within held leaving at half found =
       (position-Some (λ half. is_due leaving (slot_of (name half)) (done half)) held at half found).0
 
   -- it goes home
-  pub goes_home : (came : List (Order H)) (held : List H) (leaving : List Leaving) (at : ℕ) (half : H) (old new : List H)
+  pub goes_home : (came : List (Order H)) (held : List H) (leaving : List Leaving) (at : ℕ) (half : H)
+      (old new : List H)
       → due_at held leaving ≡ Some at → half ≡ get_or held at half → All (IsTold came) leaving → new ≡ old ++ half ∷ []
       → GoesHome name slot_of done came old new
   goes_home came held leaving at half old new found is told more =

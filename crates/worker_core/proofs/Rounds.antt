@@ -14,21 +14,25 @@ use Rattle.worker_core.specs.Turns.{count_at, AreTurned, AllTurned, NoneWorked, 
 
 module _ {H : Type 0} (count : H → ℕ) where
   -- a write elsewhere leaves a count
-  count-set_other : (held : List H) (i k : ℕ) (half : H) → k ≢ i → count_at count (set held i half) k ≡ count_at count held k
+  count-set_other : (held : List H) (i k : ℕ) (half : H) → k ≢ i
+      → count_at count (set held i half) k ≡ count_at count held k
   count-set_other held i k half apart =
       ap (λ l. get_or l k 0) (map-set count held i half) ∙ get_or-set_other (map count held) i k (count half) 0 apart
 
-  count-set_same : (held : List H) (i : ℕ) (half : H) → i < length held → count_at count (set held i half) i ≡ count half
+  count-set_same : (held : List H) (i : ℕ) (half : H) → i < length held
+      → count_at count (set held i half) i ≡ count half
   count-set_same held i half within =
       let there : i < length (map count held) = rw length-map within in
       ap (λ l. get_or l i 0) (map-set count held i half) ∙ get_or-set_same (map count held) i (count half) 0 there
 
   -- the count of the half at an index
-  count_here : (held : List H) (i : ℕ) (half : H) → i < length held → half ≡ get_or held i half → count_at count held i ≡ count half
+  count_here : (held : List H) (i : ℕ) (half : H) → i < length held → half ≡ get_or held i half
+      → count_at count held i ≡ count half
   count_here held i half within is = get_or-map count held i half 0 within ∙ ap count (sym is)
 
   -- lists with one half at an index have one count there
-  count_same : (old new : List H) (k : ℕ) → length new ≡ length old → ((none : H) → get_or new k none ≡ get_or old k none)
+  count_same : (old new : List H) (k : ℕ) → length new ≡ length old
+      → ((none : H) → get_or new k none ≡ get_or old k none)
       → count_at count new k ≡ count_at count old k
   count_same [] [] k long same = refl
   count_same [] (y ∷ ys) k long same = absurd (omega arith)
@@ -45,8 +49,10 @@ module _ {H : Type 0} (turns : H → ℕ) (turned_at : H → ℕ → Type 0) (pl
   }
 
   -- the half at i is turned
-  pub turned_more : (from i : ℕ) (first old : List H) (half turned : H) → AreTurned turns turned_at place from i first old → from ≤ i
-      → length old ≡ length first → i < length old → half ≡ get_or old i half → turns turned ≡ raised (turns half) → turned_at turned place
+  pub turned_more : (from i : ℕ) (first old : List H) (half turned : H)
+      → AreTurned turns turned_at place from i first old → from ≤ i
+      → length old ≡ length first → i < length old → half ≡ get_or old i half → turns turned ≡ raised (turns half)
+      → turned_at turned place
       → AreTurned turns turned_at place from (i + 1) first (set old i turned)
   turned_more from i first old half turned so_far after long within is turn at_place =
       let new : List H = set old i turned in
@@ -57,33 +63,44 @@ module _ {H : Type 0} (turns : H → ℕ) (turned_at : H → ℕ → Type 0) (pl
       let placed_here : (none : H) → turned_at (get_or new i none) place =
       λ none. subst (λ (x : H). turned_at x place) (sym (get_or-set_same old i turned none within)) at_place in
       record {
-        turned = λ k low high. elim (nat_eq k i) as (λ b. nat_eq k i ≡ b → count_at turns new k ≡ raised (count_at turns first k)) [
-          | true ↦ λ e. subst (λ (n : ℕ). count_at turns new n ≡ raised (count_at turns first n)) (sym (eqb-true k i e)) here
-          | false ↦ λ e. let apart : k ≢ i = eqb-false k i e in count-set_other turns old i k turned apart ∙ so_far.turned k low (omega arith)
+        turned = λ k low high. elim (nat_eq k i) as (λ b. nat_eq k i ≡ b
+            → count_at turns new k ≡ raised (count_at turns first k)) [
+          | true ↦ λ e. subst (λ (n : ℕ). count_at turns new n ≡ raised (count_at turns first n))
+              (sym (eqb-true k i e)) here
+          | false ↦ λ e. let apart : k ≢ i = eqb-false k i e in count-set_other turns old i k turned apart
+              ∙ so_far.turned k low (omega arith)
         ] refl;
         placed = λ k none low high. elim (nat_eq k i) as (λ b. nat_eq k i ≡ b → turned_at (get_or new k none) place) [
           | true ↦ λ e. subst (λ (n : ℕ). turned_at (get_or new n none) place) (sym (eqb-true k i e)) (placed_here none)
           | false ↦ λ e. let apart : k ≢ i = eqb-false k i e in
-              subst (λ (x : H). turned_at x place) (sym (get_or-set_other old i k turned none apart)) (so_far.placed k none low (omega arith))
+              subst (λ (x : H). turned_at x place) (sym (get_or-set_other old i k turned none apart))
+                  (so_far.placed k none low (omega arith))
         ] refl;
         others = λ k none outside. elim outside [
           | inl low ↦ get_or-set_other old i k turned none (λ e. absurd (omega arith)) ∙ so_far.others k none (inl low)
-          | inr high ↦ get_or-set_other old i k turned none (λ e. absurd (omega arith)) ∙ so_far.others k none (inr (omega arith))
+          | inr high ↦ get_or-set_other old i k turned none (λ e. absurd (omega arith))
+              ∙ so_far.others k none (inr (omega arith))
         ];
       }
 
   -- from the cursor to the last, and from the first to the cursor
-  pub turned_round : (cursor : ℕ) (first mid new : List H) → length mid ≡ length first → length new ≡ length first → cursor ≤ length first
-      → AreTurned turns turned_at place cursor (length first) first mid → AreTurned turns turned_at place 0 cursor mid new
+  pub turned_round : (cursor : ℕ) (first mid new : List H) → length mid ≡ length first → length new ≡ length first
+      → cursor ≤ length first
+      → AreTurned turns turned_at place cursor (length first) first mid
+      → AreTurned turns turned_at place 0 cursor mid new
       → AreTurned turns turned_at place 0 (length first) first new
   turned_round cursor first mid new long longer within before after = record {
-    turned = λ k low high. elim (nat_lt k cursor) as (λ b. nat_lt k cursor ≡ b → count_at turns new k ≡ raised (count_at turns first k)) [
+    turned = λ k low high. elim (nat_lt k cursor) as (λ b. nat_lt k cursor ≡ b
+        → count_at turns new k ≡ raised (count_at turns first k)) [
       | true ↦ λ e. let below : k < cursor = ltb-true k cursor e in
-          after.turned k low below ∙ ap raised (count_same turns first mid k long (λ none. before.others k none (inl below)))
+          after.turned k low below ∙ ap raised (count_same turns first mid k long
+              (λ none. before.others k none (inl below)))
       | false ↦ λ e. let above : cursor ≤ k = ltb-false k cursor e in
-          count_same turns mid new k (omega arith) (λ none. after.others k none (inr above)) ∙ before.turned k above high
+          count_same turns mid new k (omega arith) (λ none. after.others k none (inr above))
+              ∙ before.turned k above high
     ] refl;
-    placed = λ k none low high. elim (nat_lt k cursor) as (λ b. nat_lt k cursor ≡ b → turned_at (get_or new k none) place) [
+    placed = λ k none low high. elim (nat_lt k cursor) as (λ b. nat_lt k cursor ≡ b
+        → turned_at (get_or new k none) place) [
       | true ↦ λ e. after.placed k none low (ltb-true k cursor e)
       | false ↦ λ e. let above : cursor ≤ k = ltb-false k cursor e in
           subst (λ (x : H). turned_at x place) (sym (after.others k none (inr above))) (before.placed k none above high)
@@ -96,7 +113,8 @@ module _ {H : Type 0} (turns : H → ℕ) (turned_at : H → ℕ → Type 0) (pl
 
 module _ {H : Type 0} (works : H → ℕ) where
   -- the half at i doesn't work
-  pub idle_more : (i : ℕ) (first old : List H) (half turned : H) → NoneWorked works first old → i < length old → half ≡ get_or old i half
+  pub idle_more : (i : ℕ) (first old : List H) (half turned : H) → NoneWorked works first old → i < length old
+      → half ≡ get_or old i half
       → works turned ≡ works half → NoneWorked works first (set old i turned)
   idle_more i first old half turned so_far within is idle =
       let new : List H = set old i turned in
@@ -108,16 +126,20 @@ module _ {H : Type 0} (works : H → ℕ) where
       ] refl
 
   -- the half at i works
-  pub worked_alone : (i : ℕ) (first old : List H) (half turned : H) → NoneWorked works first old → length old ≡ length first
-      → i < length old → half ≡ get_or old i half → works turned ≡ raised (works half) → WorkedAlone works i first (set old i turned)
+  pub worked_alone : (i : ℕ) (first old : List H) (half turned : H) → NoneWorked works first old
+      → length old ≡ length first
+      → i < length old → half ≡ get_or old i half → works turned ≡ raised (works half)
+      → WorkedAlone works i first (set old i turned)
   worked_alone i first old half turned so_far long within is work = record {
     within = omega arith;
-    here = count-set_same works old i turned within ∙ work ∙ ap raised (sym (count_here works old i half within is) ∙ so_far i);
+    here = count-set_same works old i turned within ∙ work
+        ∙ ap raised (sym (count_here works old i half within is) ∙ so_far i);
     others = λ k apart. count-set_other works old i k turned apart ∙ so_far k;
   }
 
   -- a half works after others that didn't
-  pub worked_later : (at : ℕ) (first mid new : List H) → NoneWorked works first mid → length mid ≡ length first → WorkedAlone works at mid new
+  pub worked_later : (at : ℕ) (first mid new : List H) → NoneWorked works first mid → length mid ≡ length first
+      → WorkedAlone works at mid new
       → WorkedAlone works at first new
   worked_later at first mid new idle long worked = record {
     within = let w = worked.within in omega arith;
@@ -125,7 +147,8 @@ module _ {H : Type 0} (works : H → ℕ) where
     others = λ k apart. worked.others k apart ∙ idle k;
   }
 
-  pub idle_both : (first mid new : List H) → NoneWorked works first mid → NoneWorked works mid new → NoneWorked works first new
+  pub idle_both : (first mid new : List H) → NoneWorked works first mid → NoneWorked works mid new
+      → NoneWorked works first new
   idle_both first mid new before after k = after k ∙ before k
 
 steps_high : (cursor len k : ℕ) → cursor ≤ k → steps_to cursor len k ≡ k - cursor
@@ -144,17 +167,22 @@ module _ {H : Type 0} (turns works : H → ℕ) (turned_at : H → ℕ → Type 
       let there = steps_high cursor len at after in
       record {
         worked = worked;
-        turned = λ k low near. elim (nat_lt k cursor) as (λ b. nat_lt k cursor ≡ b → count_at turns new k ≡ raised (count_at turns first k)) [
-          | true ↦ λ e. let below : k < cursor = ltb-true k cursor e in let s = steps_low cursor len k below in absurd (omega arith)
+        turned = λ k low near. elim (nat_lt k cursor) as (λ b. nat_lt k cursor ≡ b
+            → count_at turns new k ≡ raised (count_at turns first k)) [
+          | true ↦ λ e. let below : k < cursor = ltb-true k cursor e in let s =
+              steps_low cursor len k below in absurd (omega arith)
           | false ↦ λ e. let above : cursor ≤ k = ltb-false k cursor e in let s = steps_high cursor len k above in
               turned.turned k above (omega arith)
         ] refl;
-        placed = λ k none low near. elim (nat_lt k cursor) as (λ b. nat_lt k cursor ≡ b → turned_at (get_or new k none) place) [
-          | true ↦ λ e. let below : k < cursor = ltb-true k cursor e in let s = steps_low cursor len k below in absurd (omega arith)
+        placed = λ k none low near. elim (nat_lt k cursor) as (λ b. nat_lt k cursor ≡ b
+            → turned_at (get_or new k none) place) [
+          | true ↦ λ e. let below : k < cursor = ltb-true k cursor e in let s =
+              steps_low cursor len k below in absurd (omega arith)
           | false ↦ λ e. let above : cursor ≤ k = ltb-false k cursor e in let s = steps_high cursor len k above in
               turned.placed k none above (omega arith)
         ] refl;
-        behind = λ k none low far. elim (nat_lt k cursor) as (λ b. nat_lt k cursor ≡ b → get_or new k none ≡ get_or first k none) [
+        behind = λ k none low far. elim (nat_lt k cursor) as (λ b. nat_lt k cursor ≡ b
+            → get_or new k none ≡ get_or first k none) [
           | true ↦ λ e. turned.others k none (inl (ltb-true k cursor e))
           | false ↦ λ e. let above : cursor ≤ k = ltb-false k cursor e in let s = steps_high cursor len k above in
               turned.others k none (inr (omega arith))
@@ -162,8 +190,10 @@ module _ {H : Type 0} (turns works : H → ℕ) (turned_at : H → ℕ → Type 
       }
 
   -- a half before the cursor worked
-  pub round_second : (cursor at : ℕ) (first mid new : List H) → at < cursor → cursor ≤ length first → length mid ≡ length first
-      → length new ≡ length first → AreTurned turns turned_at place cursor (length first) first mid → NoneWorked works first mid
+  pub round_second : (cursor at : ℕ) (first mid new : List H) → at < cursor → cursor ≤ length first
+      → length mid ≡ length first
+      → length new ≡ length first → AreTurned turns turned_at place cursor (length first) first mid
+      → NoneWorked works first mid
       → AreTurned turns turned_at place 0 (at + 1) mid new → WorkedAlone works at mid new
       → WorkedRound turns works turned_at place cursor at first new
   round_second cursor at first mid new before within long longer turned idle turned_again worked =
@@ -171,7 +201,8 @@ module _ {H : Type 0} (turns works : H → ℕ) (turned_at : H → ℕ → Type 
       let there = steps_low cursor len at before in
       record {
         worked = worked_later works at first mid new idle long worked;
-        turned = λ k low near. elim (nat_lt k cursor) as (λ b. nat_lt k cursor ≡ b → count_at turns new k ≡ raised (count_at turns first k)) [
+        turned = λ k low near. elim (nat_lt k cursor) as (λ b. nat_lt k cursor ≡ b
+            → count_at turns new k ≡ raised (count_at turns first k)) [
           | true ↦ λ e. let below : k < cursor = ltb-true k cursor e in let s = steps_low cursor len k below in
               turned_again.turned k (omega arith) (omega arith)
               ∙ ap raised (count_same turns first mid k long (λ none. turned.others k none (inl below)))
@@ -179,21 +210,26 @@ module _ {H : Type 0} (turns works : H → ℕ) (turned_at : H → ℕ → Type 
               count_same turns mid new k (omega arith) (λ none. turned_again.others k none (inr (omega arith)))
               ∙ turned.turned k above low
         ] refl;
-        placed = λ k none low near. elim (nat_lt k cursor) as (λ b. nat_lt k cursor ≡ b → turned_at (get_or new k none) place) [
+        placed = λ k none low near. elim (nat_lt k cursor) as (λ b. nat_lt k cursor ≡ b
+            → turned_at (get_or new k none) place) [
           | true ↦ λ e. let below : k < cursor = ltb-true k cursor e in let s = steps_low cursor len k below in
               turned_again.placed k none (omega arith) (omega arith)
           | false ↦ λ e. let above : cursor ≤ k = ltb-false k cursor e in
-              subst (λ (x : H). turned_at x place) (sym (turned_again.others k none (inr (omega arith)))) (turned.placed k none above low)
+              subst (λ (x : H). turned_at x place) (sym (turned_again.others k none (inr (omega arith))))
+                  (turned.placed k none above low)
         ] refl;
-        behind = λ k none low far. elim (nat_lt k cursor) as (λ b. nat_lt k cursor ≡ b → get_or new k none ≡ get_or first k none) [
+        behind = λ k none low far. elim (nat_lt k cursor) as (λ b. nat_lt k cursor ≡ b
+            → get_or new k none ≡ get_or first k none) [
           | true ↦ λ e. let below : k < cursor = ltb-true k cursor e in let s = steps_low cursor len k below in
               turned_again.others k none (inr (omega arith)) ∙ turned.others k none (inl below)
-          | false ↦ λ e. let above : cursor ≤ k = ltb-false k cursor e in let s = steps_high cursor len k above in absurd (omega arith)
+          | false ↦ λ e. let above : cursor ≤ k = ltb-false k cursor e in let s =
+              steps_high cursor len k above in absurd (omega arith)
         ] refl;
       }
 
 -- the second part of a round, whatever it came to
-module _ {H : Type 0} (turns works : H → ℕ) (turned_at : H → ℕ → Type 0) (place cursor end : ℕ) (first mid new : List H) (ends : end ≡ length first)
+module _ {H : Type 0} (turns works : H → ℕ) (turned_at : H → ℕ
+    → Type 0) (place cursor end : ℕ) (first mid new : List H) (ends : end ≡ length first)
     (within : cursor ≤ length first) (long : length mid ≡ length first) (longer : length new ≡ length first)
     (before : AreTurned turns turned_at place cursor end first mid × NoneWorked works first mid) where
   all_before : AreTurned turns turned_at place cursor (length first) first mid
@@ -208,10 +244,12 @@ module _ {H : Type 0} (turns works : H → ℕ) (turned_at : H → ℕ → Type 
   }) idle
 
   pub then_worked : {E : Type 0} (result : Result (Option ℕ) E)
-      → IfOk result (λ at. IfSome at (λ k. (0 ≤ k) × (k < cursor) × AreTurned turns turned_at place 0 (k + 1) mid new × WorkedAlone works k mid new))
+      → IfOk result (λ at. IfSome at (λ k. (0 ≤ k) × (k < cursor)
+      × AreTurned turns turned_at place 0 (k + 1) mid new × WorkedAlone works k mid new))
       → IfOk result (λ at. IfSome at (λ k. WorkedRound turns works turned_at place cursor k first new))
   then_worked result worked = IfOk-weaker result _ _ (λ at some. IfSome_then at some (λ k more.
-      round_second turns works turned_at place cursor k first mid new more.1 within long longer all_before before.1 more.2 more.3)) worked
+      round_second turns works turned_at place cursor k first mid new more.1 within long longer all_before before.1
+          more.2 more.3)) worked
 
 pub idle_after : (E : Type 0) (did : Did) (n : ℕ) → (did ≡ Worked → ⊥) → works_after {E = E} (Ok did) n ≡ n
 idle_after E Idle n other = refl
@@ -219,6 +257,7 @@ idle_after E Held n other = refl
 idle_after E Worked n other = absurd (other refl)
 
 -- a half that keeps its name leaves the names
-pub names_kept : {H N : Type 0} (name : H → N) (held : List H) (i : ℕ) (old new : H) → old ≡ get_or held i old → name new ≡ name old
+pub names_kept : {H N : Type 0} (name : H → N) (held : List H) (i : ℕ) (old new : H) → old ≡ get_or held i old
+    → name new ≡ name old
     → map name (set held i new) ≡ map name held
 names_kept name held i old new is same = map-set_same name held i new old (same ∙ ap name is)

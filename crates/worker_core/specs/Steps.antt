@@ -54,7 +54,8 @@ pub record WentHome {H : Type 0} (slot_at done : H → ℕ) (old new : View H) :
   pub cursor : new.cursor ≡ cursor_without old.cursor at (length new.held)
 
 -- from the cursor round halves were turned until one worked, and the cursor stands behind that one
-pub record Turned {H N : Type 0} (name : H → N) (turns works : H → ℕ) (turned_at : H → ℕ → Type 0) (place : ℕ) (old new : View H) : Type 0 where
+pub record Turned {H N : Type 0} (name : H → N) (turns works : H → ℕ) (turned_at : H → ℕ
+    → Type 0) (place : ℕ) (old new : View H) : Type 0 where
   pub at : ℕ
   pub took : new.took ≡ old.took
   pub gone : new.gone ≡ old.gone

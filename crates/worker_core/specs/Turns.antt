@@ -16,7 +16,8 @@ abbrev pub count_at : {H : Type 0} → (H → ℕ) → List H → ℕ → ℕ
 count_at count held k = slice_index (map count held) k
 
 -- the halves from one index up to another were turned at this place, and no other one was touched
-pub record AreTurned {H : Type 0} (turns : H → ℕ) (turned_at : H → ℕ → Type 0) (place from to : ℕ) (old new : List H) : Type 0 where
+pub record AreTurned {H : Type 0} (turns : H → ℕ) (turned_at : H → ℕ
+    → Type 0) (place from to : ℕ) (old new : List H) : Type 0 where
   pub turned : (k : ℕ) → from ≤ k → k < to → count_at turns new k ≡ raised (count_at turns old k)
   pub placed : (k : ℕ) (none : H) → from ≤ k → k < to → turned_at (slice_index_or new k none) place
   pub others : (k : ℕ) (none : H) → (k < from) ⊎ (to ≤ k) → slice_index_or new k none ≡ slice_index_or old k none
@@ -36,7 +37,8 @@ abbrev pub steps_to : ℕ → ℕ → ℕ → ℕ
 steps_to cursor len k = if nat_le cursor k then k - cursor else k + (len - cursor)
 
 -- from the cursor round, the halves up to the one at an index were turned at this place, that one worked alone, and those behind it weren't touched
-pub record WorkedRound {H : Type 0} (turns works : H → ℕ) (turned_at : H → ℕ → Type 0) (place cursor at : ℕ) (old new : List H) : Type 0 where
+pub record WorkedRound {H : Type 0} (turns works : H → ℕ) (turned_at : H → ℕ
+    → Type 0) (place cursor at : ℕ) (old new : List H) : Type 0 where
   pub worked : WorkedAlone works at old new
   pub turned : (k : ℕ) → k < length old → steps_to cursor (length old) k ≤ steps_to cursor (length old) at
       → count_at turns new k ≡ raised (count_at turns old k)
@@ -46,6 +48,7 @@ pub record WorkedRound {H : Type 0} (turns works : H → ℕ) (turned_at : H →
       → slice_index_or new k none ≡ slice_index_or old k none
 
 -- each half was turned at this place, and none worked
-pub record AllTurned {H : Type 0} (turns works : H → ℕ) (turned_at : H → ℕ → Type 0) (place : ℕ) (old new : List H) : Type 0 where
+pub record AllTurned {H : Type 0} (turns works : H → ℕ) (turned_at : H → ℕ
+    → Type 0) (place : ℕ) (old new : List H) : Type 0 where
   pub turned : AreTurned turns turned_at place 0 (length old) old new
   pub idle : NoneWorked works old new

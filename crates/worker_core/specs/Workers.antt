@@ -54,7 +54,8 @@ module _ {H N : Type 0} {g : Ghosts H N} where
   }
 
 -- one half more was sent home, an order told it to leave at a count, and it has reached that
-pub record GoesHome {H N : Type 0} (name : H → N) (slot_of : N → ℕ) (done : H → ℕ) (came : List (Order H)) (old new : List H) : Type 0 where
+pub record GoesHome {H N : Type 0} (name : H → N) (slot_of : N → ℕ) (done : H
+    → ℕ) (came : List (Order H)) (old new : List H) : Type 0 where
   pub half : H
   pub until : ℕ
   pub sent_last : new ≡ old ++ half ∷ []

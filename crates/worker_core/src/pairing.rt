@@ -21,7 +21,8 @@ pub struct Desk<H: Carried> {
 /// A worker of a slice, which holds nothing, and the desk that it is served from.
 pub fn pair<H: Traveller>(alloc: Global, place: SliceNo) -> Result<(Desk<H>, Worker<H>), NoMemory>
     ensures lanes { IfOk result (λ made. desk_lanes made.0 ≡ worker_lanes made.1) }
-    ensures rooms { IfOk result (λ made. ((sender_lane made.0.orders).room ≡ 64) × ((receiver_lane made.0.home).room ≡ 64)) }
+    ensures rooms { IfOk result (λ made. ((sender_lane made.0.orders).room ≡ 64)
+        × ((receiver_lane made.0.home).room ≡ 64)) }
     ensures place { IfOk result (λ made. place_of made.1 ≡ place) }
     ensures empty { IfOk result (λ made. held_of made.1 ≡ []) }
     ensures new { IfOk result (λ made. IsNewDesk made.0) }

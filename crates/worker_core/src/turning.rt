@@ -20,7 +20,8 @@ pub fn mark<H: Traveller>(held: &[H], leaving: &mut Vec<Leaving>, slot: Slot, un
     requires { vec_len leaving.old < vec_capacity leaving.old }
     ensures told { (came : List (Order H)) → All (IsTold came) leaving.old.items → IsOrdered came slot until
         → All (IsTold came) leaving.new.items }
-    ensures noted { IsNoted (λ half. H.slot_of (H.name half)) held.now (Leave slot until) leaving.old.items leaving.new.items }
+    ensures noted { IsNoted (λ half. H.slot_of (H.name half)) held.now
+        (Leave slot until) leaving.old.items leaving.new.items }
 {
     if !is_among(held, slot) {
         return;
@@ -92,7 +93,8 @@ pub fn turn_round<H: Traveller, R: Wait>(
     requires { cursor ≤ vec_len held.old }
     ensures names { map H.name held.new.items ≡ map H.name held.old.items }
     ensures len { vec_len held.new ≡ vec_len held.old }
-    ensures idle { IfOk result (λ at. IsNone at → AllTurned H.turns H.works H.turned_at place held.old.items held.new.items) }
+    ensures idle { IfOk result (λ at. IsNone at → AllTurned H.turns H.works H.turned_at place held.old.items
+        held.new.items) }
     ensures worked { IfOk result (λ at. IfSome at (λ k.
         WorkedRound H.turns H.works H.turned_at place cursor k held.old.items held.new.items)) }
 {
@@ -115,7 +117,8 @@ fn turn_some<H: Traveller, R: Wait>(
     ensures names { map H.name held.new.items ≡ map H.name held.old.items }
     ensures len { vec_len held.new ≡ vec_len held.old }
     ensures idle { IfOk result (λ at. IsNone at
-        → AreTurned H.turns H.turned_at place from to held.old.items held.new.items × NoneWorked H.works held.old.items held.new.items) }
+        → AreTurned H.turns H.turned_at place from to held.old.items held.new.items
+        × NoneWorked H.works held.old.items held.new.items) }
     ensures worked { IfOk result (λ at. IfSome at (λ k. (from ≤ k) × (k < to)
         × AreTurned H.turns H.turned_at place from (k + 1) held.old.items held.new.items
         × WorkedAlone H.works k held.old.items held.new.items)) }

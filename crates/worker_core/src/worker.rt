@@ -95,7 +95,8 @@ impl<H: Traveller> Worker<H> {
             → empty_answers (orders_of self.new) ≡ raised (empty_answers (orders_of self.old)) }
         ensures idle_turned { result ≡ Ok Did.Idle
             → AllTurned H.turns H.works H.turned_at (place_of self.old) (held_of self.old) (held_of self.new) }
-        ensures idle_home { result ≡ Ok Did.Idle → IsSome (first_due (λ half. H.slot_of (H.name half)) H.done_of (view_of self.old))
+        ensures idle_home { result ≡ Ok Did.Idle → IsSome
+            (first_due (λ half. H.slot_of (H.name half)) H.done_of (view_of self.old))
             → full_answers (home_of self.new) ≡ raised (full_answers (home_of self.old)) }
         ensures idle { result ≡ Ok Did.Idle → SameButHalves H.name (view_of self.old) (view_of self.new) }
         ensures held_never { result ≡ Ok Did.Held → ⊥ }
@@ -121,9 +122,11 @@ impl<H: Traveller> Worker<H> {
         ensures lanes { worker_lanes self.new ≡ worker_lanes self.old }
         ensures place { place_of self.new ≡ place_of self.old }
         ensures home { home_of self.new ≡ home_of self.old }
-        ensures order { IsTrue result → TookOrder (λ half. H.slot_of (H.name half)) (view_of self.old) (view_of self.new) }
+        ensures order { IsTrue result → TookOrder (λ half. H.slot_of (H.name half)) (view_of self.old)
+            (view_of self.new) }
         ensures none { IsFalse result → view_of self.new ≡ view_of self.old }
-        ensures empty { IsFalse result → empty_answers (orders_of self.new) ≡ raised (empty_answers (orders_of self.old)) }
+        ensures empty { IsFalse result → empty_answers (orders_of self.new)
+            ≡ raised (empty_answers (orders_of self.old)) }
     {
         let Some(order) = self.orders.take(rt) else {
             return false;
@@ -146,11 +149,13 @@ impl<H: Traveller> Worker<H> {
         ensures place { place_of self.new ≡ place_of self.old }
         ensures orders { orders_of self.new ≡ orders_of self.old }
         ensures gone { IsTrue result
-            → GoesHome H.name H.slot_of H.done_of (taken (orders_of self.old)) (sent (home_of self.old)) (sent (home_of self.new)) }
+            → GoesHome H.name H.slot_of H.done_of (taken (orders_of self.old)) (sent (home_of self.old))
+                (sent (home_of self.new)) }
         ensures went { IsTrue result
             → WentHome (λ half. H.slot_of (H.name half)) H.done_of (view_of self.old) (view_of self.new) }
         ensures none { IsFalse result → view_of self.new ≡ view_of self.old }
-        ensures full { IsFalse result → IsSome (first_due (λ half. H.slot_of (H.name half)) H.done_of (view_of self.old))
+        ensures full { IsFalse result → IsSome (first_due (λ half. H.slot_of (H.name half)) H.done_of
+            (view_of self.old))
             → full_answers (home_of self.new) ≡ raised (full_answers (home_of self.old)) }
     {
         let Some(at) = find_due(&self.held, &self.leaving) else {

@@ -14,5 +14,6 @@ returns c =
       command_fits = c.known-2.ensures;
       own_numbers = own;
     } in
-    read_back c.messages_read_back.ensures (written (row_of c.args.session.now c.args.command.now) c.args.session.now c.args.command.now)
+    read_back c.messages_read_back.ensures (written (row_of c.args.session.now c.args.command.now)
+        c.args.session.now c.args.command.now)
     (written_fits (row_of c.args.session.now c.args.command.now) c.args.session.now c.args.command.now are)

@@ -10,7 +10,8 @@ loop-ie-init c = record { asks_are = c.new-asks.ensures.items; each = tt }
 
 pub loop-ie-preserved : goal.loop-ie-preserved
 loop-ie-preserved c = record {
-  asks_are = asks_step c.as_slice-ies.result.now c.loop-ie.ie-index c.ie-item.result c.loop-ie.asks.items c.put.new.asks.items c.ask_at.result
+  asks_are = asks_step c.as_slice-ies.result.now c.loop-ie.ie-index c.ie-item.result c.loop-ie.asks.items
+      c.put.new.asks.items c.ask_at.result
       c.loop-ie-test.true c.ie-item.is c.loop-ie.invariant.asks_are c.ask_at.ensures.value c.in_ok-put.ensures;
   each = each_step c.as_slice-ies.result.now c.loop-ie.ie-index c.ie-item.result c.ask_at.result
       c.loop-ie-test.true c.ie-item.is c.loop-ie.invariant.each c.ask_at.ensures.value c.ask_at.ensures.valid;

@@ -5,4 +5,5 @@ use Rattle.std.specs.Prelude.{not, nat_eq}
 use Rattle.worker_core.proofs.turning.forget.Goals as goal
 
 pub returns : goal.returns
-returns c = filter_same _ (λ (leaving : Leaving). not (nat_eq leaving.slot c.args.slot)) _ (λ x b f' k. search rules) _ _ c.retain.ensures.filtered
+returns c = filter_same _ (λ (leaving : Leaving). not (nat_eq leaving.slot c.args.slot)) _
+    (λ x b f' k. search rules) _ _ c.retain.ensures.filtered

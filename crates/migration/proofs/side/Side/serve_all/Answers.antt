@@ -12,7 +12,8 @@ loop-init g c = (
   (omega arith),
   serving_all g.H.Traveller.name g.H.Traveller.slot_of _ _ _ _ _ _ _ c.args.self.now.laid c.requires,
   (λ slice. inl refl),
-  passes_same (λ half. g.H.Traveller.slot_of (g.H.Traveller.name half)) g.H.Traveller.hop_of _ _ _ _ _ _ refl refl (λ slice. refl),
+  passes_same (λ half. g.H.Traveller.slot_of (g.H.Traveller.name half)) g.H.Traveller.hop_of _ _ _ _ _ _ refl refl
+      (λ slice. refl),
 )
 
 pub loop-preserved : goal.loop-preserved
@@ -26,13 +27,15 @@ loop-preserved g c =
       (let d = c.loop.invariant.3 in omega arith),
       serving_more _ _ _ _ _ _ _ c.loop.invariant.5 c.loop.invariant.4 served,
       (λ slice. later_more _ _ _ slice (c.loop.invariant.5 slice) (served.later slice)),
-      passes_then (λ half. g.H.Traveller.slot_of (g.H.Traveller.name half)) g.H.Traveller.hop_of _ _ _ _ _ _ _ _ _ c.loop.invariant.6 c.serve_next.ensures.passed,
+      passes_then (λ half. g.H.Traveller.slot_of (g.H.Traveller.name half)) g.H.Traveller.hop_of _ _ _ _ _ _ _ _ _
+          c.loop.invariant.6 c.serve_next.ensures.passed,
     )
 
 pub returns-clause-full : goal.returns-clause-full
 returns-clause-full g c =
     let a = c.loop.self.serving.ok in
-    serving_none _ _ _ _ (none_left c.loop.self.serving.items (let d = c.loop.invariant.3 in omega arith)) c.loop.invariant.4
+    serving_none _ _ _ _ (none_left c.loop.self.serving.items (let d = c.loop.invariant.3 in omega arith))
+        c.loop.invariant.4
 
 pub returns-clause-passed : goal.returns-clause-passed
 returns-clause-passed g c = c.loop.invariant.6

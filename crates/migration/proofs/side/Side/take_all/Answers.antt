@@ -9,7 +9,8 @@ loop-slice-init g c = (
   refl,
   refl,
   below_none _ _ _,
-  passes_same (λ half. g.H.Traveller.slot_of (g.H.Traveller.name half)) g.H.Traveller.hop_of _ _ _ _ _ _ refl refl (λ slice. refl),
+  passes_same (λ half. g.H.Traveller.slot_of (g.H.Traveller.name half)) g.H.Traveller.hop_of _ _ _ _ _ _ refl refl
+      (λ slice. refl),
 )
 
 pub loop-slice-preserved : goal.loop-slice-preserved
@@ -19,11 +20,13 @@ loop-slice-preserved g c =
       c.take_from.ensures.len ∙ c.loop-slice.invariant.1,
       below_more c.loop-slice.slice _ _ _ _ _ _ _ c.loop-slice.invariant.2 (sym same)
           c.take_from.ensures.took c.take_from.new.self.laid.aside_few,
-      passes_then (λ half. g.H.Traveller.slot_of (g.H.Traveller.name half)) g.H.Traveller.hop_of _ _ _ _ _ _ _ _ _ c.loop-slice.invariant.3 c.take_from.ensures.passed,
+      passes_then (λ half. g.H.Traveller.slot_of (g.H.Traveller.name half)) g.H.Traveller.hop_of _ _ _ _ _ _ _ _ _
+          c.loop-slice.invariant.3 c.take_from.ensures.passed,
     )
 
 pub returns-clause-home : goal.returns-clause-home
-returns-clause-home g c = λ slice within. c.loop-slice.invariant.2.ended slice (let a = c.args.self.now.desks.ok in omega arith)
+returns-clause-home g c =
+    λ slice within. c.loop-slice.invariant.2.ended slice (let a = c.args.self.now.desks.ok in omega arith)
 
 pub returns-clause-fulls : goal.returns-clause-fulls
 returns-clause-fulls g c = c.loop-slice.invariant.2.fulls

@@ -8,7 +8,8 @@ loop-init g c = (
   refl,
   refl,
   taking_none c.args.slice _ _,
-  passes_same (λ half. g.H.Traveller.slot_of (g.H.Traveller.name half)) g.H.Traveller.hop_of _ _ _ _ _ _ refl refl (λ slice. refl),
+  passes_same (λ half. g.H.Traveller.slot_of (g.H.Traveller.name half)) g.H.Traveller.hop_of _ _ _ _ _ _ refl refl
+      (λ slice. refl),
 )
 
 pub loop-preserved : goal.loop-preserved
@@ -16,7 +17,8 @@ loop-preserved g c = (
   c.take_one.ensures.roll ∙ c.loop.invariant.0,
   c.take_one.ensures.len ∙ c.loop.invariant.1,
   taking_more c.args.slice _ _ c.take_one.result _ _ _ _ _ _ c.loop.invariant.2 (search rules) c.take_one.ensures.took,
-  passes_then (λ half. g.H.Traveller.slot_of (g.H.Traveller.name half)) g.H.Traveller.hop_of _ _ _ _ _ _ _ _ _ c.loop.invariant.3 c.take_one.ensures.passed,
+  passes_then (λ half. g.H.Traveller.slot_of (g.H.Traveller.name half)) g.H.Traveller.hop_of _ _ _ _ _ _ _ _ _
+      c.loop.invariant.3 c.take_one.ensures.passed,
 )
 
 pub returns-then-not-take_one-clause-took : goal.returns-then-not-take_one-clause-took
@@ -29,7 +31,8 @@ returns-clause-took g c =
 
 pub returns-then-not-take_one-clause-passed : goal.returns-then-not-take_one-clause-passed
 returns-then-not-take_one-clause-passed g c =
-    passes_then (λ half. g.H.Traveller.slot_of (g.H.Traveller.name half)) g.H.Traveller.hop_of _ _ _ _ _ _ _ _ _ c.loop.invariant.3 c.take_one.ensures.passed
+    passes_then (λ half. g.H.Traveller.slot_of (g.H.Traveller.name half)) g.H.Traveller.hop_of _ _ _ _ _ _ _ _ _
+        c.loop.invariant.3 c.take_one.ensures.passed
 
 pub returns-clause-passed : goal.returns-clause-passed
 returns-clause-passed g c = c.loop.invariant.3

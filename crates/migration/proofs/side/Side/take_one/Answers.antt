@@ -21,13 +21,15 @@ pub push_reserved-requires-in-None : goal.push_reserved-requires-in-None
 push_reserved-requires-in-None g c =
     let w = c.in-None.ensures in
     let idle = leaving_idle _ _ _ w.3 in
-    let few = waiting_fewer g.H.Traveller.name g.H.Traveller.slot_of c.args.self.now.places.items c.slot-slot.result _ _ _ _ _ _ c.args.self.now.laid
+    let few = waiting_fewer g.H.Traveller.name g.H.Traveller.slot_of c.args.self.now.places.items
+        c.slot-slot.result _ _ _ _ _ _ c.args.self.now.laid
     w.1 idle.0 idle.1 in
     let a = c.args.self.now.waiting.ok in let r = c.args.self.now.waiting_room in omega arith
 
 pub invariant_of-self-in-Some-welcome : goal.invariant_of-self-in-Some-welcome
 invariant_of-self-in-Some-welcome g c = record {
-  laid = kept_aside g.H.Traveller.name g.H.Traveller.slot_of _ _ c.args.slice c.in-Some.half _ _ _ _ _ _ _ _ c.args.self.now.laid c.in-Some.ensures.taken
+  laid = kept_aside g.H.Traveller.name g.H.Traveller.slot_of _ _ c.args.slice c.in-Some.half _ _ _ _ _ _ _ _
+      c.args.self.now.laid c.in-Some.ensures.taken
       (c.push_reserved.ensures.items ∙ ap (λ h. c.args.self.now.aside.items ++ h ∷ []) c.in-Some-welcome.ensures.0)
       (let a = c.args.self.now.aside.ok in omega arith) c.in-Some-welcome.ensures.1;
   aside_room = search rules;
@@ -39,7 +41,8 @@ pub invariant_of-self-in-None : goal.invariant_of-self-in-None
 invariant_of-self-in-None g c =
     let w = c.in-None.ensures in
     record {
-      laid = came_home g.H.Traveller.name g.H.Traveller.slot_of c.args.self.now.places.items _ w.0 c.slot-slot.result c.args.slice c.in-Some.half _ _ _ _ _ _ _ _ c.args.self.now.laid
+      laid = came_home g.H.Traveller.name g.H.Traveller.slot_of c.args.self.now.places.items _ w.0
+          c.slot-slot.result c.args.slice c.in-Some.half _ _ _ _ _ _ _ _ c.args.self.now.laid
           w.1 c.in-Some.ensures.taken _ refl w.3 c.push_reserved-in-None.ensures.items w.2;
       aside_room = search rules;
       waiting_room = search rules;
@@ -49,7 +52,8 @@ invariant_of-self-in-None g c =
 pub returns-in-Some-welcome-clause-roll : goal.returns-in-Some-welcome-clause-roll
 returns-in-Some-welcome-clause-roll g c =
     let took = c.in-Some.ensures.taken in
-    roll_same _ _ _ _ _ _ _ _ (ap (names_of g.H.Traveller.name) c.in-Some-welcome.ensures.1) (ap hops_of c.in-Some-welcome.ensures.1)
+    roll_same _ _ _ _ _ _ _ _ (ap (names_of g.H.Traveller.name) c.in-Some-welcome.ensures.1)
+        (ap hops_of c.in-Some-welcome.ensures.1)
     (changed_lanes c.args.slice took.before took.now _ _ took.desk)
 
 pub returns-in-Some-welcome-clause-took : goal.returns-in-Some-welcome-clause-took
@@ -60,9 +64,11 @@ pub returns-in-None-clause-roll : goal.returns-in-None-clause-roll
 returns-in-None-clause-roll g c =
     let took = c.in-Some.ensures.taken in
     let w = c.in-None.ensures in
-    let same = welcomed_name g.H.Traveller.name c.args.self.now.places.items w.0 c.slot-slot.result c.in-Some.half _ refl w.3 in
+    let same = welcomed_name g.H.Traveller.name c.args.self.now.places.items w.0 c.slot-slot.result c.in-Some.half
+        _ refl w.3 in
     roll_same _ _ _ _ _ _ _ _
-    (ap (names_of g.H.Traveller.name) w.2 ∙ names_set g.H.Traveller.name c.args.self.now.places.items w.0 c.slot-slot.result same.0)
+    (ap (names_of g.H.Traveller.name) w.2 ∙ names_set g.H.Traveller.name c.args.self.now.places.items w.0
+        c.slot-slot.result same.0)
     (ap hops_of w.2 ∙ hops_set g.H.Traveller.name c.args.self.now.places.items w.0 c.slot-slot.result same.1)
     (changed_lanes c.args.slice took.before took.now _ _ took.desk)
 
@@ -71,18 +77,22 @@ returns-in-None-clause-took g c =
     took_half c.args.slice _ _ _ _ _ c.in-Some.half c.in-Some.ensures.taken (omega arith)
 
 pub returns-then-len-self-clause-passed : goal.returns-then-len-self-clause-passed
-returns-then-len-self-clause-passed g c = passes_same (λ half. g.H.Traveller.slot_of (g.H.Traveller.name half)) g.H.Traveller.hop_of _ _ _ _ _ _ refl refl (λ slice. refl)
+returns-then-len-self-clause-passed g c = passes_same
+    (λ half. g.H.Traveller.slot_of (g.H.Traveller.name half)) g.H.Traveller.hop_of _ _ _ _ _ _ refl refl (λ slice. refl)
 
 pub returns-in_default-clause-passed : goal.returns-in_default-clause-passed
-returns-in_default-clause-passed g c = passes_empty (λ half. g.H.Traveller.slot_of (g.H.Traveller.name half)) g.H.Traveller.hop_of c.args.slice _ _ _ _ c.in_default.ensures.taken
+returns-in_default-clause-passed g c = passes_empty (λ half. g.H.Traveller.slot_of (g.H.Traveller.name half))
+    g.H.Traveller.hop_of c.args.slice _ _ _ _ c.in_default.ensures.taken
 
 pub returns-in-Some-welcome-clause-passed : goal.returns-in-Some-welcome-clause-passed
 returns-in-Some-welcome-clause-passed g c =
-    passes_aside (λ half. g.H.Traveller.slot_of (g.H.Traveller.name half)) g.H.Traveller.hop_of c.args.slice c.in-Some.half _ _ _ _ _ _ c.in-Some.ensures.taken c.in-Some-welcome.ensures.1
+    passes_aside (λ half. g.H.Traveller.slot_of (g.H.Traveller.name half)) g.H.Traveller.hop_of c.args.slice
+        c.in-Some.half _ _ _ _ _ _ c.in-Some.ensures.taken c.in-Some-welcome.ensures.1
     (c.push_reserved.ensures.items ∙ ap (λ h. c.args.self.now.aside.items ++ h ∷ []) c.in-Some-welcome.ensures.0)
     (subst (λ n. Unawaited (place_at c.args.self.now.places.items n)) c.slot-slot.ensures c.in-Some-welcome.ensures.2)
 
 pub returns-in-None-clause-passed : goal.returns-in-None-clause-passed
 returns-in-None-clause-passed g c =
     let w = c.in-None.ensures in
-    passes_home (λ half. g.H.Traveller.slot_of (g.H.Traveller.name half)) g.H.Traveller.hop_of c.args.slice c.slot-slot.result c.in-Some.half w.0 _ _ _ _ _ c.in-Some.ensures.taken w.1 w.2 w.3
+    passes_home (λ half. g.H.Traveller.slot_of (g.H.Traveller.name half)) g.H.Traveller.hop_of c.args.slice
+        c.slot-slot.result c.in-Some.half w.0 _ _ _ _ _ c.in-Some.ensures.taken w.1 w.2 w.3

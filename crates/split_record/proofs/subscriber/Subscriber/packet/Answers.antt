@@ -21,11 +21,14 @@ record Judges (c : goal.After-self-1) (slot : ℕ) (events : List Event) (taken 
   before : (past_of slot events).packets.version ≡ c.self.inside.version
   few : counters.AreFew (past_of slot events).packets.charged
 
-judges : (c : goal.After-self-1) (slot : ℕ) (events : List Event) (taken : ℕ) → StandsFor c.args.self.now slot events taken → Judges c slot events taken
+judges : (c : goal.After-self-1) (slot : ℕ) (events : List Event) (taken : ℕ)
+    → StandsFor c.args.self.now slot events taken → Judges c slot events taken
 judges c slot events taken stands = record {
-  stood = subst (λ (s : counters.CountersState). counters.StandsFor s (past_of slot events).packets taken) (sym (ap (λ (s : SubscriberState). s.counters) c.self.view_is)) stands.counters;
+  stood = subst (λ (s : counters.CountersState). counters.StandsFor s (past_of slot events).packets taken)
+      (sym (ap (λ (s : SubscriberState). s.counters) c.self.view_is)) stands.counters;
   before = sym stands.version ∙ sym (ap (λ (s : SubscriberState). s.version) c.self.view_is);
-  few = c.known_pasts.ensures.charged slot events (events_are_few c.args.self.now slot events taken c.requires.room stands);
+  few = c.known_pasts.ensures.charged slot events (events_are_few c.args.self.now slot events taken c.requires.room
+      stands);
 }
 
 pub returns-clause-verdict : goal.returns-clause-verdict
@@ -36,7 +39,8 @@ returns-clause-verdict c = λ slot events taken stands.
 pub returns-clause-stands : goal.returns-clause-stands
 returns-clause-stands c = λ slot events taken stands.
     let is = judges c slot events taken stands in
-    packet_stands c.known_pasts.ensures.versions c.known_pasts.ensures.judged c.args.self.now _ slot events taken c.args.packet.now stands
+    packet_stands c.known_pasts.ensures.versions c.known_pasts.ensures.judged c.args.self.now _ slot events taken
+        c.args.packet.now stands
     (ap (λ (s : SubscriberState). s.session) c.self.view_is) (ap (λ (s : SubscriberState). s.version) c.self.view_is)
     (ap (λ (s : SubscriberState). s.packets + 1) c.self.view_is)
     (c.in_ok-verdict.ensures.stands (past_of slot events).packets taken is.stood is.before is.few)

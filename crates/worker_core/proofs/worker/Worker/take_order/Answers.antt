@@ -13,8 +13,11 @@ pub invariant_of-self : goal.invariant_of-self
 invariant_of-self g c =
     let same = c.in_default.ensures.next.0 in
     record {
-      kept = subst (λ (l : List (Order g.row.H.Denot)). Kept g.H.Traveller.name l c.args.self.now.held.items (sent c.args.self.now.home)) (sym same) c.args.self.now.kept;
-      told = subst (λ (l : List (Order g.row.H.Denot)). All (IsTold l) c.args.self.now.leaving.items) (sym same) c.args.self.now.told;
+      kept = subst (λ (l : List (Order g.row.H.Denot)).
+          Kept g.H.Traveller.name l c.args.self.now.held.items (sent c.args.self.now.home))
+          (sym same) c.args.self.now.kept;
+      told = subst (λ (l : List (Order g.row.H.Denot)). All (IsTold l) c.args.self.now.leaving.items)
+          (sym same) c.args.self.now.told;
       within = search rules;
     }
 
@@ -24,9 +27,11 @@ invariant_of-self-in-Arrive g c =
     let came : taken c.take.new.self ≡ old ++ Arrive c.in-Arrive.half ∷ [] =
     c.in-Some.ensures.next.0 ∙ ap (λ (o : Order g.row.H.Denot). old ++ o ∷ []) c.in-Arrive.is in
     record {
-      kept = subst (λ (p : List (Order g.row.H.Denot) × List g.row.H.Denot). Kept g.H.Traveller.name p.0 p.1 (sent c.args.self.now.home))
+      kept = subst (λ (p : List (Order g.row.H.Denot) × List g.row.H.Denot). Kept g.H.Traveller.name p.0 p.1
+          (sent c.args.self.now.home))
           (λ i. (sym came i, sym c.push_reserved.ensures.items i))
-          (kept_arrive g.H.Traveller.name old c.args.self.now.held.items (sent c.args.self.now.home) c.in-Arrive.half c.args.self.now.kept);
+          (kept_arrive g.H.Traveller.name old c.args.self.now.held.items
+              (sent c.args.self.now.home) c.in-Arrive.half c.args.self.now.kept);
       told = subst (λ (l : List (Order g.row.H.Denot)). All (IsTold l) c.args.self.now.leaving.items) (sym came)
           (told_more old (Arrive c.in-Arrive.half) c.args.self.now.leaving.items c.args.self.now.told);
       within = search rules;
@@ -38,11 +43,14 @@ invariant_of-self-in-Leave g c =
     let came : taken c.take.new.self ≡ old ++ Leave c.in-Leave.slot c.in-Leave.until ∷ [] =
     c.in-Some.ensures.next.0 ∙ ap (λ (o : Order g.row.H.Denot). old ++ o ∷ []) c.in-Leave.is in
     record {
-      kept = subst (λ (l : List (Order g.row.H.Denot)). Kept g.H.Traveller.name l c.args.self.now.held.items (sent c.args.self.now.home)) (sym came)
-          (kept_leave g.H.Traveller.name old c.args.self.now.held.items (sent c.args.self.now.home) c.in-Leave.slot c.in-Leave.until c.args.self.now.kept);
+      kept = subst (λ (l : List (Order g.row.H.Denot)).
+          Kept g.H.Traveller.name l c.args.self.now.held.items (sent c.args.self.now.home)) (sym came)
+          (kept_leave g.H.Traveller.name old c.args.self.now.held.items
+              (sent c.args.self.now.home) c.in-Leave.slot c.in-Leave.until c.args.self.now.kept);
       told = c.mark.ensures.told (taken c.take.new.self)
           (subst (λ (l : List (Order g.row.H.Denot)). All (IsTold l) c.args.self.now.leaving.items) (sym came)
           (told_more old (Leave c.in-Leave.slot c.in-Leave.until) c.args.self.now.leaving.items c.args.self.now.told))
-          (subst (λ (l : List (Order g.row.H.Denot)). IsOrdered l c.in-Leave.slot c.in-Leave.until) (sym came) (ordered_last old c.in-Leave.slot c.in-Leave.until));
+          (subst (λ (l : List (Order g.row.H.Denot)). IsOrdered l c.in-Leave.slot c.in-Leave.until) (sym came)
+              (ordered_last old c.in-Leave.slot c.in-Leave.until));
       within = search rules;
     }

@@ -5,21 +5,24 @@ use Rattle.worker_core.proofs.worker.Worker.turn_halves.Goals as goal
 
 pub invariant_of-self : goal.invariant_of-self
 invariant_of-self g c = record {
-  kept = kept_names g.H.Traveller.name (taken c.args.self.now.orders) c.args.self.now.held.items _ (sent c.args.self.now.home) c.turn_round.ensures.names c.args.self.now.kept;
+  kept = kept_names g.H.Traveller.name (taken c.args.self.now.orders) c.args.self.now.held.items _
+      (sent c.args.self.now.home) c.turn_round.ensures.names c.args.self.now.kept;
   told = c.args.self.now.told;
   within = search rules;
 }
 
 pub invariant_of-self-in_default : goal.invariant_of-self-in_default
 invariant_of-self-in_default g c = record {
-  kept = kept_names g.H.Traveller.name (taken c.args.self.now.orders) c.args.self.now.held.items _ (sent c.args.self.now.home) c.turn_round.ensures.names c.args.self.now.kept;
+  kept = kept_names g.H.Traveller.name (taken c.args.self.now.orders) c.args.self.now.held.items _
+      (sent c.args.self.now.home) c.turn_round.ensures.names c.args.self.now.kept;
   told = c.args.self.now.told;
   within = search rules;
 }
 
 pub invariant_of-self-2 : goal.invariant_of-self-2
 invariant_of-self-2 g c = record {
-  kept = kept_names g.H.Traveller.name (taken c.args.self.now.orders) c.args.self.now.held.items _ (sent c.args.self.now.home) c.turn_round.ensures.names c.args.self.now.kept;
+  kept = kept_names g.H.Traveller.name (taken c.args.self.now.orders) c.args.self.now.held.items _
+      (sent c.args.self.now.home) c.turn_round.ensures.names c.args.self.now.kept;
   told = c.args.self.now.told;
   within = search rules;
 }
