@@ -6,7 +6,8 @@ on_ok (Ok x) follows holds = follows holds
 on_ok (Err e) follows holds = tt
 
 -- from three facts of it
-pub on_ok_all : {T E : Type 0} {P Q R S : Type 0} (r : Result T E) → (P → Q → R → S) → OnOk r P → OnOk r Q → OnOk r R → OnOk r S
+pub on_ok_all : {T E : Type 0} {P Q R S : Type 0} (r : Result T E) → (P → Q → R → S) → OnOk r P → OnOk r Q
+    → OnOk r R → OnOk r S
 on_ok_all (Ok x) follows first second third = follows first second third
 on_ok_all (Err e) follows first second third = tt
 

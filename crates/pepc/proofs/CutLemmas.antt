@@ -13,16 +13,19 @@ use Rattle.pepc.specs.Cut.{IsCut, lines_in}
 use Rattle.pepc.specs.Report.{slices}
 
 -- an epoch is whole where its last line ends it
-is_whole-push : (before lines : List Line) (last : Line) → is_whole before (lines ++ last ∷ []) ≡ ends_epoch (before ++ lines) last
+is_whole-push : (before lines : List Line) (last : Line)
+    → is_whole before (lines ++ last ∷ []) ≡ ends_epoch (before ++ lines) last
 is_whole-push before [] last = ap (λ b. ends_epoch b last) (sym (append-nil before))
 is_whole-push before (line ∷ []) last = refl
 is_whole-push before (line ∷ next ∷ lines) last =
-    is_whole-push (before ++ line ∷ []) (next ∷ lines) last ∙ ap (λ b. ends_epoch b last) (append_assoc before (line ∷ []) (next ∷ lines))
+    is_whole-push (before ++ line ∷ []) (next ∷ lines) last
+    ∙ ap (λ b. ends_epoch b last) (append_assoc before (line ∷ []) (next ∷ lines))
 
 -- one line of an epoch
 epochs_behind-line : (before : List Line) (line : Line) (lines : List Line)
     → epochs_behind before (line ∷ lines)
-    ≡ (if ends_epoch before line then (before ++ line ∷ []) ∷ epochs_behind [] lines else epochs_behind (before ++ line ∷ []) lines)
+    ≡ (if ends_epoch before line then (before ++ line ∷ []) ∷ epochs_behind [] lines
+    else epochs_behind (before ++ line ∷ []) lines)
 epochs_behind-line [] line lines = refl
 epochs_behind-line (first ∷ before) line lines = refl
 
@@ -30,8 +33,10 @@ epochs_behind-none : (before : List Line) → epochs_behind before [] ≡ open_e
 epochs_behind-none [] = refl
 epochs_behind-none (line ∷ before) = refl
 
-pub lines_in-push : (closed : List (List Line)) (epoch : List Line) → lines_in (closed ++ epoch ∷ []) ≡ lines_in closed ++ epoch
-lines_in-push closed epoch = flat_map-append (λ (e : List Line). e) closed (epoch ∷ []) ∙ ap (λ lines. lines_in closed ++ lines) (append-nil epoch)
+pub lines_in-push : (closed : List (List Line)) (epoch : List Line)
+    → lines_in (closed ++ epoch ∷ []) ≡ lines_in closed ++ epoch
+lines_in-push closed epoch = flat_map-append (λ (e : List Line). e) closed (epoch ∷ [])
+    ∙ ap (λ lines. lines_in closed ++ lines) (append-nil epoch)
 
 pub cut_nothing : IsCut [] [] []
 cut_nothing = record {
@@ -43,20 +48,23 @@ cut_nothing = record {
 }
 
 -- a line that doesn't end its epoch
-pub cut_open : (done : List Line) (closed : List (List Line)) (open_ : List Line) (line : Line) → IsCut done closed open_
+pub cut_open : (done : List Line) (closed : List (List Line)) (open_ : List Line) (line : Line)
+    → IsCut done closed open_
     → ends_epoch open_ line ≡ false → IsCut (done ++ line ∷ []) closed (open_ ++ line ∷ [])
 cut_open done closed open_ line cut stays = record {
   parts = ap (λ lines. lines ++ line ∷ []) cut.parts ∙ append_assoc (lines_in closed) open_ (line ∷ []);
   closes = cut.closes;
   opens = λ later. ap (epochs_behind []) (append_assoc open_ (line ∷ []) later)
       ∙ cut.opens (line ∷ later) ∙ epochs_behind-line open_ line later
-      ∙ ap (λ test. if test then (open_ ++ line ∷ []) ∷ epochs_behind [] later else epochs_behind (open_ ++ line ∷ []) later) stays;
+      ∙ ap (λ test. if test then (open_ ++ line ∷ []) ∷ epochs_behind [] later
+      else epochs_behind (open_ ++ line ∷ []) later) stays;
   whole = cut.whole;
   unfinished = is_whole-push [] open_ line ∙ stays;
 }
 
 -- one that ends it
-pub cut_whole : (done : List Line) (closed : List (List Line)) (open_ : List Line) (line : Line) → IsCut done closed open_
+pub cut_whole : (done : List Line) (closed : List (List Line)) (open_ : List Line) (line : Line)
+    → IsCut done closed open_
     → ends_epoch open_ line ≡ true → IsCut (done ++ line ∷ []) (closed ++ (open_ ++ line ∷ []) ∷ []) []
 cut_whole done closed open_ line cut ends =
     let epoch = open_ ++ line ∷ [] in
@@ -66,7 +74,8 @@ cut_whole done closed open_ line cut ends =
       closes = λ later. ap (λ lines. epochs_of (lines ++ later)) (lines_in-push closed epoch)
           ∙ ap epochs_of (append_assoc (lines_in closed) epoch later)
           ∙ cut.closes (epoch ++ later)
-          ∙ ap (λ rest. closed ++ rest) (ap (epochs_behind []) (append_assoc open_ (line ∷ []) later) ∙ cut.opens (line ∷ later)
+          ∙ ap (λ rest. closed ++ rest) (ap (epochs_behind []) (append_assoc open_ (line ∷ []) later)
+          ∙ cut.opens (line ∷ later)
           ∙ epochs_behind-line open_ line later
           ∙ ap (λ test. if test then epoch ∷ epochs_behind [] later else epochs_behind epoch later) ends)
           ∙ sym (append_assoc closed (epoch ∷ []) (epochs_behind [] later));
@@ -76,7 +85,8 @@ cut_whole done closed open_ line cut ends =
     }
 
 -- the lines of the whole epochs alone
-pub cut_closed : (done : List Line) (closed : List (List Line)) (open_ : List Line) → IsCut done closed open_ → IsCut (lines_in closed) closed []
+pub cut_closed : (done : List Line) (closed : List (List Line)) (open_ : List Line) → IsCut done closed open_
+    → IsCut (lines_in closed) closed []
 cut_closed done closed open_ cut = record {
   parts = sym (append-nil (lines_in closed));
   closes = cut.closes;
@@ -86,18 +96,22 @@ cut_closed done closed open_ cut = record {
 }
 
 -- the epochs of the lines
-pub epochs_are : (done : List Line) (closed : List (List Line)) (open_ : List Line) → IsCut done closed open_ → epochs_of done ≡ closed ++ open_epoch open_
+pub epochs_are : (done : List Line) (closed : List (List Line)) (open_ : List Line) → IsCut done closed open_
+    → epochs_of done ≡ closed ++ open_epoch open_
 epochs_are done closed open_ cut =
     ap epochs_of cut.parts ∙ cut.closes open_
-    ∙ ap (λ rest. closed ++ rest) (ap (epochs_behind []) (sym (append-nil open_)) ∙ cut.opens [] ∙ epochs_behind-none open_)
+    ∙ ap (λ rest. closed ++ rest) (ap (epochs_behind []) (sym (append-nil open_)) ∙ cut.opens []
+    ∙ epochs_behind-none open_)
 
 pub meant_epochs-push : (before : List Line) (closed : List (List Line)) (epoch : List Line)
-    → meant_epochs slices before (closed ++ epoch ∷ []) ≡ meant_epochs slices before closed ++ meant_from slices (before ++ lines_in closed) epoch ∷ []
+    → meant_epochs slices before (closed ++ epoch ∷ []) ≡ meant_epochs slices before closed
+    ++ meant_from slices (before ++ lines_in closed) epoch ∷ []
 meant_epochs-push before [] epoch = ap (λ b. meant_from slices b epoch ∷ []) (sym (append-nil before))
 meant_epochs-push before (first ∷ closed) epoch =
     ap (λ rest. meant_from slices before first ∷ rest)
     (meant_epochs-push (before ++ first) closed epoch
-    ∙ ap (λ b. meant_epochs slices (before ++ first) closed ++ meant_from slices b epoch ∷ []) (append_assoc before first (lines_in closed)))
+    ∙ ap (λ b. meant_epochs slices (before ++ first) closed ++ meant_from slices b epoch ∷ [])
+    (append_assoc before first (lines_in closed)))
 
 pub length-meant_from : (before lines : List Line) → length (meant_from slices before lines) ≡ length lines
 length-meant_from before [] = refl
@@ -110,7 +124,8 @@ count_meant before [] = refl
 count_meant before (epoch ∷ closed) =
     omega (
       arith,
-      length-append (meant_from slices before epoch) (flat_map (λ (made : List Meaning). made) (meant_epochs slices (before ++ epoch) closed)),
+      length-append (meant_from slices before epoch) (flat_map (λ (made : List Meaning). made)
+          (meant_epochs slices (before ++ epoch) closed)),
       length-append epoch (lines_in closed),
       length-meant_from before epoch,
       count_meant (before ++ epoch) closed,
@@ -126,10 +141,12 @@ open_short : (before : List Line) (line : Line) (lines : List Line) → is_whole
     → octets_in (before ++ line ∷ lines) < 67108864
 open_short before line [] is =
     let less = leb-false 67108864 (octets_in before + length (line_text line))
-    (third_false (is_fence line.kind) (nat_le 65536 (length before + 1)) (nat_le 67108864 (octets_in before + length (line_text line))) is) in
+    (third_false (is_fence line.kind) (nat_le 65536 (length before + 1))
+    (nat_le 67108864 (octets_in before + length (line_text line))) is) in
     omega (arith, less, sum_by-append (λ (l : Line). length (line_text l)) before (line ∷ []))
 open_short before line (next ∷ lines) is =
-    subst (λ all. octets_in all < 67108864) (append_assoc before (line ∷ []) (next ∷ lines)) (open_short (before ++ line ∷ []) next lines is)
+    subst (λ all. octets_in all < 67108864) (append_assoc before (line ∷ []) (next ∷ lines))
+    (open_short (before ++ line ∷ []) next lines is)
 
 pub short_open : (open_ : List Line) → is_whole [] open_ ≡ false → octets_in open_ < 67108864
 short_open [] is = omega arith

@@ -36,8 +36,10 @@ use Rattle.pepc.proofs.RunLemmas.{ended_story, ended_text, open_meant-push, wait
 use Rattle.pepc.proofs.TextLemmas.{entries_text-push}
 
 -- nothing was read yet
-pub begins : (start old : Option (List ℕ)) (gateway : Solo) (size : Size) (ahead : Option (List ℕ)) (room : ℕ) (waiting : List ℕ) → Stands gateway (story_of [] 0 no_events [])
-    → Counts size [] → ahead ≡ start → room ≡ 2 ^ 40 → waiting ≡ [] → Progress start ahead old old gateway size 1 0 room waiting []
+pub begins : (start old : Option (List ℕ)) (gateway : Solo) (size : Size) (ahead : Option (List ℕ)) (room : ℕ)
+    (waiting : List ℕ) → Stands gateway (story_of [] 0 no_events [])
+    → Counts size [] → ahead ≡ start → room ≡ 2 ^ 40 → waiting ≡ []
+    → Progress start ahead old old gateway size 1 0 room waiting []
 begins start old gateway size ahead room waiting stands sized same full none = record {
   closed = [];
   open_ = [];
@@ -59,7 +61,8 @@ begins start old gateway size ahead room waiting stands sized same full none = r
     first (Some octets) = record { gone = []; parts = refl; lines = inl refl; taken = refl; says = λ behind. refl }
 
 -- no more lines come
-ends_so : (ending : Ending) (start a left old new : Option (List ℕ)) (gateway : Solo) (size : Size) (number least room : ℕ) (waiting more : List ℕ) (done : List Line)
+ends_so : (ending : Ending) (start a left old new : Option (List ℕ)) (gateway : Solo) (size : Size)
+    (number least room : ℕ) (waiting more : List ℕ) (done : List Line)
     → (so_far : Progress start a old new gateway size number least room waiting done)
     → WhereTold start left (λ octets rest. Reached ending octets rest done)
     → more ≡ entries_text (open_entries so_far.closed so_far.open_ (stop_noted (stop_of ending (length done + 1))))
@@ -78,110 +81,154 @@ ends_so ending start a left old new gateway size number least room waiting more 
   waits = waits;
 }
 
-pub ends_ended : (start a left old new : Option (List ℕ)) (gateway : Solo) (size : Size) (number least room after : ℕ) (held waiting : List ℕ) (done : List Line)
+pub ends_ended : (start a left old new : Option (List ℕ)) (gateway : Solo) (size : Size)
+    (number least room after : ℕ) (held waiting : List ℕ) (done : List Line)
     → Progress start a old new gateway size number least room waiting done
     → Tells next.End number least room after a (prepend_known held left) → Ends Ended start left old new waiting gateway
 ends_ended start a left old new gateway size number least room after held waiting done so_far tells =
     ends_so Ended start a left old new gateway size number least room waiting waiting done so_far
     (told_next start a left held number least room after done next.End (λ octets rest. Reached Ended octets rest done)
-    (λ octets ahead rest read says. (stops_so number least room done ended octets ahead read says.0, none_left held rest says.1)) so_far.read tells) so_far.waits
+    (λ octets ahead rest read says. (
+      stops_so number least room done ended octets ahead read says.0,
+      none_left held rest says.1,
+    )) so_far.read tells) so_far.waits
 
-pub ends_long : (start a left old new : Option (List ℕ)) (gateway : Solo) (size : Size) (number least room after : ℕ) (held waiting : List ℕ) (done : List Line)
+pub ends_long : (start a left old new : Option (List ℕ)) (gateway : Solo) (size : Size)
+    (number least room after : ℕ) (held waiting : List ℕ) (done : List Line)
     → Progress start a old new gateway size number least room waiting done
-    → Tells next.LineLong number least room after a (prepend_known held left) → Ends LineLong start left old new waiting gateway
+    → Tells next.LineLong number least room after a (prepend_known held left)
+    → Ends LineLong start left old new waiting gateway
 ends_long start a left old new gateway size number least room after held waiting done so_far tells =
     ends_so LineLong start a left old new gateway size number least room waiting waiting done so_far
     (subst (λ n. WhereTold start left (λ octets rest. Stops octets done (long n))) so_far.counted
-    (told_next start a left held number least room after done next.LineLong (λ octets rest. Stops octets done (long number))
-    (λ octets ahead rest read says. stops_so number least room done (long number) octets ahead read says) so_far.read tells)) so_far.waits
+    (told_next start a left held number least room after done next.LineLong
+    (λ octets rest. Stops octets done (long number))
+    (λ octets ahead rest read says. stops_so number least room done (long number) octets ahead read says)
+    so_far.read tells)) so_far.waits
 
-pub ends_big : (start a left old new : Option (List ℕ)) (gateway : Solo) (size : Size) (number least room after : ℕ) (held waiting : List ℕ) (done : List Line)
+pub ends_big : (start a left old new : Option (List ℕ)) (gateway : Solo) (size : Size)
+    (number least room after : ℕ) (held waiting : List ℕ) (done : List Line)
     → Progress start a old new gateway size number least room waiting done
-    → Tells next.TooLong number least room after a (prepend_known held left) → Ends TooLong start left old new waiting gateway
+    → Tells next.TooLong number least room after a (prepend_known held left)
+    → Ends TooLong start left old new waiting gateway
 ends_big start a left old new gateway size number least room after held waiting done so_far tells =
     ends_so TooLong start a left old new gateway size number least room waiting waiting done so_far
     (told_next start a left held number least room after done next.TooLong (λ octets rest. Stops octets done big)
-    (λ octets ahead rest read says. stops_so number least room done big octets ahead read says) so_far.read tells) so_far.waits
+    (λ octets ahead rest read says. stops_so number least room done big octets ahead read says) so_far.read tells)
+    so_far.waits
 
-pub ends_fault : (start a left old new : Option (List ℕ)) (gateway : Solo) (size : Size) (number least room : ℕ) (now : Held) (waiting : List ℕ) (done : List Line)
+pub ends_fault : (start a left old new : Option (List ℕ)) (gateway : Solo) (size : Size) (number least room : ℕ)
+    (now : Held) (waiting : List ℕ) (done : List Line)
     → Progress start a old new gateway size number least room waiting done
     → Tells next.ReadFault number least room now.room a (prepend_known now.front left)
     → IsUnfinished now → Ends ReadFault start left old new waiting gateway
 ends_fault start a left old new gateway size number least room now waiting done so_far tells unfinished =
     ends_so ReadFault start a left old new gateway size number least room waiting waiting done so_far
-    (told_next start a left now.front number least room now.room done next.ReadFault (λ octets rest. Fails octets rest done)
-    (λ octets ahead rest read says. fails_so number least room done now octets ahead rest unfinished read says.0 says.1) so_far.read tells) so_far.waits
+    (told_next start a left now.front number least room now.room done next.ReadFault
+    (λ octets rest. Fails octets rest done)
+    (λ octets ahead rest read says. fails_so number least room done now octets ahead rest unfinished read says.0
+    says.1) so_far.read tells) so_far.waits
 
 -- a bad line has its entry
-bad_waits : (done : List Line) (closed : List (List Line)) (open_ : List Line) (why : LineBad) (number : ℕ) (waiting : List ℕ) → IsCut done closed open_
+bad_waits : (done : List Line) (closed : List (List Line)) (open_ : List Line) (why : LineBad) (number : ℕ)
+    (waiting : List ℕ) → IsCut done closed open_
     → number ≡ length done + 1 → waiting ≡ entries_text (open_entries closed open_ [])
-    → waiting ++ text_line (entry.Line (line_entry.N (record { line = number; note = codes "line" ++ 32 ∷ word_of why })))
+    → waiting ++ text_line (entry.Line (line_entry.N (record {
+      line = number;
+      note = codes "line" ++ 32
+          ∷ word_of why;
+    })))
     ≡ entries_text (open_entries closed open_ (stop_noted (bad (length done + 1) why)))
 bad_waits done closed open_ why number waiting cut counted waits =
     let first = 1 + length (lines_in closed) in
     let made = open_meant closed open_ in
     let text = codes "line" ++ 32 ∷ word_of why in
     let same : number ≡ first + length made =
-    omega (arith, counted, ap length cut.parts, length-append (lines_in closed) open_, length-meant_from (lines_in closed) open_) in
+    omega (
+      arith,
+      counted,
+      ap length cut.parts,
+      length-append (lines_in closed) open_,
+      length-meant_from (lines_in closed) open_,
+    ) in
     ap (λ front. front ++ text_line (entry.Line (line_entry.N (record { line = number; note = text }))))
     (waits ∙ ap (λ m. entries_text (entries_from first (closed_events closed) m)) (append-nil made))
-    ∙ ap (λ n. entries_text (entries_from first (closed_events closed) made) ++ text_line (entry.Line (line_entry.N (record { line = n; note = text })))) same
+    ∙ ap (λ n. entries_text (entries_from first (closed_events closed) made)
+    ++ text_line (entry.Line (line_entry.N (record { line = n; note = text })))) same
     ∙ sym (entries_text-push first (closed_events closed) made (note text))
 
-pub ends_bad : (start a left old new : Option (List ℕ)) (gateway : Solo) (size : Size) (number least room after : ℕ) (held waiting more : List ℕ) (done : List Line) (why : LineBad)
+pub ends_bad : (start a left old new : Option (List ℕ)) (gateway : Solo) (size : Size)
+    (number least room after : ℕ) (held waiting more : List ℕ) (done : List Line) (why : LineBad)
     → Progress start a old new gateway size number least room waiting done
     → Tells (next.Bad why) number least room after a (prepend_known held left)
-    → more ≡ waiting ++ text_line (entry.Line (line_entry.N (record { line = number; note = codes "line" ++ 32 ∷ word_of why })))
+    → more ≡ waiting ++ text_line (entry.Line (line_entry.N
+    (record { line = number; note = codes "line" ++ 32 ∷ word_of why })))
     → Ends (BadLine why) start left old new more gateway
 ends_bad start a left old new gateway size number least room after held waiting more done why so_far tells is =
     ends_so (BadLine why) start a left old new gateway size number least room waiting more done so_far
     (subst (λ n. WhereTold start left (λ octets rest. Stops octets done (bad n why))) so_far.counted
-    (told_next start a left held number least room after done (next.Bad why) (λ octets rest. Stops octets done (bad number why))
-    (λ octets ahead rest read says. stops_so number least room done (bad number why) octets ahead read says) so_far.read tells))
+    (told_next start a left held number least room after done (next.Bad why)
+    (λ octets rest. Stops octets done (bad number why))
+    (λ octets ahead rest read says. stops_so number least room done (bad number why) octets ahead read says)
+    so_far.read tells))
     (is ∙ bad_waits done so_far.closed so_far.open_ why number waiting so_far.cut so_far.counted so_far.waits)
 
 -- the last line was read and answered
-reached_last : (start a left : Option (List ℕ)) (number least room after : ℕ) (held : List ℕ) (done : List Line) (line : Line) (len : ℕ)
+reached_last : (start a left : Option (List ℕ)) (number least room after : ℕ) (held : List ℕ) (done : List Line)
+    (line : Line) (len : ℕ)
     → WhereTold start a (λ octets rest. HasRead octets rest number least room done)
     → Tells (next.Last line len) number least room after a (prepend_known held left)
     → WhereTold start left (λ octets rest. Reached Ended octets rest (done ++ line ∷ []))
 reached_last start a left number least room after held done line len read tells =
-    told_next start a left held number least room after done (next.Last line len) (λ octets rest. Reached Ended octets rest (done ++ line ∷ []))
+    told_next start a left held number least room after done (next.Last line len)
+    (λ octets rest. Reached Ended octets rest (done ++ line ∷ []))
     (λ octets ahead rest has says. (
       begins_more number least room done line (stopped ended) octets ahead has says.0
           ∙ ap (λ lines. record { lines = lines; stop = ended }) (append-nil (done ++ line ∷ [])),
       none_left held rest says.1,
     )) read tells
 
-ends_open : (start a left old mid new : Option (List ℕ)) (gateway after_it : Solo) (size next_size : Size) (number least room after : ℕ) (held waiting later : List ℕ)
-    (done : List Line) (line : Line) (len : ℕ) (so_far : Progress start a old mid gateway size number least room waiting done)
-    → Tells (next.Last line len) number least room after a (prepend_known held left) → ends_epoch so_far.open_ line ≡ false
-    → GoesOn after_it next_size mid new (next_text waiting done least (closed_events so_far.closed) (open_meant so_far.closed so_far.open_) line) later
-    (next_story done least (closed_events so_far.closed) (open_meant so_far.closed so_far.open_) line) (so_far.open_ ++ line ∷ [])
+ends_open : (start a left old mid new : Option (List ℕ)) (gateway after_it : Solo) (size next_size : Size)
+    (number least room after : ℕ) (held waiting later : List ℕ)
+    (done : List Line) (line : Line) (len : ℕ) (so_far : Progress start a old mid gateway size number least room
+    waiting done)
+    → Tells (next.Last line len) number least room after a (prepend_known held left)
+    → ends_epoch so_far.open_ line ≡ false
+    → GoesOn after_it next_size mid new (next_text waiting done least (closed_events so_far.closed)
+    (open_meant so_far.closed so_far.open_) line) later
+    (next_story done least (closed_events so_far.closed) (open_meant so_far.closed so_far.open_) line)
+    (so_far.open_ ++ line ∷ [])
     → Ends Ended start left old new later after_it
-ends_open start a left old mid new gateway after_it size next_size number least room after held waiting later done line len so_far tells stays takes = record {
-  done = done ++ line ∷ [];
-  closed = so_far.closed;
-  open_ = so_far.open_ ++ line ∷ [];
-  cut = cut_open done so_far.closed so_far.open_ line so_far.cut stays;
-  least = line.moment;
-  stands = subst (λ made. Stands after_it (story_of (done ++ line ∷ []) line.moment (closed_events so_far.closed) made))
-      (sym (open_meant-push done so_far.closed so_far.open_ line so_far.cut)) takes.stands;
-  reached = reached_last start a left number least room after held done line len so_far.read tells;
-  sent = so_far.sent;
-  written = subst (λ o. Appends old o so_far.sent) (sym takes.kept) so_far.written;
-  said = so_far.said;
-  waits = takes.waits ∙ waits_more done so_far.closed so_far.open_ line least waiting so_far.cut so_far.waits;
-}
+ends_open start a left old mid new gateway after_it size next_size number least room after held waiting later done
+    line len so_far tells stays takes = record {
+      done = done ++ line ∷ [];
+      closed = so_far.closed;
+      open_ = so_far.open_ ++ line ∷ [];
+      cut = cut_open done so_far.closed so_far.open_ line so_far.cut stays;
+      least = line.moment;
+      stands = subst (λ made. Stands after_it (story_of (done ++ line ∷ []) line.moment (closed_events so_far.closed) made))
+          (sym (open_meant-push done so_far.closed so_far.open_ line so_far.cut)) takes.stands;
+      reached = reached_last start a left number least room after held done line len so_far.read tells;
+      sent = so_far.sent;
+      written = subst (λ o. Appends old o so_far.sent) (sym takes.kept) so_far.written;
+      said = so_far.said;
+      waits = takes.waits ∙ waits_more done so_far.closed so_far.open_ line least waiting so_far.cut so_far.waits;
+    }
 
-ends_closed : (start a left old mid new : Option (List ℕ)) (gateway after_it : Solo) (size next_size : Size) (number least room after : ℕ) (held waiting later : List ℕ)
-    (done : List Line) (line : Line) (len : ℕ) (so_far : Progress start a old mid gateway size number least room waiting done)
-    → Tells (next.Last line len) number least room after a (prepend_known held left) → ends_epoch so_far.open_ line ≡ true
-    → IsClosed after_it next_size mid new (next_text waiting done least (closed_events so_far.closed) (open_meant so_far.closed so_far.open_) line) later
+ends_closed : (start a left old mid new : Option (List ℕ)) (gateway after_it : Solo) (size next_size : Size)
+    (number least room after : ℕ) (held waiting later : List ℕ)
+    (done : List Line) (line : Line) (len : ℕ) (so_far : Progress start a old mid gateway size number least room
+    waiting done)
+    → Tells (next.Last line len) number least room after a (prepend_known held left)
+    → ends_epoch so_far.open_ line ≡ true
+    → IsClosed after_it next_size mid new (next_text waiting done least (closed_events so_far.closed)
+    (open_meant so_far.closed so_far.open_) line) later
     (next_story done least (closed_events so_far.closed) (open_meant so_far.closed so_far.open_) line)
     → Ends Ended start left old new later after_it
-ends_closed start a left old mid new gateway after_it size next_size number least room after held waiting later done line len so_far tells ends takes =
-    let text = next_text waiting done least (closed_events so_far.closed) (open_meant so_far.closed so_far.open_) line in
+ends_closed start a left old mid new gateway after_it size next_size number least room after held waiting later
+    done line len so_far tells ends takes =
+    let text = next_text waiting done least (closed_events so_far.closed)
+    (open_meant so_far.closed so_far.open_) line in
     let story = next_story done least (closed_events so_far.closed) (open_meant so_far.closed so_far.open_) line in
     record {
       done = done ++ line ∷ [];
@@ -193,30 +240,39 @@ ends_closed start a left old mid new gateway after_it size next_size number leas
       reached = reached_last start a left number least room after held done line len so_far.read tells;
       sent = so_far.sent ++ (text ++ end_text story);
       written = Appends-trans old mid new so_far.sent (text ++ end_text story) so_far.written takes.written;
-      said = ended_text done so_far.closed so_far.open_ line least so_far.sent waiting so_far.cut so_far.said so_far.waits takes.stands.none_beyond;
+      said = ended_text done so_far.closed so_far.open_ line least so_far.sent waiting so_far.cut so_far.said
+          so_far.waits takes.stands.none_beyond;
       waits = takes.emptied;
     }
 
-pub ends_last : (start a left old mid new : Option (List ℕ)) (gateway after_it : Solo) (size next_size : Size) (number least room after : ℕ) (held waiting later : List ℕ)
-    (done : List Line) (line : Line) (len : ℕ) (so_far : Progress start a old mid gateway size number least room waiting done)
+pub ends_last : (start a left old mid new : Option (List ℕ)) (gateway after_it : Solo) (size next_size : Size)
+    (number least room after : ℕ) (held waiting later : List ℕ)
+    (done : List Line) (line : Line) (len : ℕ) (so_far : Progress start a old mid gateway size number least room
+    waiting done)
     → Tells (next.Last line len) number least room after a (prepend_known held left)
     → Takes (ends_epoch so_far.open_ line) after_it next_size mid new
     (next_text waiting done least (closed_events so_far.closed) (open_meant so_far.closed so_far.open_) line) later
-    (next_story done least (closed_events so_far.closed) (open_meant so_far.closed so_far.open_) line) (so_far.open_ ++ line ∷ [])
+    (next_story done least (closed_events so_far.closed) (open_meant so_far.closed so_far.open_) line)
+    (so_far.open_ ++ line ∷ [])
     → Ends Ended start left old new later after_it
-ends_last start a left old mid new gateway after_it size next_size number least room after held waiting later done line len so_far tells takes =
+ends_last start a left old mid new gateway after_it size next_size number least room after held waiting later done
+    line len so_far tells takes =
     by_test (ends_epoch so_far.open_ line) refl takes
   where
     by_test : (test : Bool) → ends_epoch so_far.open_ line ≡ test
         → Takes test after_it next_size mid new
         (next_text waiting done least (closed_events so_far.closed) (open_meant so_far.closed so_far.open_) line) later
-        (next_story done least (closed_events so_far.closed) (open_meant so_far.closed so_far.open_) line) (so_far.open_ ++ line ∷ [])
+        (next_story done least (closed_events so_far.closed) (open_meant so_far.closed so_far.open_) line)
+        (so_far.open_ ++ line ∷ [])
         → Ends Ended start left old new later after_it
-    by_test false is it = ends_open start a left old mid new gateway after_it size next_size number least room after held waiting later done line len so_far tells is it
-    by_test true is it = ends_closed start a left old mid new gateway after_it size next_size number least room after held waiting later done line len so_far tells is it
+    by_test false is it = ends_open start a left old mid new gateway after_it size next_size number least room
+        after held waiting later done line len so_far tells is it
+    by_test true is it = ends_closed start a left old mid new gateway after_it size next_size number least room
+        after held waiting later done line len so_far tells is it
 
 -- some first lines of those that octets begin with
-pub begins_front : (octets : List ℕ) (done front back : List Line) → done ≡ front ++ back → Begins octets done → Begins octets front
+pub begins_front : (octets : List ℕ) (done front back : List Line) → done ≡ front ++ back → Begins octets done
+    → Begins octets front
 begins_front octets done front back parts begins = (
   after_lines back begins.0,
   begins.1 ∙ ap (λ lines. after_lines lines begins.0) parts
@@ -224,14 +280,16 @@ begins_front octets done front back parts begins = (
 )
 
 -- no more is written than was, whatever is next
-pub cut_here : (why : Unwritten) (start a left old new : Option (List ℕ)) (gateway : Solo) (size : Size) (number least room after : ℕ) (held waiting : List ℕ) (done : List Line) (one : Next)
+pub cut_here : (why : Unwritten) (start a left old new : Option (List ℕ)) (gateway : Solo) (size : Size)
+    (number least room after : ℕ) (held waiting : List ℕ) (done : List Line) (one : Next)
     → Progress start a old new gateway size number least room waiting done
     → Tells one number least room after a (prepend_known held left) → Cuts why start left old new
 cut_here why start a left old new gateway size number least room after held waiting done one so_far tells = record {
   done = lines_in so_far.closed;
   closed = so_far.closed;
   cut = cut_closed done so_far.closed so_far.open_ so_far.cut;
-  reached = told_next start a left held number least room after done one (λ octets rest. Begins octets (lines_in so_far.closed))
+  reached = told_next start a left held number least room after done one
+      (λ octets rest. Begins octets (lines_in so_far.closed))
       (λ octets ahead rest read says. begins_front octets done (lines_in so_far.closed) so_far.open_ so_far.cut.parts
       (input_within room number least ahead, begins_so number least room done octets ahead read)) so_far.read tells;
   sent = so_far.sent;
@@ -242,49 +300,63 @@ cut_here why start a left old new gateway size number least room after held wait
 }
 
 -- the sink failed within the epoch that a line ends
-cut_behind : (start a left old mid new : Option (List ℕ)) (gateway : Solo) (size : Size) (number least room after : ℕ) (held waiting : List ℕ) (done : List Line) (one : Next) (line : Line)
+cut_behind : (start a left old mid new : Option (List ℕ)) (gateway : Solo) (size : Size)
+    (number least room after : ℕ) (held waiting : List ℕ) (done : List Line) (one : Next) (line : Line)
     → GivesLine one line number least room after
     → (so_far : Progress start a old mid gateway size number least room waiting done)
     → Tells one number least room after a (prepend_known held left) → ends_epoch so_far.open_ line ≡ true
     → ((slot : ℕ) → length (book_of (done ++ line ∷ [])) ≤ slot
-    → behind_lines (closed_events so_far.closed) (open_meant so_far.closed so_far.open_ ++ meant_next done line ∷ []) slot ≡ [])
-    → AppendsFront mid new (next_text waiting done least (closed_events so_far.closed) (open_meant so_far.closed so_far.open_) line
+    → behind_lines (closed_events so_far.closed) (open_meant so_far.closed so_far.open_ ++ meant_next done line
+    ∷ []) slot ≡ [])
+    → AppendsFront mid new (next_text waiting done least (closed_events so_far.closed)
+    (open_meant so_far.closed so_far.open_) line
     ++ end_text (next_story done least (closed_events so_far.closed) (open_meant so_far.closed so_far.open_) line))
     → Cuts unwritten.WriteFault start left old new
-cut_behind start a left old mid new gateway size number least room after held waiting done one line gives so_far tells ends none cut =
+cut_behind start a left old mid new gateway size number least room after held waiting done one line gives so_far
+    tells ends none cut =
     let epochs = so_far.closed ++ (so_far.open_ ++ line ∷ []) ∷ [] in
-    let whole = ended_text done so_far.closed so_far.open_ line least so_far.sent waiting so_far.cut so_far.said so_far.waits none in
+    let whole = ended_text done so_far.closed so_far.open_ line least so_far.sent waiting so_far.cut so_far.said
+    so_far.waits none in
     record {
       done = done ++ line ∷ [];
       closed = epochs;
       cut = cut_whole done so_far.closed so_far.open_ line so_far.cut ends;
-      reached = told_next start a left held number least room after done one (λ octets rest. Begins octets (done ++ line ∷ []))
+      reached = told_next start a left held number least room after done one
+          (λ octets rest. Begins octets (done ++ line ∷ []))
           (λ octets ahead rest read says.
           let more = gives ahead (held ++ rest) says in
           (more.0, begins_more number least room done line more.0 octets ahead read more.1)) so_far.read tells;
       sent = so_far.sent ++ cut.front;
       more = cut.rest;
       written = Appends-trans old mid new so_far.sent cut.front so_far.written cut.appended;
-      said = subst (λ text. SaysClosed text epochs) (ap (λ text. so_far.sent ++ text) cut.parts ∙ sym (append_assoc so_far.sent cut.front cut.rest)) whole;
+      said = subst (λ text. SaysClosed text epochs) (ap (λ text. so_far.sent ++ text) cut.parts
+          ∙ sym (append_assoc so_far.sent cut.front cut.rest)) whole;
       all = λ is. cc;
     }
 
 -- an error of answering a line cuts the report
-pub cut_by : {T : Type 0} (start a left old mid new : Option (List ℕ)) (gateway : Solo) (size : Size) (number least room after : ℕ) (held waiting : List ℕ) (done : List Line) (one : Next) (line : Line)
+pub cut_by : {T : Type 0} (start a left old mid new : Option (List ℕ)) (gateway : Solo) (size : Size)
+    (number least room after : ℕ) (held waiting : List ℕ) (done : List Line) (one : Next) (line : Line)
     (why : Unwritten) (answer : Result T Unwritten) → answer ≡ Err why → GivesLine one line number least room after
     → (so_far : Progress start a old mid gateway size number least room waiting done)
     → Tells one number least room after a (prepend_known held left)
     → (answer ≡ Err unwritten.WriteFault → (ends_epoch so_far.open_ line ≡ true)
     × ((slot : ℕ) → length (book_of (done ++ line ∷ [])) ≤ slot
-    → behind_lines (closed_events so_far.closed) (open_meant so_far.closed so_far.open_ ++ meant_next done line ∷ []) slot ≡ [])
-    × AppendsFront mid new (next_text waiting done least (closed_events so_far.closed) (open_meant so_far.closed so_far.open_) line
+    → behind_lines (closed_events so_far.closed) (open_meant so_far.closed so_far.open_ ++ meant_next done line
+    ∷ []) slot ≡ [])
+    × AppendsFront mid new (next_text waiting done least (closed_events so_far.closed)
+    (open_meant so_far.closed so_far.open_) line
     ++ end_text (next_story done least (closed_events so_far.closed) (open_meant so_far.closed so_far.open_) line)))
     → (answer ≡ Err unwritten.NoMemory → new ≡ mid) → Cuts why start left old new
-cut_by start a left old mid new gateway size number least room after held waiting done one line unwritten.WriteFault answer is gives so_far tells cut kept =
+cut_by start a left old mid new gateway size number least room after held waiting done one line
+    unwritten.WriteFault answer is gives so_far tells cut kept =
     let it = cut is in
-    cut_behind start a left old mid new gateway size number least room after held waiting done one line gives so_far tells it.0 it.1 it.2
-cut_by start a left old mid new gateway size number least room after held waiting done one line unwritten.NoMemory answer is gives so_far tells cut kept =
-    rw (kept is) (cut_here unwritten.NoMemory start a left old mid gateway size number least room after held waiting done one so_far tells)
+    cut_behind start a left old mid new gateway size number least room after held waiting done one line gives
+    so_far tells it.0 it.1 it.2
+cut_by start a left old mid new gateway size number least room after held waiting done one line unwritten.NoMemory
+    answer is gives so_far tells cut kept =
+    rw (kept is) (cut_here unwritten.NoMemory start a left old mid gateway size number least room after held
+    waiting done one so_far tells)
 
 -- what follows from what is known of an error
 pub if_err : {T E : Type 0} (P Q : E → Type 0) (r : Result T E) → ((e : E) → P e → Q e) → IsErrAnd r P → IfErr r Q
@@ -297,7 +369,8 @@ none_held held None none = refl
 none_held held (Some octets) none = ap (λ h. Some (h ++ octets)) none
 
 -- the open epoch is small enough for one line more
-pub sized_so : {start ahead old new : Option (List ℕ)} {gateway : Solo} {size : Size} {number least room : ℕ} {waiting : List ℕ} {done : List Line}
+pub sized_so : {start ahead old new : Option (List ℕ)} {gateway : Solo} {size : Size} {number least room : ℕ}
+    {waiting : List ℕ} {done : List Line}
     → Progress start ahead old new gateway size number least room waiting done
     → (before : List Line) × Counts size before × (length before < 2 ^ 50) × (octets_in before < 2 ^ 50)
 sized_so so_far = (

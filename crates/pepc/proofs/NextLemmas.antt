@@ -16,15 +16,18 @@ use Rattle.pepc.specs.declared.reading.Next.TheVariants as next
 -- a line and its newline say what the line means, and then what stands behind them says
 says_whole : (number least room after : ℕ) (octets rest line : List ℕ) → HoldsLine room after octets rest line false
     → (behind : List ℕ)
-    → input_within room number least (line ++ newline ∷ behind) ≡ line_then number (line_meaning least number line) (λ l. input_within after (number + 1) l.moment behind)
+    → input_within room number least (line ++ newline ∷ behind)
+    ≡ line_then number (line_meaning least number line) (λ l. input_within after (number + 1) l.moment behind)
 says_whole number least room after octets rest line holds behind =
     rw (holds.form.given) (whole_line after number least line behind holds.no_newline holds.short)
 
 -- octets with a line in front say what the line means, and then what the rest says
 says_held : (number least room after : ℕ) (octets rest line : List ℕ) (last : Bool)
     → HoldsLine room after octets rest line last
-    → input_within room number least octets ≡ line_then number (line_meaning least number line) (λ l. input_within after (number + 1) l.moment rest)
-says_held number least room after octets rest line false holds = rw (holds.form.parts) (says_whole number least room after octets rest line holds rest)
+    → input_within room number least octets ≡ line_then number (line_meaning least number line)
+    (λ l. input_within after (number + 1) l.moment rest)
+says_held number least room after octets rest line false holds =
+    rw (holds.form.parts) (says_whole number least room after octets rest line holds rest)
 says_held number least room after octets rest line true holds =
     rw (holds.form.given, holds.form.whole, holds.form.none_left)
     (last_line after number least line holds.no_newline holds.short holds.form.some holds.form.more)
@@ -58,7 +61,8 @@ says_given number least room after octets rest text true line len holds means =
 says_given number least room after octets rest text false line len holds means =
     says_line number least room after octets rest text line holds means
 
-pub tells_given : (number least room after : ℕ) (octets rest : Option (List ℕ)) (text : List ℕ) (last : Bool) (line : Line) (len : ℕ)
+pub tells_given : (number least room after : ℕ) (octets rest : Option (List ℕ)) (text : List ℕ) (last : Bool)
+    (line : Line) (len : ℕ)
     → Reads read.Line room after octets rest text last → line_meaning least number text ≡ Ok line
     → Tells (given_as line len last) number least room after octets rest
 tells_given number least room after None rest text last line len reads means = tt
@@ -74,7 +78,8 @@ takes_given room after octets rest text true line len holds = omega (arith, hold
 takes_given room after octets rest text false line len holds = omega (arith, holds.form.given)
 
 -- and comes with its length, in its order
-pub gives_given : (line : Line) (len least : ℕ) (last : Bool) → IsNext line len least → Gives (given_as line len last) least
+pub gives_given : (line : Line) (len least : ℕ) (last : Bool) → IsNext line len least
+    → Gives (given_as line len last) least
 gives_given line len least true is = is
 gives_given line len least false is = is
 
@@ -103,11 +108,16 @@ says_refused_as : (number least room after : ℕ) (octets rest text : List ℕ) 
     → HoldsLine room after octets rest text last
     → (bad_one ≡ why.NoMemory) ⊎ (line_meaning least number text ≡ Err bad_one)
     → Says (refused_as bad_one) number least room after octets rest
-says_refused_as number least room after octets rest text last why.Field holds (inr means) = says_refused number least room after octets rest text last why.Field holds means
-says_refused_as number least room after octets rest text last why.Number holds (inr means) = says_refused number least room after octets rest text last why.Number holds means
-says_refused_as number least room after octets rest text last why.Kind holds (inr means) = says_refused number least room after octets rest text last why.Kind holds means
-says_refused_as number least room after octets rest text last why.Hex holds (inr means) = says_refused number least room after octets rest text last why.Hex holds means
-says_refused_as number least room after octets rest text last why.MomentBack holds (inr means) = says_refused number least room after octets rest text last why.MomentBack holds means
+says_refused_as number least room after octets rest text last why.Field holds (inr means) =
+    says_refused number least room after octets rest text last why.Field holds means
+says_refused_as number least room after octets rest text last why.Number holds (inr means) =
+    says_refused number least room after octets rest text last why.Number holds means
+says_refused_as number least room after octets rest text last why.Kind holds (inr means) =
+    says_refused number least room after octets rest text last why.Kind holds means
+says_refused_as number least room after octets rest text last why.Hex holds (inr means) =
+    says_refused number least room after octets rest text last why.Hex holds means
+says_refused_as number least room after octets rest text last why.MomentBack holds (inr means) =
+    says_refused number least room after octets rest text last why.MomentBack holds means
 says_refused_as number least room after octets rest text last why.NoMemory holds (inr means) = tt
 says_refused_as number least room after octets rest text last why.Field holds (inl is) = cc
 says_refused_as number least room after octets rest text last why.Number holds (inl is) = cc
@@ -116,7 +126,8 @@ says_refused_as number least room after octets rest text last why.Hex holds (inl
 says_refused_as number least room after octets rest text last why.MomentBack holds (inl is) = cc
 says_refused_as number least room after octets rest text last why.NoMemory holds (inl is) = tt
 
-pub tells_refused : (number least room after : ℕ) (octets rest : Option (List ℕ)) (text : List ℕ) (last : Bool) (bad_one : LineBad)
+pub tells_refused : (number least room after : ℕ) (octets rest : Option (List ℕ)) (text : List ℕ) (last : Bool)
+    (bad_one : LineBad)
     → Reads read.Line room after octets rest text last
     → (bad_one ≡ why.NoMemory) ⊎ (line_meaning least number text ≡ Err bad_one)
     → Tells (refused_as bad_one) number least room after octets rest
@@ -137,14 +148,16 @@ pub tells_long : (number least room after : ℕ) (octets rest : Option (List ℕ
 tells_long number least room after None rest text last reads = tt
 tells_long number least room after (Some octets) None text last reads = absurd reads
 tells_long number least room after (Some octets) (Some rest) text last reads =
-    rw (reads.1.parts) (line_long room number least reads.1.front reads.1.rest reads.1.no_newline reads.1.long reads.1.within)
+    rw (reads.1.parts) (line_long room number least reads.1.front reads.1.rest reads.1.no_newline reads.1.long
+    reads.1.within)
 
 pub tells_big : (number least room after : ℕ) (octets rest : Option (List ℕ)) (text : List ℕ) (last : Bool)
     → Reads read.TooLong room after octets rest text last → Tells next.TooLong number least room after octets rest
 tells_big number least room after None rest text last reads = tt
 tells_big number least room after (Some octets) None text last reads = absurd reads
 tells_big number least room after (Some octets) (Some rest) text last reads =
-    rw (reads.1.parts, ← reads.1.full) (input_big number least reads.1.front reads.1.rest reads.1.no_newline reads.1.short)
+    rw (reads.1.parts, ← reads.1.full) (input_big number least reads.1.front reads.1.rest reads.1.no_newline
+    reads.1.short)
 
 pub tells_fault : (number least room after : ℕ) (octets rest : Option (List ℕ)) (text : List ℕ) (last : Bool)
     → Reads read.ReadFault room after octets rest text last → Tells next.ReadFault number least room after octets rest

@@ -10,7 +10,8 @@ use Rattle.pepc.specs.Report.{IsText, slices}
 -- it is that of a gateway which answers each line at once
 report_is : (input : Input) (text : List ℕ) → IsText input text → text ≡ report_text false (answered_report solo input)
 report_is input text told =
-    told.written ∙ ap (report_text false) (run_is_one solo (slots_of input) (epochs_told slices input) told.report told.solo.lawful told.solo.at_once)
+    told.written ∙ ap (report_text false) (run_is_one solo (slots_of input)
+    (epochs_told slices input) told.report told.solo.lawful told.solo.at_once)
 
 pub one_report : (input : Input) (text other : List ℕ) → IsText input text → IsText input other → text ≡ other
 one_report input text other told also = report_is input text told ∙ sym (report_is input other also)

@@ -23,35 +23,42 @@ use Rattle.pepc.specs.Gathering.{charges_text, open_entry, open_for}
 
 -- the counters of a life are among those of lives
 found : (happened : List Happening) (lives : List ℕ) (life : ℕ) → In life lives
-    → find (λ (counters : Counters). counters.life == life) (map (open_at happened) lives) ≡ Some (open_at happened life)
+    → find (λ (counters : Counters). counters.life == life) (map (open_at happened) lives)
+    ≡ Some (open_at happened life)
 found happened [] life there = absurd there
 found happened (first ∷ lives) life there = by_test (first == life) refl there (found happened lives life)
   where
     by_test : (test : Bool) → (first == life) ≡ test → In life (first ∷ lives)
-        → (In life lives → find (λ (counters : Counters). counters.life == life) (map (open_at happened) lives) ≡ Some (open_at happened life))
-        → cond test (Some (open_at happened first)) (find (λ (counters : Counters). counters.life == life) (map (open_at happened) lives))
+        → (In life lives → find (λ (counters : Counters). counters.life == life) (map (open_at happened) lives)
+        ≡ Some (open_at happened life))
+        → cond test (Some (open_at happened first)) (find (λ (counters : Counters). counters.life == life)
+        (map (open_at happened) lives))
         ≡ Some (open_at happened life)
     by_test true is at rest = ap (λ l. Some (open_at happened l)) (eqb-true first life is)
     by_test false is (inl here) rest = absurd (false≢true (sym is ∙ eq-eqb first life here))
     by_test false is (inr later) rest = rest later
 
 -- those of bearers
-each_open : (slot : ℕ) (happened : List Happening) (bearers : List ActiveBearer) → ((b : ActiveBearer) → In b bearers → In b.life (lives_of happened))
+each_open : (slot : ℕ) (happened : List Happening) (bearers : List ActiveBearer)
+    → ((b : ActiveBearer) → In b bearers → In b.life (lives_of happened))
     → flat_map (λ (b : ActiveBearer). open_for slot (opens_of happened) b.life) bearers
     ≡ map (O slot) (map (λ (b : ActiveBearer). open_at happened b.life) bearers)
 each_open slot happened [] each = refl
 each_open slot happened (bearer ∷ bearers) each =
     ap (λ one. open_entry slot one ++ flat_map (λ (b : ActiveBearer). open_for slot (opens_of happened) b.life) bearers)
     (found happened (lives_of happened) bearer.life (each bearer (inl refl)))
-    ∙ ap (λ rest. O slot (open_at happened bearer.life) ∷ rest) (each_open slot happened bearers (λ b there. each b (inr there)))
+    ∙ ap (λ rest. O slot (open_at happened bearer.life) ∷ rest)
+    (each_open slot happened bearers (λ b there. each b (inr there)))
 
 pub opens_are : (slot : ℕ) (events : List Event)
-    → flat_map (λ (b : ActiveBearer). open_for slot (opens_after slot events) b.life) (version_after slot events).bearers ≡ opens slot events
+    → flat_map (λ (b : ActiveBearer). open_for slot (opens_after slot events) b.life)
+    (version_after slot events).bearers ≡ opens slot events
 opens_are slot events =
     let happened = (past_of slot events).packets.charged in
     let bearers = (version_after slot events).bearers in
     each_open slot happened bearers
-    (λ b there. in_contains b.life (lives_of happened) ((open_are_active slot events b.life).1 (has_of bearers b.life (in_map life_in b bearers there))))
+    (λ b there. in_contains b.life (lives_of happened)
+    ((open_are_active slot events b.life).1 (has_of bearers b.life (in_map life_in b bearers there))))
 
 -- one slot more
 counted_push : {X : Type 0} (first slots : ℕ) (has : ℕ → List X)
@@ -65,7 +72,8 @@ counted_push first (suc slots) has =
     ∙ sym (append_assoc (has first) (flat_map has (counted (first + 1) slots)) (has (first + 1 + slots)))
     ∙ ap (λ s. flat_map has (counted first (suc slots)) ++ has s) same
 
-pub opens_more : (slots : ℕ) (has : ℕ → List ChargeEntry) (report front : List ℕ) → front ≡ report ++ charges_text (by_slot slots has)
+pub opens_more : (slots : ℕ) (has : ℕ → List ChargeEntry) (report front : List ℕ)
+    → front ≡ report ++ charges_text (by_slot slots has)
     → front ++ charges_text (has slots) ≡ report ++ charges_text (by_slot (slots + 1) has)
 opens_more slots has report front is =
     let one : suc slots ≡ slots + 1 = omega arith in

@@ -63,5 +63,7 @@ has_at_last old new value own P added last holds = record {
 }
 
 -- what follows of a value
-pub has_at_map : {X : Type 0} (items : List X) (slot : ℕ) (P Q : X → Type 0) → ((x : X) → P x → Q x) → HasAt items slot P → HasAt items slot Q
-has_at_map items slot P Q follows has = record { value = has.value; found = has.found; holds = follows has.value has.holds }
+pub has_at_map : {X : Type 0} (items : List X) (slot : ℕ) (P Q : X → Type 0) → ((x : X) → P x → Q x)
+    → HasAt items slot P → HasAt items slot Q
+has_at_map items slot P Q follows has =
+    record { value = has.value; found = has.found; holds = follows has.value has.holds }

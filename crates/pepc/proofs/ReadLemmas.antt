@@ -15,7 +15,8 @@ use Rattle.pepc.proofs.ToldLemmas.{told_then}
 
 after_lines-push : (done : List Line) (line : Line) (input : Input)
     → after_lines done (after_lines (line ∷ []) input) ≡ after_lines (done ++ line ∷ []) input
-after_lines-push done line input = ap (λ lines. record { lines = lines; stop = input.stop }) (sym (append_assoc done (line ∷ []) input.lines))
+after_lines-push done line input =
+    ap (λ lines. record { lines = lines; stop = input.stop }) (sym (append_assoc done (line ∷ []) input.lines))
 
 -- a text behind others, and what stands behind it
 regrouped : (gone text behind : List ℕ) → gone ++ text ++ newline ∷ [] ++ behind ≡ gone ++ (text ++ newline ∷ behind)
@@ -48,7 +49,8 @@ pub told_more : (start a b : Option (List ℕ)) (number least room after : ℕ) 
     → Tells (next.Line line len) number least room after a b
     → WhereTold start b (λ octets rest. HasRead octets rest (number + 1) line.moment after (done ++ line ∷ []))
 told_more start a b number least room after done line len read tells =
-    told_then start a b (λ octets rest. HasRead octets rest number least room done) (λ octets rest. Says (next.Line line len) number least room after octets rest)
+    told_then start a b (λ octets rest. HasRead octets rest number least room done)
+    (λ octets rest. Says (next.Line line len) number least room after octets rest)
     (λ octets rest. HasRead octets rest (number + 1) line.moment after (done ++ line ∷ []))
     (read_more number least room after done line) read tells
 
@@ -79,7 +81,8 @@ none_left [] left none = none
 none_left (octet ∷ held) left none = cc
 
 -- what is told of what is next, behind what was read
-pub told_next : (start a left : Option (List ℕ)) (held : List ℕ) (number least room after : ℕ) (done : List Line) (one : Next) (R : List ℕ → List ℕ → Type 0)
+pub told_next : (start a left : Option (List ℕ)) (held : List ℕ) (number least room after : ℕ) (done : List Line)
+    (one : Next) (R : List ℕ → List ℕ → Type 0)
     → ((octets ahead rest : List ℕ) → HasRead octets ahead number least room done
     → Says one number least room after ahead (held ++ rest) → R octets rest)
     → WhereTold start a (λ octets rest. HasRead octets rest number least room done)
@@ -88,7 +91,8 @@ pub told_next : (start a left : Option (List ℕ)) (held : List ℕ) (number lea
 told_next None a left held number least room after done one R follows read tells = tt
 told_next (Some octets) None left held number least room after done one R follows read tells = absurd read
 told_next (Some octets) (Some ahead) None held number least room after done one R follows read tells = absurd tells
-told_next (Some octets) (Some ahead) (Some rest) held number least room after done one R follows read tells = follows octets ahead rest read tells
+told_next (Some octets) (Some ahead) (Some rest) held number least room after done one R follows read tells =
+    follows octets ahead rest read tells
 
 -- the octets held are an unfinished line
 pub fails_so : (number least room : ℕ) (done : List Line) (now : Held) (octets ahead rest : List ℕ) → IsUnfinished now
@@ -115,9 +119,11 @@ GivesLine one line number least room after =
     (ahead rest : List ℕ) → Says one number least room after ahead rest
     → (behind : Input) × (input_within room number least ahead ≡ after_lines (line ∷ []) behind)
 
-pub gives_line : (line : Line) (len number least room after : ℕ) → GivesLine (next.Line line len) line number least room after
+pub gives_line : (line : Line) (len number least room after : ℕ)
+    → GivesLine (next.Line line len) line number least room after
 gives_line line len number least room after = λ ahead rest says.
     (input_within after (number + 1) line.moment rest, ap (input_within room number least) says.parts ∙ says.says rest)
 
-pub gives_last : (line : Line) (len number least room after : ℕ) → GivesLine (next.Last line len) line number least room after
+pub gives_last : (line : Line) (len number least room after : ℕ)
+    → GivesLine (next.Last line len) line number least room after
 gives_last line len number least room after = λ ahead rest says. (stopped ended, says.0)

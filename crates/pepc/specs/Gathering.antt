@@ -38,20 +38,23 @@ ClosedBelow slots all = All (λ (closed : Closed). closed.slot < slots) all
 
 -- what was gathered, of slots below so many, is what lines brought behind the events of each slot before them
 pub record Gathers (gathered : Gathered) (slots : ℕ) (before : Histories) (made : List Meaning) : Type 0 where
-  pub effects : (slot : ℕ) → effects_for slot gathered.effects.items ≡ effects slot (before slot) (brought slot (before slot) made)
+  pub effects : (slot : ℕ) → effects_for slot gathered.effects.items
+      ≡ effects slot (before slot) (brought slot (before slot) made)
   pub rows : (slot : ℕ) → rows_for slot gathered.rows.items ≡ rows slot (before slot) (brought slot (before slot) made)
   pub effects_below : CausedBelow slots gathered.effects.items
   pub rows_below : ClosedBelow slots gathered.rows.items
 
 -- effects of a slot were added, and nothing else
 pub record AddsEffects (old new : Gathered) (own : ℕ) (added : List Effected) : Type 0 where
-  pub effects : (slot : ℕ) → effects_for slot new.effects.items ≡ effects_for slot old.effects.items ++ (if own == slot then added else [])
+  pub effects : (slot : ℕ) → effects_for slot new.effects.items ≡ effects_for slot old.effects.items
+      ++ (if own == slot then added else [])
   pub below : (slots : ℕ) → own < slots → CausedBelow slots old.effects.items → CausedBelow slots new.effects.items
   pub same : new.rows.items ≡ old.rows.items
 
 -- the same of charging records
 pub record AddsRows (old new : Gathered) (own : ℕ) (added : List ChargeEntry) : Type 0 where
-  pub rows : (slot : ℕ) → rows_for slot new.rows.items ≡ rows_for slot old.rows.items ++ (if own == slot then added else [])
+  pub rows : (slot : ℕ) → rows_for slot new.rows.items ≡ rows_for slot old.rows.items
+      ++ (if own == slot then added else [])
   pub below : (slots : ℕ) → own < slots → ClosedBelow slots old.rows.items → ClosedBelow slots new.rows.items
   pub same : new.effects.items ≡ old.effects.items
 

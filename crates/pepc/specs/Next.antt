@@ -23,7 +23,8 @@ abbrev pub Says : Next → ℕ → ℕ → ℕ → ℕ → List ℕ → List ℕ
 Says (next.Line line len) number least room after octets rest = SaysLine line number least room after octets rest
 Says (next.Last line len) number least room after octets rest =
     (input_within room number least octets ≡ after_lines (line ∷ []) (stopped ended)) × (rest ≡ [])
-Says (next.Bad why) number least room after octets rest = input_within room number least octets ≡ stopped (bad number why)
+Says (next.Bad why) number least room after octets rest =
+    input_within room number least octets ≡ stopped (bad number why)
 Says next.End number least room after octets rest = (input_within room number least octets ≡ stopped ended)
     × (rest ≡ [])
 Says next.LineLong number least room after octets rest = input_within room number least octets ≡ stopped (long number)
@@ -33,7 +34,8 @@ Says next.NoMemory number least room after octets rest = Unit {0}
 
 -- the same, where the octets are told
 abbrev pub Tells : Next → ℕ → ℕ → ℕ → ℕ → Option (List ℕ) → Option (List ℕ) → Type 0
-Tells what number least room after start now = WhereTold start now (λ octets rest. Says what number least room after octets rest)
+Tells what number least room after start now =
+    WhereTold start now (λ octets rest. Says what number least room after octets rest)
 
 -- a line takes room
 abbrev pub TakesRoom : Next → ℕ → ℕ → Type 0

@@ -45,14 +45,16 @@ open_meant closed open_ = meant_from slices (lines_in closed) open_
 
 -- the text of whole epochs, where so many slots are known · of the entries of lines
 abbrev pub closed_text : ℕ → List (List Line) → List ℕ
-closed_text slots closed = texts_of false (flat_map epoch_entries (answered_from slots 1 no_events (meant_epochs slices [] closed)))
+closed_text slots closed =
+    texts_of false (flat_map epoch_entries (answered_from slots 1 no_events (meant_epochs slices [] closed)))
 
 abbrev pub entries_text : List LineEntry → List ℕ
 entries_text entries = texts_of false (map entry.Line entries)
 
 -- the entries of the open epoch's lines, and of what else stands in it
 abbrev pub open_entries : List (List Line) → List Line → List Meaning → List LineEntry
-open_entries closed open_ noted = entries_from (1 + length (lines_in closed)) (closed_events closed) (open_meant closed open_ ++ noted)
+open_entries closed open_ noted =
+    entries_from (1 + length (lines_in closed)) (closed_events closed) (open_meant closed open_ ++ noted)
 
 -- the text is that of these epochs, whatever slots are known beside those of their book
 abbrev pub SaysClosed : List ℕ → List (List Line) → Type 0
@@ -63,16 +65,20 @@ abbrev pub end_text : Story → List ℕ
 end_text story = closing_text (length story.book) story.before story.made
 
 abbrev pub rest_text : Story → List ℕ
-rest_text story = end_text story ++ charges_text (by_slot (length story.book) (λ slot. opens slot (events_of story slot)))
+rest_text story = end_text story ++ charges_text (by_slot (length story.book)
+    (λ slot. opens slot (events_of story slot)))
 
--- A line was taken, behind which this text waited, and the story is told: its epoch is open still, or it ends and is written.
-pub record GoesOn (gateway : Solo) (size : Size) (old new : Option (List ℕ)) (text waiting : List ℕ) (story : Story) (open_ : List Line) : Type 0 where
+-- A line was taken, behind which this text waited, and the story is told: its epoch is open still, or it ends and is
+-- written.
+pub record GoesOn (gateway : Solo) (size : Size) (old new : Option (List ℕ)) (text waiting : List ℕ)
+    (story : Story) (open_ : List Line) : Type 0 where
   pub stands : Stands gateway story
   pub sized : Counts size open_
   pub kept : new ≡ old
   pub waits : waiting ≡ text
 
-pub record IsClosed (gateway : Solo) (size : Size) (old new : Option (List ℕ)) (text waiting : List ℕ) (story : Story) : Type 0 where
+pub record IsClosed (gateway : Solo) (size : Size) (old new : Option (List ℕ)) (text waiting : List ℕ)
+    (story : Story) : Type 0 where
   pub stands : Stands gateway (with_end story)
   pub sized : Counts size []
   pub written : Appends old new (text ++ end_text story)
@@ -84,14 +90,17 @@ Takes true gateway size old new text waiting story open_ = IsClosed gateway size
 
 -- the story behind one line more, and what waits then
 abbrev pub next_story : List Line → ℕ → Histories → List Meaning → Line → Story
-next_story done latest before made line = story_of (done ++ line ∷ []) line.moment before (made ++ meant_next done line ∷ [])
+next_story done latest before made line =
+    story_of (done ++ line ∷ []) line.moment before (made ++ meant_next done line ∷ [])
 
 abbrev pub next_text : List ℕ → List Line → ℕ → Histories → List Meaning → Line → List ℕ
-next_text waiting done latest before made line = waiting ++ entry_line (story_of done latest before made) (meant_next done line)
+next_text waiting done latest before made line =
+    waiting ++ entry_line (story_of done latest before made) (meant_next done line)
 
 -- These lines are done: the gateway stands for them, the texts of the whole epochs are written, and the entries of the
 -- open epoch's lines wait.
-pub record Progress (start ahead old new : Option (List ℕ)) (gateway : Solo) (size : Size) (number least room : ℕ) (waiting : List ℕ) (done : List Line) : Type 0 where
+pub record Progress (start ahead old new : Option (List ℕ)) (gateway : Solo) (size : Size) (number least room : ℕ)
+    (waiting : List ℕ) (done : List Line) : Type 0 where
   pub closed : List (List Line)
   pub open_ : List Line
   pub cut : IsCut done closed open_
@@ -136,7 +145,8 @@ Reached LineLong octets left done = Stops octets done (long (length done + 1))
 Reached TooLong octets left done = Stops octets done big
 
 -- no more lines come; the texts of the whole epochs are written, and the entries of what stands in the open one wait
-pub record Ends (ending : Ending) (start left old new : Option (List ℕ)) (waiting : List ℕ) (gateway : Solo) : Type 0 where
+pub record Ends (ending : Ending) (start left old new : Option (List ℕ)) (waiting : List ℕ)
+    (gateway : Solo) : Type 0 where
   pub done : List Line
   pub closed : List (List Line)
   pub open_ : List Line

@@ -85,7 +85,8 @@ IsLong ended = ⊥
 
 -- what a run with this status wrote, where the source had these octets and has those left
 abbrev pub Reports : Status → Type 0 → List ℕ → List ℕ → List ℕ → Type 0
-Reports status.Ok source_failed octets left text = ((input_of octets).stop ≡ ended) × (left ≡ []) × IsText (input_of octets) text
+Reports status.Ok source_failed octets left text =
+    ((input_of octets).stop ≡ ended) × (left ≡ []) × IsText (input_of octets) text
 Reports status.Usage source_failed octets left text = text ≡ []
 Reports status.ReadFault source_failed octets left text = IsFaultText octets left text
 Reports status.WriteFault source_failed octets left text = IsCutText source_failed octets left text

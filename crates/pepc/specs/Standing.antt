@@ -16,8 +16,8 @@ use Rattle.pepc.specs.Gathering.{Gathers}
 use Rattle.pepc.specs.Places.{HasAt}
 use Rattle.pepc.specs.Report.{slices}
 
--- What a gateway answered: how many lines, and the book behind them; where each slot is bound for, and the moment of the
--- last line; the events of each slot in whole epochs, and what the lines of the open one mean.
+-- What a gateway answered: how many lines, and the book behind them; where each slot is bound for, and the moment of
+-- the last line; the events of each slot in whole epochs, and what the lines of the open one mean.
 pub record Story : Type 0 where
   pub lines : ℕ
   pub book : List (List ℕ)
@@ -42,7 +42,8 @@ abbrev pub with_packet : Story → Meaning → ℕ → Story
 with_packet story now moment = record (with_meaning story now) { latest = moment }
 
 abbrev pub with_move : Story → Meaning → ℕ → ℕ → Story
-with_move story now own slice = record (with_meaning story now) { bound = λ slot. if own == slot then slice else story.bound slot }
+with_move story now own slice =
+    record (with_meaning story now) { bound = λ slot. if own == slot then slice else story.bound slot }
 
 abbrev pub with_book : Story → List (List ℕ) → Story
 with_book story book = record story { book = book }
@@ -68,7 +69,8 @@ pub record Stands (solo : Solo) (story : Story) : Type 0 where
   pub same_book : solo.book ≡ story.book
   pub places : length solo.subscribers.items ≡ length story.book
   pub each : (slot : ℕ) → slot < length story.book
-      → HasAt solo.subscribers.items slot (λ held. SlotStands held slot (story.bound slot) story.latest (events_of story slot))
+      → HasAt solo.subscribers.items slot (λ held. SlotStands held slot (story.bound slot) story.latest
+      (events_of story slot))
   pub none_beyond : NoneBeyond story
   pub at_home : (slot : ℕ) → length story.book ≤ slot → story.bound slot ≡ home_slice slices slot
   pub few : (slot : ℕ) → length (events_of story slot) ≤ story.lines

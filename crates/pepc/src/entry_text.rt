@@ -41,7 +41,8 @@ pub fn push_note(report: &mut Vec<u8>, line: u64, note: &[u8]) -> Result<(), All
 /// Appends the entry of a bad line.
 pub fn push_refusal(report: &mut Vec<u8>, line: u64, why: LineBad) -> Result<(), AllocError>
     ensures { OnOk result (report.new.items ≡ report.old.items
-        ++ text_line (entry.Line (line_entry.N (record { line = line; note = codes "line" ++ 32 ∷ word_of why })))) }
+        ++ text_line (entry.Line (line_entry.N
+        (record { line = line; note = codes "line" ++ 32 ∷ word_of why })))) }
 {
     report_lines::push_note(report, line, b"line")?;
     push_field(report, why.word().as_bytes())?;

@@ -25,8 +25,8 @@ impl Size {
         }
     }
 
-    /// Takes a line with a text of this length into the epoch: whether it is the epoch's last one. The
-    /// next line then begins an epoch.
+    /// Takes a line with a text of this length into the epoch: whether it is the epoch's last one.
+    /// The next line then begins an epoch.
     pub fn take(&mut self, line: &TraceLine, len: u64) -> bool
         requires length { len ≡ length (line_text line.now) }
         requires few { self.old.lines < 2 ^ 60 }

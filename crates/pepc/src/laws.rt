@@ -5,14 +5,16 @@ ghost use Rattle.lawful_run.specs.Ledger.{IsPartition};
 ghost use Rattle.lawful_run.specs.Trace.{slots_of};
 ghost use Rattle.pepc.specs.Report.{IsText};
 
-/// The report is one function of the lines and of why they stop: no two texts are reports of the same.
+/// The report is one function of the lines and of why they stop: no two texts are reports of the
+/// same.
 pub fn one_report()
     ensures { (input : Input) (text other : List ℕ) → IsText input text → IsText input other
         → text ≡ other }
 {}
 
-/// The exact ledger of what is written: of each bearer's life the charging records and the open counter tell
-/// pieces that have, one behind another, just the packets that entries tell as forwarded for it.
+/// The exact ledger of what is written: of each bearer's life the charging records and the open
+/// counter tell pieces that have just the packets that entries tell as forwarded for it, each in one
+/// piece, once.
 pub fn each_packet_is_charged()
     ensures { (input : Input) (text : List ℕ) (written : IsText input text) (slot life : ℕ)
         → slot < slots_of input

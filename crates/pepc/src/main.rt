@@ -1,5 +1,5 @@
-//! A 4G packet gateway that replays traces. `run_plain` does all that the program does; `main` hands it
-//! the command line and the standard streams, and tells its status.
+//! A 4G packet gateway that replays traces. `run_plain` does all that the program does; `main`
+//! hands it the command line and the standard streams, and tells its status.
 #![tactic(auto)]
 
 mod entry_text;

@@ -189,8 +189,8 @@ fn spend_line<K: Sink>(
     Ok(line.moment)
 }
 
-// Reads lines and answers them until no more come. The entries of the open epoch's lines are left in the
-// report.
+// Reads lines and answers them until no more come. The entries of the open epoch's lines are left
+// in the report.
 fn run_lines<S: Source, K: Sink>(
     alloc: Global,
     source: &mut S,
@@ -325,8 +325,8 @@ fn solo<S: Source, K: Sink>(alloc: Global, source: &mut S, sink: &mut K) -> Stat
     }
 }
 
-/// Does what the words say, without the program's name: `solo` reads a trace from the source and writes
-/// its report to the sink, epoch by epoch. Other words are Usage.
+/// Does what the words say, without the program's name: `solo` reads a trace from the source and
+/// writes its report to the sink, epoch by epoch. Other words are Usage.
 pub fn run_plain<S: Source, K: Sink>(
     alloc: Global,
     words: &[String],
@@ -345,8 +345,8 @@ pub fn run_plain<S: Source, K: Sink>(
         (λ octets left. Reports result
         (Rises (S.faults source.old) (S.faults source.new)) octets left text) }
 
-    // Where the words are a command, the input stops at its end and no count of faults rose, the whole
-    // report is written, unless memory ran out.
+    // Where the words are a command, the input stops at its end and no count of faults rose, the
+    // whole report is written, unless memory ran out.
     ensures complete { (octets : List ℕ) → IsSolo (map string_bytes words.now)
         → S.left source.old ≡ Some octets
         → (input_of octets).stop ≡ ended → ¬ Rises (S.faults source.old) (S.faults source.new)

@@ -32,7 +32,8 @@ use trace_lines::TraceLine;
 /// How many slices there are for an order to move.
 const SLICES: u8 = 64;
 
-/// The lines so far, the book, a subscriber for each slot in it, and what waits for the end of the epoch.
+/// The lines so far, the book, a subscriber for each slot in it, and what waits for the end of the
+/// epoch.
 #[derive(Drop)]
 pub struct Solo {
     lines: u64,
@@ -54,8 +55,8 @@ impl Solo {
         }
     }
 
-    /// Answers a line: its entry's text is appended to the report. After want of memory the gateway may
-    /// only be dropped.
+    /// Answers a line: its entry's text is appended to the report. After want of memory the gateway
+    /// may only be dropped.
     pub fn enter(
         &mut self,
         alloc: Global,

@@ -17,7 +17,8 @@ returns-in-ReadFault-clause-tells g c = tells_fault c.args.number c.args.least _
 pub returns-in-Ok-clause-tells : goal.returns-in-Ok-clause-tells
 returns-in-Ok-clause-tells g c =
     rw (c.given.ensures, c.is_last.ensures)
-    (tells_given c.args.number c.args.least _ _ _ _ c.line-text.result.now _ c.in-Ok.line _ (rw (sym c.line-text.ensures) at c.in-Line.ensures.octets)
+    (tells_given c.args.number c.args.least _ _ _ _ c.line-text.result.now _ c.in-Ok.line _
+    (rw (sym c.line-text.ensures) at c.in-Line.ensures.octets)
     c.in-Ok.ensures.line)
 
 pub returns-in-Ok-clause-room : goal.returns-in-Ok-clause-room
@@ -33,10 +34,12 @@ returns-in-Ok-clause-given g c =
     ))
 
 pub returns-in-Ok-clause-fault : goal.returns-in-Ok-clause-fault
-returns-in-Ok-clause-fault g c = λ is. absurd (given-no_fault c.is_last.result c.in-Ok.line _ (sym c.given.ensures ∙ is))
+returns-in-Ok-clause-fault g c =
+    λ is. absurd (given-no_fault c.is_last.result c.in-Ok.line _ (sym c.given.ensures ∙ is))
 
 pub returns-in-Ok-clause-unfinished : goal.returns-in-Ok-clause-unfinished
-returns-in-Ok-clause-unfinished g c = λ is. absurd (given-no_fault c.is_last.result c.in-Ok.line _ (sym c.given.ensures ∙ is))
+returns-in-Ok-clause-unfinished g c =
+    λ is. absurd (given-no_fault c.is_last.result c.in-Ok.line _ (sym c.given.ensures ∙ is))
 
 pub returns-in-Err-clause-given : goal.returns-in-Err-clause-given
 returns-in-Err-clause-given g c = rw c.refused.ensures (gives_refused c.in-Err.why c.args.least)
@@ -44,4 +47,5 @@ returns-in-Err-clause-given g c = rw c.refused.ensures (gives_refused c.in-Err.w
 pub returns-in-Err-clause-tells : goal.returns-in-Err-clause-tells
 returns-in-Err-clause-tells g c =
     rw c.refused.ensures
-    (tells_refused c.args.number c.args.least _ _ _ _ c.line-text.result.now _ c.in-Err.why (rw (sym c.line-text.ensures) at c.in-Line.ensures.octets) c.in-Err.ensures.refusal)
+    (tells_refused c.args.number c.args.least _ _ _ _ c.line-text.result.now _ c.in-Err.why
+    (rw (sym c.line-text.ensures) at c.in-Line.ensures.octets) c.in-Err.ensures.refusal)

@@ -6,8 +6,10 @@ use Rattle.pepc.proofs.run.run_lines.Given as goal
 
 abbrev pub invariant-loop-line : goal.invariant-loop-line
 invariant-loop-line g l = record {
-  progress : (done : List Line) × Progress (g.S.Source.left l.fn.source) (prepend_known l.buf.front (g.S.Source.left l.source))
-      (g.K.Sink.written l.fn.sink) (g.K.Sink.written l.sink) l.gateway l.size l.number l.least l.buf.room l.report.items done;
+  progress : (done : List Line) × Progress (g.S.Source.left l.fn.source)
+      (prepend_known l.buf.front (g.S.Source.left l.source))
+      (g.K.Sink.written l.fn.sink) (g.K.Sink.written l.sink) l.gateway l.size l.number l.least l.buf.room
+      l.report.items done;
   source_later : g.S.Source.faults l.fn.source ≤ g.S.Source.faults l.source;
   sink_later : g.K.Sink.faults l.fn.sink ≤ g.K.Sink.faults l.sink;
 }

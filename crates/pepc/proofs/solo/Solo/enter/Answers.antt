@@ -18,67 +18,90 @@ packet-requires-clause-late c =
 
 pub returns-in-Packet-clause-told : goal.returns-in-Packet-clause-told
 returns-in-Packet-clause-told c = λ done latest before made stands.
-    let is : IsDecided done c.args.line.now c.args.self.now.book (decision.Packet c.in-Packet.slot c.in-Packet.packet) = record {
+    let is : IsDecided done c.args.line.now c.args.self.now.book
+    (decision.Packet c.in-Packet.slot c.in-Packet.packet) = record {
       decision = sym c.in-Packet.is ∙ c.in_ok-slot.ensures.decision;
       behind = ap (book_behind c.args.self.now.book) (sym c.in-Packet.is) ∙ c.in_ok-slot.ensures.book;
       same = stands.same_book;
     } in
-    on_ok c.packet.result (λ told. told_so done c.args.line.now c.args.self.now.book (decision.Packet c.in-Packet.slot c.in-Packet.packet) (story_of done latest before made) c.args.report.now.items
+    on_ok c.packet.result (λ told. told_so done c.args.line.now c.args.self.now.book
+    (decision.Packet c.in-Packet.slot c.in-Packet.packet) (story_of done latest before made) c.args.report.now.items
     c.packet.new.report.items is (told)) (c.packet.ensures.told (story_of done latest before made) stands)
 
 pub returns-in-Packet-clause-stands : goal.returns-in-Packet-clause-stands
 returns-in-Packet-clause-stands c = λ done latest before made stands late.
-    let is : IsDecided done c.args.line.now c.args.self.now.book (decision.Packet c.in-Packet.slot c.in-Packet.packet) = record {
+    let is : IsDecided done c.args.line.now c.args.self.now.book
+    (decision.Packet c.in-Packet.slot c.in-Packet.packet) = record {
       decision = sym c.in-Packet.is ∙ c.in_ok-slot.ensures.decision;
       behind = ap (book_behind c.args.self.now.book) (sym c.in-Packet.is) ∙ c.in_ok-slot.ensures.book;
       same = stands.same_book;
     } in
-    let moment : HasMoment c.args.line.now.moment (decision.Packet c.in-Packet.slot c.in-Packet.packet) = subst (HasMoment c.args.line.now.moment) c.in-Packet.is c.in_ok-slot.ensures.moment in
-    on_ok c.packet.result (stands_so done c.args.line.now c.args.self.now.book (decision.Packet c.in-Packet.slot c.in-Packet.packet) c.in-Packet.packet.moment before made (book_of done)
-    (λ slot. destination_after slices slot done) c.packet.new.self is (sym stands.same_book) (λ slot. refl) (omega (arith, moment)))
+    let moment : HasMoment c.args.line.now.moment (decision.Packet c.in-Packet.slot c.in-Packet.packet) =
+    subst (HasMoment c.args.line.now.moment) c.in-Packet.is c.in_ok-slot.ensures.moment in
+    on_ok c.packet.result (stands_so done c.args.line.now c.args.self.now.book
+    (decision.Packet c.in-Packet.slot c.in-Packet.packet) c.in-Packet.packet.moment before made (book_of done)
+    (λ slot. destination_after slices slot done) c.packet.new.self is (sym stands.same_book) (λ slot. refl)
+    (omega (arith, moment)))
     (c.packet.ensures.stands (story_of done latest before made) stands (omega (arith, late, moment)))
 
 pub returns-in-Command-clause-told : goal.returns-in-Command-clause-told
 returns-in-Command-clause-told c = λ done latest before made stands.
-    let is : IsDecided done c.args.line.now c.args.self.now.book (decision.Command c.in-Command.whose c.in-Command.command) = record {
+    let is : IsDecided done c.args.line.now c.args.self.now.book
+    (decision.Command c.in-Command.whose c.in-Command.command) = record {
       decision = sym c.in-Command.is ∙ c.in_ok-slot.ensures.decision;
       behind = ap (book_behind c.args.self.now.book) (sym c.in-Command.is) ∙ c.in_ok-slot.ensures.book;
       same = stands.same_book;
     } in
-    on_ok c.command-in-Command.result (λ told. told_so done c.args.line.now c.args.self.now.book (decision.Command c.in-Command.whose c.in-Command.command) (story_of done latest before made) c.args.report.now.items
-    c.command-in-Command.new.report.items is (told)) (c.command-in-Command.ensures.told (story_of done latest before made) stands)
+    on_ok c.command-in-Command.result (λ told. told_so done c.args.line.now c.args.self.now.book
+    (decision.Command c.in-Command.whose c.in-Command.command)
+    (story_of done latest before made) c.args.report.now.items
+    c.command-in-Command.new.report.items is (told)) (c.command-in-Command.ensures.told
+    (story_of done latest before made) stands)
 
 pub returns-in-Command-clause-stands : goal.returns-in-Command-clause-stands
 returns-in-Command-clause-stands c = λ done latest before made stands late.
-    let is : IsDecided done c.args.line.now c.args.self.now.book (decision.Command c.in-Command.whose c.in-Command.command) = record {
+    let is : IsDecided done c.args.line.now c.args.self.now.book
+    (decision.Command c.in-Command.whose c.in-Command.command) = record {
       decision = sym c.in-Command.is ∙ c.in_ok-slot.ensures.decision;
       behind = ap (book_behind c.args.self.now.book) (sym c.in-Command.is) ∙ c.in_ok-slot.ensures.book;
       same = stands.same_book;
     } in
-    on_ok c.command-in-Command.result (stands_so done c.args.line.now c.args.self.now.book (decision.Command c.in-Command.whose c.in-Command.command) latest before made (book_with (book_of done) c.in-Command.whose)
-    (λ slot. destination_after slices slot done) c.command-in-Command.new.self is (ap (λ b. book_with b c.in-Command.whose) (sym stands.same_book)) (λ slot. refl) late)
+    on_ok c.command-in-Command.result (stands_so done c.args.line.now c.args.self.now.book
+    (decision.Command c.in-Command.whose c.in-Command.command) latest before made
+    (book_with (book_of done) c.in-Command.whose)
+    (λ slot. destination_after slices slot done) c.command-in-Command.new.self is
+    (ap (λ b. book_with b c.in-Command.whose) (sym stands.same_book)) (λ slot. refl) late)
     (c.command-in-Command.ensures.stands (story_of done latest before made) stands)
 
 pub returns-in-Move-clause-told : goal.returns-in-Move-clause-told
 returns-in-Move-clause-told c = λ done latest before made stands.
-    let is : IsDecided done c.args.line.now c.args.self.now.book (decision.Move c.in-Move.slot c.in-Move.slice) = record {
+    let is : IsDecided done c.args.line.now c.args.self.now.book (decision.Move c.in-Move.slot c.in-Move.slice) =
+    record {
       decision = sym c.in-Move.is ∙ c.in_ok-slot.ensures.decision;
       behind = ap (book_behind c.args.self.now.book) (sym c.in-Move.is) ∙ c.in_ok-slot.ensures.book;
       same = stands.same_book;
     } in
-    on_ok c.move_to.result (λ told. told_so done c.args.line.now c.args.self.now.book (decision.Move c.in-Move.slot c.in-Move.slice) (story_of done latest before made) c.args.report.now.items
-    c.move_to.new.report.items is (told ∙ ap (λ text. c.args.report.now.items ++ text) (move_line (story_of done latest before made) done c.in-Move.slot c.in-Move.slice))) (c.move_to.ensures.told (story_of done latest before made) stands)
+    on_ok c.move_to.result (λ told. told_so done c.args.line.now c.args.self.now.book
+    (decision.Move c.in-Move.slot c.in-Move.slice) (story_of done latest before made) c.args.report.now.items
+    c.move_to.new.report.items is (told ∙ ap (λ text. c.args.report.now.items ++ text)
+    (move_line (story_of done latest before made) done c.in-Move.slot c.in-Move.slice)))
+    (c.move_to.ensures.told (story_of done latest before made) stands)
 
 pub returns-in-Move-clause-stands : goal.returns-in-Move-clause-stands
 returns-in-Move-clause-stands c = λ done latest before made stands late.
-    let is : IsDecided done c.args.line.now c.args.self.now.book (decision.Move c.in-Move.slot c.in-Move.slice) = record {
+    let is : IsDecided done c.args.line.now c.args.self.now.book (decision.Move c.in-Move.slot c.in-Move.slice) =
+    record {
       decision = sym c.in-Move.is ∙ c.in_ok-slot.ensures.decision;
       behind = ap (book_behind c.args.self.now.book) (sym c.in-Move.is) ∙ c.in_ok-slot.ensures.book;
       same = stands.same_book;
     } in
-    on_ok c.move_to.result (stands_so done c.args.line.now c.args.self.now.book (decision.Move c.in-Move.slot c.in-Move.slice) latest before made (book_of done)
-    (λ slot. if c.in-Move.slot == slot then c.in-Move.slice else destination_after slices slot done) c.move_to.new.self is (sym stands.same_book) (λ slot. refl) late)
-    (c.move_to.ensures.stands (story_of done latest before made) (meant_by done (decision.Move c.in-Move.slot c.in-Move.slice)) stands (move_nothing done c.in-Move.slot c.in-Move.slice))
+    on_ok c.move_to.result (stands_so done c.args.line.now c.args.self.now.book
+    (decision.Move c.in-Move.slot c.in-Move.slice) latest before made (book_of done)
+    (λ slot. if c.in-Move.slot == slot then c.in-Move.slice
+    else destination_after slices slot done) c.move_to.new.self is (sym stands.same_book) (λ slot. refl) late)
+    (c.move_to.ensures.stands (story_of done latest before made)
+    (meant_by done (decision.Move c.in-Move.slot c.in-Move.slice)) stands
+    (move_nothing done c.in-Move.slot c.in-Move.slice))
 
 pub returns-in-Note-clause-stands : goal.returns-in-Note-clause-stands
 returns-in-Note-clause-stands c = λ done latest before made stands late.
@@ -87,7 +110,9 @@ returns-in-Note-clause-stands c = λ done latest before made stands late.
       behind = ap (book_behind c.args.self.now.book) (sym c.in-Note.is) ∙ c.in_ok-slot.ensures.book;
       same = stands.same_book;
     } in
-    on_ok c.note.result (stands_so done c.args.line.now c.args.self.now.book (decision.Note c.in-Note.text) latest before made (book_of done)
+    on_ok c.note.result (stands_so done c.args.line.now c.args.self.now.book
+    (decision.Note c.in-Note.text) latest before made (book_of done)
     (λ slot. destination_after slices slot done) c.note.new.self is (sym stands.same_book) (λ slot. refl) late)
-    (subst (λ text. OnOk c.note.result (Stands c.note.new.self (with_meaning (story_of done latest before made) (noted text)))) c.as_slice.ensures
+    (subst (λ text. OnOk c.note.result (Stands c.note.new.self
+    (with_meaning (story_of done latest before made) (noted text)))) c.as_slice.ensures
     (c.note.ensures.stands (story_of done latest before made) stands))

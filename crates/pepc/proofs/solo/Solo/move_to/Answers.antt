@@ -10,23 +10,32 @@ use Rattle.pepc.proofs.solo.Solo.move_to.Goals as goal
 pub returns-clause-told : goal.returns-clause-told
 returns-clause-told c = λ story stands.
     let within = subst (λ (b : List (List ℕ)). c.args.slot < length b) stands.same_book c.requires.known in
-    let held = held_at c.args.self.now story c.args.slot c.slot.inside.0 c.index_mut-subscriber.result.now stands within c.slot.view_is c.index_mut-subscriber.ensures.value in
+    let held = held_at c.args.self.now story c.args.slot c.slot.inside.0 c.index_mut-subscriber.result.now stands
+    within c.slot.view_is c.index_mut-subscriber.ensures.value in
     c.in_ok-push_move.ensures
     ∙ ap (λ text. c.args.report.now.items ++ text)
-    (told_note story (move_note c.destination.result c.args.slot c.args.slice) (move_note (story.bound c.args.slot) c.args.slot c.args.slice)
+    (told_note story (move_note c.destination.result c.args.slot c.args.slice)
+    (move_note (story.bound c.args.slot) c.args.slot c.args.slice)
     (c.args.self.now.lines + 1) (ap (λ n. n + 1) stands.counted)
     (ap (λ bound. move_note bound c.args.slot c.args.slice) (c.destination.ensures ∙ held.bound_for)))
 
 pub returns-clause-stands : goal.returns-clause-stands
 returns-clause-stands c = λ story now stands nothing.
     let within = subst (λ (b : List (List ℕ)). c.args.slot < length b) stands.same_book c.requires.known in
-    let held = held_at c.args.self.now story c.args.slot c.slot.inside.0 c.index_mut-subscriber.result.now stands within c.slot.view_is c.index_mut-subscriber.ensures.value in
+    let held = held_at c.args.self.now story c.args.slot c.slot.inside.0 c.index_mut-subscriber.result.now stands
+    within c.slot.view_is c.index_mut-subscriber.ensures.value in
     let own = c.args.slot in
     let bound : ℕ → ℕ = λ slot. if own == slot then c.args.slice else story.bound slot in
-    let here : bound own ≡ c.args.slice = ap (λ test. if test then c.args.slice else story.bound own) (eq-eqb own own refl) in
-    stands_next c.args.self.now _ story now bound story.latest own c.slot.inside.0 c.set_destination.new.self stands within c.slot.view_is refl refl refl
-    (subst (λ b. SlotStands c.set_destination.new.self own b story.latest (events_of (with_meaning story now) own)) (sym here)
-    (move_holds story now own c.args.slice c.index_mut-subscriber.result.now c.set_destination.new.self nothing held c.set_destination.ensures))
-    (λ slot other. ap (λ test. if test then c.args.slice else story.bound slot) (ne_eqb own slot (λ same. other (sym same))))
+    let here : bound own ≡ c.args.slice = ap (λ test. if test then c.args.slice
+    else story.bound own) (eq-eqb own own refl) in
+    stands_next c.args.self.now _ story now bound story.latest own c.slot.inside.0 c.set_destination.new.self
+    stands within c.slot.view_is refl refl refl
+    (subst (λ b. SlotStands c.set_destination.new.self own b story.latest (events_of (with_meaning story now) own))
+    (sym here)
+    (move_holds story now own c.args.slice c.index_mut-subscriber.result.now c.set_destination.new.self nothing
+    held c.set_destination.ensures))
+    (λ slot other. ap (λ test. if test then c.args.slice
+    else story.bound slot) (ne_eqb own slot (λ same. other (sym same))))
     (λ slot other. nothing slot (events_of story slot)) (omega arith)
-    (gathers_none c.args.self.now.gathered (length story.book) story.before story.made now stands.gathered (λ slot. nothing slot (events_of story slot)))
+    (gathers_none c.args.self.now.gathered (length story.book) story.before story.made now stands.gathered
+    (λ slot. nothing slot (events_of story slot)))
