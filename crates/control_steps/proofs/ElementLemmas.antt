@@ -78,7 +78,7 @@ asks_fit slot bearers [] fits each asked = tt
 asks_fit slot bearers (ask ∷ asks) fits each asked =
     one_accepted slot ask.ebi (active_index bearers ask.ebi) (filter_map (ask_accepted slot bearers) asks) fits asked.0
     (mapped (find (is_active ask.ebi) bearers) (index_found ask.ebi bearers each))
-        (asks_fit slot bearers asks fits each asked.1)
+    (asks_fit slot bearers asks fits each asked.1)
 
 arp_kept : (arp : ℕ) → IsArp arp → arp_bits arp ≡ arp
 arp_kept arp is = omega (arith, is.bit_8, is.bit_2)
@@ -111,8 +111,14 @@ pub changed_context_fits : (ebi : ℕ) (tft : Option (List ℕ)) → elements.Is
 changed_context_fits ebi None is tft_fits =
     record { ebi = is; cause = tt; tft = tt; fteids = tt; qos = tt; len = omega arith }
 changed_context_fits ebi (Some tft) is tft_fits =
-    record { ebi = is; cause = tt; tft = tft_fits; fteids = tt; qos = tt;
-        len = simp length-append (omega (arith, tft_fits.few)) }
+    record {
+      ebi = is;
+      cause = tt;
+      tft = tft_fits;
+      fteids = tt;
+      qos = tt;
+      len = simp length-append (omega (arith, tft_fits.few));
+    }
 
 -- a template's text fits its element
 filters_len : (filters : List Filter) → AllByRecursion IsFilter filters

@@ -50,15 +50,21 @@ one_more : (slot : ℕ) (ask : Ask) (index : Option ℕ) (rest : List Element)
     → length (spellings (cons_option (option_map (accepted slot ask.ebi) index) rest)) ≤ 28 + length (spellings rest)
 one_more slot ask None rest = omega arith
 one_more slot ask (Some index) rest =
-    omega (arith, length-append (spelling (accepted slot ask.ebi index)) (spellings rest),
-        accepted_len slot ask.ebi index)
+    omega (
+      arith,
+      length-append (spelling (accepted slot ask.ebi index)) (spellings rest),
+      accepted_len slot ask.ebi index,
+    )
 
 contexts_len : (slot : ℕ) (bearers : List Bearer) (asks : List Ask)
     → length (spellings (filter_map (ask_accepted slot bearers) asks)) ≤ 28 * length asks
 contexts_len slot bearers [] = omega arith
 contexts_len slot bearers (ask ∷ asks) =
-    omega (arith, one_more slot ask (active_index bearers ask.ebi) (filter_map (ask_accepted slot bearers) asks),
-        contexts_len slot bearers asks)
+    omega (
+      arith,
+      one_more slot ask (active_index bearers ask.ebi) (filter_map (ask_accepted slot bearers) asks),
+      contexts_len slot bearers asks,
+    )
 
 cause_len : (code : ℕ) → length (spelling (cause_element code)) ≡ 6
 cause_len code = refl

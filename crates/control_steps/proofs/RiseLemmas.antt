@@ -43,7 +43,7 @@ effect_rises modified session (Modify seq mme asks) =
     record { lives_stay = omega arith; lives = omega arith; rates_stay = omega arith; rates = omega arith }
 effect_rises asked session (AddBearer seq qci mbr_up mbr_down gbr_up gbr_down tft) =
     bearer_rises session seq (qos_asked session.bearers qci mbr_up mbr_down gbr_up gbr_down)
-        (least_free session.bearers) (filters_given tft)
+    (least_free session.bearers) (filters_given tft)
 effect_rises refiltered session (Filters seq ebi tft) = filters_rise session ebi (filters_made session.bearers ebi tft)
 effect_rises dropped session (Drop seq ebi) =
     record { lives_stay = omega arith; lives = omega arith; rates_stay = omega arith; rates = omega arith }

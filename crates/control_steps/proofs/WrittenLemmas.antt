@@ -58,8 +58,12 @@ pub cause_alone_is : (teid request seq code : ℕ) → teid < 2 ^ 32 → AsksFor
 cause_alone_is teid request seq code teid_fits asks seq_fits code_fits = record {
   message_fits = cause_alone_fits teid request seq code teid_fits asks.answered seq_fits;
   elements_fit = (cause_fits code code_fits, tt);
-  has_required = rw asks.row (record { before = (refl, tt); context = λ must. absurd (false≢true must);
-      inside = tt; after = tt });
+  has_required = rw asks.row (record {
+    before = (refl, tt);
+    context = λ must. absurd (false≢true must);
+    inside = tt;
+    after = tt;
+  });
 }
 
 pdn_cause_fits : (both : Bool) → (if both then 18 else 16) < 2 ^ 8
@@ -75,8 +79,10 @@ create_session_response_is slot teid seq pdn ebi slot_fits teid_fits seq_fits is
     cause_fits (pdn_cause pdn) (pdn_cause_fits (pdn == 3)),
     (
       record { instance = omega arith; value = control_end_fits slot slot_fits },
-      (record { instance = omega arith; value = omega arith },
-          (accepted_fits slot ebi 0 slot_fits is (omega arith), tt)),
+      (
+        record { instance = omega arith; value = omega arith },
+        (accepted_fits slot ebi 0 slot_fits is (omega arith), tt),
+      ),
     ),
   );
   has_required = record { before = (refl, tt); context = λ must. absurd (false≢true must); inside = tt; after = tt };
@@ -98,15 +104,25 @@ pub create_bearer_request_is : (slot teid seq linked index : ℕ) (tft : List �
 unfolding required
 create_bearer_request_is slot teid seq linked index tft qos slot_fits teid_fits seq_fits is in_range tft_fits
     qos_is = record {
-  message_fits = create_bearer_request_fits slot teid seq linked index tft qos teid_fits seq_fits tft_fits;
-  elements_fit = (
-    record { instance = omega arith; value = is },
-    (record { instance = omega arith; value = new_context_fits slot index tft qos slot_fits in_range tft_fits
-        qos_is }, tt),
-  );
-  has_required = record { before = (refl, tt); context = λ must. refl;
-      inside = ((refl, tt), ((refl, tt), ((refl, tt), tt))); after = tt };
-}
+      message_fits = create_bearer_request_fits slot teid seq linked index tft qos teid_fits seq_fits tft_fits;
+      elements_fit = (
+        record { instance = omega arith; value = is },
+        (
+          record {
+            instance = omega arith;
+            value = new_context_fits slot index tft qos slot_fits in_range tft_fits
+                qos_is;
+          },
+          tt,
+        ),
+      );
+      has_required = record {
+        before = (refl, tt);
+        context = λ must. refl;
+        inside = ((refl, tt), ((refl, tt), ((refl, tt), tt)));
+        after = tt;
+      };
+    }
 
 pub update_bearer_request_is : (teid seq ebi : ℕ) (tft : Option (List ℕ)) (up down : ℕ) → teid < 2 ^ 32 → IsSeq seq
     → elements.IsEbi ebi
@@ -114,8 +130,10 @@ pub update_bearer_request_is : (teid seq ebi : ℕ) (tft : Option (List ℕ)) (u
 unfolding required
 update_bearer_request_is teid seq ebi tft up down teid_fits seq_fits is tft_fits up_fits down_fits = record {
   message_fits = update_bearer_request_fits teid seq ebi tft up down teid_fits seq_fits tft_fits;
-  elements_fit = (record { instance = omega arith; value = changed_context_fits ebi tft is tft_fits },
-      (record { instance = omega arith; value = (up_fits, down_fits) }, tt));
+  elements_fit = (
+    record { instance = omega arith; value = changed_context_fits ebi tft is tft_fits },
+    (record { instance = omega arith; value = (up_fits, down_fits) }, tt),
+  );
   has_required = record { before = tt; context = λ must. refl; inside = ((refl, tt), tt); after = (refl, tt) };
 }
 

@@ -106,9 +106,28 @@ asked_qos_fits bearers qci mbr_up mbr_down gbr_up gbr_down each are = record {
 
 -- the index of a new bearer
 few_indices : AllByRecursion (λ index. index ≤ 10) (range_with_len 0 11)
-few_indices = (omega arith, (omega arith, (omega arith,
-    (omega arith, (omega arith, (omega arith, (omega arith,
-    (omega arith, (omega arith, (omega arith, (omega arith, tt)))))))))))
+few_indices = (
+  omega arith,
+  (
+    omega arith,
+    (
+      omega arith,
+      (
+        omega arith,
+        (
+          omega arith,
+          (
+            omega arith,
+            (
+              omega arith,
+              (omega arith, (omega arith, (omega arith, (omega arith, tt)))),
+            ),
+          ),
+        ),
+      ),
+    ),
+  ),
+)
 
 index_fits : (bearers : List Bearer) → IfSome (least_free bearers) (λ index. index ≤ 10)
 index_fits bearers =
@@ -125,61 +144,61 @@ cause_answer_fits : (session : SessionState) (command : CommandKind) (code : ℕ
     → IfSome (cause_answer session (request_of command) code) Fits
 cause_answer_fits session (Create seq mme pdn ebi qos enb up down) code are code_fits =
     cause_alone_is (teid_of_mme session.mme) CREATE_SESSION_REQUEST seq code
-        (teid_fits session.mme are.numbers.mme) create_asks are.command_fits.seq_fits code_fits
+    (teid_fits session.mme are.numbers.mme) create_asks are.command_fits.seq_fits code_fits
 cause_answer_fits session (Modify seq mme asks) code are code_fits =
     cause_alone_is (teid_of_mme session.mme) MODIFY_BEARER_REQUEST seq code
-        (teid_fits session.mme are.numbers.mme) modify_asks are.command_fits.0 code_fits
+    (teid_fits session.mme are.numbers.mme) modify_asks are.command_fits.0 code_fits
 cause_answer_fits session (Release seq) code are code_fits =
     cause_alone_is (teid_of_mme session.mme) RELEASE_ACCESS_BEARERS_REQUEST seq code
-        (teid_fits session.mme are.numbers.mme) release_asks are.command_fits code_fits
+    (teid_fits session.mme are.numbers.mme) release_asks are.command_fits code_fits
 cause_answer_fits session (Delete seq) code are code_fits =
     cause_alone_is (teid_of_mme session.mme) DELETE_SESSION_REQUEST seq code
-        (teid_fits session.mme are.numbers.mme) delete_asks are.command_fits code_fits
+    (teid_fits session.mme are.numbers.mme) delete_asks are.command_fits code_fits
 cause_answer_fits session command code are code_fits = tt
 
 pub written_fits : (row : Row) (session : SessionState) (command : CommandKind) → AreInRange session command
     → IfSome (written row session command) Fits
 written_fits pdn_refused session (Create seq mme pdn ebi qos enb up down) are =
     cause_alone_is mme.teid CREATE_SESSION_REQUEST seq 83 are.own_numbers create_asks are.command_fits.seq_fits
-        (omega arith)
+    (omega arith)
 written_fits class_refused session (Create seq mme pdn ebi qos enb up down) are =
     cause_alone_is mme.teid CREATE_SESSION_REQUEST seq 94 are.own_numbers create_asks are.command_fits.seq_fits
-        (omega arith)
+    (omega arith)
 written_fits created session (Create seq mme pdn ebi qos enb up down) are =
     create_session_response_is session.slot mme.teid seq pdn ebi are.numbers.slot are.own_numbers
-        are.command_fits.seq_fits are.command_fits.ebi_fits
+    are.command_fits.seq_fits are.command_fits.ebi_fits
 written_fits no_session session command are = cause_answer_fits session command 64 are (omega arith)
 written_fits no_bearer session command are = cause_answer_fits session command 64 are (omega arith)
 written_fits modified session (Modify seq mme asks) are =
     modify_bearer_response_is session.slot (teid_of_mme (option_or mme session.mme)) seq session.bearers asks
-        are.numbers.slot
+    are.numbers.slot
     (teid_fits (option_or mme session.mme) (either_fits mme session.mme are.own_numbers are.numbers.mme))
-        are.command_fits.0 are.bearers.each are.command_fits.1
+    are.command_fits.0 are.bearers.each are.command_fits.1
 written_fits released session command are = cause_answer_fits session command 16 are (omega arith)
 written_fits deleted session command are = cause_answer_fits session command 16 are (omega arith)
 written_fits asked session (AddBearer seq qci mbr_up mbr_down gbr_up gbr_down tft) are =
     let qos : Qos = qos_asked session.bearers qci mbr_up mbr_down gbr_up gbr_down in
     asked_message (λ index. create_bearer_request session.slot (teid_of_mme session.mme) seq
-        (default_ebi session.bearers) index (tft_spelling tft) qos)
+    (default_ebi session.bearers) index (tft_spelling tft) qos)
     (λ index in_range. create_bearer_request_is session.slot (teid_of_mme session.mme) seq
-        (default_ebi session.bearers) index (tft_spelling tft) qos are.numbers.slot
+    (default_ebi session.bearers) index (tft_spelling tft) qos are.numbers.slot
     (teid_fits session.mme are.numbers.mme) are.command_fits
-        (ebi_of (default_of session.bearers) (default_fits session.bearers are.bearers.each)) in_range
+    (ebi_of (default_of session.bearers) (default_fits session.bearers are.bearers.each)) in_range
     (template_fits tft are.own_numbers.1) (asked_qos_fits session.bearers qci mbr_up mbr_down gbr_up gbr_down
-        are.bearers.each are.own_numbers.0))
+    are.bearers.each are.own_numbers.0))
     (least_free session.bearers) (index_fits session.bearers)
 written_fits refiltered session (Filters seq ebi tft) are =
     sent _ (λ mme has. update_bearer_request_is mme.teid seq ebi
-        (Some (tft_spelling tft)) session.up session.down has are.command_fits.0 (ebi_fits ebi are.command_fits.1)
+    (Some (tft_spelling tft)) session.up session.down has are.command_fits.0 (ebi_fits ebi are.command_fits.1)
     (template_fits tft are.own_numbers) are.session_fits.up are.session_fits.down) session.mme are.numbers.mme
 written_fits dropped session (Drop seq ebi) are =
     sent _ (λ mme has. delete_bearer_request_is mme.teid seq ebi has are.command_fits.0 are.command_fits.1)
-        session.mme are.numbers.mme
+    session.mme are.numbers.mme
 written_fits rerated session (Ambr seq up down) are =
     sent _ (λ mme has. update_bearer_request_is mme.teid seq
-        (default_ebi session.bearers) None up down has are.command_fits.0
+    (default_ebi session.bearers) None up down has are.command_fits.0
     (ebi_of (default_of session.bearers) (default_fits session.bearers are.bearers.each)) tt
-        are.command_fits.1.up_fits are.command_fits.1.down_fits) session.mme are.numbers.mme
+    are.command_fits.1.up_fits are.command_fits.1.down_fits) session.mme are.numbers.mme
 written_fits row session command are = tt
 
 -- so it reads back

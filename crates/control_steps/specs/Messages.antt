@@ -74,7 +74,7 @@ abbrev pub create_session_response : ℕ → ℕ → ℕ → ℕ → ℕ → Mes
 create_session_response slot teid seq pdn ebi =
     message_to teid CREATE_SESSION_RESPONSE seq
     (cause_element (pdn_cause pdn) ∷ element (values.Fteid (control_end slot))
-        ∷ element (values.Paa (addr_of slot)) ∷ accepted slot ebi 0 ∷ [])
+    ∷ element (values.Paa (addr_of slot)) ∷ accepted slot ebi 0 ∷ [])
 
 -- one Context for each ask, of the active bearer that it names
 abbrev pub ask_accepted : ℕ → List Bearer → Ask → Option Element
@@ -83,7 +83,7 @@ ask_accepted slot bearers ask = option_map (accepted slot ask.ebi) (active_index
 abbrev pub modify_bearer_response : ℕ → ℕ → ℕ → List Bearer → List Ask → Message
 modify_bearer_response slot teid seq bearers asks =
     message_to teid MODIFY_BEARER_RESPONSE seq (cause_element REQUEST_ACCEPTED
-        ∷ filter_map (ask_accepted slot bearers) asks)
+    ∷ filter_map (ask_accepted slot bearers) asks)
 
 -- what a bearer is to have
 abbrev pub qos_ie : Qos → QosIe
@@ -109,7 +109,7 @@ new_context slot index tft qos = record {
 abbrev pub create_bearer_request : ℕ → ℕ → ℕ → ℕ → ℕ → List ℕ → Qos → Message
 create_bearer_request slot teid seq linked index tft qos =
     message_to teid CREATE_BEARER_REQUEST seq (element (values.Ebi linked)
-        ∷ element (values.Context (new_context slot index tft qos)) ∷ [])
+    ∷ element (values.Context (new_context slot index tft qos)) ∷ [])
 
 abbrev pub changed_context : ℕ → Option (List ℕ) → Context
 changed_context ebi tft = record { ebi = Some ebi; cause = None; tft = tft; fteids = []; qos = None }
@@ -117,7 +117,7 @@ changed_context ebi tft = record { ebi = Some ebi; cause = None; tft = tft; ftei
 abbrev pub update_bearer_request : ℕ → ℕ → ℕ → Option (List ℕ) → ℕ → ℕ → Message
 update_bearer_request teid seq ebi tft up down =
     message_to teid UPDATE_BEARER_REQUEST seq (element (values.Context (changed_context ebi tft))
-        ∷ element (values.Ambr up down) ∷ [])
+    ∷ element (values.Ambr up down) ∷ [])
 
 -- the EBI of a bearer that goes has instance 1 (7.2.9.2)
 abbrev pub delete_bearer_request : ℕ → ℕ → ℕ → Message

@@ -66,7 +66,7 @@ filters_given template = None
 abbrev pub filters_made : List Bearer → ℕ → Tft → Option (List Filter)
 filters_made bearers ebi template =
     option_and_then (λ (bearer : Bearer). result_ok (applied bearer.choice.filters template))
-        (find (is_active ebi) bearers)
+    (find (is_active ebi) bearers)
 
 abbrev pub can_ask : SessionState → Tft → Bool
 can_ask session template =

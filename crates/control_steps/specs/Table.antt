@@ -75,7 +75,7 @@ effect released session command = changes.released session
 effect deleted session command = changes.detached session
 effect asked session (AddBearer seq qci mbr_up mbr_down gbr_up gbr_down tft) =
     with_bearer session seq (qos_asked session.bearers qci mbr_up mbr_down gbr_up gbr_down)
-        (least_free session.bearers) (filters_given tft)
+    (least_free session.bearers) (filters_given tft)
 effect refiltered session (Filters seq ebi tft) = with_filters session ebi (filters_made session.bearers ebi tft)
 effect dropped session (Drop seq ebi) = changes.dropped session ebi
 effect rerated session (Ambr seq up down) = changes.rerated session up down
@@ -134,16 +134,16 @@ written released session command = cause_answer session (request_of command) REQ
 written deleted session command = cause_answer session (request_of command) REQUEST_ACCEPTED
 written asked session (AddBearer seq qci mbr_up mbr_down gbr_up gbr_down tft) =
     option_map (λ index. create_bearer_request session.slot (teid_of_mme session.mme) seq
-        (default_ebi session.bearers) index (tft_spelling tft)
+    (default_ebi session.bearers) index (tft_spelling tft)
     (qos_asked session.bearers qci mbr_up mbr_down gbr_up gbr_down))
     (least_free session.bearers)
 written refiltered session (Filters seq ebi tft) =
     option_map (λ (mme : Peer). update_bearer_request mme.teid seq ebi
-        (Some (tft_spelling tft)) session.up session.down) session.mme
+    (Some (tft_spelling tft)) session.up session.down) session.mme
 written dropped session (Drop seq ebi) = option_map (λ (mme : Peer). delete_bearer_request mme.teid seq ebi) session.mme
 written rerated session (Ambr seq up down) =
     option_map (λ (mme : Peer). update_bearer_request mme.teid seq (default_ebi session.bearers) None up down)
-        session.mme
+    session.mme
 written row session command = None
 
 -- the octets of an answer: those that are kept, for a repeat

@@ -62,8 +62,14 @@ fn known(rate: Kbps) -> Kbps
 /// The quality of service that is asked for: its ARP is that of the default bearer.
 fn qos_of(default: &ActiveBearer, asked: &Order) -> Qos
     requires { IsQos default.now.qos }
-    ensures value { result ≡ record { arp = default.now.qos.arp; qci = asked.now.qci; mbr_up = asked.now.mbr_up;
-        mbr_down = asked.now.mbr_down; gbr_up = asked.now.gbr_up; gbr_down = asked.now.gbr_down } }
+    ensures value { result ≡ record {
+      arp = default.now.qos.arp;
+      qci = asked.now.qci;
+      mbr_up = asked.now.mbr_up;
+      mbr_down = asked.now.mbr_down;
+      gbr_up = asked.now.gbr_up;
+      gbr_down = asked.now.gbr_down;
+    } }
     ensures valid { IsQos result }
 {
     let _qci = asked.qci;

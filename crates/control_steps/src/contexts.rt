@@ -116,8 +116,10 @@ pub fn new_context(
     requires index { index ≤ 10 }
     requires tft { IsOctets 1000 tft }
     requires qos { IsQos qos.now }
-    ensures { IfOk result (λ element. element ≡ record { instance = 0;
-        value = IeValue.Context (new_context slot index tft qos.now) }) }
+    ensures { IfOk result (λ element. element ≡ record {
+      instance = 0;
+      value = IeValue.Context (new_context slot index tft qos.now);
+    }) }
 {
     Ok(Ie {
         instance: 0,

@@ -33,17 +33,26 @@ has_without gone ebi (ask ∷ asks) apart = by_bool (eqb ask.ebi gone)
 -- one more ask behind those of another EBI
 push_behind : (first ask : Ask) (asks : List Ask)
     → first ∷ without_ebi first.ebi (with_ask asks (Some ask))
-        ≡ with_ask (first ∷ without_ebi first.ebi asks) (Some ask)
+    ≡ with_ask (first ∷ without_ebi first.ebi asks) (Some ask)
 push_behind first ask asks = by_bool (eqb first.ebi ask.ebi)
     (λ same. by_bool (has_ebi ask.ebi asks)
     (λ has. rw (same, has) refl)
-    (λ lacks. rw (same, lacks, filter-append (λ (other : Ask). not (other.ebi == first.ebi)) asks (ask ∷ []),
-        eq-eqb ask.ebi first.ebi (sym (eqb-true first.ebi ask.ebi same)))
-        (ap (λ rest. first ∷ rest) (append-nil (without_ebi first.ebi asks)))))
+    (λ lacks. rw (
+      same,
+      lacks,
+      filter-append (λ (other : Ask). not (other.ebi == first.ebi)) asks (ask ∷ []),
+      eq-eqb ask.ebi first.ebi (sym (eqb-true first.ebi ask.ebi same)),
+    )
+    (ap (λ rest. first ∷ rest) (append-nil (without_ebi first.ebi asks)))))
     (λ other. by_bool (has_ebi ask.ebi asks)
     (λ has. rw (other, has_without first.ebi ask.ebi asks other, has) refl)
-    (λ lacks. rw (other, has_without first.ebi ask.ebi asks other, lacks,
-        filter-append (λ (an : Ask). not (an.ebi == first.ebi)) asks (ask ∷ []), eqb_no first.ebi ask.ebi other) refl))
+    (λ lacks. rw (
+      other,
+      has_without first.ebi ask.ebi asks other,
+      lacks,
+      filter-append (λ (an : Ask). not (an.ebi == first.ebi)) asks (ask ∷ []),
+      eqb_no first.ebi ask.ebi other,
+    ) refl))
 
 pub first_asks-push : (asks : List Ask) (ask : Ask) → first_asks (asks ++ ask ∷ [])
     ≡ with_ask (first_asks asks) (Some ask)
@@ -112,7 +121,7 @@ below_eleven (ask ∷ asks) each q is = by_bool (eqb q (ask.ebi - 5))
 few_first : (asks : List Ask) → AllByRecursion IsAsk asks → EachPair HaveTwoEbis asks → length asks ≤ 11
 few_first asks each pairs =
     let most : length (above_five asks) ≤ 11 = length-le_from_distinct_below (above_five asks) 11
-        (distinct_above asks each pairs) (below_eleven asks each) in
+    (distinct_above asks each pairs) (below_eleven asks each) in
     omega (arith, most, length-map asks (λ (ask : Ask). ask.ebi - 5))
 
 pub are_asks : (asks : List Ask) → AllByRecursion IsAsk asks → AreAsks (first_asks asks)
@@ -165,7 +174,7 @@ pub each-push : (ies : List Element) (ie : Element) → AllByRecursion IsAsk (ea
 each-push ies ie each is =
     subst (AllByRecursion IsAsk) (sym (each_ask-push ies ie))
     (each-append IsAsk (each_ask ies) (filter_map ask_of (cons_option (first_context ie) [])) each
-        (of_context (first_context ie) is))
+    (of_context (first_context ie) is))
 
 -- a turn of the loop over elements
 take_more : (ies : List Element) (i : ℕ) (ie : Element) → i < length ies → ie ≡ get_or ies i ie

@@ -20,4 +20,4 @@ message_spelled octets message spells =
     ∙ ap (λ teid. made message.kind teid (seq_of octets) (elements_in (body_of octets))) spells.header.teid
     ∙ ap (λ seq. made message.kind message.teid seq (elements_in (body_of octets))) spells.header.seq
     ∙ ap (made message.kind message.teid message.seq) (elements_spelled message.kind
-        (body_of octets) message.ies spells.body)
+    (body_of octets) message.ies spells.body)

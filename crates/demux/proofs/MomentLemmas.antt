@@ -89,7 +89,7 @@ map_at moment None next each = tt
 created_at : (moment : ℕ) (message : Message) → IfSome (create_asked message) (AskedAt moment)
 created_at moment message =
     then_at moment (imsi_in message.ies) _ (λ digits. then_at moment (mme_in message.ies) _
-        (λ mme. then_at moment (creation message) _ (λ create. tt)))
+    (λ mme. then_at moment (creation message) _ (λ create. tt)))
 
 slot_at : (moment : ℕ) (found : Option ℕ) (asks : CommandKind) (missing : List ℕ)
     → AskedAt moment (for_slot found asks missing)
@@ -99,7 +99,7 @@ slot_at moment None asks missing = tt
 session_at : (moment : ℕ) (message : Message) → IfSome (session_asked message) (AskedAt moment)
 session_at moment message =
     map_at moment (session_command message) _ (λ asks.
-        slot_at moment (option_and_then control_slot message.teid) asks (no_context_note message))
+    slot_at moment (option_and_then control_slot message.teid) asks (no_context_note message))
 
 unexpected_at : (moment : ℕ) (one : Option Asked) → IfSome one (AskedAt moment) → AskedAt moment (or_unexpected one)
 unexpected_at moment (Some one) is = is
@@ -116,7 +116,7 @@ message_at moment message =
     by_test moment (message.kind == ECHO_REQUEST) _ _ tt
     (by_test moment (message.kind == ECHO_RESPONSE || message.kind == DOWNLINK_DATA_NOTIFICATION_ACKNOWLEDGE) _ _ tt
     (by_test moment (message.kind == CREATE_SESSION_REQUEST) _ _
-        (unexpected_at moment (create_asked message) (created_at moment message))
+    (unexpected_at moment (create_asked message) (created_at moment message))
     (unexpected_at moment (session_asked message) (session_at moment message))))
 
 where_at : (moment : ℕ) (octets : List ℕ) (fault : Option CBad) → AskedAt moment (asked_where octets fault)

@@ -95,8 +95,8 @@ other_kind P rest false all = all
 own_kind : (P : Context → Type 0) (instance : ℕ) (own : Context) (rest : List Element) (context : Context) (b : Bool)
     → (context_in rest ≡ Some context → AllByRecursion P (contexts_of rest) → P context)
     → option_and_then context_value (option_map (λ (ie : Element). ie.value) (if b
-        then Some (record { instance = instance; value = values.Context own })
-        else find (is_of kinds.Context 0) rest)) ≡ Some context
+    then Some (record { instance = instance; value = values.Context own })
+    else find (is_of kinds.Context 0) rest)) ≡ Some context
     → AllByRecursion P (cons_option (if b then Some own else None) (contexts_of rest)) → P context
 own_kind P instance own rest context true later is all = let same : own ≡ context = cc in subst P same all.0
 own_kind P instance own rest context false later is all = later is all
@@ -134,9 +134,9 @@ creation_of_row message meets =
     then_some (rates_in message.ies) _ (has_rates message.ies meets.before.1.1.1.0) (λ rates _.
     then_some (context_in message.ies) _ (has_context message.ies (meets.context refl)) (λ context is.
     then_some (assigned context.ebi) _ (assigned_some context.ebi
-        (counted_context (HasPart parts.AssignedEbi) message.ies context is meets.inside.0)) (λ ebi _.
+    (counted_context (HasPart parts.AssignedEbi) message.ies context is meets.inside.0)) (λ ebi _.
     then_some context.qos _ (counted_context (HasPart (parts.Ie kinds.Qos)) message.ies context is
-        meets.inside.1.0) (λ qos _. refl))))))
+    meets.inside.1.0) (λ qos _. refl))))))
 
 create_of_row : (message : Message) → MeetsRow (required 32) message.ies → IsSome (create_asked message)
 unfolding required
@@ -151,9 +151,9 @@ answer_of_row message meets =
     then_some (cause_in message.ies) _ (has_cause message.ies meets.before.0) (λ cause _.
     then_some (context_in message.ies) _ (has_context message.ies (meets.context refl)) (λ context is.
     then_some context.ebi _ (counted_context (HasPart (parts.Ie kinds.Ebi)) message.ies context is meets.inside.0)
-        (λ ebi _.
+    (λ ebi _.
     then_some context.cause _ (counted_context (HasPart (parts.Ie kinds.Cause)) message.ies context is
-        meets.inside.1.0) (λ row_cause _. refl))))
+    meets.inside.1.0) (λ row_cause _. refl))))
 
 pub create_whole : (message : Message) → HasRequired message → message.kind ≡ 32 → IsSome (create_asked message)
 create_whole message has is = create_of_row message (subst (λ kind. MeetsRow (required kind) message.ies) is has)

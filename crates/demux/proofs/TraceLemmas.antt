@@ -39,4 +39,4 @@ meanings_from-push slices before (first ∷ lines) line =
     ap (λ rest. meaning slices before first ∷ rest)
     (meanings_from-push slices (before ++ first ∷ []) lines line
     ∙ ap (λ all. meanings_from slices (before ++ first ∷ []) lines ++ meaning slices all line ∷ [])
-        (append_assoc before (first ∷ []) lines))
+    (append_assoc before (first ∷ []) lines))

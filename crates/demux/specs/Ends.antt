@@ -12,7 +12,7 @@ control_slot teid = if is_given teid && teid % 16 == 0 then Some (teid / 16 - 1)
 abbrev pub bearer_end : ℕ → Option (ℕ × ℕ)
 bearer_end teid =
     if is_given teid && (nat_lt 0 (teid % 16) && nat_le (teid % 16) 11) then Some (teid / 16 - 1, teid % 16 - 1)
-        else None
+    else None
 
 -- the slot whose address it is: 10.45.0.2 to 10.45.255.254
 abbrev pub addressee : ℕ → Option ℕ

@@ -16,7 +16,7 @@ kind_asks number moment (kind.Sgi octets) = packet_asked moment octets
 kind_asks number moment (kind.Attach imsi enb up down) = admission imsi (order.Attach enb up down) (codes "pool")
 kind_asks number moment (kind.Bearer imsi qci mbr_up mbr_down gbr_up gbr_down tft) =
     ordered imsi (templated (λ template. order.AddBearer
-        (seq_of_line number) qci mbr_up mbr_down gbr_up gbr_down template) tft)
+    (seq_of_line number) qci mbr_up mbr_down gbr_up gbr_down template) tft)
 kind_asks number moment (kind.Filters imsi ebi tft) =
     ordered imsi (templated (λ template. order.Filters (seq_of_line number) ebi template) tft)
 kind_asks number moment (kind.Drop imsi ebi) = ordered imsi (command (order.Drop (seq_of_line number) ebi))

@@ -54,7 +54,7 @@ for_slot None asked missing = note missing
 abbrev pub session_asked : Message → Option Asked
 session_asked message =
     option_map (λ asked. for_slot (option_and_then control_slot message.teid) asked (no_context_note message))
-        (session_command message)
+    (session_command message)
 
 -- a type that an MME doesn't send is unexpected
 abbrev pub or_unexpected : Option Asked → Asked
@@ -71,7 +71,7 @@ unfoldable pub message_asked : Message → Asked
 message_asked message =
     if message.kind == ECHO_REQUEST then note (echo_note message.seq)
     else if message.kind == ECHO_RESPONSE || message.kind == DOWNLINK_DATA_NOTIFICATION_ACKNOWLEDGE
-        then note (codes "s11 noted")
+    then note (codes "s11 noted")
     else if message.kind == CREATE_SESSION_REQUEST then create_or_unexpected message
     else session_or_unexpected message
 

@@ -83,7 +83,7 @@ actives_old session lived active there =
       below = omega (arith, lived.below found.0 found.1);
       active = λ b b_there is.
           let same : b ≡ found.0 = one_of life_of b found.0 session.bearers lived.apart b_there found.1 (is
-              ∙ sym same_life) in
+          ∙ sym same_life) in
           active_since b.phase active.ebi (ap (λ (c : Bearer). c.phase) same ∙ found.2.phase);
     }
 
@@ -115,7 +115,7 @@ same_bearer before after lived goes b c b_there c_there same_life =
     elim (goes.from is.0 is.1) [
       | inl old ↦
           let lives : old.0.life ≡ was.0.life = sym old.2.life ∙ life_shown is.0 c is.2 ∙ sym same_life
-              ∙ sym (life_shown was.0 b was.2) in
+          ∙ sym (life_shown was.0 b was.2) in
           let same : old.0 ≡ was.0 = one_of life_of old.0 was.0 before.bearers lived.apart old.1 was.1 lives in
           record {
             index = sym (ap (λ (a : ActiveBearer). a.index) was.2.shown)
@@ -125,8 +125,14 @@ same_bearer before after lived goes b c b_there c_there same_life =
                 ∙ sym old.2.qos
                 ∙ ap (λ (a : ActiveBearer). a.qos) is.2.shown;
           }
-      | inr new ↦ absurd (omega (arith, new, lived.below was.0 was.1, life_shown was.0 b was.2,
-          life_shown is.0 c is.2, same_life))
+      | inr new ↦ absurd (omega (
+        arith,
+        new,
+        lived.below was.0 was.1,
+        life_shown was.0 b was.2,
+        life_shown is.0 c is.2,
+        same_life,
+      ))
     ]
 
 -- a life that begins is not old
@@ -145,9 +151,9 @@ begins_fresh before after goes c c_there has_not old =
           elim (asked_or_active was.0.phase) [
             | inl active ↦
                 let there = in_map life_in (active_of was.0 active.0) (actives before.bearers)
-                    (show was.0 active.0 before.bearers was.1 active.1) in
+                (show was.0 active.0 before.bearers was.1 active.1) in
                 let has = has_of (actives before.bearers) c.life
-                    (subst (λ n. In n (active_lives (actives before.bearers))) lives there) in
+                (subst (λ n. In n (active_lives (actives before.bearers))) lives there) in
                 false≢true (sym has_not ∙ has)
             | inr asked ↦ asked (old.active was.0 was.1 lives)
           ]

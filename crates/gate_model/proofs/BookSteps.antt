@@ -29,7 +29,7 @@ pub of_has : (bearers : List ActiveBearer) (life : ℕ) → has_life bearers lif
 of_has bearers life has =
     let found = of_any (λ (b : ActiveBearer). b.life == life) bearers has in
     subst (λ n. In n (active_lives bearers)) (eqb-true found.0.life life found.2)
-        (in_map life_in found.0 bearers found.1)
+    (in_map life_in found.0 bearers found.1)
 
 -- what may happen where these lives are open
 abbrev pub MayNow : List ℕ → Happening → Type 0
@@ -55,7 +55,7 @@ lawful_all before [] lawful all = rw append-nil lawful
 lawful_all before (now ∷ later) lawful all =
     let pushed = lawful-push before now lawful (may_now before now all.0) in
     let behind : AllNow (lives_of (before ++ now ∷ [])) later =
-        subst (λ lives. AllNow lives later) (sym (lives-push before now)) all.1 in
+    subst (λ lives. AllNow lives later) (sym (lives-push before now)) all.1 in
     subst IsLawful (append_assoc before (now ∷ []) later) (lawful_all (before ++ now ∷ []) later pushed behind)
 
 pub lives-all : (before later : List Happening) → lives_of (before ++ later) ≡ lives_behind (lives_of before) later
@@ -92,13 +92,17 @@ itself life other is same = false≢true (sym (not-true (other == life) is) ∙ 
 end_each : (lives : List ℕ) (bearers : List ActiveBearer) → AreDistinct (active_lives bearers)
     → ((life : ℕ) → In life (active_lives bearers) → In life lives)
     → Ends lives bearers
-end_each lives [] apart opened = record { may = tt; were = λ life there. there; over = λ life there among. among;
-    stay = λ life there not_among. there }
+end_each lives [] apart opened = record {
+  may = tt;
+  were = λ life there. there;
+  over = λ life there among. among;
+  stay = λ life there not_among. there;
+}
 end_each lives (b ∷ bs) apart opened =
     let left : List ℕ = filter (is_not b.life) lives in
     let still : (life : ℕ) → In life (active_lives bs) → In life left = λ life there.
     in_filter (is_not b.life) life lives (opened life (inr there))
-        (not_itself b.life life (λ same. other_at b.life life (active_lives bs) apart.0 there (sym same))) in
+    (not_itself b.life life (λ same. other_at b.life life (active_lives bs) apart.0 there (sym same))) in
     let rest = end_each left bs apart.1 still in
     record {
       may = (opened b.life (inl refl), rest.may);
@@ -151,14 +155,17 @@ begin_all lives [] apart fresh = record { may = tt; behind = sym (append-nil liv
 begin_all lives (b ∷ bs) apart fresh =
     let more : List ℕ = lives ++ b.life ∷ [] in
     let others : (life : ℕ) → In life (active_lives bs) → In life more → ⊥ =
-        λ life there among. elim (in_append life lives (b.life ∷ []) among) [
+    λ life there among. elim (in_append life lives (b.life ∷ []) among) [
       | inl old ↦ fresh life (inr there) old
       | inr new ↦ elim new [ inl same ↦ other_at b.life life (active_lives bs) apart.0 there same | inr none ↦ none ]
     ] in
     let rest = begin_all more bs apart.1 others in
     record {
-      may = (other_if b.life lives (λ m there same. fresh b.life (inl refl)
-          (subst (λ n. In n lives) (sym same) there)), rest.may);
+      may = (
+        other_if b.life lives (λ m there same. fresh b.life (inl refl)
+            (subst (λ n. In n lives) (sym same) there)),
+        rest.may,
+      );
       behind = rest.behind ∙ append_assoc lives (b.life ∷ []) (active_lives bs);
     }
 
@@ -184,7 +191,7 @@ marks_may lives before after are apart next_apart =
     let new : List ActiveBearer = lacking_in before.bearers after.bearers in
     let sharing : List ActiveBearer = filter shares_ambr (shared_with after.bearers before.bearers) in
     let in_over : (life : ℕ) → In life (active_lives over) → In life (active_lives before.bearers)
-        × (In life (active_lives after.bearers) → ⊥) = λ life there.
+    × (In life (active_lives after.bearers) → ⊥) = λ life there.
     let found = of_map life_in life over there in
     let kept = of_filter (λ (b : ActiveBearer). not (has_life after.bearers b.life)) found.0 before.bearers found.1 in (
       subst (λ n. In n (active_lives before.bearers)) found.2 (in_map life_in found.0 before.bearers kept.0),
@@ -192,17 +199,17 @@ marks_may lives before after are apart next_apart =
           (subst (λ n. In n (active_lives after.bearers)) (sym found.2) after_there),
     ) in
     let ends = end_each lives over (distinct_filter life_in
-        (λ (b : ActiveBearer). not (has_life after.bearers b.life)) before.bearers apart)
+    (λ (b : ActiveBearer). not (has_life after.bearers b.life)) before.bearers apart)
     (λ life there. are.opened life (in_over life there).0) in
     let left : List ℕ = lives_behind lives (gone over) in
     let shared_left : (b : ActiveBearer) → In b sharing → In b.life left = λ b there.
     let one = of_filter shares_ambr b (shared_with after.bearers before.bearers) there in
     let two = of_filter (λ (c : ActiveBearer). has_life after.bearers c.life) b before.bearers one.0 in
     ends.stay b.life (are.opened b.life (in_map life_in b before.bearers two.0))
-        (λ among. (in_over b.life among).1 (of_has after.bearers b.life two.1)) in
+    (λ among. (in_over b.life among).1 (of_has after.bearers b.life two.1)) in
     let cuts = may_cut_if (nat_lt before.rates after.rates) left sharing shared_left in
     let in_new : (life : ℕ) → In life (active_lives new) → In life (active_lives after.bearers)
-        × (In life (active_lives before.bearers) → ⊥) = λ life there.
+    × (In life (active_lives before.bearers) → ⊥) = λ life there.
     let found = of_map life_in life new there in
     let kept = of_filter (λ (b : ActiveBearer). not (has_life before.bearers b.life)) found.0 after.bearers found.1 in (
       subst (λ n. In n (active_lives after.bearers)) found.2 (in_map life_in found.0 after.bearers kept.0),
@@ -210,21 +217,21 @@ marks_may lives before after are apart next_apart =
           (subst (λ n. In n (active_lives before.bearers)) (sym found.2) before_there),
     ) in
     let begins = begin_all left new (distinct_filter life_in
-        (λ (b : ActiveBearer). not (has_life before.bearers b.life)) after.bearers next_apart)
+    (λ (b : ActiveBearer). not (has_life before.bearers b.life)) after.bearers next_apart)
     (λ life there old. (in_new life there).1 (are.active life (ends.were life old))) in
     let cut_behind : lives_behind lives (ended before.bearers after.bearers
-        ++ cut (nat_lt before.rates after.rates) before.bearers after.bearers) ≡ left =
+    ++ cut (nat_lt before.rates after.rates) before.bearers after.bearers) ≡ left =
     behind_append lives (ended before.bearers after.bearers)
-        (cut (nat_lt before.rates after.rates) before.bearers after.bearers) ∙ cuts.1 in
+    (cut (nat_lt before.rates after.rates) before.bearers after.bearers) ∙ cuts.1 in
     let all_behind : lives_behind lives (marks before after) ≡ left ++ active_lives new =
     behind_append lives (ended before.bearers after.bearers
-        ++ cut (nat_lt before.rates after.rates) before.bearers after.bearers) (begun before.bearers after.bearers)
+    ++ cut (nat_lt before.rates after.rates) before.bearers after.bearers) (begun before.bearers after.bearers)
     ∙ ap (λ open_lives. lives_behind open_lives (begun before.bearers after.bearers)) cut_behind ∙ begins.behind in
     record {
       may = all_append lives (ended before.bearers after.bearers
           ++ cut (nat_lt before.rates after.rates) before.bearers after.bearers) (begun before.bearers after.bearers)
           (all_append lives (ended before.bearers after.bearers)
-              (cut (nat_lt before.rates after.rates) before.bearers after.bearers) ends.may cuts.0)
+          (cut (nat_lt before.rates after.rates) before.bearers after.bearers) ends.may cuts.0)
           (subst (λ open_lives. AllNow open_lives (begun before.bearers after.bearers)) (sym cut_behind) begins.may);
       now_open = record {
         active = λ life there. elim (in_append life left (active_lives new) (subst (In life) all_behind there)) [
@@ -234,28 +241,28 @@ marks_may lives before after are apart next_apart =
                 let was = are.active life (ends.were life old) in
                 let found = of_map life_in life before.bearers was in
                 let none_of : has_life after.bearers found.0.life ≡ false =
-                    ap (has_life after.bearers) found.2 ∙ none in
+                ap (has_life after.bearers) found.2 ∙ none in
                 let lacking = in_filter (λ (b : ActiveBearer). not (has_life after.bearers b.life)) found.0
-                    before.bearers found.1
+                before.bearers found.1
                 (not_from_false (has_life after.bearers found.0.life) none_of) in
                 absurd (ends.over life old (subst (λ n. In n (active_lives over)) found.2
-                    (in_map life_in found.0 over lacking)))
+                (in_map life_in found.0 over lacking)))
           ]
           | inr begins_now ↦ (in_new life begins_now).0
         ];
         opened = λ life there. subst (In life) (sym all_behind) (elim (cases_Bool (has_life before.bearers life)) [
           | inl has ↦ in_left life left (active_lives new)
               (ends.stay life (are.opened life (of_has before.bearers life has))
-                  (λ among. (in_over life among).1 there))
+              (λ among. (in_over life among).1 there))
           | inr none ↦
               let found = of_map life_in life after.bearers there in
               let none_of : has_life before.bearers found.0.life ≡ false =
-                  ap (has_life before.bearers) found.2 ∙ none in
+              ap (has_life before.bearers) found.2 ∙ none in
               let begins_now = in_filter (λ (b : ActiveBearer). not (has_life before.bearers b.life)) found.0
-                  after.bearers found.1
+              after.bearers found.1
               (not_from_false (has_life before.bearers found.0.life) none_of) in
               in_right life left (active_lives new) (subst (λ n. In n (active_lives new)) found.2
-                  (in_map life_in found.0 new begins_now))
+              (in_map life_in found.0 new begins_now))
         ]);
       };
     }

@@ -59,14 +59,14 @@ none_sent after [] = refl
 none_sent after (b ∷ bs) =
     flat_map-append sent_by_effect (marker_for after b) (flat_map (marker_for after) bs)
     ∙ ap (λ some. some ++ flat_map sent_by_effect (flat_map (marker_for after) bs))
-        (markers_none b.life b.enb (enb_of after.bearers b.life))
+    (markers_none b.life b.enb (enb_of after.bearers b.life))
     ∙ none_sent after bs
 
 effects-push : (effects : List Effect) (now : Effect) (sent : List Sent) → sent_by_effect now ≡ sent
     → flat_map sent_by_effect (effects ++ now ∷ []) ≡ flat_map sent_by_effect effects ++ sent
 effects-push effects now sent is =
     flat_map-append sent_by_effect effects (now ∷ []) ∙ ap (λ more. flat_map sent_by_effect effects ++ more)
-        (append-nil (sent_by_effect now) ∙ is)
+    (append-nil (sent_by_effect now) ∙ is)
 
 one_sent : (base : List Sent) (so_far : Past × List Effect) (row : HeldRow) (outcome : Past × List Effect)
     → ReleasedAs so_far row outcome
@@ -74,12 +74,12 @@ one_sent : (base : List Sent) (so_far : Past × List Effect) (row : HeldRow) (ou
     → sent_of outcome.0 ≡ base ++ flat_map sent_by_effect outcome.1
 one_sent base so_far row outcome (ReleasedAs.ends fate_ past effects none) sent =
     let more = ap (flat_map sent_by_effect) effects ∙ effects-push so_far.1
-        (effect.Fate row.packet.number fate_) [] none ∙ append-nil (flat_map sent_by_effect so_far.1) in
+    (effect.Fate row.packet.number fate_) [] none ∙ append-nil (flat_map sent_by_effect so_far.1) in
     ap sent_of past ∙ sent ∙ ap (λ es. base ++ es) (sym more)
 one_sent base so_far row outcome (ReleasedAs.passed b fate_ there fits past effects shown) sent =
     let now : ForwardedRow = row_for so_far.0 b false (length row.packet.octets) in
     let more = ap (flat_map sent_by_effect) effects ∙ effects-push so_far.1 (effect.Fate row.packet.number fate_)
-        (sent_as now ∷ []) shown in
+    (sent_as now ∷ []) shown in
     ap sent_of past ∙ sent-push so_far.0.forwarded now ∙ ap (λ some. some ++ sent_as now ∷ []) sent
     ∙ append_assoc base (flat_map sent_by_effect so_far.1) (sent_as now ∷ []) ∙ ap (λ es. base ++ es) (sym more)
 one_sent base so_far row outcome (ReleasedAs.waits past effects) sent =
@@ -91,7 +91,7 @@ all_sent : (base : List Sent) (so_far : Past × List Effect) (rows : List HeldRo
 all_sent base so_far [] sent = sent
 all_sent base so_far (row ∷ rows) sent =
     all_sent base (released so_far row) rows (one_sent base so_far row (released so_far row)
-        (released_as so_far row) sent)
+    (released_as so_far row) sent)
 
 learnt_sent : (past : Past) (after : VersionState) → sent_of (learnt past after).0 ≡ sent_of past
     ++ flat_map sent_by_effect (learnt past after).1
@@ -105,7 +105,7 @@ one_judged past packet outcome (JudgedAs.nothing same not_held shown) =
     ap sent_of same ∙ sym (ap (λ more. sent_of past ++ more) shown ∙ append-nil (sent_of past))
 one_judged past packet outcome (JudgedAs.passed b way there fits same not_held shown) =
     ap sent_of same ∙ sent-push past.forwarded (row_for past b way (length packet.octets))
-        ∙ ap (λ more. sent_of past ++ more) (sym shown)
+    ∙ ap (λ more. sent_of past ++ more) (sym shown)
 one_judged past packet outcome (JudgedAs.waits b there few same held shown) =
     ap sent_of same ∙ sym (ap (λ more. sent_of past ++ more) shown ∙ append-nil (sent_of past))
 
@@ -117,15 +117,15 @@ told_from_sent past (event.Command command ∷ later) =
     let now = (learnt past.packets (next_version past command)).1 in
     told_from_sent (commanded past command) later
     ∙ ap (λ some. some ++ sent_in (told_from (commanded past command) later))
-        (learnt_sent past.packets (next_version past command))
+    (learnt_sent past.packets (next_version past command))
     ∙ append_assoc (sent_of past.packets) (flat_map sent_by_effect now)
-        (sent_in (told_from (commanded past command) later))
+    (sent_in (told_from (commanded past command) later))
 told_from_sent past (event.Packet packet ∷ later) =
     let now = (judged past.packets packet).1 in
     told_from_sent (met past packet) later
     ∙ ap (λ some. some ++ sent_in (told_from (met past packet) later))
     (one_judged (at_moment past.packets packet.moment) packet (judged past.packets packet)
-        (judged_as past.packets packet))
+    (judged_as past.packets packet))
     ∙ append_assoc (sent_of past.packets) (sent_by_verdict now) (sent_in (told_from (met past packet) later))
 
 pub forwarded_told : ForwardedIsTold
@@ -156,7 +156,7 @@ heard_keeps life = record {
       filter_map-append (packet_by life) past.charged (happening_for row ∷ [])
       ∙ ap (λ some. some ++ packets_of life (happening_for row ∷ [])) is
       ∙ ap (λ more. map charged_as (rows_of_life life past.forwarded) ++ more)
-          (heard_one life row (row.life == life) refl)
+      (heard_one life row (row.life == life) refl)
       ∙ sym (ap (map charged_as) (filter-append (λ (r : ForwardedRow). r.life == life) past.forwarded (row ∷ []))
       ∙ map_both (rows_of_life life past.forwarded) (rows_of_life life (row ∷ [])));
   waiting = λ past row is known. is;
@@ -183,12 +183,12 @@ none_cut life false bearers = refl
 none_marked : (life : ℕ) (before after : VersionState) → packets_of life (marks before after) ≡ []
 none_marked life before after =
     filter_map-append (packet_by life) (ended before.bearers after.bearers
-        ++ cut (nat_lt before.rates after.rates) before.bearers after.bearers) (begun before.bearers after.bearers)
+    ++ cut (nat_lt before.rates after.rates) before.bearers after.bearers) (begun before.bearers after.bearers)
     ∙ ap (λ some. some ++ packets_of life (begun before.bearers after.bearers))
     (filter_map-append (packet_by life) (ended before.bearers after.bearers)
-        (cut (nat_lt before.rates after.rates) before.bearers after.bearers)
+    (cut (nat_lt before.rates after.rates) before.bearers after.bearers)
     ∙ ap (λ some. some ++ packets_of life (cut (nat_lt before.rates after.rates) before.bearers after.bearers))
-        (none_closed life Gone (lacking_in after.bearers before.bearers))
+    (none_closed life Gone (lacking_in after.bearers before.bearers))
     ∙ none_cut life (nat_lt before.rates after.rates) (filter shares_ambr (shared_with after.bearers before.bearers)))
     ∙ none_begun life (lacking_in before.bearers after.bearers)
 
@@ -198,8 +198,10 @@ heard_learnt life past after is =
     filter_map-append (packet_by life) past.charged (marks past.version after)
     ∙ ap (λ more. packets_of life past.charged ++ more) (none_marked life past.version after)
     ∙ append-nil (packets_of life past.charged) ∙ is in
-    all_released (heard life) (λ n. Unit {0}) (heard_keeps life) (marked past after,
-        markers past.version after) past.held at_marks (λ row there. tt)
+    all_released (heard life) (λ n. Unit {0}) (heard_keeps life) (
+      marked past after,
+      markers past.version after,
+    ) past.held at_marks (λ row there. tt)
 
 heard_from : (life : ℕ) (past : SlotPast) (events : List Event) → heard life past.packets
     → heard life (fold behind past events).packets
@@ -209,7 +211,7 @@ heard_from life past (event.Command command ∷ later) is =
     heard_from life (commanded past command) later (heard_learnt life past.packets (next_version past command) is)
 heard_from life past (event.Packet packet ∷ later) is =
     heard_from life (met past packet) later (judged_kept (heard life) (λ n. Unit {0})
-        (heard_keeps life) past.packets packet is)
+    (heard_keeps life) past.packets packet is)
 
 pub in_one_piece : EachPacketInOnePiece
 in_one_piece slot events life = record {
@@ -242,13 +244,15 @@ on_from base past (event.Command command ∷ later) on =
     let after : VersionState = next_version past command in
     let new : List Happening = marks past.packets.version after in
     on_from base (commanded past command) later
-    (all_released (GoesOn base) (λ n. Unit {0}) (on_keeps base) (marked past.packets after,
-        markers past.packets.version after) past.packets.held
+    (all_released (GoesOn base) (λ n. Unit {0}) (on_keeps base) (
+      marked past.packets after,
+      markers past.packets.version after,
+    ) past.packets.held
     (record { more = on.more ++ new; is = ap (λ some. some ++ new) on.is ∙ append_assoc base on.more new })
-        (λ row there. tt))
+    (λ row there. tt))
 on_from base past (event.Packet packet ∷ later) on =
     on_from base (met past packet) later (judged_kept (GoesOn base) (λ n. Unit {0})
-        (on_keeps base) past.packets packet on)
+    (on_keeps base) past.packets packet on)
 
 drop_front : {X : Type 0} (xs ys : List X) → drop (length xs) (xs ++ ys) ≡ ys
 drop_front [] ys = refl
@@ -260,7 +264,7 @@ records_added slot before now =
     let on = on_from base (past_of slot before) now (record { more = []; is = sym (append-nil base) }) in
     let split : records_after slot (before ++ now) ≡ rows_of base ++ rows_from base on.more =
     ap (λ (past : SlotPast). rows_of past.packets.charged) (past-append slot before now) ∙ ap rows_of on.is
-        ∙ rows_from-append [] base on.more in
+    ∙ rows_from-append [] base on.more in
     let made : records_made slot before now ≡ rows_from base on.more =
     ap (drop (length (rows_of base))) split ∙ drop_front (rows_of base) (rows_from base on.more) in
     split ∙ ap (λ rows. rows_of base ++ rows) (sym made)

@@ -65,7 +65,7 @@ risen_with : (test : Bearer → Bool) (change : Bearer → Bearer) → ((b : Bea
 risen_with test change same low [] rise = tt
 risen_with test change same low (b ∷ bs) rise =
     changed_if (test b) change low b bs (with_first test change bs) (same b) rise
-        (risen_with test change same (index_of b + 1) bs rise.2)
+    (risen_with test change same (index_of b + 1) bs rise.2)
 
 left_if : (passes : Bool) (low : ℕ) (b : Bearer) (bs rest : List Bearer) → Rise low (b ∷ bs)
     → Rise (index_of b + 1) rest → Rise low (if passes then bs else b ∷ rest)
@@ -108,13 +108,32 @@ risen_placed low new (b ∷ bs) least most free rise =
     let both = neither (index_of b == index_of new) (has_index bs (index_of new)) free in
     placed_if (nat_lt (index_of new) (index_of b)) low new b bs (placed new bs) refl least most rise
     (λ above. risen_placed (index_of b + 1) new bs (is_above (index_of new) (index_of b) both.0 above) most both.1
-        rise.2)
+    rise.2)
 
 -- the least index that is free
 few_indices : AllByRecursion (λ index. index ≤ 10) (range_with_len 0 11)
-few_indices = (omega arith, (omega arith, (omega arith,
-    (omega arith, (omega arith, (omega arith, (omega arith,
-    (omega arith, (omega arith, (omega arith, (omega arith, tt)))))))))))
+few_indices = (
+  omega arith,
+  (
+    omega arith,
+    (
+      omega arith,
+      (
+        omega arith,
+        (
+          omega arith,
+          (
+            omega arith,
+            (
+              omega arith,
+              (omega arith, (omega arith, (omega arith, (omega arith, tt)))),
+            ),
+          ),
+        ),
+      ),
+    ),
+  ),
+)
 
 record IsFree (bearers : List Bearer) (index : ℕ) : Type 0 where
   most : index ≤ 10
@@ -127,8 +146,10 @@ freed false is = refl
 free_found : (bearers : List Bearer) (index : ℕ) → least_free bearers ≡ Some index → IsFree bearers index
 free_found bearers index is =
     let found = of_find (λ (i : ℕ). not (has_index bearers i)) index (range_with_len 0 11) is in
-    record { most = at_each (λ i. i ≤ 10) index (range_with_len 0 11) few_indices found.0;
-        free = freed (has_index bearers index) found.1 }
+    record {
+      most = at_each (λ i. i ≤ 10) index (range_with_len 0 11) few_indices found.0;
+      free = freed (has_index bearers index) found.1;
+    }
 
 -- what a command leaves
 bearer_rises : (session : SessionState) (seq : ℕ) (qos : Qos) (index : Option ℕ) (filters : Option (List Filter))
@@ -139,7 +160,7 @@ bearer_rises session seq qos (Some index) None found rise = rise
 bearer_rises session seq qos (Some index) (Some filters) found rise =
     let is = found index refl in
     risen_placed 0 (changes.asked_bearer session.lives index seq qos filters) session.bearers
-        (omega arith) is.most is.free rise
+    (omega arith) is.most is.free rise
 
 filters_rise : (session : SessionState) (ebi : ℕ) (filters : Option (List Filter)) → Rise 0 session.bearers
     → Rise 0 (with_filters session ebi filters).bearers
@@ -163,7 +184,7 @@ effect_rises released session command rise = risen_mapped changes.unbound (λ b.
 effect_rises deleted session command rise = tt
 effect_rises asked session (AddBearer seq qci mbr_up mbr_down gbr_up gbr_down tft) rise =
     bearer_rises session seq (qos_asked session.bearers qci mbr_up mbr_down gbr_up gbr_down)
-        (least_free session.bearers) (filters_given tft)
+    (least_free session.bearers) (filters_given tft)
     (λ i is. free_found session.bearers i is) rise
 effect_rises refiltered session (Filters seq ebi tft) rise =
     filters_rise session ebi (filters_made session.bearers ebi tft) rise

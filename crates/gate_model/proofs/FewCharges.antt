@@ -83,10 +83,10 @@ to_grows : (past : Past) (packet : Packet) (b : ActiveBearer) (enb : Option Peer
     → Grows past (judged_to past packet b enb).0
 to_grows past packet b None =
     waiting_if past (record { packet = packet; life = b.life }) (verdict.Idle b.life)
-        (verdict.Held b.life (notice past packet.number b.ebi)) (nat_le 16 (length past.held)) refl
+    (verdict.Held b.life (notice past packet.number b.ebi)) (nat_le 16 (length past.held)) refl
 to_grows past packet b (Some peer) =
     tried_if past b false (length packet.octets) (verdict.Down b.life peer.addr (gpdu peer packet.octets))
-        (passes past b false (length packet.octets))
+    (passes past b false (length packet.octets))
 
 down_grows : (past : Past) (packet : Packet) (found : Option ActiveBearer)
     → Grows past (judged_down past packet found).0
@@ -111,7 +111,7 @@ judged_grows past packet =
 released_if : (so_far : Past × List Effect) (row : HeldRow) (b : ActiveBearer) (peer : Peer) (fits : Bool)
     → length (either fits
     (fated (with_row so_far.0 (row_for so_far.0 b false (length row.packet.octets)), so_far.1) row
-        (fate.Down row.life peer.addr (gpdu peer row.packet.octets)))
+    (fate.Down row.life peer.addr (gpdu peer row.packet.octets)))
     (fated so_far row (fate.Policed row.life))).0.charged ≤ length so_far.0.charged + 1
 released_if so_far row b peer true =
     omega (arith, pushed so_far.0.charged (happening_for (row_for so_far.0 b false (length row.packet.octets))))
@@ -133,9 +133,9 @@ all_grow : (so_far : Past × List Effect) (rows : List HeldRow)
 all_grow so_far [] = omega arith
 all_grow so_far (row ∷ rows) =
     let here : length (released so_far row).0.charged ≤ length so_far.0.charged + 1 =
-        released_by_grows so_far row (bearer_of so_far.0.version.bearers row.life) in
+    released_by_grows so_far row (bearer_of so_far.0.version.bearers row.life) in
     let behind : length (fold released (released so_far row) rows).0.charged
-        ≤ length (released so_far row).0.charged + length rows = all_grow (released so_far row) rows in
+    ≤ length (released so_far row).0.charged + length rows = all_grow (released so_far row) rows in
     omega arith
 
 -- what is filtered is no longer
@@ -193,11 +193,11 @@ learns past after few few_after =
     let waiting : HeldRow → Bool = λ (row : HeldRow). waits after.bearers row.life in
     let held : (learnt past after).0.held ≡ filter waiting past.held = held_all start past.held in
     let all : length (learnt past after).0.charged ≤ length (marked past after).charged + length past.held =
-        all_grow start past.held in
+    all_grow start past.held in
     let marked_are : length (marked past after).charged ≡ length past.charged + length (marks past.version after) =
-        length-append past.charged (marks past.version after) in
+    length-append past.charged (marks past.version after) in
     let marks_are : length (marks past.version after) ≤ 33 =
-        few_marks (nat_lt past.version.rates after.rates) past.version.bearers after.bearers few few_after in
+    few_marks (nat_lt past.version.rates after.rates) past.version.bearers after.bearers few few_after in
     record {
       held = rw held (filter_few waiting past.held);
       charged = omega arith;
@@ -220,7 +220,7 @@ unfolding happens
 few_commanded count past command few =
     let rise : Rise 0 (next_session past command).bearers = bearers_rise past.session command few.rise in
     let learning = learns past.packets (next_version past command) (few_bearers past few.sound few.rise)
-        (few_active (next_session past command).bearers rise) in
+    (few_active (next_session past command).bearers rise) in
     record {
       sound = behind_sound past (event.Command command) few.sound;
       rise = rise;

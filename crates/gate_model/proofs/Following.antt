@@ -47,7 +47,7 @@ sessions_are slot events = sessions_from (new_slot slot) events
 pub versions_are : VersionsAreOfCommands
 versions_are slot events =
     let count : (past_of slot events).commands ≡ length (commands_of events) =
-        omega (arith, counts_from (new_slot slot) events) in
+    omega (arith, counts_from (new_slot slot) events) in
     (past_sound slot events).version
     ∙ ap (λ session. version_of session (past_of slot events).commands) (sessions_are slot events)
     ∙ ap (version_of (controlled_by (new_session slot) (commands_of events))) count
@@ -62,7 +62,7 @@ pub follows : (past : SlotPast) (command : CommandKind) → IsSound past
 follows past command sound few =
     let goes = session_goes past.session command sound.lived in
     let bearers : past.packets.version.bearers ≡ actives past.session.bearers =
-        ap (λ (v : VersionState). v.bearers) sound.version in
+    ap (λ (v : VersionState). v.bearers) sound.version in
     let rates : past.packets.version.rates ≡ past.session.rates = ap (λ (v : VersionState). v.rates) sound.version in
     let up : past.packets.version.up ≡ past.session.up = ap (λ (v : VersionState). v.up) sound.version in
     let down : past.packets.version.down ≡ past.session.down = ap (λ (v : VersionState). v.down) sound.version in
@@ -72,20 +72,20 @@ follows past command sound few =
           (up ∙ sym (goes.up same), down ∙ sym (goes.down same));
       same_bearer = λ b c b_there c_there lives.
           let was : In b (actives past.session.bearers) =
-              subst (In b) bearers (in_contains b past.packets.version.bearers b_there) in
+          subst (In b) bearers (in_contains b past.packets.version.bearers b_there) in
           let is : In c (actives (next_session past command).bearers) =
-              in_contains c (actives (next_session past command).bearers) c_there in
+          in_contains c (actives (next_session past command).bearers) c_there in
           let same = same_bearer past.session (next_session past command) sound.lived goes b c was is lives in
-              (same.index, same.qos);
+          (same.index, same.qos);
       fresh = λ c c_there has_not.
           let is : In c (actives (next_session past command).bearers) =
-              in_contains c (actives (next_session past command).bearers) c_there in
+          in_contains c (actives (next_session past command).bearers) c_there in
           let begins : has_life (actives past.session.bearers) c.life ≡ false =
-              subst (λ bs. has_life bs c.life ≡ false) bearers has_not in
+          subst (λ bs. has_life bs c.life ≡ false) bearers has_not in
           All-from_recursion (λ (row : ForwardedRow). row.life ≢ c.life) past.packets.forwarded
           (each_at (λ (row : ForwardedRow). row.life ≢ c.life) past.packets.forwarded (λ row there same.
           begins_fresh past.session (next_session past command) goes c is begins
-              (subst (IsOld past.session) same (sound.packets.rows row there))));
+          (subst (IsOld past.session) same (sound.packets.rows row there))));
       few = few;
     }
 

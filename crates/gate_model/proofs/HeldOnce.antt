@@ -67,20 +67,20 @@ no_fates number after (b ∷ bs) =
 one_released : (number : ℕ) (so_far : Past × List Effect) (row : HeldRow) (outcome : Past × List Effect)
     → ReleasedAs so_far row outcome
     → waiting number outcome.0.held + fates_in number outcome.1 ≡ waiting number so_far.0.held
-        + fates_in number so_far.1 + counts number row
+    + fates_in number so_far.1 + counts number row
 one_released number so_far row outcome (ends fate_ past effects none) =
     let held : waiting number outcome.0.held ≡ waiting number so_far.0.held =
-        ap (λ (p : Past). waiting number p.held) past in
+    ap (λ (p : Past). waiting number p.held) past in
     let fates = ap (fates_in number) effects ∙ fates-push number so_far.1 (effect.Fate row.packet.number fate_) in
     omega (arith, fates)
 one_released number so_far row outcome (outcomes.passed b fate_ there fits past effects shown) =
     let held : waiting number outcome.0.held ≡ waiting number so_far.0.held =
-        ap (λ (p : Past). waiting number p.held) past in
+    ap (λ (p : Past). waiting number p.held) past in
     let fates = ap (fates_in number) effects ∙ fates-push number so_far.1 (effect.Fate row.packet.number fate_) in
     omega (arith, fates)
 one_released number so_far row outcome (ReleasedAs.waits past effects) =
     let held : waiting number outcome.0.held ≡ waiting number so_far.0.held + counts number row =
-        ap (λ (p : Past). waiting number p.held) past ∙ waiting-push number so_far.0.held row in
+    ap (λ (p : Past). waiting number p.held) past ∙ waiting-push number so_far.0.held row in
     let fates : fates_in number outcome.1 ≡ fates_in number so_far.1 = ap (fates_in number) effects in
     omega arith
 
@@ -89,14 +89,21 @@ all_counted : (number : ℕ) (so_far : Past × List Effect) (rows : List HeldRow
     ≡ waiting number so_far.0.held + fates_in number so_far.1 + waiting number rows
 all_counted number so_far [] = omega arith
 all_counted number so_far (row ∷ rows) =
-    omega (arith, all_counted number (released so_far row) rows,
-        one_released number so_far row (released so_far row) (released_as so_far row), waiting-cons number row rows)
+    omega (
+      arith,
+      all_counted number (released so_far row) rows,
+      one_released number so_far row (released so_far row) (released_as so_far row),
+      waiting-cons number row rows,
+    )
 
 learnt_counted : (number : ℕ) (past : Past) (after : VersionState)
     → waiting number past.held ≡ fates_in number (learnt past after).1 + waiting number (learnt past after).0.held
 learnt_counted number past after =
-    omega (arith, all_counted number (marked past after, markers past.version after) past.held,
-        no_fates number after past.version.bearers)
+    omega (
+      arith,
+      all_counted number (marked past after, markers past.version after) past.held,
+      no_fates number after past.version.bearers,
+    )
 
 -- a packet that is judged
 abbrev held_now : ℕ → Packet → Verdict → ℕ
@@ -120,26 +127,26 @@ one_judged : (number : ℕ) (past : Past) (packet : Packet) (outcome : Past × V
     → held_now number packet outcome.1 + waiting number past.held ≡ waiting number outcome.0.held
 one_judged number past packet outcome (nothing same not_held shown) =
     let held : waiting number outcome.0.held ≡ waiting number past.held =
-        ap (λ (p : Past). waiting number p.held) same in
+    ap (λ (p : Past). waiting number p.held) same in
     let none = held_if (packet.number == number) (is_held outcome.1) false not_held ∙ never (packet.number == number) in
     omega (arith, none)
 one_judged number past packet outcome (JudgedAs.passed b way there fits same not_held shown) =
     let held : waiting number outcome.0.held ≡ waiting number past.held =
-        ap (λ (p : Past). waiting number p.held) same in
+    ap (λ (p : Past). waiting number p.held) same in
     let none = held_if (packet.number == number) (is_held outcome.1) false not_held ∙ never (packet.number == number) in
     omega (arith, none)
 one_judged number past packet outcome (JudgedAs.waits b there few same is_held_ shown) =
     let held : waiting number outcome.0.held ≡ waiting number past.held
-        + counts number (record { packet = packet; life = b.life }) =
+    + counts number (record { packet = packet; life = b.life }) =
     ap (λ (p : Past). waiting number p.held) same ∙ waiting-push number past.held
-        (record { packet = packet; life = b.life }) in
+    (record { packet = packet; life = b.life }) in
     let once = held_if (packet.number == number) (is_held outcome.1) true is_held_
-        ∙ only_same (packet.number == number) in
+    ∙ only_same (packet.number == number) in
     omega (arith, once)
 
 judged_counted : (number : ℕ) (past : Past) (packet : Packet)
     → held_now number packet (judged past packet).1 + waiting number past.held
-        ≡ waiting number (judged past packet).0.held
+    ≡ waiting number (judged past packet).0.held
 judged_counted number past packet =
     one_judged number (at_moment past packet.moment) packet (judged past packet) (judged_as past packet)
 

@@ -49,7 +49,7 @@ life_row life qos past b way up octets guaranteed of_life there passed true is =
     let passed_here : passes past b up octets ≡ true = subst (λ w. passes past b w octets ≡ true) ways passed in
     let fits = passes_own past b up octets (ap (λ (q : Qos). is_guaranteed q.qci) same ∙ guaranteed) passed_here in
     let_in (mbr up qos) (is_of_life life up) past.forwarded (row_for past b way octets) is
-        (rw (← lives, ← same) fits) (of_life.policed up)
+    (rw (← lives, ← same) fits) (of_life.policed up)
 
 life_keeps : (life : ℕ) (qos : Qos) → is_guaranteed qos.qci ≡ true → Keeps (OfLife life qos) (λ n. Unit {0})
 life_keeps life qos guaranteed = record {
@@ -95,11 +95,14 @@ life_behind life qos guaranteed past (event.Command command) has =
       sound = behind_sound past (event.Command command) has.sound;
       below = omega (arith, has.below, goes.lives);
       one_qos = one;
-      packets = all_released (OfLife life qos) (λ n. Unit {0}) (life_keeps life qos guaranteed)
-          (marked past.packets (next_version past command),
-              markers past.packets.version (next_version past command)) past.packets.held
-          (record { same = active_qos life qos (next_session past command).bearers one;
-              policed = has.packets.policed }) (λ row there. tt);
+      packets = all_released (OfLife life qos) (λ n. Unit {0}) (life_keeps life qos guaranteed) (
+        marked past.packets (next_version past command),
+        markers past.packets.version (next_version past command),
+      ) past.packets.held
+          (record {
+            same = active_qos life qos (next_session past command).bearers one;
+            policed = has.packets.policed;
+          }) (λ row there. tt);
     }
 life_behind life qos guaranteed past (event.Packet packet) has = record {
   sound = behind_sound past (event.Packet packet) has.sound;
@@ -119,14 +122,14 @@ life_now : (past : SlotPast) (b : ActiveBearer) → IsSound past → In b past.p
     → is_guaranteed b.qos.qci ≡ true → HasLife b.life b.qos past
 life_now past b sound there guaranteed =
     let bearers : past.packets.version.bearers ≡ actives past.session.bearers =
-        ap (λ (v : VersionState). v.bearers) sound.version in
+    ap (λ (v : VersionState). v.bearers) sound.version in
     let shown = shown_by b past.session.bearers (subst (In b) bearers there) in
     record {
       sound = sound;
       below = (sound.packets.actives b there).below;
       one_qos = λ c c_there lives.
           let same : c ≡ shown.0 = one_of life_of c shown.0 past.session.bearers sound.lived.apart c_there shown.1
-              (lives ∙ sym (life_shown shown.0 b shown.2)) in
+          (lives ∙ sym (life_shown shown.0 b shown.2)) in
           ap (λ (d : Bearer). d.qos) same ∙ ap (λ (a : ActiveBearer). a.qos) shown.2.shown;
       packets = record {
         same = λ c c_there lives. ap (λ (a : ActiveBearer). a.qos)
@@ -138,9 +141,9 @@ life_now past b sound there guaranteed =
 pub lives_policed : LivesArePoliced
 lives_policed slot before after b up there guaranteed =
     let has = life_now (past_of slot before) b (past_sound slot before)
-        (in_contains b (version_after slot before).bearers there) guaranteed in
+    (in_contains b (version_after slot before).bearers there) guaranteed in
     subst (λ (past : SlotPast). PolicedBy (mbr up b.qos) (is_of_life b.life up) past.packets.forwarded)
-        (sym (past-append slot before after))
+    (sym (past-append slot before after))
     ((life_from b.life b.qos guaranteed (past_of slot before) after has).packets.policed up)
 
 -- A past whose rates are at least so many, and as long as they are so many, have these rates for AMBR.
@@ -163,7 +166,7 @@ rates_row rates shares past b way up octets of_rates passed true is =
     let passed_here : passes past b up octets ≡ true = subst (λ w. passes past b w octets ≡ true) ways passed in
     let fits = passes_shared past b up octets (not-true (is_guaranteed b.qos.qci) parts.0) passed_here in
     let_in (shares up) (is_of_rates rates up) past.forwarded (row_for past b way octets) is
-        (rw (← of_rates.same equal up, ← equal) fits) (of_rates.policed up)
+    (rw (← of_rates.same equal up, ← equal) fits) (of_rates.policed up)
 
 rates_keep : (rates : ℕ) (shares : Bool → ℕ) → Keeps (OfRates rates shares) (λ n. Unit {0})
 rates_keep rates shares = record {
@@ -198,16 +201,17 @@ rates_behind rates shares past (event.Command command) has =
     let rose : past.session.rates ≤ (next_session past command).rates = goes.rates in
     record {
       sound = behind_sound past (event.Command command) has.sound;
-      packets = all_released (OfRates rates shares) (λ n. Unit {0}) (rates_keep rates shares)
-          (marked past.packets (next_version past command),
-              markers past.packets.version (next_version past command)) past.packets.held
+      packets = all_released (OfRates rates shares) (λ n. Unit {0}) (rates_keep rates shares) (
+        marked past.packets (next_version past command),
+        markers past.packets.version (next_version past command),
+      ) past.packets.held
           (record {
             least = omega arith;
             same = λ equal up.
                 let stay : (next_session past command).rates ≡ past.session.rates = omega arith in
                 let was : past.packets.version.rates ≡ rates = omega arith in
                 ambr_next up past.packets.version past.session (next_session past command) past.commands
-                    (past.commands + 1) has.sound.version (goes.up stay) (goes.down stay)
+                (past.commands + 1) has.sound.version (goes.up stay) (goes.down stay)
                 ∙ has.packets.same was up;
             policed = has.packets.policed;
           }) (λ row there. tt);
@@ -231,9 +235,12 @@ shares_policed slot before after up =
     let shares : Bool → ℕ = λ way. ambr way version in
     let has : HasRates version.rates shares (past_of slot before) = record {
       sound = sound;
-      packets = record { least = omega arith; same = λ equal way. refl;
-          policed = λ way. sound.packets.policed.shared way };
+      packets = record {
+        least = omega arith;
+        same = λ equal way. refl;
+        policed = λ way. sound.packets.policed.shared way;
+      };
     } in
     subst (λ (past : SlotPast). PolicedBy (shares up) (is_of_rates version.rates up) past.packets.forwarded)
-        (sym (past-append slot before after))
+    (sym (past-append slot before after))
     ((rates_from version.rates shares (past_of slot before) after has).packets.policed up)

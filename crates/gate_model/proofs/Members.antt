@@ -180,7 +180,7 @@ pub distinct_filter : {X : Type 0} (number : X → ℕ) (test : X → Bool) (xs 
 distinct_filter number test [] apart = tt
 distinct_filter number test (x ∷ xs) apart =
     distinct_cond number (test x) x (filter test xs) (other_filter number (number x) test xs apart.0)
-        (distinct_filter number test xs apart.1)
+    (distinct_filter number test xs apart.1)
 
 -- between these words and those of the library
 pub contains_in : {X : Type 0} (x : X) (xs : List X) → In x xs → Contains xs x

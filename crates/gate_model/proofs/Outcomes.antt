@@ -47,17 +47,19 @@ tried_as : (past : Past) (packet : Packet) (b : ActiveBearer) (way : Bool) (sent
     → In b past.version.bearers → is_held sent ≡ false
     → sent_by_verdict sent ≡ sent_as (row_for past b way (length packet.octets)) ∷ [] → (fits : Bool)
     → passes past b way (length packet.octets) ≡ fits
-    → JudgedAs past packet (either fits (with_row past (row_for past b way (length packet.octets)), sent) (past,
-        verdict.Policed b.life))
+    → JudgedAs past packet (either fits (with_row past (row_for past b way (length packet.octets)), sent) (
+      past,
+      verdict.Policed b.life,
+    ))
 tried_as past packet b way sent there not_held shown true fits = passed b way there fits refl not_held shown
 tried_as past packet b way sent there not_held shown false fits = nothing refl refl refl
 
 up_as : (past : Past) (packet : Packet) (b : ActiveBearer) → In b past.version.bearers → (own : Bool)
     → JudgedAs past packet (either own (tried past b true (length packet.octets) (verdict.Up b.life packet.octets))
-        (past, verdict.Spoof))
+    (past, verdict.Spoof))
 up_as past packet b there true =
     tried_as past packet b true (verdict.Up b.life packet.octets) there refl refl
-        (passes past b true (length packet.octets)) refl
+    (passes past b true (length packet.octets)) refl
 up_as past packet b there false = nothing refl refl refl
 
 found_up_as : (past : Past) (packet : Packet) (found : Option ActiveBearer)
@@ -70,13 +72,13 @@ found_up_as past packet (Some b) among =
 waiting_as : (past : Past) (packet : Packet) (b : ActiveBearer) (message : Option (List ℕ))
     → In b past.version.bearers → (full : Bool) → nat_le 16 (length past.held) ≡ full
     → JudgedAs past packet (either full (past, verdict.Idle b.life)
-        (with_held past (record { packet = packet; life = b.life }), verdict.Held b.life message))
+    (with_held past (record { packet = packet; life = b.life }), verdict.Held b.life message))
 waiting_as past packet b message there true is = nothing refl refl refl
 waiting_as past packet b message there false is = waits b there (leb-false 16 (length past.held) is) refl refl refl
 
 sent_down_as : (past : Past) (b : ActiveBearer) (peer : Peer) (octets : List ℕ)
     → sent_by_verdict (verdict.Down b.life peer.addr (gpdu peer octets))
-        ≡ sent_as (row_for past b false (length octets)) ∷ []
+    ≡ sent_as (row_for past b false (length octets)) ∷ []
 sent_down_as past b peer octets =
     let same : length (gpdu peer octets) - 8 ≡ length octets = omega (arith, length-gpdu peer octets) in
     ap (λ n. record { life = b.life; up = false; octets = n } ∷ []) same
@@ -87,7 +89,7 @@ to_as past packet b None there =
     waiting_as past packet b (notice past packet.number b.ebi) there (nat_le 16 (length past.held)) refl
 to_as past packet b (Some peer) there =
     tried_as past packet b false (verdict.Down b.life peer.addr (gpdu peer packet.octets)) there refl
-        (sent_down_as past b peer packet.octets)
+    (sent_down_as past b peer packet.octets)
     (passes past b false (length packet.octets)) refl
 
 found_down_as : (past : Past) (packet : Packet) (found : Option ActiveBearer)
@@ -101,7 +103,7 @@ way_as past packet (Up index) =
     found_up_as past packet (bearer_at past.version.bearers index) (found_at past.version.bearers index)
 way_as past packet Down =
     found_down_as past packet (bearer_for past.version packet.octets)
-        (found_chosen past.version.bearers (chosen past.version.rows packet.octets))
+    (found_chosen past.version.bearers (chosen past.version.rows packet.octets))
 
 now_as : (past : Past) (packet : Packet) → (may : Bool)
     → JudgedAs past packet (either may (judged_by_way past packet packet.way) (past, verdict.NoBearer))
@@ -129,13 +131,13 @@ released_if_as : (so_far : Past × List Effect) (row : HeldRow) (b : ActiveBeare
     → (fits : Bool) → passes so_far.0 b false (length row.packet.octets) ≡ fits
     → ReleasedAs so_far row (either fits
     (fated (with_row so_far.0 (row_for so_far.0 b false (length row.packet.octets)), so_far.1) row
-        (fate.Down row.life peer.addr (gpdu peer row.packet.octets)))
+    (fate.Down row.life peer.addr (gpdu peer row.packet.octets)))
     (fated so_far row (fate.Policed row.life)))
 released_if_as so_far row b peer there lives true fits =
     let same : length (gpdu peer row.packet.octets) - 8 ≡ length row.packet.octets =
-        omega (arith, length-gpdu peer row.packet.octets) in
+    omega (arith, length-gpdu peer row.packet.octets) in
     let shown : sent_by_fate (fate.Down row.life peer.addr (gpdu peer row.packet.octets))
-        ≡ sent_as (row_for so_far.0 b false (length row.packet.octets)) ∷ [] =
+    ≡ sent_as (row_for so_far.0 b false (length row.packet.octets)) ∷ [] =
     ap (λ n. record { life = row.life; up = false; octets = n } ∷ []) same
     ∙ ap (λ n. record { life = n; up = false; octets = length row.packet.octets } ∷ []) (sym lives) in
     passed b (fate.Down row.life peer.addr (gpdu peer row.packet.octets)) there fits refl refl shown

@@ -69,8 +69,10 @@ up_kept P old keeps past octets (Some b) is among =
 
 waiting_if : (P : Past → Type 0) (old : ℕ → Type 0) (keeps : Keeps P old) (past : Past) (packet : Packet)
     (b : ActiveBearer) (message : Option (List ℕ)) → P past → In b past.version.bearers → (full : Bool)
-    → P (either full (past, verdict.Idle b.life) (with_held past (record { packet = packet; life = b.life }),
-        verdict.Held b.life message)).0
+    → P (either full (past, verdict.Idle b.life) (
+      with_held past (record { packet = packet; life = b.life }),
+      verdict.Held b.life message,
+    )).0
 waiting_if P old keeps past packet b message is there true = is
 waiting_if P old keeps past packet b message is there false =
     keeps.waiting past (record { packet = packet; life = b.life }) is (keeps.active past b is there)
@@ -82,7 +84,7 @@ to_kept P old keeps past packet b None is there =
     waiting_if P old keeps past packet b (notice past packet.number b.ebi) is there (nat_le 16 (length past.held))
 to_kept P old keeps past packet b (Some peer) is there =
     tried_kept P old keeps past b false (length packet.octets)
-        (verdict.Down b.life peer.addr (gpdu peer packet.octets)) is there
+    (verdict.Down b.life peer.addr (gpdu peer packet.octets)) is there
 
 down_kept : (P : Past → Type 0) (old : ℕ → Type 0) (keeps : Keeps P old) (past : Past) (packet : Packet)
     (found : Option ActiveBearer) → P past
@@ -105,7 +107,7 @@ way_kept P old keeps past packet (Up index) is = up_kept P old keeps past packet
     (bearer_at past.version.bearers index) is (found_at past.version.bearers index)
 way_kept P old keeps past packet Down is =
     down_kept P old keeps past packet (bearer_for past.version packet.octets) is
-        (found_chosen past.version.bearers (chosen past.version.rows packet.octets))
+    (found_chosen past.version.bearers (chosen past.version.rows packet.octets))
 
 now_if : (P : Past → Type 0) (old : ℕ → Type 0) (keeps : Keeps P old) (past : Past) (packet : Packet) → P past
     → (may : Bool)
@@ -117,7 +119,7 @@ pub judged_kept : (P : Past → Type 0) (old : ℕ → Type 0) (keeps : Keeps P 
     → P past → P (judged past packet).0
 judged_kept P old keeps past packet is =
     now_if P old keeps (at_moment past packet.moment) packet (keeps.moment past packet.moment is)
-        (past.version.live && is_packet packet.octets)
+    (past.version.live && is_packet packet.octets)
 
 -- the held packets, one after another
 released_if : (P : Past → Type 0) (old : ℕ → Type 0) (keeps : Keeps P old) (so_far : Past
@@ -125,7 +127,7 @@ released_if : (P : Past → Type 0) (old : ℕ → Type 0) (keeps : Keeps P old)
     → In b so_far.0.version.bearers → (fits : Bool) → passes so_far.0 b false (length row.packet.octets) ≡ fits
     → P (either fits
     (fated (with_row so_far.0 (row_for so_far.0 b false (length row.packet.octets)), so_far.1) row
-        (fate.Down row.life peer.addr (gpdu peer row.packet.octets)))
+    (fate.Down row.life peer.addr (gpdu peer row.packet.octets)))
     (fated so_far row (fate.Policed row.life))).0
 released_if P old keeps so_far row b peer is there true fits =
     keeps.row so_far.0 b false (length row.packet.octets) is there fits
@@ -177,16 +179,19 @@ pub row_kept : (old : ℕ → Type 0) (past : Past) (b : ActiveBearer) (way : Bo
 row_kept old past b way octets is there passed =
     let row : ForwardedRow = row_for past b way octets in
     let open_now : In b.life (lives_of past.charged) =
-        is.opened.opened b.life (in_map life_in b past.version.bearers there) in
+    is.opened.opened b.life (in_map life_in b past.version.bearers there) in
     let same_lives : lives_of (past.charged ++ happening_for row ∷ []) ≡ lives_of past.charged =
-        lives-all past.charged (happening_for row ∷ []) in
+    lives-all past.charged (happening_for row ∷ []) in
     record {
       apart = is.apart;
       actives = is.actives;
       rows = λ r in_rows. elim (in_append r past.forwarded (row ∷ []) in_rows) [
         | inl before ↦ is.rows r before
-        | inr now ↦ elim now [ inl here ↦ subst (λ (q : ForwardedRow). old q.life) here
-            (is.actives b there) | inr none ↦ absurd none ]
+        | inr now ↦ elim now [
+          | inl here ↦ subst (λ (q : ForwardedRow). old q.life) here
+              (is.actives b there)
+          | inr none ↦ absurd none
+        ]
       ];
       rates = λ r in_rows. elim (in_append r past.forwarded (row ∷ []) in_rows) [
         | inl before ↦ is.rates r before

@@ -42,7 +42,7 @@ pub left_out : (rate : ℕ) (test : ForwardedRow → Bool) (rows : List Forwarde
 left_out rate test rows row out policed =
     let same : filter test (rows ++ row ∷ []) ≡ filter test rows =
     filter-append test rows (row ∷ []) ∙ ap (λ more. filter test rows ++ more) (filter_one test false row out)
-        ∙ append-nil (filter test rows) in
+    ∙ append-nil (filter test rows) in
     subst (λ (rs : List ForwardedRow). ArePoliced rate (costs rs)) (sym same) policed
 
 pub let_in : (rate : ℕ) (test : ForwardedRow → Bool) (rows : List ForwardedRow) (row : ForwardedRow) → test row ≡ true
@@ -51,9 +51,9 @@ pub let_in : (rate : ℕ) (test : ForwardedRow → Bool) (rows : List ForwardedR
 let_in rate test rows row in_ fits policed =
     let same : costs (filter test (rows ++ row ∷ [])) ≡ costs (filter test rows) ++ cost_for row ∷ [] =
     ap costs (filter-append test rows (row ∷ []) ∙ ap (λ more. filter test rows ++ more)
-        (filter_one test true row in_)) ∙ costs-push (filter test rows) row in
+    (filter_one test true row in_)) ∙ costs-push (filter test rows) row in
     let conforming : Conforms rate (costs (filter test rows)) (cost_for row) =
-        (conforming_tested rate (costs (filter test rows)) (cost_for row)).0 fits in
+    (conforming_tested rate (costs (filter test rows)) (cost_for row)).0 fits in
     subst (ArePoliced rate) (sym same) (policed_grow rate (costs (filter test rows)) (cost_for row) policed conforming)
 
 pub none_left : (rate : ℕ) (test : ForwardedRow → Bool) (rows : List ForwardedRow)
@@ -90,20 +90,20 @@ rate_shared version b up is = rw is refl
 pub passes_own : (past : Past) (b : ActiveBearer) (up : Bool) (octets : ℕ) → is_guaranteed b.qos.qci ≡ true
     → passes past b up octets ≡ true
     → conforms (mbr up b.qos) (costs (filter (is_of_life b.life up) past.forwarded))
-        (cost_of octets (moment_of past)) ≡ true
+    (cost_of octets (moment_of past)) ≡ true
 passes_own past b up octets is passed =
     let P : ℕ → List ForwardedRow → Type 0 = λ rate rows.
-        conforms rate (costs rows) (cost_of octets (moment_of past)) ≡ true in
+    conforms rate (costs rows) (cost_of octets (moment_of past)) ≡ true in
     subst (P (mbr up b.qos)) (history_own past.version b up past.forwarded is)
     (subst (λ rate. P rate (history_for past.version b up past.forwarded)) (rate_own past.version b up is) passed)
 
 pub passes_shared : (past : Past) (b : ActiveBearer) (up : Bool) (octets : ℕ) → is_guaranteed b.qos.qci ≡ false
     → passes past b up octets ≡ true
     → conforms (ambr up past.version) (costs (filter (is_of_rates past.version.rates up) past.forwarded))
-        (cost_of octets (moment_of past)) ≡ true
+    (cost_of octets (moment_of past)) ≡ true
 passes_shared past b up octets is passed =
     let P : ℕ → List ForwardedRow → Type 0 = λ rate rows.
-        conforms rate (costs rows) (cost_of octets (moment_of past)) ≡ true in
+    conforms rate (costs rows) (cost_of octets (moment_of past)) ≡ true in
     subst (P (ambr up past.version)) (history_shared past.version b up past.forwarded is)
     (subst (λ rate. P rate (history_for past.version b up past.forwarded)) (rate_shared past.version b up is) passed)
 
@@ -133,7 +133,7 @@ own_goes_on past b c way up octets apart b_there c_there guaranteed passed polic
     let same : b ≡ c = one_of life_in b c past.version.bearers apart b_there c_there (eqb-true b.life c.life parts.0) in
     let ways : way ≡ up = same_ways way up parts.1 in
     let passed_here : passes past c up octets ≡ true =
-        subst (λ w. passes past c w octets ≡ true) ways (subst (λ d. passes past d way octets ≡ true) same passed) in
+    subst (λ w. passes past c w octets ≡ true) ways (subst (λ d. passes past d way octets ≡ true) same passed) in
     let_in (mbr up c.qos) (is_of_life c.life up) past.forwarded (row_for past b way octets) is
     (passes_own past c up octets guaranteed passed_here) policed
 
@@ -145,12 +145,12 @@ shared_goes_on : (past : Past) (b : ActiveBearer) (way up : Bool) (octets : ℕ)
     ++ row_for past b way octets ∷ [])
 shared_goes_on past b way up octets passed policed false is =
     left_out (ambr up past.version) (is_of_rates past.version.rates up) past.forwarded
-        (row_for past b way octets) is policed
+    (row_for past b way octets) is policed
 shared_goes_on past b way up octets passed policed true is =
     let parts = and_parts (not (is_guaranteed b.qos.qci)) (past.version.rates == past.version.rates
-        && same_way way up) is in
+    && same_way way up) is in
     let ways : way ≡ up = same_ways way up (and_parts (past.version.rates == past.version.rates)
-        (same_way way up) parts.1).1 in
+    (same_way way up) parts.1).1 in
     let passed_here : passes past b up octets ≡ true = subst (λ w. passes past b w octets ≡ true) ways passed in
     let_in (ambr up past.version) (is_of_rates past.version.rates up) past.forwarded (row_for past b way octets) is
     (passes_shared past b up octets (not-true (is_guaranteed b.qos.qci) parts.0) passed_here) policed

@@ -44,8 +44,14 @@ all_within most all past (now ∷ later) is within =
 
 pub room_left : FewEventsLeaveRoom
 room_left slot events few =
-    let start : IsWithin 0 (new_slot slot) = record { sound = new_sound slot; rates = omega arith;
-        lives = omega arith; commands = omega arith } in
+    let start : IsWithin 0 (new_slot slot) = record {
+      sound = new_sound slot;
+      rates = omega arith;
+      lives = omega arith;
+      commands = omega arith;
+    } in
     let is = all_within 0 (length events) (new_slot slot) events (omega arith) start in
-    record { session = record { rates = omega (arith, is.rates); lives = omega (arith, is.lives) };
-        commands = omega (arith, is.commands) }
+    record {
+      session = record { rates = omega (arith, is.rates); lives = omega (arith, is.lives) };
+      commands = omega (arith, is.commands);
+    }

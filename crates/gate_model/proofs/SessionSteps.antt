@@ -81,8 +81,11 @@ all_change : (lives : ℕ) (change : Bearer → Bearer) → ((b : Bearer) → Co
     → (bearers : List Bearer) → AreLived lives bearers
     → Become lives lives bearers (map change bearers)
 all_change lives change on bearers lived = record {
-  from = λ b there. let old = of_map change b bearers there in inl (old.0, old.1,
-      subst (Continues old.0) old.2 (on old.0));
+  from = λ b there. let old = of_map change b bearers there in inl (
+    old.0,
+    old.1,
+    subst (Continues old.0) old.2 (on old.0),
+  );
   lived = record {
     apart = rw (lives_mapped change on bearers) lived.apart;
     below = λ b there. let old = of_map change b bearers there in
@@ -108,7 +111,7 @@ of_with_first : {X : Type 0} (test : X → Bool) (change : X → X) (y : X) (xs 
 of_with_first test change y [] there = absurd there
 of_with_first test change y (x ∷ xs) there =
     of_first (test x) test change y x xs (with_first test change xs) refl
-        (λ behind. of_with_first test change y xs behind) there
+    (λ behind. of_with_first test change y xs behind) there
 
 lives_first : (passes : Bool) (change : Bearer → Bearer) (b : Bearer) (bs rest : List Bearer)
     → (change b).life ≡ b.life → lives_in rest ≡ lives_in bs
@@ -160,7 +163,7 @@ other_without n test bearers other = other_if n (lives_in (without_first test be
     let found = of_map life_of m (without_first test bearers) there in
     other_at n m (lives_in bearers) other
     (subst (λ k. In k (lives_in bearers)) found.2 (in_map life_of found.0 bearers
-        (of_without_first test found.0 bearers found.1))))
+    (of_without_first test found.0 bearers found.1))))
 
 distinct_left : (passes : Bool) (b : Bearer) (bs rest : List Bearer) → AreDistinct (lives_in bs)
     → IsOther b.life (lives_in rest) → AreDistinct (lives_in rest)
@@ -173,7 +176,7 @@ distinct_without : (test : Bearer → Bool) (bearers : List Bearer) → AreDisti
 distinct_without test [] apart = tt
 distinct_without test (b ∷ bs) apart =
     distinct_left (test b) b bs (without_first test bs) apart.1 (other_without b.life test bs apart.0)
-        (distinct_without test bs apart.1)
+    (distinct_without test bs apart.1)
 
 first_goes : (lives : ℕ) (test : Bearer → Bool) (bearers : List Bearer) → AreLived lives bearers
     → Become lives lives bearers (without_first test bearers)
@@ -321,7 +324,7 @@ bearer_goes session seq qos None filters lived = nothing_changes session lived
 bearer_goes session seq qos (Some index) None lived = nothing_changes session lived
 bearer_goes session seq qos (Some index) (Some filters) lived =
     keeps_rates session (changes.with_asked session index seq qos filters) refl refl refl refl
-        (record { least = omega arith; most = omega arith })
+    (record { least = omega arith; most = omega arith })
     (one_more (changes.asked_bearer session.lives index seq qos filters) session.lives session.bearers refl lived)
 
 filters_go : (session : SessionState) (ebi : ℕ) (filters : Option (List Filter))
@@ -330,7 +333,7 @@ filters_go : (session : SessionState) (ebi : ℕ) (filters : Option (List Filter
 filters_go session ebi None lived = nothing_changes session lived
 filters_go session ebi (Some filters) lived =
     keeps_rates session (changes.refiltered session ebi filters) refl refl refl refl
-        (record { least = omega arith; most = omega arith })
+    (record { least = omega arith; most = omega arith })
     (first_changes session.lives (is_active ebi) (changes.filtered filters) (λ b. refl)
     (λ b is. record { life = refl; qos = refl; index = refl; phase = same_phase b.phase }) session.bearers lived)
 
@@ -339,52 +342,56 @@ enb_goes : (session : SessionState) (seq ebi : ℕ) (enb : Option Peer) → AreL
 enb_goes session seq ebi None lived = nothing_changes session lived
 enb_goes session seq ebi (Some enb) lived =
     keeps_rates session (changes.granted session seq ebi enb) refl refl refl refl
-        (record { least = omega arith; most = omega arith })
+    (record { least = omega arith; most = omega arith })
     (first_changes session.lives (is_asked seq) (changes.granted_bearer ebi enb) (λ b. refl)
     (λ b is. record { life = refl; qos = refl; index = refl; phase = asked_advances seq b.phase (Active ebi) is })
-        session.bearers lived)
+    session.bearers lived)
 
 pub effect_goes : (row : Row) (session : SessionState) (command : CommandKind)
     → AreLived session.lives session.bearers → GoesTo session (effect row session command)
 effect_goes created session (Create seq mme pdn ebi qos enb up down) lived =
     sets_rates session (changes.attached session (Some mme) up down ebi qos enb) refl refl
-        (record { least = omega arith; most = omega arith })
+    (record { least = omega arith; most = omega arith })
     (default_alone (changes.default_bearer session.lives ebi qos enb) session.lives session.bearers refl)
 effect_goes attached session (Attach enb up down) lived =
     sets_rates session (changes.attached session None up down ordered_ebi ordered_qos (Some enb)) refl refl
-        (record { least = omega arith; most = omega arith })
+    (record { least = omega arith; most = omega arith })
     (default_alone (changes.default_bearer session.lives ordered_ebi ordered_qos (Some enb)) session.lives
-        session.bearers refl)
+    session.bearers refl)
 effect_goes modified session (Modify seq mme asks) lived =
     keeps_rates session (effect modified session (Modify seq mme asks)) refl refl refl refl
-        (record { least = omega arith; most = omega arith })
+    (record { least = omega arith; most = omega arith })
     (all_change session.lives (changes.rebound_bearer asks)
-        (λ b. record { life = refl; qos = refl; index = refl; phase = same_phase b.phase }) session.bearers lived)
+    (λ b. record { life = refl; qos = refl; index = refl; phase = same_phase b.phase }) session.bearers lived)
 effect_goes released session command lived =
     keeps_rates session (changes.released session) refl refl refl refl
-        (record { least = omega arith; most = omega arith })
-    (all_change session.lives changes.unbound (λ b. record { life = refl; qos = refl; index = refl;
-        phase = same_phase b.phase }) session.bearers lived)
+    (record { least = omega arith; most = omega arith })
+    (all_change session.lives changes.unbound (λ b. record {
+      life = refl;
+      qos = refl;
+      index = refl;
+      phase = same_phase b.phase;
+    }) session.bearers lived)
 effect_goes deleted session command lived =
     keeps_rates session (changes.detached session) refl refl refl refl
-        (record { least = omega arith; most = omega arith }) (none_left session.lives session.bearers)
+    (record { least = omega arith; most = omega arith }) (none_left session.lives session.bearers)
 effect_goes asked session (AddBearer seq qci mbr_up mbr_down gbr_up gbr_down tft) lived =
     bearer_goes session seq (qos_asked session.bearers qci mbr_up mbr_down gbr_up gbr_down)
-        (least_free session.bearers) (filters_given tft) lived
+    (least_free session.bearers) (filters_given tft) lived
 effect_goes refiltered session (Filters seq ebi tft) lived =
     filters_go session ebi (filters_made session.bearers ebi tft) lived
 effect_goes dropped session (Drop seq ebi) lived =
     keeps_rates session (changes.dropped session ebi) refl refl refl refl
-        (record { least = omega arith; most = omega arith })
-        (first_goes session.lives (is_dedicated ebi) session.bearers lived)
+    (record { least = omega arith; most = omega arith })
+    (first_goes session.lives (is_dedicated ebi) session.bearers lived)
 effect_goes rerated session (Ambr seq up down) lived =
     sets_rates session (changes.rerated session up down) refl refl
-        (record { least = omega arith; most = omega arith }) (stay session.lives session.bearers lived)
+    (record { least = omega arith; most = omega arith }) (stay session.lives session.bearers lived)
 effect_goes granted session (CreateAns seq cause ebi row_cause enb) lived = enb_goes session seq ebi enb lived
 effect_goes denied session (CreateAns seq cause ebi row_cause enb) lived =
     keeps_rates session (changes.denied session seq) refl refl refl refl
-        (record { least = omega arith; most = omega arith })
-        (first_goes session.lives (is_asked seq) session.bearers lived)
+    (record { least = omega arith; most = omega arith })
+    (first_goes session.lives (is_asked seq) session.bearers lived)
 effect_goes row session command lived = nothing_changes session lived
 
 -- but for the answer that is kept

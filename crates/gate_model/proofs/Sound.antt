@@ -62,7 +62,7 @@ no_row_of_rates : (rates : ℕ) (up : Bool) (row : ForwardedRow) → (row.rates 
     → is_of_rates rates up row ≡ false
 no_row_of_rates rates up row differs =
     and_right (not (is_guaranteed row.qci)) (row.rates == rates && same_way row.up up)
-        (and_left (row.rates == rates) (same_way row.up up) (ne_eqb row.rates rates differs))
+    (and_left (row.rates == rates) (same_way row.up up) (ne_eqb row.rates rates differs))
 
 ambr_stays : (up : Bool) (before after : SessionState) (n m : ℕ) → after.up ≡ before.up → after.down ≡ before.down
     → ambr up (version_of after m) ≡ ambr up (version_of before n)
@@ -80,12 +80,12 @@ policed_next before after n m rows lived goes olds rates policed = record {
         let found = of_map life_in c.life (actives before.bearers) (of_has (actives before.bearers) c.life has) in
         let same = same_bearer before after lived goes found.0 c found.1 there found.2 in
         let policed_before = policed.own found.0 up found.1 (ap (λ (q : _). is_guaranteed q.qci) same.qos
-            ∙ guaranteed) in
+        ∙ guaranteed) in
         subst (λ life. PolicedBy (mbr up c.qos) (is_of_life life up) rows) found.2
         (subst (λ q. PolicedBy (mbr up q) (is_of_life found.0.life up) rows) same.qos policed_before)
     | inr begins ↦ none_left (mbr up c.qos) (is_of_life c.life up) rows
         (λ row in_rows. no_row_of_life c.life up row (λ same.
-            begins_fresh before after goes c there begins (subst (IsOld before) same (olds row in_rows))))
+        begins_fresh before after goes c there begins (subst (IsOld before) same (olds row in_rows))))
   ];
   shared = λ up. elim (cases_Bool (after.rates == before.rates)) [
     | inl stay ↦
@@ -96,7 +96,7 @@ policed_next before after n m rows lived goes olds rates policed = record {
     | inr rise ↦
         let differs : after.rates ≡ before.rates → ⊥ = eqb-false after.rates before.rates rise in
         none_left (ambr up (version_of after m)) (is_of_rates after.rates up) rows
-            (λ row in_rows. no_row_of_rates after.rates up row (λ same.
+        (λ row in_rows. no_row_of_rates after.rates up row (λ same.
         let bound : row.rates ≤ before.rates = rates row in_rows in
         let rose : before.rates ≤ after.rates = goes.rates in
         differs (omega arith)))
@@ -113,7 +113,7 @@ marked_kept before after m past n is lived goes was =
     let next : VersionState = version_of after m in
     let open_before : AreOpen (lives_of past.charged) past.version.bearers = was.opened in
     let next_apart : AreDistinct (active_lives (actives after.bearers)) =
-        actives_apart after.bearers goes.lived.apart in
+    actives_apart after.bearers goes.lived.apart in
     let books = marks_may (lives_of past.charged) past.version next open_before was.apart next_apart in
     record {
       apart = next_apart;
@@ -136,8 +136,10 @@ pub learnt_kept : (before after : SessionState) (m : ℕ) (past : Past) (n : ℕ
     → AreLived before.lives before.bearers → GoesTo before after
     → IsPast (IsOld before) past → IsPast (IsOld after) (learnt past (version_of after m)).0
 learnt_kept before after m past n is lived goes was =
-    all_released (IsPast (IsOld after)) (IsOld after) (past_keeps (IsOld after)) (marked past (version_of after m),
-        markers past.version (version_of after m)) past.held
+    all_released (IsPast (IsOld after)) (IsOld after) (past_keeps (IsOld after)) (
+      marked past (version_of after m),
+      markers past.version (version_of after m),
+    ) past.held
     (marked_kept before after m past n is lived goes was)
     (λ row there. stays_old before after goes row.life (was.waiting row there))
 
@@ -152,8 +154,10 @@ version_keeps version = record {
 
 pub version-learnt : (past : Past) (after : VersionState) → (learnt past after).0.version ≡ after
 version-learnt past after =
-    all_released (λ (p : Past). p.version ≡ after) (λ life. Unit {0}) (version_keeps after) (marked past after,
-        markers past.version after) past.held refl (λ row there. tt)
+    all_released (λ (p : Past). p.version ≡ after) (λ life. Unit {0}) (version_keeps after) (
+      marked past after,
+      markers past.version after,
+    ) past.held refl (λ row there. tt)
 
 pub version-judged : (past : Past) (packet : Packet) → (judged past packet).0.version ≡ past.version
 version-judged past packet = judged_kept (λ (p : Past). p.version ≡ past.version) (λ life. Unit {0})

@@ -53,4 +53,4 @@ abbrev pub EachHeldPacketOnce : Type 0
 EachHeldPacketOnce = (slot : ℕ) (events : List Event) (number : ℕ)
     → count_by (holds number) (story_of slot events)
     ≡ sum_by (λ (told : Told). fates_at number told.happened) (story_of slot events)
-        + waiting number (past_of slot events).packets.held
+    + waiting number (past_of slot events).packets.held

@@ -18,11 +18,11 @@ LivesArePoliced = (slot : ℕ) (before after : List Event) (bearer : ActiveBeare
     → Contains (version_after slot before).bearers bearer
     → IsTrue (is_guaranteed bearer.qos.qci)
     → ArePoliced (mbr up bearer.qos) (costs (filter (is_of_life bearer.life up)
-        (forwarded_after slot (before ++ after))))
+    (forwarded_after slot (before ++ after))))
 
 -- All that was forwarded one way for the other bearers while the AMBR was set so often conforms to the AMBR.
 abbrev pub SharesArePoliced : Type 0
 SharesArePoliced = (slot : ℕ) (before after : List Event) (up : Bool)
     → let version = version_after slot before in
     ArePoliced (ambr up version) (costs (filter (is_of_rates version.rates up)
-        (forwarded_after slot (before ++ after))))
+    (forwarded_after slot (before ++ after))))

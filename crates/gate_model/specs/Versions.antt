@@ -26,14 +26,14 @@ SessionsAreOfCommands = (slot : ℕ) (events : List Event)
 abbrev pub VersionsAreOfCommands : Type 0
 VersionsAreOfCommands = (slot : ℕ) (events : List Event)
     → version_after slot events ≡ version_of (controlled_by (new_session slot) (commands_of events))
-        (length (commands_of events))
+    (length (commands_of events))
 
 -- the version that a command leaves may follow on the past before it, as long as few things happened
 abbrev pub EachVersionFollows : Type 0
 EachVersionFollows = (slot : ℕ) (events : List Event) (command : CommandKind)
     → let past = past_of slot events in
     AreFew (learnt past.packets (next_version past command)).0.charged
-        → Follows past.packets (next_version past command)
+    → Follows past.packets (next_version past command)
 
 -- the lives that are open in the book are those of the active bearers
 abbrev pub OpenLivesAreActive : Type 0

@@ -100,7 +100,7 @@ impl Memory {
         requires short { len < 2 ^ 16 }
         ensures { (packet : Packet) → packet.octets ≡ ip.now
             → IfOk result (λ verdict. judged_to (past_at version.now self.old) packet bearer.now (Some peer)
-                ≡ (past_at version.now self.new, verdict)) }
+            ≡ (past_at version.now self.new, verdict)) }
     {
         let octets = ip.octets();
         if !self.forward(version, bearer, false, len)? {

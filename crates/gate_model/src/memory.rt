@@ -131,8 +131,10 @@ impl Memory {
 
     /// The book hears of these.
     pub(crate) fn mark(&mut self, postings: &[Posting]) -> Result<(), NoMemory>
-        ensures { OnOk result (self.new ≡ record self.old { charged = self.old.charged
-            ++ map happening_of postings.now }) }
+        ensures { OnOk result (self.new ≡ record self.old {
+          charged = self.old.charged
+              ++ map happening_of postings.now;
+        }) }
     {
         self.charged.extend_from_slice(postings)?;
         Ok(())
@@ -165,8 +167,10 @@ impl Memory {
     }
 
     fn push(&mut self, row: Row) -> Result<(), NoMemory>
-        ensures { OnOk result (self.new ≡ record self.old { forwarded = self.old.forwarded ++ row ∷ [];
-            charged = self.old.charged ++ happening_for row ∷ [] }) }
+        ensures { OnOk result (self.new ≡ record self.old {
+          forwarded = self.old.forwarded ++ row ∷ [];
+          charged = self.old.charged ++ happening_for row ∷ [];
+        }) }
     {
         self.forwarded.push(row)?;
         self.charged.push(Posting::Packet {

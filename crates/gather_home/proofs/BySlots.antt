@@ -62,8 +62,11 @@ module _ {N : Type 0} (coded : Coded N) where
         let f : H → ℕ = λ half. only coded n (name half) in
         let s = sum_by-cons f half halves in
         let there = later (omega arith) in (suc there.0, (let a = there.1 in omega arith), there.2)
-    among_or half halves n (suc w) e later some = (0, (omega arith),
-        λ d. sym (only_one coded n (name half) (omega arith)))
+    among_or half halves n (suc w) e later some = (
+      0,
+      (omega arith),
+      λ d. sym (only_one coded n (name half) (omega arith)),
+    )
 
     among : (halves : List H) (n : N) → 1 ≤ weight name (only coded n) halves → Among halves n
     among [] n some = absurd (omega arith)
@@ -91,7 +94,7 @@ module _ {N : Type 0} (coded : Coded N) where
           let a = same one in let b = sum_by-cons (weight_at one) (Some n) names in omega arith)
       by_slot_from first (Some n ∷ names) (half ∷ halves) from climbs same =
           (λ i. is i ∷ by_slot_from (first + 1) names halves (from_next slot_of first (Some n) names from)
-              (climbs_next half halves climbs) less i) where
+          (climbs_next half halves climbs) less i) where
             here : Stands (Some n ∷ names) (name half)
             here =
                 let f : H → ℕ = λ x. only coded (name half) (name x) in
@@ -117,7 +120,7 @@ module _ {N : Type 0} (coded : Coded N) where
             is : name half ≡ n
             is =
                 let e : Some n ≡ Some (name half) = subst (λ (k : ℕ). get_or (Some n ∷ names) k None
-                    ≡ Some (name half)) first_one here.1 in
+                ≡ Some (name half)) first_one here.1 in
                 sym (ap (some_out n) e)
 
             less : (h : N → ℕ) → weight name h halves ≡ sum_by (weight_at h) names
@@ -144,11 +147,11 @@ module _ {H N : Type 0} (name : H → N) where
   each_stands [] (half ∷ halves) same = absurd (let e = ap length same in omega arith)
   each_stands (None ∷ names) (half ∷ halves) same =
       All-weaker (λ x. Stands names (name x)) (λ x. Stands (None ∷ names) (name x)) (λ x at. (suc at.0, at.1))
-          (half ∷ halves) (each_stands names (half ∷ halves) same)
+      (half ∷ halves) (each_stands names (half ∷ halves) same)
   each_stands (Some n ∷ names) (half ∷ halves) same =
       All-cons (λ x. Stands (Some n ∷ names) (name x)) half halves (0, ap Some (sym (ap (first n) same)))
       (All-weaker (λ x. Stands names (name x)) (λ x. Stands (Some n ∷ names) (name x))
-          (λ x at. (suc at.0, at.1)) halves (each_stands names halves (ap later same))) where
+      (λ x at. (suc at.0, at.1)) halves (each_stands names halves (ap later same))) where
         first : {X : Type 0} → X → List X → X
         first d [] = d
         first d (x ∷ xs) = x

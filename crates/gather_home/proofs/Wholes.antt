@@ -72,12 +72,12 @@ module _ {H N : Type 0} (name : H → N) (h : N → ℕ) where
       (opened : Option (HomeLane H)) (desks rest : List (Desk H)) (desk : Desk H)
       (came more : List (Order H)) (keeps gone : List H)
       → fronts + found + weight name h (arrivals left) + weight name h held + opened_sent name h opened
-          + sum_by (sent_weight name h) desks
+      + sum_by (sent_weight name h) desks
       ≡ names + opened_taken name h opened + sum_by (home_weight name h) desks
       → left ≡ [] → held ≡ [] → opened ≡ None → desks ≡ rest ++ desk ∷ [] → sent desk.orders ≡ came ++ more
       → weight name h (arrivals came) ≡ weight name h keeps + weight name h gone
       → fronts + found + weight name h (arrivals more) + weight name h keeps + weight name h gone
-          + sum_by (sent_weight name h) rest
+      + sum_by (sent_weight name h) rest
       ≡ names + weight name h (taken desk.home) + sum_by (home_weight name h) rest
   closed_orders fronts found names left held opened desks rest desk came more keeps gone whole no_left no_held
       closed last all kept =
@@ -89,7 +89,7 @@ module _ {H N : Type 0} (name : H → N) (h : N → ℕ) where
       let s = ap (sum_by (sent_weight name h)) last ∙ sum_by_push (sent_weight name h) rest desk in
       let t = ap (sum_by (home_weight name h)) last ∙ sum_by_push (home_weight name h) rest desk in
       let r : weight name h (arrivals (sent desk.orders)) ≡ weight name h (arrivals came)
-          + weight name h (arrivals more) =
+      + weight name h (arrivals more) =
       ap (λ l. weight name h (arrivals l)) all ∙ ap (sum_by f) (arrivals-append came more)
-          ∙ sum_by-append f (arrivals came) (arrivals more) in
+      ∙ sum_by-append f (arrivals came) (arrivals more) in
       omega arith

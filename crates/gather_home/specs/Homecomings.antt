@@ -44,6 +44,6 @@ abbrev pub IsWhole : {H N : Type 0} → (H → N) → List (Option (Place H)) �
     → Type 0
 IsWhole {H} {N} name admitted places found left held opened desks =
     (h : N → ℕ) → sum_by (front_at name h) places + weight name h found + weight name h (arrivals left)
-        + weight name h held
+    + weight name h held
     + opened_sent name h opened + sum_by (sent_weight name h) desks
     ≡ sum_by (weight_at h) (names_of name admitted) + opened_taken name h opened + sum_by (home_weight name h) desks

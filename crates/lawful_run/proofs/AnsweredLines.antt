@@ -45,25 +45,25 @@ answered_at_once n start front before (note text ∷ made) counts = (
   tt,
   answered_at_once (n + 1) start _ (behind_line before (note text)) made
       (λ slot. counted_on start slot front (before slot) (note text) (entry_after n before (note text)) refl
-          (counts slot)),
+      (counts slot)),
 )
 answered_at_once n start front before (move own slice text ∷ made) counts = (
   tt,
   answered_at_once (n + 1) start _ (behind_line before (move own slice text)) made
       (λ slot. counted_on start slot front (before slot) (move own slice text)
-          (entry_after n before (move own slice text)) refl (counts slot)),
+      (entry_after n before (move own slice text)) refl (counts slot)),
 )
 answered_at_once n start front before (command own c ∷ made) counts = (
   tt,
   answered_at_once (n + 1) start _ (behind_line before (command own c)) made
       (λ slot. counted_on start slot front (before slot) (command own c)
-          (entry_after n before (command own c)) refl (counts slot)),
+      (entry_after n before (command own c)) refl (counts slot)),
 )
 answered_at_once n start front before (packet own p ∷ made) counts = (
   record { commands = counts own; place = refl; parked = refl },
   answered_at_once (n + 1) start _ (behind_line before (packet own p)) made
       (λ slot. counted_on start slot front (before slot) (packet own p) (entry_after n before (packet own p)) refl
-          (counts slot)),
+      (counts slot)),
 )
 
 -- what the entries of a slot tell, where its events are those that the lines bring
@@ -81,7 +81,7 @@ number_first : (test : Bool) (before : List Event) (c : CommandKind) (number : �
     → (test ≡ true → number ≡ length (commands_of before))
     → numbers ≡ counted (length (commands_of (cond test (before ++ event.Command c ∷ []) before))) (length commands)
     → cons_option (cond test (Some number) None) numbers
-        ≡ counted (length (commands_of before)) (length (cons_option (cond test (Some c) None) commands))
+    ≡ counted (length (commands_of before)) (length (cons_option (cond test (Some c) None) commands))
 number_first true before c number numbers commands own holds =
     let here : number ≡ length (commands_of before) = own refl in
     let more : numbers ≡ counted (length (commands_of before) + 1) (length commands) =
@@ -105,7 +105,7 @@ reply_first false slot before c reply told events own holds = holds
 
 command_verdicts : (test : Bool) (slot : ℕ) (before : List Event) (c : CommandKind) (events : List Event)
     → verdicts slot (cond test (before ++ event.Command c ∷ []) before) events
-        ≡ verdicts slot before (cond test (event.Command c ∷ []) [] ++ events)
+    ≡ verdicts slot before (cond test (event.Command c ∷ []) [] ++ events)
 command_verdicts true slot before c events = refl
 command_verdicts false slot before c events = refl
 
@@ -115,7 +115,7 @@ packet_first : {X : Type 0} (test : Bool) (before : List Event) (p : Packet) (q 
     → (test ≡ true → number ≡ length (packets_of before))
     → numbers ≡ counted (length (packets_of (cond test (before ++ event.Packet p ∷ []) before))) (length packets)
     → cons_option (cond test (Some number) None) numbers
-        ≡ counted (length (packets_of before)) (length (cons_option (cond test (Some q) None) packets))
+    ≡ counted (length (packets_of before)) (length (cons_option (cond test (Some q) None) packets))
 packet_first true before p q number numbers packets own holds =
     let here : number ≡ length (packets_of before) = own refl in
     let more : numbers ≡ counted (length (packets_of before) + 1) (length packets) =
@@ -133,19 +133,19 @@ verdict_first : (test : Bool) (slot : ℕ) (before : List Event) (p : Packet) (v
     → (test ≡ true → verdict ≡ verdict_after slot before p)
     → told ≡ verdicts slot (cond test (before ++ event.Packet p ∷ []) before) events
     → cons_option (cond test (Some verdict) None) told
-        ≡ verdicts slot before (cond test (event.Packet p ∷ []) [] ++ events)
+    ≡ verdicts slot before (cond test (event.Packet p ∷ []) [] ++ events)
 verdict_first true slot before p verdict told events own holds = λ i. own refl i ∷ holds i
 verdict_first false slot before p verdict told events own holds = holds
 
 packet_replies : (test : Bool) (slot : ℕ) (before : List Event) (p : Packet) (events : List Event)
     → replies slot (cond test (before ++ event.Packet p ∷ []) before) events
-        ≡ replies slot before (cond test (event.Packet p ∷ []) [] ++ events)
+    ≡ replies slot before (cond test (event.Packet p ∷ []) [] ++ events)
 packet_replies true slot before p events = refl
 packet_replies false slot before p events = refl
 
 placed_test : {X : Type 0} (test : Bool) (make : LentPacket → X) (p : LentPacket) (packets : List X)
     → length (cons_option (option_map make (cond test (Some p) None)) packets)
-        ≡ length (cons_option (cond test (Some (make p)) None) packets)
+    ≡ length (cons_option (cond test (Some (make p)) None) packets)
 placed_test true make p packets = refl
 placed_test false make p packets = refl
 
@@ -155,12 +155,20 @@ answered_slot slot n before [] =
     record { command_numbers = refl; packet_numbers = refl; replies = refl; verdicts = refl }
 answered_slot slot n before (note text ∷ made) =
     let rest = answered_slot slot (n + 1) (behind_line before (note text)) made in
-    record { command_numbers = rest.command_numbers; packet_numbers = rest.packet_numbers; replies = rest.replies;
-        verdicts = rest.verdicts }
+    record {
+      command_numbers = rest.command_numbers;
+      packet_numbers = rest.packet_numbers;
+      replies = rest.replies;
+      verdicts = rest.verdicts;
+    }
 answered_slot slot n before (move own slice text ∷ made) =
     let rest = answered_slot slot (n + 1) (behind_line before (move own slice text)) made in
-    record { command_numbers = rest.command_numbers; packet_numbers = rest.packet_numbers; replies = rest.replies;
-        verdicts = rest.verdicts }
+    record {
+      command_numbers = rest.command_numbers;
+      packet_numbers = rest.packet_numbers;
+      replies = rest.replies;
+      verdicts = rest.verdicts;
+    }
 answered_slot slot n before (command own c ∷ made) =
     let rest = answered_slot slot (n + 1) (behind_line before (command own c)) made in
     record {
@@ -168,7 +176,7 @@ answered_slot slot n before (command own c ∷ made) =
           (λ own_slot. ap (λ s. length (commands_of (before s))) (eqb-true own slot own_slot)) rest.command_numbers;
       packet_numbers = rest.packet_numbers
           ∙ ap (λ k. counted k (length (packets_accepted slot
-              (lines_told made (entries_from (n + 1) (behind_line before (command own c)) made)))))
+          (lines_told made (entries_from (n + 1) (behind_line before (command own c)) made)))))
           (command_packets (own == slot) (before slot) c);
       replies = reply_first (own == slot) slot (before slot) c (reply_after own (before own) c) _ _
           (λ own_slot. ap (λ s. reply_after s (before s) c) (eqb-true own slot own_slot)) rest.replies;
@@ -180,7 +188,7 @@ answered_slot slot n before (packet own p ∷ made) =
     record {
       command_numbers = rest.command_numbers
           ∙ ap (λ k. counted k (length (commands_accepted slot
-              (lines_told made (entries_from (n + 1) (behind_line before (packet own p)) made)))))
+          (lines_told made (entries_from (n + 1) (behind_line before (packet own p)) made)))))
           (packet_commands (own == slot) (before slot) (numbered (length (packets_of (before slot))) p));
       packet_numbers = packet_first (own == slot) (before slot) (numbered (length (packets_of (before slot))) p)
           (record { commands = length (commands_of (before own)); packet = p }) (length (packets_of (before own))) _ _
@@ -192,5 +200,5 @@ answered_slot slot n before (packet own p ∷ made) =
       verdicts = verdict_first (own == slot) slot (before slot) (numbered (length (packets_of (before slot))) p)
           (verdict_after own (before own) (numbered (length (packets_of (before own))) p)) _ _
           (λ own_slot. ap (λ s. verdict_after s (before s) (numbered (length (packets_of (before s))) p))
-              (eqb-true own slot own_slot)) rest.verdicts;
+          (eqb-true own slot own_slot)) rest.verdicts;
     }

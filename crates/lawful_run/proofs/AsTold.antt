@@ -95,10 +95,10 @@ ordered-places done next commands (p ∷ packets) rises within =
     let rest = length-drop (p.commands - done) commands few in
     let here : done + length (take (p.commands - done) commands) ≡ p.commands = omega (arith, front, rises.0) in
     let most : done + length commands ≡ p.commands + length (drop (p.commands - done) commands) =
-        omega (arith, rest, rises.0) in
+    omega (arith, rest, rises.0) in
     places-behind done (take (p.commands - done) commands) _
     ∙ ap (λ k. places k (event.Packet (numbered next p.packet)
-        ∷ ordered p.commands (next + 1) (drop (p.commands - done) commands) packets)) here
+    ∷ ordered p.commands (next + 1) (drop (p.commands - done) commands) packets)) here
     ∙ ap (λ counts. p.commands ∷ counts)
     (ordered-places p.commands (next + 1) (drop (p.commands - done) commands) packets rises.1
     (subst (λ k. NoneAbove k (counts_of packets)) most within.1))
@@ -126,16 +126,16 @@ pub met_at_most : (job : Job) (start : Histories) (slot : ℕ) (front later : Li
     → count ≤ count_before start slot + command_count slot (front ++ now ∷ later)
 met_at_most solo start slot front later now count meets =
     let parts : command_count slot (front ++ now ∷ later) ≡ command_count slot front
-        + command_count slot (now ∷ later) =
+    + command_count slot (now ∷ later) =
     simp (filter_map-append, length-append) in
     omega (arith, meets, parts)
 met_at_most (sliced slices room lane) start slot front later now count meets =
     let fewer = fewer_before_move slot slot later in
     let parts : command_count slot (front ++ now ∷ later) ≡ command_count slot front
-        + command_count slot (now ∷ later) =
+    + command_count slot (now ∷ later) =
     simp (filter_map-append, length-append) in
     let some : command_count slot (front ++ before_next_move slot later) ≡ command_count slot front
-        + command_count slot (before_next_move slot later) =
+    + command_count slot (before_next_move slot later) =
     simp (filter_map-append, length-append) in
     let own : command_count slot ((now ∷ []) ++ later) ≡ command_count slot (now ∷ []) + command_count slot later =
     simp (filter_map-append, length-append) in
@@ -150,45 +150,45 @@ by_entry : (slot : ℕ) (job : Job) (start : Histories) (front : List LineTold) 
     (later : List LineTold)
     (counts : List ℕ) → MeetsAs job start front entry later
     → NoneAbove (count_before start slot + command_count slot (front ++ record { meaning = now; entry = entry }
-        ∷ later)) counts
+    ∷ later)) counts
     → NoneAbove (count_before start slot + command_count slot (front ++ record { meaning = now; entry = entry }
-        ∷ later))
+    ∷ later))
     (cons_option (commands_told slot entry) counts)
 by_entry slot job start front now (line.N noted) later counts meets none = none
 by_entry slot job start front now (line.C answered) later counts meets none = none
 by_entry slot job start front now (line.P judged) later counts meets none =
     above_first (judged.slot == slot) judged.commands
     (count_before start slot + command_count slot (front ++ record { meaning = now; entry = line.P judged }
-        ∷ later)) counts
+    ∷ later)) counts
     (λ own. subst (λ s. judged.commands ≤ count_before start s
-        + command_count s (front ++ record { meaning = now; entry = line.P judged } ∷ later))
+    + command_count s (front ++ record { meaning = now; entry = line.P judged } ∷ later))
     (eqb-true judged.slot slot own)
     (met_at_most job start judged.slot front later (record { meaning = now; entry = line.P judged })
-        judged.commands meets)) none
+    judged.commands meets)) none
 by_entry slot job start front now (line.F refused) later counts meets none = none
 
 none_above : (slot n : ℕ) (job : Job) (start : Histories) (front : List LineTold) (made : List Meaning)
     (entries : List LineEntry)
     → AnswersAll n made entries → EachFrom (MeetsBounds job start) front (lines_told made entries)
     → NoneAbove (count_before start slot + command_count slot (front ++ lines_told made entries))
-        (filter_map (commands_told slot) entries)
+    (filter_map (commands_told slot) entries)
 none_above slot n job start front [] [] answers each = tt
 none_above slot n job start front [] (entry ∷ entries) answers each = absurd answers
 none_above slot n job start front (now ∷ made) [] answers each = absurd answers
 none_above slot n job start front (now ∷ made) (entry ∷ entries) answers each =
     let told : LineTold = record { meaning = now; entry = entry } in
     let rest = subst (λ lines. NoneAbove (count_before start slot + command_count slot lines)
-        (filter_map (commands_told slot) entries))
+    (filter_map (commands_told slot) entries))
     (append_assoc front (told ∷ []) (lines_told made entries))
     (none_above slot (n + 1) job start (front ++ told ∷ []) made entries answers.1 each.1) in
     by_entry slot job start front now entry (lines_told made entries)
-        (filter_map (commands_told slot) entries) each.0 rest
+    (filter_map (commands_told slot) entries) each.0 rest
 
 pub counts_within : (job : Job) (slots first : ℕ) (before : Histories) (made : List Meaning) (told : EpochReport)
     (slot : ℕ)
     → IsEpochRun job slots first before made told
     → NoneAbove (length (commands_of (before slot)) + length (commands_accepted slot (told_in made told)))
-        (filter_map (commands_told slot) told.lines)
+    (filter_map (commands_told slot) told.lines)
 counts_within job slots first before made told slot run =
     none_above slot first job before [] made told.lines run.one_each run.bounds
 
@@ -204,6 +204,6 @@ stand_as_told job slots first before made told slot run =
       counts = ordered-places done (length (packets_of (before slot))) commands packets
           (subst (Rises done) (sym placed) (run.counts_rise slot))
           (subst (NoneAbove (done + length commands)) (sym placed)
-              (counts_within job slots first before made told slot run))
+          (counts_within job slots first before made told slot run))
           ∙ placed;
     }

@@ -27,7 +27,7 @@ use Rattle.lawful_run.proofs.OrderLemmas.{counts_of, rises_lower, ordered-comman
 placed_first : (test : Bool) (count : ℕ) (p : LentPacket) (packets : List Placed) (counts : List ℕ)
     → counts_of packets ≡ counts
     → counts_of (cons_option (option_map (λ (q : LentPacket). record { commands = count; packet = q })
-        (cond test (Some p) None)) packets)
+    (cond test (Some p) None)) packets)
     ≡ cons_option (cond test (Some count) None) counts
 placed_first true count p packets counts same = ap (λ more. count ∷ more) same
 placed_first false count p packets counts same = same
@@ -58,10 +58,10 @@ placed_counts slot n (packet own p ∷ made) (line.N noted ∷ entries) answers 
 placed_counts slot n (packet own p ∷ made) (line.C answered ∷ entries) answers = absurd answers.0
 placed_counts slot n (packet own p ∷ made) (line.P judged ∷ entries) answers =
     subst (λ s. counts_of (packets_accepted slot (record { meaning = packet s p; entry = line.P judged }
-        ∷ lines_told made entries))
+    ∷ lines_told made entries))
     ≡ filter_map (commands_told slot) (line.P judged ∷ entries)) answers.0.1
     (placed_first (judged.slot == slot) judged.commands p (packets_accepted slot (lines_told made entries))
-        (filter_map (commands_told slot) entries)
+    (filter_map (commands_told slot) entries)
     (placed_counts slot (n + 1) made entries answers.1))
 placed_counts slot n (packet own p ∷ made) (line.F refused ∷ entries) answers =
     placed_counts slot (n + 1) made entries answers.1
@@ -74,7 +74,7 @@ counts_brought slot events (move own slice text ∷ made) = counts_brought slot 
 counts_brought slot events (command own c ∷ made) = counts_brought slot (with_line slot events (command own c)) made
 counts_brought slot events (packet own p ∷ made) =
     cons_option (cond (own == slot) (Some (length (commands_of events))) None)
-        (counts_brought slot (with_line slot events (packet own p)) made)
+    (counts_brought slot (with_line slot events (packet own p)) made)
 
 -- the counts of a slot rise, and its events are those that the lines bring
 pub record InLineOrder (slot : ℕ) (before : List Event) (made : List Meaning) (entries : List LineEntry) : Type 0 where
@@ -89,11 +89,11 @@ command_first : (test : Bool) (before : List Event) (c : CommandKind) (commands 
     (packets : List Placed) (events : List Event)
     → Rises (length (commands_of (cond test (before ++ event.Command c ∷ []) before))) (counts_of packets)
     → ordered (length (commands_of (cond test (before ++ event.Command c ∷ []) before)))
-        (length (packets_of (cond test (before ++ event.Command c ∷ []) before))) commands packets
+    (length (packets_of (cond test (before ++ event.Command c ∷ []) before))) commands packets
     ≡ events
     → Rises (length (commands_of before)) (counts_of packets)
     × (ordered (length (commands_of before)) (length (packets_of before))
-        (cons_option (cond test (Some c) None) commands) packets
+    (cons_option (cond test (Some c) None) commands) packets
     ≡ cond test (event.Command c ∷ []) [] ++ events)
 command_first true before c commands packets events rises holds =
     let more = commands-command before c in
@@ -104,7 +104,7 @@ command_first true before c commands packets events rises holds =
           ∙ ap (λ rest. event.Command c ∷ rest)
           (subst (λ k. ordered k (length (packets_of before)) commands packets ≡ events) more
           (subst (λ k. ordered (length (commands_of (before ++ event.Command c ∷ []))) k commands packets ≡ events)
-              (packets-command before c) holds)),
+          (packets-command before c) holds)),
     )
 command_first false before c commands packets events rises holds = (rises, holds)
 
@@ -113,29 +113,32 @@ packet_first : (test : Bool) (before : List Event) (count : ℕ) (p : LentPacket
     (packets : List Placed)
     (counts : List ℕ) (events : List Event) → (test ≡ true → count ≡ length (commands_of before))
     → Rises (length (commands_of (cond test (before ++ event.Packet (numbered (length (packets_of before)) p)
-        ∷ []) before))) counts
+    ∷ []) before))) counts
     → ordered (length (commands_of (cond test (before ++ event.Packet (numbered (length (packets_of before)) p)
-        ∷ []) before)))
+    ∷ []) before)))
     (length (packets_of (cond test (before ++ event.Packet (numbered (length (packets_of before)) p)
-        ∷ []) before))) commands packets
+    ∷ []) before))) commands packets
     ≡ events
     → Rises (length (commands_of before)) (cons_option (cond test (Some count) None) counts)
     × (ordered (length (commands_of before)) (length (packets_of before)) commands
     (cons_option (option_map (λ (q : LentPacket). record { commands = count; packet = q })
-        (cond test (Some p) None)) packets)
+    (cond test (Some p) None)) packets)
     ≡ cond test (event.Packet (numbered (length (packets_of before)) p) ∷ []) [] ++ events)
 packet_first true before count p commands packets counts events meets rises holds =
     let here : count ≡ length (commands_of before) = meets refl in
     let none = commands-packet before (numbered (length (packets_of before)) p) in
     let more = packets-packet before (numbered (length (packets_of before)) p) in (
-      (omega (arith, here), rises_lower count (length (commands_of before)) counts (omega (arith, here))
-          (rw (sym none) rises)),
+      (
+        omega (arith, here),
+        rises_lower count (length (commands_of before)) counts (omega (arith, here))
+            (rw (sym none) rises),
+      ),
       ordered-packet (length (commands_of before)) (length (packets_of before)) commands
           (record { commands = count; packet = p }) packets here
           ∙ ap (λ rest. event.Packet (numbered (length (packets_of before)) p) ∷ rest)
           (subst (λ k. ordered (length (commands_of before)) k commands packets ≡ events) more
           (subst (λ k. ordered k (length (packets_of (before
-              ++ event.Packet (numbered (length (packets_of before)) p) ∷ []))) commands packets ≡ events) none holds)),
+          ++ event.Packet (numbered (length (packets_of before)) p) ∷ []))) commands packets ≡ events) none holds)),
     )
 packet_first false before count p commands packets counts events meets rises holds = (rises, holds)
 
@@ -147,7 +150,7 @@ count_first false count here counts others meets same = same
 packets_first : {X Y : Type 0} (test : Bool) (make : X → Y) (p : X) (packets : List Y) (others : List X)
     → length packets ≡ length others
     → length (cons_option (option_map make (cond test (Some p) None)) packets)
-        ≡ length (cons_option (cond test (Some p) None) others)
+    ≡ length (cons_option (cond test (Some p) None) others)
 packets_first true make p packets others same = ap (λ n. suc n) same
 packets_first false make p packets others same = same
 
@@ -162,17 +165,27 @@ met_slot slot n start front before [] (entry ∷ entries) answers each counts = 
 met_slot slot n start front before (now ∷ made) [] answers each counts = absurd answers
 met_slot slot n start front before (note text ∷ made) (line.N noted ∷ entries) answers each counts =
     let rest = met_slot slot (n + 1) start _ before made entries answers.1 each.1
-        (counted_on start slot front before (note text) (line.N noted) refl counts) in
-    record { counts = rest.counts; commands = rest.commands; packets = rest.packets; rises = rest.rises;
-        events = rest.events }
+    (counted_on start slot front before (note text) (line.N noted) refl counts) in
+    record {
+      counts = rest.counts;
+      commands = rest.commands;
+      packets = rest.packets;
+      rises = rest.rises;
+      events = rest.events;
+    }
 met_slot slot n start front before (note text ∷ made) (line.C answered ∷ entries) answers each counts = absurd answers.0
 met_slot slot n start front before (note text ∷ made) (line.P judged ∷ entries) answers each counts = absurd answers.0
 met_slot slot n start front before (note text ∷ made) (line.F refused ∷ entries) answers each counts = absurd answers.0
 met_slot slot n start front before (move own slice text ∷ made) (line.N noted ∷ entries) answers each counts =
     let rest = met_slot slot (n + 1) start _ before made entries answers.1 each.1
-        (counted_on start slot front before (move own slice text) (line.N noted) refl counts) in
-    record { counts = rest.counts; commands = rest.commands; packets = rest.packets; rises = rest.rises;
-        events = rest.events }
+    (counted_on start slot front before (move own slice text) (line.N noted) refl counts) in
+    record {
+      counts = rest.counts;
+      commands = rest.commands;
+      packets = rest.packets;
+      rises = rest.rises;
+      events = rest.events;
+    }
 met_slot slot n start front before (move own slice text ∷ made) (line.C answered ∷ entries) answers each counts =
     absurd answers.0
 met_slot slot n start front before (move own slice text ∷ made) (line.P judged ∷ entries) answers each counts =
@@ -186,10 +199,10 @@ met_slot slot n start front before (command own c ∷ made) (line.C answered ∷
     (counted_on start slot front before (command own c) (line.C answered) refl counts) in
     let placed = placed_counts slot (n + 1) made entries answers.1 in
     let first = command_first (own == slot) before c (commands_accepted slot (lines_told made entries))
-        (packets_accepted slot (lines_told made entries))
+    (packets_accepted slot (lines_told made entries))
     (brought slot (with_line slot before (command own c)) made)
     (subst (Rises (length (commands_of (with_line slot before (command own c))))) (sym placed) rest.rises)
-        rest.events in
+    rest.events in
     record {
       counts = rest.counts;
       commands = ap (cons_option (cond (own == slot) (Some c) None)) rest.commands;
@@ -208,7 +221,7 @@ met_slot slot n start front before (packet own p ∷ made) (line.P judged ∷ en
     (counted_on start slot front before (packet own p) (line.P judged) refl counts) in
     let meets : (own == slot) ≡ true → judged.commands ≡ length (commands_of before) =
     λ own_slot. each.0 ∙ ap (λ s. count_at_once start s front) (answers.0.1 ∙ eqb-true own slot own_slot)
-        ∙ sym counts in
+    ∙ sym counts in
     let first = packet_first (own == slot) before judged.commands p (commands_accepted slot (lines_told made entries))
     (packets_accepted slot (lines_told made entries)) (filter_map (commands_told slot) entries)
     (brought slot (with_line slot before (packet own p)) made) meets rest.rises rest.events in

@@ -20,7 +20,7 @@ module _ {X Y : Type 0} (told : List X → List Y) (nothing : told [] ≡ [])
     | inl same ↦
         append (of first) (flat_map of (counted (first + 1) n))
         ∙ ap (λ xs. told (of first) ++ xs) (none_of (first + 1) n
-            (λ s more. others s (λ is. omega (arith, is, more, same))))
+        (λ s more. others s (λ is. omega (arith, is, more, same))))
         ∙ append-nil (told (of first))
         ∙ ap (λ s. told (of s)) same
     | inr other ↦

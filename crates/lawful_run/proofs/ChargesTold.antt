@@ -45,7 +45,7 @@ epoch_rows : (job : Job) (slots first : ℕ) (before : Histories) (made : List M
 epoch_rows job slots first before made told slot within run =
     ap (filter_map (row_by slot)) run.rows
     ∙ one_of (filter_map (row_by slot)) refl (filter_map-append (row_by slot))
-        (λ s. made_of.rows s (before s) (now_events before made told s))
+    (λ s. made_of.rows s (before s) (now_events before made told s))
     slot 0 slots (omega arith) (omega (arith, within))
     (λ s other. other_rows slot s (records_made s (before s) (now_events before made told s)) other)
     ∙ own_rows slot (records_made slot (before slot) (now_events before made told slot))
@@ -61,9 +61,9 @@ rows_from job slots first before (made ∷ epochs) [] slot within runs = absurd 
 rows_from job slots first before (made ∷ epochs) (told ∷ others) slot within runs =
     let rest : List Charged = flat_map (λ (t : EpochReport). filter_map (row_by slot) t.rows) others in
     ap (λ rows. records_after slot (before slot) ++ (rows ++ rest))
-        (epoch_rows job slots first before made told slot within runs.0)
+    (epoch_rows job slots first before made told slot within runs.0)
     ∙ sym (append_assoc (records_after slot (before slot))
-        (records_made slot (before slot) (now_events before made told slot)) rest)
+    (records_made slot (before slot) (now_events before made told slot)) rest)
     ∙ ap (λ rows. rows ++ rest) (sym (records_added slot (before slot) (now_events before made told slot)))
     ∙ rows_from job slots (first + length made) (behind before (told_in made told)) epochs others slot within runs.1
 
@@ -83,7 +83,7 @@ pub opens_are : (job : Job) (slots : ℕ) (made : List (List Meaning)) (report :
 opens_are job slots made report slot within run =
     ap (filter_map (counters_by slot)) run.opens
     ∙ one_of (filter_map (counters_by slot)) refl (filter_map-append (counters_by slot))
-        (λ s. made_of.opens s (all_events made report s))
+    (λ s. made_of.opens s (all_events made report s))
     slot 0 slots (omega arith) (omega (arith, within))
     (λ s other. other_opens slot s (made_of.open_counters s (all_events made report s)) other)
     ∙ own_opens slot (made_of.open_counters slot (all_events made report slot))

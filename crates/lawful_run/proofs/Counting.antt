@@ -44,7 +44,7 @@ command_count-push slot front now = simp (filter_map-append, length-append)
 -- the commands of a slot behind a line are those before it and its own
 with_command : (test : Bool) (events : List Event) (c : CommandKind)
     → length (commands_of (cond test (events ++ event.Command c ∷ []) events)) ≡ length (commands_of events)
-        + some_count (cond test (Some c) None)
+    + some_count (cond test (Some c) None)
 with_command true events c = commands-command events c
 with_command false events c = omega arith
 
@@ -55,7 +55,7 @@ with_packet false events p = refl
 
 pub commands-line : (slot : ℕ) (events : List Event) (made : Meaning)
     → length (commands_of (with_line slot events made)) ≡ length (commands_of events)
-        + some_count (command_for slot made)
+    + some_count (command_for slot made)
 commands-line slot events (note text) = omega arith
 commands-line slot events (move own slice text) = omega arith
 commands-line slot events (command own c) = with_command (own == slot) events c
@@ -75,5 +75,5 @@ counted_on start slot front events made entry taken counts =
     let more = command_count-push slot front (record { meaning = made; entry = entry }) in
     let brought = commands-line slot events made in
     let one : some_count (accepted_command slot (record { meaning = made; entry = entry }))
-        ≡ some_count (command_for slot made) = ap some_count taken in
+    ≡ some_count (command_for slot made) = ap some_count taken in
     omega (arith, counts, more, brought, one)

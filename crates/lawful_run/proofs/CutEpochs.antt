@@ -14,7 +14,7 @@ AreWhole closed = All (λ epoch. is_whole [] epoch ≡ true) closed
 behind_whole : (slices : ℕ) (before epoch : List Line) (epochs : List (List Line)) (noted : List Meaning)
     → is_whole [] epoch ≡ true
     → epochs_from slices before (epoch ∷ epochs) noted ≡ meant_from slices before epoch
-        ∷ epochs_from slices (before ++ epoch) epochs noted
+    ∷ epochs_from slices (before ++ epoch) epochs noted
 behind_whole slices before epoch [] noted whole =
     ap (λ test. with_noted test (meant_from slices before epoch) noted) whole
 behind_whole slices before epoch (next ∷ epochs) noted whole = refl
@@ -37,10 +37,10 @@ cut_means slices before [] open_ noted whole unfinished =
     ∙ ap (λ lines. own_epoch (meant_from slices lines open_ ++ noted)) (sym (append-nil before))
 cut_means slices before (epoch ∷ closed) open_ noted whole unfinished =
     behind_whole slices before epoch (closed ++ open_epoch open_) noted
-        (All-head (λ e. is_whole [] e ≡ true) epoch closed whole)
+    (All-head (λ e. is_whole [] e ≡ true) epoch closed whole)
     ∙ ap (λ rest. meant_from slices before epoch ∷ rest)
     (cut_means slices (before ++ epoch) closed open_ noted
-        (All-tail (λ e. is_whole [] e ≡ true) epoch closed whole) unfinished
+    (All-tail (λ e. is_whole [] e ≡ true) epoch closed whole) unfinished
     ∙ ap (λ lines. meant_epochs slices (before ++ epoch) closed ++ own_epoch (meant_from slices lines open_ ++ noted))
     (append_assoc before epoch (flat_map (λ (e : List Line). e) closed)))
 
@@ -53,4 +53,4 @@ meant_from-append slices before (line ∷ lines) more =
     ap (λ rest. settled_by slices before (meaning slices before line) ∷ rest)
     (meant_from-append slices (before ++ line ∷ []) lines more
     ∙ ap (λ done. meant_from slices (before ++ line ∷ []) lines ++ meant_from slices done more)
-        (append_assoc before (line ∷ []) lines))
+    (append_assoc before (line ∷ []) lines))

@@ -53,7 +53,7 @@ module _ (slots first : ℕ) (before : Histories) (made : List Meaning) where
   in_order : (slot : ℕ) → InLineOrder slot (before slot) made (entries_from first before made)
   in_order slot =
       met_slot slot first before [] (before slot) made (entries_from first before made)
-          (answered_each first before made)
+      (answered_each first before made)
       (at_once_meets before [] (lines_told made (entries_from first before made)) at_once) (counted_none before slot)
 
   pub answered_epoch_lawful : (job : Job) → IsEpochRun job slots first before made
@@ -90,7 +90,7 @@ answered_from_lawful job slots first before (made ∷ epochs) = (
   subst (λ h. AreEpochRuns job slots (first + length made) h epochs
       (answered_from slots (first + length made) (behind_lines before made) epochs))
       (sym (behind_answered slots first before made)) (answered_from_lawful job slots (first + length made)
-          (behind_lines before made) epochs),
+      (behind_lines before made) epochs),
 )
 
 pub answered_from_at_once : (slots first : ℕ) (before : Histories) (epochs : List (List Meaning))
@@ -100,7 +100,7 @@ answered_from_at_once slots first before (made ∷ epochs) = (
   answered_epoch_at_once slots first before made,
   subst (λ h. EpochsAtOnce h epochs (answered_from slots (first + length made) (behind_lines before made) epochs))
       (sym (behind_answered slots first before made)) (answered_from_at_once slots (first + length made)
-          (behind_lines before made) epochs),
+      (behind_lines before made) epochs),
 )
 
 pub behind_all_answered : (slots first : ℕ) (before : Histories) (epochs : List (List Meaning))
@@ -108,7 +108,7 @@ pub behind_all_answered : (slots first : ℕ) (before : Histories) (epochs : Lis
 behind_all_answered slots first before [] = refl
 behind_all_answered slots first before (made ∷ epochs) =
     ap (λ h. behind_all h epochs (answered_from slots (first + length made) (behind_lines before made) epochs))
-        (behind_answered slots first before made)
+    (behind_answered slots first before made)
     ∙ behind_all_answered slots (first + length made) (behind_lines before made) epochs
 
 pub answered_is_run : (job : Job) (slots : ℕ) (made : List (List Meaning))

@@ -46,7 +46,7 @@ pub answered_from-push : (slots first : ℕ) (before : Histories) (epochs : List
     → answered_from slots first before (epochs ++ made ∷ [])
     ≡ answered_from slots first before epochs
     ++ answered_epoch slots (first + length (flat_map (λ (lines : List Meaning). lines) epochs))
-        (behind_epochs before epochs) made ∷ []
+    (behind_epochs before epochs) made ∷ []
 answered_from-push slots first before [] made = ap (λ k. answered_epoch slots k before made ∷ []) (omega arith)
 answered_from-push slots first before (done ∷ epochs) made =
     ap (λ rest. answered_epoch slots first before done ∷ rest)
@@ -87,7 +87,7 @@ pub effects-append : (slot : ℕ) (before events more : List Event)
 effects-append slot before [] more = ap (λ done. made_of.effects slot done more) (sym (append-nil before))
 effects-append slot before (event.Command c ∷ events) more =
     let now : List Effected = map (made_of.effect_entry slot (length (commands_of before)))
-        (effects_after slot before c) in
+    (effects_after slot before c) in
     ap (λ rest. now ++ rest) (effects-append slot (before ++ event.Command c ∷ []) events more)
     ∙ sym (append_assoc now (made_of.effects slot (before ++ event.Command c ∷ []) events)
     (made_of.effects slot ((before ++ event.Command c ∷ []) ++ events) more))
@@ -110,7 +110,7 @@ records-append slot before events more =
     ∙ records_added slot (before ++ events) more
     ∙ ap (λ rows. rows ++ records_made slot (before ++ events) more) (records_added slot before events)
     ∙ append_assoc (records_after slot before) (records_made slot before events)
-        (records_made slot (before ++ events) more))
+    (records_made slot (before ++ events) more))
 
 pub rows-append : (slot : ℕ) (before events more : List Event)
     → made_of.rows slot before (events ++ more) ≡ made_of.rows slot before events
@@ -142,6 +142,6 @@ epoch_slots slots more first before made unknown none =
 
 pub open_slots : (slots more : ℕ) (events : Histories) → ((slot : ℕ) → slots ≤ slot → events slot ≡ [])
     → by_slot (slots + more) (λ slot. made_of.opens slot (events slot))
-        ≡ by_slot slots (λ slot. made_of.opens slot (events slot))
+    ≡ by_slot slots (λ slot. made_of.opens slot (events slot))
 open_slots slots more events none = by_slot-more slots more (λ slot. made_of.opens slot (events slot))
     (λ s above. no_opens s (events s) (none s above))

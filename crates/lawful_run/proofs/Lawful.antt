@@ -45,7 +45,7 @@ pub before_last_move-count : (slot : ℕ) (lines : List LineTold)
 before_last_move-count slot [] = omega arith
 before_last_move-count slot (now ∷ later) =
     before_last_move_fewer (is_moved slot later) slot now later (before_last_move slot later)
-        (before_last_move-count slot later)
+    (before_last_move-count slot later)
 
 -- what meets just the commands before it is within the bounds of any job
 pub meets_at_once : (job : Job) (start : Histories) (slot : ℕ) (front later : List LineTold) (count : ℕ)
@@ -55,7 +55,7 @@ meets_at_once solo start slot front later count is = is
 meets_at_once (sliced slices room lane) start slot front later count is =
     let some_before = before_last_move-count slot front in
     let some_more : command_count slot (front ++ before_next_move slot later) ≡ command_count slot front
-        + command_count slot (before_next_move slot later) =
+    + command_count slot (before_next_move slot later) =
     simp (filter_map-append, length-append) in
     (omega (arith, is, some_before), omega (arith, is, some_more))
 
@@ -87,12 +87,12 @@ module _ (job : Job) (start : Histories) (lines : List LineTold) (once : EachFro
   pub within : EachFrom (MeetsBounds job start) [] lines
   within =
       each_gives (LineAtOnce start) (MeetsBounds job start)
-          (λ front now later here. entry_within job start front now.entry later here) [] lines once
+      (λ front now later here. entry_within job start front now.entry later here) [] lines once
 
   pub not_refused : EachFrom (RefusedWhereFull job) [] lines
   not_refused =
       each_gives (LineAtOnce start) (RefusedWhereFull job)
-          (λ front now later here. entry_not_refused job start front now now.entry here) [] lines once
+      (λ front now later here. entry_not_refused job start front now now.entry here) [] lines once
 
   pub not_parked : EachFrom ParkedBehindMoves [] lines
   not_parked = each_gives (LineAtOnce start) ParkedBehindMoves

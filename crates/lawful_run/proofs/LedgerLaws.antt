@@ -60,7 +60,7 @@ module _ (job : Job) (slots : ℕ) (made : List (List Meaning)) (report : Report
       (packets_of life (past_of slot (all_events made report slot)).packets.charged)) (packets_told slot life report)
   packets_are =
       subst (λ xs. IsPermutation xs (packets_told slot life report))
-          (sym (pieces_told slot life (all_events made report slot)))
+      (sym (pieces_told slot life (all_events made report slot)))
       (run_parts slot (is_of_life life) job slots made report within run)
 
 counters_are : (slot life : ℕ) (events : List Event)
@@ -78,7 +78,7 @@ reports_are_partitions job slots made report slot life run within =
       records = rw (rows_are job slots made report slot within run) parts.rows;
       counters = rw (opens_are job slots made report slot within run)
           (subst (λ opens. TellLast opens parts.last) (sym
-              (counters_of_life slot life events parts.last parts.counters)) parts.counters);
+          (counters_of_life slot life events parts.last parts.counters)) parts.counters);
       packets = rw (parts.packets) (packets_are job slots made report slot life run within);
     }
 
@@ -88,8 +88,13 @@ counted_alike : (life : ℕ) (f : Forwarded → ℕ) (g : Sent → ℕ) → ((p 
     → sum_by f ps ≡ sum_by g (map (sent_for life) ps)
 counted_alike life f g same [] = refl
 counted_alike life f g same (p ∷ ps) =
-    omega (arith, sum_by-cons f p ps, sum_by-cons g (sent_for life p) (map (sent_for life) ps), same p,
-        counted_alike life f g same ps)
+    omega (
+      arith,
+      sum_by-cons f p ps,
+      sum_by-cons g (sent_for life p) (map (sent_for life) ps),
+      same p,
+      counted_alike life f g same ps,
+    )
 
 octets_alike : (life : ℕ) (up : Bool) (ps : List Forwarded) → octets_in up ps ≡ octets_sent up (map (sent_for life) ps)
 octets_alike life true ps =
@@ -107,22 +112,28 @@ pub each_octet_charged : EachOctetCharged
 each_octet_charged job slots made report slot life up run within =
     let events : List Event = all_events made report slot in
     let happened : List Happening = (past_of slot events).packets.charged in
-    rw (rows_are job slots made report slot within run, opens_are job slots made report slot within run,
-        counters_are slot life events)
+    rw (
+      rows_are job slots made report slot within run,
+      opens_are job slots made report slot within run,
+      counters_are slot life events,
+    )
     (each_octet_once happened up life (past_sound slot events).packets.lawful
     ∙ octets_alike life up (packets_of life happened)
     ∙ sym (sum_by-IsPermutation (λ sent. cond up (cond sent.up sent.octets 0) (cond sent.up 0 sent.octets))
-        (map (sent_for life) (packets_of life happened))
+    (map (sent_for life) (packets_of life happened))
     (packets_told slot life report) (packets_are job slots made report slot life run within)))
 
 pub each_packet_charged : EachPacketCharged
 each_packet_charged job slots made report slot life up run within =
     let events : List Event = all_events made report slot in
     let happened : List Happening = (past_of slot events).packets.charged in
-    rw (rows_are job slots made report slot within run, opens_are job slots made report slot within run,
-        counters_are slot life events)
+    rw (
+      rows_are job slots made report slot within run,
+      opens_are job slots made report slot within run,
+      counters_are slot life events,
+    )
     (each_packet_once happened up life (past_sound slot events).packets.lawful
     ∙ packets_alike life up (packets_of life happened)
     ∙ sym (sum_by-IsPermutation (λ sent. cond (cond up sent.up (not sent.up)) 1 0)
-        (map (sent_for life) (packets_of life happened))
+    (map (sent_for life) (packets_of life happened))
     (packets_told slot life report) (packets_are job slots made report slot life run within)))

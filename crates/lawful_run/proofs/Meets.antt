@@ -44,6 +44,7 @@ solo_entry_meets start front now (line.F refusal) later within refused = absurd 
 pub solo_meets : (start : Histories) (front lines : List LineTold) → EachFrom (MeetsBounds solo start) front lines
     → EachFrom (RefusedWhereFull solo) front lines → EachFrom (LineMeets start) front lines
 solo_meets start front [] within refused = tt
-solo_meets start front (now ∷ later) within refused =
-    (solo_entry_meets start front now now.entry later within.0 refused.0,
-        solo_meets start (front ++ now ∷ []) later within.1 refused.1)
+solo_meets start front (now ∷ later) within refused = (
+  solo_entry_meets start front now now.entry later within.0 refused.0,
+  solo_meets start (front ++ now ∷ []) later within.1 refused.1,
+)

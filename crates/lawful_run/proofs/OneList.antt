@@ -74,10 +74,10 @@ one_answer answered other entries others lines slots same =
     let own : (answered.slot == answered.slot) ≡ true = eqb_same answered.slot in
     let other_own : (other.slot == answered.slot) ≡ true = ap (λ s. other.slot == s) slots ∙ eqb_same other.slot in
     let numbers = item_is_one (answered.slot == answered.slot)
-        (other.slot == answered.slot) answered.number other.number _ _ own other_own
-        (same answered.slot).command_numbers in
+    (other.slot == answered.slot) answered.number other.number _ _ own other_own
+    (same answered.slot).command_numbers in
     let replies = item_is_one (answered.slot == answered.slot)
-        (other.slot == answered.slot) answered.reply other.reply _ _ own other_own (same answered.slot).replies in
+    (other.slot == answered.slot) answered.reply other.reply _ _ own other_own (same answered.slot).replies in
     record {
       first = λ i. line.C (record { line = lines i; slot = slots i; number = numbers i; reply = replies i });
       more = λ slot. record {
@@ -99,14 +99,21 @@ one_judgement judged other entries others lines slots same =
     let own : (judged.slot == judged.slot) ≡ true = eqb_same judged.slot in
     let other_own : (other.slot == judged.slot) ≡ true = ap (λ s. other.slot == s) slots ∙ eqb_same other.slot in
     let numbers = item_is_one (judged.slot == judged.slot)
-        (other.slot == judged.slot) judged.number other.number _ _ own other_own (same judged.slot).packet_numbers in
+    (other.slot == judged.slot) judged.number other.number _ _ own other_own (same judged.slot).packet_numbers in
     let counts = item_is_one (judged.slot == judged.slot)
-        (other.slot == judged.slot) judged.commands other.commands _ _ own other_own (same judged.slot).counts in
+    (other.slot == judged.slot) judged.commands other.commands _ _ own other_own (same judged.slot).counts in
     let verdicts = item_is_one (judged.slot == judged.slot)
-        (other.slot == judged.slot) judged.verdict other.verdict _ _ own other_own (same judged.slot).verdicts in
+    (other.slot == judged.slot) judged.verdict other.verdict _ _ own other_own (same judged.slot).verdicts in
     record {
-      first = λ i. line.P (record { line = lines i; slot = slots i; number = numbers i; commands = counts i;
-          verdict = verdicts i; place = None; parked = false });
+      first = λ i. line.P (record {
+        line = lines i;
+        slot = slots i;
+        number = numbers i;
+        commands = counts i;
+        verdict = verdicts i;
+        place = None;
+        parked = false;
+      });
       more = λ slot. record {
         command_numbers = (same slot).command_numbers;
         replies = (same slot).replies;

@@ -41,7 +41,7 @@ none_refused n start front (now ∷ made) (entry ∷ entries) answers each =
 -- an epoch
 module _ (job : Job) (slots first : ℕ) (before : Histories) (made : List Meaning) (told : EpochReport)
     (run : IsEpochRun job slots first before made told)
-        (each : EachFrom (LineMeets before) [] (told_in made told)) where
+    (each : EachFrom (LineMeets before) [] (told_in made told)) where
   order : (slot : ℕ) → InLineOrder slot (before slot) made told.lines
   order slot = met_slot slot first before [] (before slot) made told.lines run.one_each each (counted_none before slot)
 
@@ -137,7 +137,7 @@ epoch_is_one job slots first before made told run once =
     sym (settled_lines first before [] made told.lines run.one_each once)
     ∙ ap (map settled) (lines_are_one job slots first before made told run each)
     ∙ settled_lines first before [] made (entries_from first before made)
-        (answered_epoch_lawful slots first before made job).one_each
+    (answered_epoch_lawful slots first before made job).one_each
     (answered_epoch_at_once slots first before made) in
     let effects = effects_are_one job slots first before made told run each in
     let rows = rows_are_one job slots first before made told run each in
@@ -153,10 +153,10 @@ epochs_are_one job slots first before (made ∷ epochs) [] run once = absurd run
 epochs_are_one job slots first before (made ∷ epochs) (told ∷ others) run once =
     let head = epoch_is_one job slots first before made told run.0 once.0 in
     let same = behind_is_one job slots first before made told run.0
-        (at_once_meets before [] (told_in made told) once.0) in
+    (at_once_meets before [] (told_in made told) once.0) in
     let tail = epochs_are_one job slots (first + length made) (behind_lines before made) epochs others
     (subst (λ h. AreEpochRuns job slots (first + length made) h epochs others) same run.1)
-        (subst (λ h. EpochsAtOnce h epochs others) same once.1) in
+    (subst (λ h. EpochsAtOnce h epochs others) same once.1) in
     λ i. head i ∷ tail i
 
 -- what stands behind a run in which each line meets the commands before it
@@ -171,9 +171,10 @@ pub at_once_epochs_meet : (before : Histories) (epochs : List (List Meaning)) (o
     → EpochsMeet before epochs others
 at_once_epochs_meet before [] others once = tt
 at_once_epochs_meet before (made ∷ epochs) [] once = tt
-at_once_epochs_meet before (made ∷ epochs) (told ∷ others) once =
-    (at_once_meets before [] (told_in made told) once.0,
-        at_once_epochs_meet (behind before (told_in made told)) epochs others once.1)
+at_once_epochs_meet before (made ∷ epochs) (told ∷ others) once = (
+  at_once_meets before [] (told_in made told) once.0,
+  at_once_epochs_meet (behind before (told_in made told)) epochs others once.1,
+)
 
 pub solo_epochs_meet : (slots first : ℕ) (before : Histories) (epochs : List (List Meaning)) (others : List EpochReport)
     → AreEpochRuns solo slots first before epochs others → EpochsMeet before epochs others
@@ -195,7 +196,7 @@ events_behind job slots first before (made ∷ epochs) (told ∷ others) runs me
     ap (λ h. behind_all h epochs others) same
     ∙ events_behind job slots (first + length made) (behind_lines before made) epochs others
     (subst (λ h. AreEpochRuns job slots (first + length made) h epochs others) same runs.1)
-        (subst (λ h. EpochsMeet h epochs others) same meet.1)
+    (subst (λ h. EpochsMeet h epochs others) same meet.1)
 
 -- the run that answers at once is one
 pub run_is_one : (job : Job) (slots : ℕ) (made : List (List Meaning)) (report : Report)
@@ -204,7 +205,7 @@ pub run_is_one : (job : Job) (slots : ℕ) (made : List (List Meaning)) (report 
 run_is_one job slots made report run once =
     let epochs = epochs_are_one job slots 1 no_events made report.epochs run.epochs once in
     let events = events_behind job slots 1 no_events made report.epochs run.epochs
-        (at_once_epochs_meet no_events made report.epochs once) in
+    (at_once_epochs_meet no_events made report.epochs once) in
     let opens : report.opens ≡ by_slot slots (λ slot. made_of.opens slot (behind_epochs no_events made slot)) =
     run.opens ∙ (λ i. by_slot slots (λ slot. made_of.opens slot (events i slot))) in
     λ i. record { epochs = epochs i; opens = opens i }

@@ -43,7 +43,7 @@ epoch_shown told other lines effects rows =
 epochs_shown : (slots first : ℕ) (before : Histories) (epochs : List (List Meaning)) (others : List EpochReport)
     → AreEpochRuns solo slots first before epochs others
     → texts_of false (flat_map epoch_entries others) ≡ texts_of false
-        (flat_map epoch_entries (answered_from slots first before epochs))
+    (flat_map epoch_entries (answered_from slots first before epochs))
 epochs_shown slots first before [] [] runs = refl
 epochs_shown slots first before [] (told ∷ others) runs = absurd runs
 epochs_shown slots first before (made ∷ epochs) [] runs = absurd runs
@@ -51,9 +51,9 @@ epochs_shown slots first before (made ∷ epochs) (told ∷ others) runs =
     let each = solo_meets before [] (told_in made told) runs.0.bounds runs.0.refusals in
     let same = behind_is_one solo slots first before made told runs.0 each in
     let head = epoch_shown told (answered_epoch slots first before made)
-        (lines_are_one solo slots first before made told runs.0 each)
+    (lines_are_one solo slots first before made told runs.0 each)
     (effects_are_one solo slots first before made told runs.0 each)
-        (rows_are_one solo slots first before made told runs.0 each) in
+    (rows_are_one solo slots first before made told runs.0 each) in
     let tail = epochs_shown slots (first + length made) (behind_lines before made) epochs others
     (subst (λ h. AreEpochRuns solo slots (first + length made) h epochs others) same runs.1) in
     texts-append (epoch_entries told) (flat_map epoch_entries others)
@@ -65,11 +65,11 @@ pub text_is_one : (slots : ℕ) (made : List (List Meaning)) (report : Report) �
     → report_text false report ≡ report_text false (answered_run slots made)
 text_is_one slots made report run =
     let events = events_behind solo slots 1 no_events made report.epochs run.epochs
-        (solo_epochs_meet slots 1 no_events made report.epochs run.epochs) in
+    (solo_epochs_meet slots 1 no_events made report.epochs run.epochs) in
     let opens : report.opens ≡ by_slot slots (λ slot. made_of.opens slot (behind_epochs no_events made slot)) =
     run.opens ∙ (λ i. by_slot slots (λ slot. made_of.opens slot (events i slot))) in
     texts-append (flat_map epoch_entries report.epochs) (map entry.Charge report.opens)
     ∙ (λ i. epochs_shown slots 1 no_events made report.epochs run.epochs i
     ++ texts_of false (map entry.Charge (opens i)))
     ∙ sym (texts-append (flat_map epoch_entries (answered_run slots made).epochs)
-        (map entry.Charge (answered_run slots made).opens))
+    (map entry.Charge (answered_run slots made).opens))

@@ -28,7 +28,7 @@ module _ (life : ℕ) (happened : List Happening) where
     | inl same ↦
         rw (eq-eqb x life same)
         (ap (λ opens. open_at happened x ∷ opens) (none_there xs
-            (λ later. other_at x life xs distinct.0 later same)) ∙ ap (λ y. open_at happened y ∷ []) same)
+        (λ later. other_at x life xs distinct.0 later same)) ∙ ap (λ y. open_at happened y ∷ []) same)
     | inr other ↦ rw (ne_eqb x life other) (one_there xs distinct.1
         (elim there [ inl here ↦ absurd (other here) | inr later ↦ later ]))
   ]
@@ -70,7 +70,7 @@ module _ (life : ℕ) (happened : List Happening) where
     | inl there ↦
         let first = first_there (lives_of happened) (to there) in
         let told : TellLast (open_at happened life ∷ first.0) last =
-            subst (λ opens. TellLast opens last) first.1 tells in
+        subst (λ opens. TellLast opens last) first.1 tells in
         one_there xs distinct there
         ∙ sym (first.1 ∙ ap (λ rest. open_at happened life ∷ rest) (only_one (open_at happened life) first.0 last told))
     | inr none ↦ none_there xs none ∙ sym (none_there (lives_of happened) (λ there. none (from there)))
@@ -78,7 +78,7 @@ module _ (life : ℕ) (happened : List Happening) where
 
 map_map : (happened : List Happening) (bearers : List ActiveBearer)
     → map (λ (bearer : ActiveBearer). open_at happened bearer.life) bearers
-        ≡ map (open_at happened) (active_lives bearers)
+    ≡ map (open_at happened) (active_lives bearers)
 map_map happened [] = refl
 map_map happened (b ∷ bearers) = ap (λ rest. open_at happened b.life ∷ rest) (map_map happened bearers)
 
@@ -92,4 +92,4 @@ counters_of_life slot life events last tells =
     let bearers : List ActiveBearer = (past_of slot events).packets.version.bearers in
     ap (opens_for life) (map_map happened bearers)
     ∙ same_opens life happened (active_lives bearers) last sound.apart (sound.opened.opened life)
-        (sound.opened.active life) tells
+    (sound.opened.active life) tells

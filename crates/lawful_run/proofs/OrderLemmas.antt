@@ -32,7 +32,7 @@ ordered-command done next c commands (p ∷ packets) rises =
 pub ordered-packet : (done next : ℕ) (commands : List CommandKind) (p : Placed) (packets : List Placed)
     → p.commands ≡ done
     → ordered done next commands (p ∷ packets) ≡ event.Packet (numbered next p.packet)
-        ∷ ordered done (next + 1) commands packets
+    ∷ ordered done (next + 1) commands packets
 ordered-packet done next commands p packets is =
     let none : p.commands - done ≡ 0 = omega (arith, is) in
     rw none (rw is refl)

@@ -30,32 +30,32 @@ command_numbers : (slot : ℕ) → filter_map (command_number slot) told.lines
     ≡ counted 0 (length (commands_accepted slot (told_in made told)))
 command_numbers slot =
     at_slot (λ s. filter_map (command_number s) told.lines
-        ≡ counted 0 (length (commands_accepted s (told_in made told)))) 0 slot refl (λ other. rw other refl)
+    ≡ counted 0 (length (commands_accepted s (told_in made told)))) 0 slot refl (λ other. rw other refl)
 
 packet_numbers : (slot : ℕ) → filter_map (packet_number slot) told.lines
     ≡ counted 0 (length (packets_accepted slot (told_in made told)))
 packet_numbers slot =
     at_slot (λ s. filter_map (packet_number s) told.lines
-        ≡ counted 0 (length (packets_accepted s (told_in made told)))) 0 slot refl (λ other. rw other refl)
+    ≡ counted 0 (length (packets_accepted s (told_in made told)))) 0 slot refl (λ other. rw other refl)
 
 counts_rise : (slot : ℕ) → Rises 0 (filter_map (commands_told slot) told.lines)
 counts_rise slot =
     at_slot (λ s. Rises 0 (filter_map (commands_told s) told.lines)) 0 slot (omega arith, (omega arith, tt))
-        (λ other. rw other tt)
+    (λ other. rw other tt)
 
 replies : (slot : ℕ) → filter_map (reply_told slot) told.lines
     ≡ made_of.replies slot [] (events_in [] (told_in made told) slot)
 unfolding happens conforms
 replies slot =
     at_slot (λ s. filter_map (reply_told s) told.lines
-        ≡ made_of.replies s [] (events_in [] (told_in made told) s)) 0 slot refl (λ other. rw other refl)
+    ≡ made_of.replies s [] (events_in [] (told_in made told) s)) 0 slot refl (λ other. rw other refl)
 
 verdicts : (slot : ℕ) → filter_map (verdict_told slot) told.lines
     ≡ made_of.verdicts slot [] (events_in [] (told_in made told) slot)
 unfolding happens conforms
 verdicts slot =
     at_slot (λ s. filter_map (verdict_told s) told.lines
-        ≡ made_of.verdicts s [] (events_in [] (told_in made told) s)) 0 slot refl (λ other. rw other refl)
+    ≡ made_of.verdicts s [] (events_in [] (told_in made told) s)) 0 slot refl (λ other. rw other refl)
 
 parked_on_the_way : IsRun (sliced 2 2 1024) 1 (made ∷ []) (report_of (told ∷ []) (open_with 40 2 ∷ []))
 unfolding happens conforms
@@ -72,8 +72,16 @@ parked_on_the_way = record {
       effects = refl;
       rows = refl;
       refusals = (tt, (tt, (tt, (tt, (inr (refl, omega arith), tt)))));
-      parking = (tt, (tt, ((refl, All-nil were_parked),
-          ((refl, All-cons were_parked true [] refl (All-nil were_parked)), (tt, tt)))));
+      parking = (
+        tt,
+        (
+          tt,
+          (
+            (refl, All-nil were_parked),
+            ((refl, All-cons were_parked true [] refl (All-nil were_parked)), (tt, tt)),
+          ),
+        ),
+      );
     },
     tt,
   );

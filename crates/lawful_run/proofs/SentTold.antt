@@ -37,7 +37,7 @@ by_verdicts verdicts = flat_map sent_by_verdict verdicts
 first_sent : (test : Bool) (verdict : Verdict) (sents : List Sent) (verdicts : List Verdict)
     → sents ≡ by_verdicts verdicts
     → cond test (sent_by_verdict verdict) [] ++ sents ≡ by_verdicts
-        (cons_option (cond test (Some verdict) None) verdicts)
+    (cons_option (cond test (Some verdict) None) verdicts)
 first_sent true verdict sents verdicts same = ap (λ more. sent_by_verdict verdict ++ more) same
 first_sent false verdict sents verdicts same = same
 
@@ -48,13 +48,13 @@ lines_forward slot (line.N noted ∷ lines) = lines_forward slot lines
 lines_forward slot (line.C answered ∷ lines) = lines_forward slot lines
 lines_forward slot (line.P judged ∷ lines) =
     first_sent (judged.slot == slot) judged.verdict (flat_map (sent_by_line slot) lines)
-        (filter_map (verdict_told slot) lines) (lines_forward slot lines)
+    (filter_map (verdict_told slot) lines) (lines_forward slot lines)
 lines_forward slot (line.F refused ∷ lines) = lines_forward slot lines
 
 -- effects of a slot forward what its events' effects do, and those of another slot nothing
 own_effects : (slot command : ℕ) (effects : List Effect)
     → flat_map (sent_by_effected slot) (map (made_of.effect_entry slot command) effects)
-        ≡ flat_map sent_by_effect effects
+    ≡ flat_map sent_by_effect effects
 own_effects slot command [] = refl
 own_effects slot command (effect ∷ effects) =
     rw (eqb_same slot) (ap (λ more. sent_by_effect effect ++ more) (own_effects slot command effects))
@@ -70,7 +70,7 @@ other_effects : (slot s : ℕ) (before events : List Event) → s ≢ slot
 other_effects slot s before [] other = refl
 other_effects slot s before (event.Command c ∷ events) other =
     flat_map-append (sent_by_effected slot) (map (made_of.effect_entry s (length (commands_of before)))
-        (effects_after s before c)) _
+    (effects_after s before c)) _
     ∙ ap (λ xs. xs ++ flat_map (sent_by_effected slot) (made_of.effects s (before ++ event.Command c ∷ []) events))
     (other_effect slot s (length (commands_of before)) (effects_after s before c) other)
     ∙ other_effects slot s (before ++ event.Command c ∷ []) events other
@@ -82,9 +82,9 @@ four_parts : {X : Type 0} (xs ys a b c d : List X) → IsPermutation xs (a ++ b)
     → IsPermutation (xs ++ ys) ((a ++ c) ++ (b ++ d))
 four_parts xs ys a b c d one two =
     IsPermutation-trans (xs ++ ys) ((a ++ b) ++ ys) ((a ++ c) ++ (b ++ d))
-        (IsPermutation-append_left ys xs (a ++ b) one)
+    (IsPermutation-append_left ys xs (a ++ b) one)
     (IsPermutation-trans ((a ++ b) ++ ys) ((a ++ b) ++ (c ++ d)) ((a ++ c) ++ (b ++ d))
-        (IsPermutation-append_right (a ++ b) ys (c ++ d) two)
+    (IsPermutation-append_right (a ++ b) ys (c ++ d) two)
     (subst (λ zs. IsPermutation ((a ++ b) ++ (c ++ d)) zs) (sym (append_assoc a c (b ++ d)))
     (subst (λ zs. IsPermutation zs (a ++ (c ++ (b ++ d)))) (sym (append_assoc a b (c ++ d)))
     (IsPermutation-append_right a (b ++ (c ++ d)) (c ++ (b ++ d))
@@ -105,16 +105,16 @@ sent-append : (slot : ℕ) (before events others : List Event)
 sent-append slot before events others =
     ap sent_in (told-append (past_of slot before) events others)
     ∙ flat_map-append (λ (told : Told). sent_at told.happened) (told_from (past_of slot before) events)
-        (told_from (fold next_past (past_of slot before) events) others)
+    (told_from (fold next_past (past_of slot before) events) others)
     ∙ ap (λ past. sent_in (told_from (past_of slot before) events) ++ sent_in (told_from past others))
-        (sym (past-append slot before events))
+    (sym (past-append slot before events))
 
 -- The packets that events forward are those that their verdicts and their effects tell, of any kind that is looked for.
 module _ (slot : ℕ) (p : Sent → Bool) where
   event_parts : (before events : List Event) → IsPermutation
       (filter p (sent_in (told_from (past_of slot before) events)))
       (filter p (by_verdicts (made_of.verdicts slot before events))
-          ++ filter p (flat_map (sent_by_effected slot) (made_of.effects slot before events)))
+      ++ filter p (flat_map (sent_by_effected slot) (made_of.effects slot before events)))
   unfolding happens
   event_parts before [] = IsPermutation-refl []
   event_parts before (event.Command c ∷ events) =
@@ -123,21 +123,21 @@ module _ (slot : ℕ) (p : Sent → Bool) where
       let verdicts : List Sent = by_verdicts (made_of.verdicts slot more events) in
       let effects : List Sent = flat_map (sent_by_effected slot) (made_of.effects slot more events) in
       let effects_are : flat_map (sent_by_effected slot) (made_of.effects slot before (event.Command c ∷ events))
-          ≡ sent ++ effects =
+      ≡ sent ++ effects =
       flat_map-append (sent_by_effected slot) (map (made_of.effect_entry slot (length (commands_of before)))
-          (effects_after slot before c)) (made_of.effects slot more events)
+      (effects_after slot before c)) (made_of.effects slot more events)
       ∙ ap (λ xs. xs ++ effects) (own_effects slot (length (commands_of before)) (effects_after slot before c)) in
       let story_is : sent_in (told_from (past_of slot before) (event.Command c ∷ events)) ≡ sent
-          ++ sent_in (told_from (past_of slot more) events) =
+      ++ sent_in (told_from (past_of slot more) events) =
       ap (λ past. sent ++ sent_in (told_from past events)) (sym (past-append slot before (event.Command c ∷ []))) in
       subst (λ xs. IsPermutation xs (filter p verdicts ++ filter p
-          (flat_map (sent_by_effected slot) (made_of.effects slot before (event.Command c ∷ events)))))
+      (flat_map (sent_by_effected slot) (made_of.effects slot before (event.Command c ∷ events)))))
       (sym (ap (filter p) story_is ∙ filter-append p sent (sent_in (told_from (past_of slot more) events))))
       (subst (λ xs. IsPermutation (filter p sent ++ filter p (sent_in (told_from (past_of slot more) events)))
-          (filter p verdicts ++ xs))
+      (filter p verdicts ++ xs))
       (sym (ap (filter p) effects_are ∙ filter-append p sent effects))
       (four_parts (filter p sent) (filter p (sent_in (told_from (past_of slot more) events))) [] (filter p sent)
-          (filter p verdicts) (filter p effects)
+      (filter p verdicts) (filter p effects)
       (IsPermutation-refl (filter p sent)) (event_parts more events)))
   event_parts before (event.Packet q ∷ events) =
       let sent : List Sent = sent_by_verdict (verdict_after slot before q) in
@@ -145,17 +145,17 @@ module _ (slot : ℕ) (p : Sent → Bool) where
       let verdicts : List Sent = by_verdicts (made_of.verdicts slot more events) in
       let effects : List Sent = flat_map (sent_by_effected slot) (made_of.effects slot more events) in
       let story_is : sent_in (told_from (past_of slot before) (event.Packet q ∷ events)) ≡ sent
-          ++ sent_in (told_from (past_of slot more) events) =
+      ++ sent_in (told_from (past_of slot more) events) =
       ap (λ past. sent ++ sent_in (told_from past events)) (sym (past-append slot before (event.Packet q ∷ []))) in
       subst (λ xs. IsPermutation xs (filter p (sent ++ verdicts) ++ filter p effects))
       (sym (ap (filter p) story_is ∙ filter-append p sent (sent_in (told_from (past_of slot more) events))))
       (subst (λ xs. IsPermutation (filter p sent ++ filter p (sent_in (told_from (past_of slot more) events))) (xs
-          ++ filter p effects))
+      ++ filter p effects))
       (sym (filter-append p sent verdicts))
       (four_parts (filter p sent) (filter p (sent_in (told_from (past_of slot more) events))) (filter p sent) []
-          (filter p verdicts) (filter p effects)
+      (filter p verdicts) (filter p effects)
       (subst (IsPermutation (filter p sent)) (sym (append-nil (filter p sent)))
-          (IsPermutation-refl (filter p sent))) (event_parts more events)))
+      (IsPermutation-refl (filter p sent))) (event_parts more events)))
 
   -- an epoch
   epoch_parts : (job : Job) (slots first : ℕ) (before : Histories) (made : List Meaning) (told : EpochReport)
@@ -168,14 +168,14 @@ module _ (slot : ℕ) (p : Sent → Bool) where
       let lines_are : flat_map (sent_by_line slot) told.lines ≡ by_verdicts (made_of.verdicts slot (before slot) now) =
       lines_forward slot told.lines ∙ ap by_verdicts (run.verdicts slot) in
       let effects_are : flat_map (sent_by_effected slot) told.effects
-          ≡ flat_map (sent_by_effected slot) (made_of.effects slot (before slot) now) =
+      ≡ flat_map (sent_by_effected slot) (made_of.effects slot (before slot) now) =
       ap (flat_map (sent_by_effected slot)) run.effects
       ∙ one_of (flat_map (sent_by_effected slot)) refl (flat_map-append (sent_by_effected slot))
       (λ s. made_of.effects s (before s) (now_events before made told s)) slot 0 slots (omega arith)
-          (omega (arith, within))
+      (omega (arith, within))
       (λ s other. other_effects slot s (before s) (now_events before made told s) other) in
       subst (λ xs. IsPermutation (filter p (sent_in (told_from (past_of slot (before slot)) now))) (filter p xs
-          ++ filter p (flat_map (sent_by_effected slot) told.effects)))
+      ++ filter p (flat_map (sent_by_effected slot) told.effects)))
       (sym lines_are)
       (subst (λ xs. IsPermutation (filter p (sent_in (told_from (past_of slot (before slot)) now)))
       (filter p (by_verdicts (made_of.verdicts slot (before slot) now)) ++ filter p xs))
@@ -196,7 +196,7 @@ module _ (slot : ℕ) (p : Sent → Bool) where
   events_behind_all before (made ∷ epochs) (told ∷ others) =
       events_behind_all (behind before (told_in made told)) epochs others
       ∙ append_assoc (before slot) (now_events before made told slot)
-          (events_told (behind before (told_in made told)) epochs others)
+      (events_told (behind before (told_in made told)) epochs others)
 
   parts_from : (job : Job) (slots first : ℕ) (before : Histories) (epochs : List (List Meaning))
       (others : List EpochReport) → slot < slots
@@ -216,16 +216,16 @@ module _ (slot : ℕ) (p : Sent → Bool) where
       let lines : List Sent = flat_map (sent_by_line slot) told.lines in
       let effects : List Sent = flat_map (sent_by_effected slot) told.effects in
       subst (λ xs. IsPermutation xs (filter p (lines ++ lines_sent slot others)
-          ++ filter p (effects ++ effects_sent slot others)))
+      ++ filter p (effects ++ effects_sent slot others)))
       (sym (ap (filter p) (sent-append slot (before slot) now later) ∙ filter-append p here there))
       (subst (λ xs. IsPermutation (filter p here ++ filter p there) (xs
-          ++ filter p (effects ++ effects_sent slot others)))
+      ++ filter p (effects ++ effects_sent slot others)))
       (sym (filter-append p lines (lines_sent slot others)))
       (subst (λ xs. IsPermutation (filter p here ++ filter p there)
-          ((filter p lines ++ filter p (lines_sent slot others)) ++ xs))
+      ((filter p lines ++ filter p (lines_sent slot others)) ++ xs))
       (sym (filter-append p effects (effects_sent slot others)))
       (four_parts (filter p here) (filter p there) (filter p lines) (filter p effects)
-          (filter p (lines_sent slot others)) (filter p (effects_sent slot others))
+      (filter p (lines_sent slot others)) (filter p (effects_sent slot others))
       (epoch_parts job slots first before made told within runs.0)
       (parts_from job slots (first + length made) next epochs others within runs.1))))
 
@@ -236,7 +236,7 @@ module _ (slot : ℕ) (p : Sent → Bool) where
       (filter p (lines_sent slot report.epochs ++ effects_sent slot report.epochs))
   run_parts job slots made report within run =
       subst (λ events. IsPermutation (filter p (sent_in (story_of slot events)))
-          (filter p (lines_sent slot report.epochs ++ effects_sent slot report.epochs)))
+      (filter p (lines_sent slot report.epochs ++ effects_sent slot report.epochs)))
       (sym (events_behind_all no_events made report.epochs))
       (subst (IsPermutation (filter p (sent_in (story_of slot (events_told no_events made report.epochs)))))
       (sym (filter-append p (lines_sent slot report.epochs) (effects_sent slot report.epochs)))

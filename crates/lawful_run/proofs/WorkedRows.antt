@@ -31,7 +31,7 @@ answered = refl
 
 attach_and_uplink : (job : Job)
     → IsRun job 1 ((attach 0 ∷ uplink ∷ []) ∷ []) (report_of (epoch_of (attached 1 0 0 ∷ forwarded 2 0 1 ∷ [])
-        ∷ []) (open_with 20 1 ∷ []))
+    ∷ []) (open_with 20 1 ∷ []))
 attach_and_uplink job = subst (IsRun job 1 ((attach 0 ∷ uplink ∷ []) ∷ [])) answered
     (answered_is_run job 1 ((attach 0 ∷ uplink ∷ []) ∷ []))
 
@@ -55,18 +55,18 @@ early_before_move slices room lane opens run = absurd (omega (arith, run.epochs.
 -- One thread lets a packet meet just the commands before it.
 late_on_one_thread : (opens : List ChargeEntry)
     → IsRun solo 1 ((attach 0 ∷ uplink ∷ rerate ∷ []) ∷ [])
-        (report_of (epoch_of (attached 1 0 0 ∷ forwarded 2 0 2 ∷ attached 3 0 1 ∷ []) ∷ []) opens) → ⊥
+    (report_of (epoch_of (attached 1 0 0 ∷ forwarded 2 0 2 ∷ attached 3 0 1 ∷ []) ∷ []) opens) → ⊥
 late_on_one_thread opens run = absurd (omega (arith, run.epochs.0.bounds.1.0))
 
 -- A command isn't refused while its queue has room for two and has one, nor is anything on one thread.
 refused_with_room : (slices lane : ℕ) (opens : List ChargeEntry)
     → IsRun (sliced slices 2 lane) 1 ((attach 0 ∷ rerate ∷ []) ∷ [])
-        (report_of (epoch_of (attached 1 0 0 ∷ refused_command 2 ∷ []) ∷ []) opens) → ⊥
+    (report_of (epoch_of (attached 1 0 0 ∷ refused_command 2 ∷ []) ∷ []) opens) → ⊥
 refused_with_room slices lane opens run = absurd (omega (arith, run.epochs.0.refusals.1.0))
 
 refused_on_one_thread : (opens : List ChargeEntry)
     → IsRun solo 1 ((attach 0 ∷ rerate ∷ []) ∷ []) (report_of (epoch_of (attached 1 0 0 ∷ refused_command 2 ∷ [])
-        ∷ []) opens) → ⊥
+    ∷ []) opens) → ⊥
 refused_on_one_thread opens run = run.epochs.0.refusals.1.0
 
 -- A packet isn't refused while its lane holds three items and can have been given two: an arrival, and a packet.
@@ -81,7 +81,7 @@ refused_packet_with_room slices room opens run = elim run.epochs.0.refusals.1.1.
 -- A packet isn't parked without a move, nor behind one that isn't.
 parked_without_move : (job : Job) (opens : List ChargeEntry)
     → IsRun job 1 ((attach 0 ∷ uplink ∷ []) ∷ []) (report_of
-        (epoch_of (attached 1 0 0 ∷ forwarded_parked 2 0 1 ∷ []) ∷ []) opens) → ⊥
+    (epoch_of (attached 1 0 0 ∷ forwarded_parked 2 0 1 ∷ []) ∷ []) opens) → ⊥
 parked_without_move job opens run = untrue run.epochs.0.parking.1.0.0
 
 -- The commands of a slot are numbered from 0 on, and each line has its entry.
@@ -97,7 +97,7 @@ entry_left_out job opens run = run.epochs.0.one_each.1
 -- Two subscribers attach, and attach again: the records of an epoch stand by slot.
 records_by_slot : answered_run 2 ((attach 0 ∷ attach 1 ∷ attach 1 ∷ attach 0 ∷ []) ∷ []) ≡ report_of
     (epoch_with (attached 1 0 0 ∷ attached 2 1 0 ∷ attached 3 1 1 ∷ attached 4 0 1 ∷ []) (gone_row 0 ∷ gone_row 1
-        ∷ []) ∷ [])
+    ∷ []) ∷ [])
     (open_again 0 ∷ open_again 1 ∷ [])
 unfolding happens
 records_by_slot = refl
@@ -105,7 +105,7 @@ records_by_slot = refl
 records_out_of_order : (job : Job) (opens : List ChargeEntry)
     → IsRun job 2 ((attach 0 ∷ attach 1 ∷ attach 1 ∷ attach 0 ∷ []) ∷ []) (report_of
     (epoch_with (attached 1 0 0 ∷ attached 2 1 0 ∷ attached 3 1 1 ∷ attached 4 0 1 ∷ []) (gone_row 1 ∷ gone_row 0
-        ∷ []) ∷ []) opens) → ⊥
+    ∷ []) ∷ []) opens) → ⊥
 unfolding happens
 records_out_of_order job opens run = let is : 1 ≡ 0 = ap first_slot run.epochs.0.rows in absurd (omega (arith, is))
 

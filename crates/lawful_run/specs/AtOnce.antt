@@ -36,7 +36,7 @@ EpochsAtOnce histories [] others = Unit {0}
 EpochsAtOnce histories (made ∷ epochs) [] = Unit {0}
 EpochsAtOnce histories (made ∷ epochs) (told ∷ others) =
     EachLine (LineAtOnce histories) (told_in made told)
-        × EpochsAtOnce (behind histories (told_in made told)) epochs others
+    × EpochsAtOnce (behind histories (told_in made told)) epochs others
 
 abbrev pub AnswersAtOnce : List (List Meaning) → Report → Type 0
 AnswersAtOnce made report = EpochsAtOnce no_events made report.epochs

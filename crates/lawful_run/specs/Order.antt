@@ -15,7 +15,7 @@ ordered done next commands [] = map event.Command commands
 ordered done next commands (first ∷ packets) =
     map event.Command (take (first.commands - done) commands)
     ++ event.Packet (numbered next first.packet) ∷ ordered first.commands (next + 1)
-        (drop (first.commands - done) commands) packets
+    (drop (first.commands - done) commands) packets
 
 -- the events of each slot
 abbrev pub Histories : Type 0
@@ -25,7 +25,7 @@ Histories = ℕ → List Event
 abbrev pub events_in : List Event → List LineTold → ℕ → List Event
 events_in before lines slot =
     ordered (length (commands_of before)) (length (packets_of before)) (commands_accepted slot lines)
-        (packets_accepted slot lines)
+    (packets_accepted slot lines)
 
 -- the events of each slot behind an epoch
 abbrev pub behind : Histories → List LineTold → Histories

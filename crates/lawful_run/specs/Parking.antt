@@ -20,7 +20,7 @@ abbrev pub MayPark : Bool → ℕ → List LineTold → Type 0
 MayPark false slot before = Unit {0}
 MayPark true slot before =
     IsTrue (is_moved slot before) × All (λ parked. IsTrue parked)
-        (filter_map (parked_told slot) (behind_last_move slot before))
+    (filter_map (parked_told slot) (behind_last_move slot before))
 
 abbrev pub ParkedAs : List LineTold → LineEntry → Type 0
 ParkedAs before (line.N noted) = Unit {0}

@@ -89,7 +89,7 @@ module _ {H : Type 0} (slice : ℕ) (old new : List (Desk H)) (refused : Refused
       ⊎ (fulls_at new other ≡ raised (fulls_at old other))
   refused_fulls other = elim (nat_eq other slice)
       as (λ b. nat_eq other slice ≡ b → (fulls_at new other ≡ fulls_at old other)
-          ⊎ (fulls_at new other ≡ raised (fulls_at old other))) [
+      ⊎ (fulls_at new other ≡ raised (fulls_at old other))) [
         | true ↦ λ e. inr (subst (λ (n : ℕ). fulls_at new n ≡ raised (fulls_at old n))
             (sym (eqb-true other slice e)) refused_full)
         | false ↦ λ e. inl (count_other slice refused.before refused.now old new refused.desk
@@ -112,5 +112,5 @@ pub homes_sum : {H : Type 0} (f : List H → ℕ) (old new : List (Desk H)) → 
     → sum_by (λ (desk : Desk H). f (taken desk.home)) new ≡ sum_by (λ (desk : Desk H). f (taken desk.home)) old
 homes_sum {H} f old new same =
     sum_by-through (λ (desk : Desk H). desk.home) (λ home. f (taken home)) new
-        ∙ ap (sum_by (λ home. f (taken home))) same
+    ∙ ap (sum_by (λ home. f (taken home))) same
     ∙ sym (sum_by-through (λ (desk : Desk H). desk.home) (λ home. f (taken home)) old)

@@ -20,8 +20,10 @@ module _ {H : Type 0} (slice admitted : ℕ) (aside new_aside : List H) (desks n
       let empties : Desk H → ℕ = λ desk. empty_answers desk.home in
       let fulls : Desk H → ℕ = λ desk. full_answers desk.orders in
       record {
-        others = λ other apart. (count_other slice b n desks now took.desk count other apart,
-            count_other slice b n desks now took.desk empties other apart);
+        others = λ other apart. (
+          count_other slice b n desks now took.desk count other apart,
+          count_other slice b n desks now took.desk empties other apart,
+        );
         more = λ went. (
           count_now slice b n desks now took.desk count ∙ ap length took.taken
               ∙ length-append (taken b.home) (half ∷ [])
@@ -42,12 +44,14 @@ module _ {H : Type 0} (slice admitted : ℕ) (aside new_aside : List H) (desks n
       let empties : Desk H → ℕ = λ desk. empty_answers desk.home in
       let fulls : Desk H → ℕ = λ desk. full_answers desk.orders in
       record {
-        others = λ other apart. (count_other slice b n desks now none.desk count other apart,
-            count_other slice b n desks now none.desk empties other apart);
+        others = λ other apart. (
+          count_other slice b n desks now none.desk count other apart,
+          count_other slice b n desks now none.desk empties other apart,
+        );
         more = λ went. absurd (true≢false (sym went));
         ended = λ no. inl (rose_raised (empties_at desks slice) (empties_at now slice)
             (count_now slice b n desks now none.desk empties ∙ none.empties
-                ∙ ap raised (sym (count_before slice b n desks now none.desk empties))));
+            ∙ ap raised (sym (count_before slice b n desks now none.desk empties))));
         aside_grows = grows;
         fulls = λ other. count_same slice b n desks now none.desk fulls other (ap full_answers none.orders);
       }
@@ -87,8 +91,10 @@ module _ {H : Type 0} (slice : ℕ) (first : List H) (desks : List (Desk H)) whe
       → went ≡ true → TookOne went slice admitted aside new_aside now new
       → Taking slice (done + 1) first new_aside desks new
   taking_more went admitted done aside new_aside now new taking is took = record {
-    others = λ other apart. ((took.others other apart).0 ∙ (taking.others other apart).0,
-        (took.others other apart).1 ∙ (taking.others other apart).1);
+    others = λ other apart. (
+      (took.others other apart).0 ∙ (taking.others other apart).0,
+      (took.others other apart).1 ∙ (taking.others other apart).1,
+    );
     so_many = let a = (took.more is).0 in let b = taking.so_many in omega arith;
     empties = (took.more is).1 ∙ taking.empties;
     aside_grows = let a = taking.aside_grows in let b = took.aside_grows in omega arith;
@@ -100,8 +106,10 @@ module _ {H : Type 0} (slice : ℕ) (first : List H) (desks : List (Desk H)) whe
       → went ≡ false → TookOne went slice admitted aside new_aside now new
       → TookFrom slice admitted first new_aside desks new
   taking_ends went admitted done aside new_aside now new taking is took = record {
-    others = λ other apart. ((took.others other apart).0 ∙ (taking.others other apart).0,
-        (took.others other apart).1 ∙ (taking.others other apart).1);
+    others = λ other apart. (
+      (took.others other apart).0 ∙ (taking.others other apart).0,
+      (took.others other apart).1 ∙ (taking.others other apart).1,
+    );
     ended = elim (took.ended is) [
       | inl rose ↦ inl (subst (λ (n : ℕ). Rose n (empties_at new slice)) taking.empties rose)
       | inr full ↦ inr (inr full)
@@ -129,8 +137,11 @@ pub record TakenBelow {H : Type 0} (slice admitted : ℕ) (new_aside : List H) (
 
 pub below_none : {H : Type 0} (admitted : ℕ) (aside : List H) (desks : List (Desk H))
     → TakenBelow 0 admitted aside desks desks
-below_none admitted aside desks = record { ended = λ low within. absurd (omega arith);
-    others = λ high above. (refl, refl); fulls = λ other. refl }
+below_none admitted aside desks = record {
+  ended = λ low within. absurd (omega arith);
+  others = λ high above. (refl, refl);
+  fulls = λ other. refl;
+}
 
 module _ {H : Type 0} (slice admitted : ℕ) (aside new_aside : List H) (desks now new : List (Desk H)) where
   pub below_more : (was : ℕ) → TakenBelow slice was aside desks now → was ≡ admitted
@@ -139,13 +150,15 @@ module _ {H : Type 0} (slice admitted : ℕ) (aside new_aside : List H) (desks n
   below_more was had same_count took few = record {
     ended = λ low within. elim (nat_eq low slice) as (λ b. nat_eq low slice ≡ b
         → HomeEnded (length new_aside) admitted low desks new) [
-      | true ↦ λ e. subst (λ (n : ℕ). HomeEnded (length new_aside) admitted n desks new)
-          (sym (eqb-true low slice e)) here
-      | false ↦ λ e. let apart : low ≢ slice = eqb-false low slice e in still low apart (had.ended low (omega arith))
-    ] refl;
-    others = λ high above. let apart : high ≢ slice = λ e. absurd (omega arith) in
-        ((took.others high apart).0 ∙ (had.others high (omega arith)).0, (took.others high apart).1
-            ∙ (had.others high (omega arith)).1);
+          | true ↦ λ e. subst (λ (n : ℕ). HomeEnded (length new_aside) admitted n desks new)
+              (sym (eqb-true low slice e)) here
+          | false ↦ λ e. let apart : low ≢ slice = eqb-false low slice e in still low apart (had.ended low (omega arith))
+        ] refl;
+    others = λ high above. let apart : high ≢ slice = λ e. absurd (omega arith) in (
+      (took.others high apart).0 ∙ (had.others high (omega arith)).0,
+      (took.others high apart).1
+          ∙ (had.others high (omega arith)).1,
+    );
     fulls = λ other. took.fulls other ∙ had.fulls other;
   } where
     same : (home_count now slice ≡ home_count desks slice) × (empties_at now slice ≡ empties_at desks slice)

@@ -34,12 +34,12 @@ module _ {H : Type 0} where
       → (k : ℕ) → Falls (place_at places k) (place_at (set places slot place) k)
   falls_set places slot place within falls k = elim (nat_eq k slot) as (λ b. nat_eq k slot ≡ b
       → Falls (place_at places k) (place_at (set places slot place) k)) [
-    | true ↦ λ e. subst (λ (n : ℕ). Falls (place_at places n) (place_at (set places slot place) n))
-        (sym (eqb-true k slot e))
-        (subst (Falls (place_at places slot)) (sym (get_or-set_same places slot place None within)) falls)
-    | false ↦ λ e. subst (Falls (place_at places k)) (sym
-        (get_or-set_other places slot k place None (eqb-false k slot e))) (falls_same (place_at places k))
-  ] refl
+        | true ↦ λ e. subst (λ (n : ℕ). Falls (place_at places n) (place_at (set places slot place) n))
+            (sym (eqb-true k slot e))
+            (subst (Falls (place_at places slot)) (sym (get_or-set_same places slot place None within)) falls)
+        | false ↦ λ e. subst (Falls (place_at places k)) (sym
+            (get_or-set_other places slot k place None (eqb-false k slot e))) (falls_same (place_at places k))
+      ] refl
 
   -- a half that isn't awaited
   pub not_leaving : (state : State H) → is_leaving state ≡ false → (stage state ≡ 0) ⊎ (2 ≤ stage state)
@@ -86,7 +86,7 @@ module _ {H : Type 0} (slot_of hop_of : H → ℕ) where
           b.1 ∙ ap (λ l. l ++ b.0) a.1 ∙ append_assoc (sent_at d0 slice) a.0 b.0,
           All-append (Lawful hop_of p0 slice) a.0 b.0 a.2
               (All-weaker (Lawful hop_of p1 slice) (Lawful hop_of p0 slice)
-                  (lawful_since hop_of p0 p1 first.falls slice) b.0 b.2),
+              (lawful_since hop_of p0 p1 first.falls slice) b.0 b.2),
         );
       }
 
@@ -111,7 +111,7 @@ module _ {H : Type 0} (slot_of hop_of : H → ℕ) where
       → Passes slot_of hop_of places places aside aside desks now
   passes_empty slice places aside desks now none = passes_same places places aside aside desks now refl refl
       (λ other. ap (λ l. get_or l other []) (changed_map slice none.before none.now desks now none.desk
-          (λ (desk : Desk H). sent desk.orders) (ap sent none.orders)))
+      (λ (desk : Desk H). sent desk.orders) (ap sent none.orders)))
 
   -- a half came home
   pub passes_home : (slice slot : ℕ) (half : H) (place : Option (Place H)) (places new : List (Option (Place H)))
@@ -133,7 +133,7 @@ module _ {H : Type 0} (slot_of hop_of : H → ℕ) where
         ⊎ (2 ≤ stage_at (place_at places (slot_of half))));
     orders = λ other. gave_none hop_of places other (sent_at desks other) (sent_at now other)
         (ap (λ l. get_or l other []) (changed_map slice took.before took.now desks now took.desk
-            (λ (desk : Desk H). sent desk.orders) (ap sent took.orders)));
+        (λ (desk : Desk H). sent desk.orders) (ap sent took.orders)));
   }
 
   -- a half that wasn't awaited is kept aside
@@ -144,42 +144,42 @@ module _ {H : Type 0} (slot_of hop_of : H → ℕ) where
       → Passes slot_of hop_of places new aside new_aside desks now
   passes_aside slice half places new aside new_aside desks now took same more far =
       subst (λ (l : List (Option (Place H))). Passes slot_of hop_of places l aside new_aside desks now) (sym same)
-          (record {
+      (record {
         falls = λ slot. falls_same (place_at places slot);
         more = half ∷ [];
         kept = more;
         unawaited = All-push (λ half. (stage_at (place_at places (slot_of half)) ≡ 0)
             ⊎ (2 ≤ stage_at (place_at places (slot_of half)))) [] half
             (All-nil (λ half. (stage_at (place_at places (slot_of half)) ≡ 0)
-                ⊎ (2 ≤ stage_at (place_at places (slot_of half))))) far;
+            ⊎ (2 ≤ stage_at (place_at places (slot_of half))))) far;
         orders = λ other. gave_none hop_of places other (sent_at desks other) (sent_at now other)
             (ap (λ l. get_or l other []) (changed_map slice took.before took.now desks now took.desk
-                (λ (desk : Desk H). sent desk.orders) (ap sent took.orders)));
+            (λ (desk : Desk H). sent desk.orders) (ap sent took.orders)));
       })
 
   given_gave : (places : List (Option (Place H))) (slice : ℕ) (order : Order H) (desks now : List (Desk H))
       → Given slice order desks now
       → Lawful hop_of places slice order → (other : ℕ) → Gave hop_of places other (sent_at desks other)
-          (sent_at now other)
+      (sent_at now other)
   given_gave places slice order desks now given lawful other =
       let f : Desk H → List (Order H) = λ desk. sent desk.orders in
       let as_set : map f now ≡ set (map f desks) slice (f given.now) =
-          ap (map f) given.desk.changed ∙ map-set f desks slice given.now in
+      ap (map f) given.desk.changed ∙ map-set f desks slice given.now in
       let within : slice < length (map f desks) = rw length-map given.desk.within in
       let was : get_or (map f desks) slice [] ≡ f given.before =
-          get_or-map f desks slice given.before [] given.desk.within ∙ ap f (sym given.desk.there) in
+      get_or-map f desks slice given.before [] given.desk.within ∙ ap f (sym given.desk.there) in
       elim (nat_eq other slice) as (λ b. nat_eq other slice ≡ b
-          → Gave hop_of places other (sent_at desks other) (sent_at now other)) [
+      → Gave hop_of places other (sent_at desks other) (sent_at now other)) [
         | true ↦ λ e. subst (λ (n : ℕ). Gave hop_of places n (sent_at desks n) (sent_at now n))
             (sym (eqb-true other slice e)) (
-          order ∷ [],
-          ap (λ l. get_or l slice []) as_set ∙ get_or-set_same (map f desks) slice (f given.now) [] within
-              ∙ given.sent ∙ ap (λ l. l ++ order ∷ []) (sym was),
-          All-push (Lawful hop_of places slice) [] order (All-nil (Lawful hop_of places slice)) lawful,
-        )
+              order ∷ [],
+              ap (λ l. get_or l slice []) as_set ∙ get_or-set_same (map f desks) slice (f given.now) [] within
+                  ∙ given.sent ∙ ap (λ l. l ++ order ∷ []) (sym was),
+              All-push (Lawful hop_of places slice) [] order (All-nil (Lawful hop_of places slice)) lawful,
+            )
         | false ↦ λ e. gave_none hop_of places other (sent_at desks other) (sent_at now other)
             (ap (λ l. get_or l other []) as_set ∙ get_or-set_other (map f desks) slice other (f given.now) []
-                (eqb-false other slice e))
+            (eqb-false other slice e))
       ] refl
 
   refused_gave : (places : List (Option (Place H))) (slice : ℕ) (desks now : List (Desk H)) → Refused slice desks now
@@ -187,7 +187,7 @@ module _ {H : Type 0} (slot_of hop_of : H → ℕ) where
   refused_gave places slice desks now refused other =
       gave_none hop_of places other (sent_at desks other) (sent_at now other)
       (ap (λ l. get_or l other []) (changed_map slice refused.before refused.now desks now refused.desk
-          (λ (desk : Desk H). sent desk.orders) refused.sent))
+      (λ (desk : Desk H). sent desk.orders) refused.sent))
 
   -- what a state becomes as its order is offered, and the orders given
   pub record StatePasses (places : List (Option (Place H))) (old new : State H)
@@ -247,7 +247,7 @@ module _ {H : Type 0} (slot_of hop_of : H → ℕ) where
     served_passes places slot None place aside desks now is within served =
         passes_same places (set places slot place) aside aside desks now
         (ap (set places slot) (served.0 ∙ is) ∙ set-get_or places slot None) refl
-            (λ slice. ap (λ l. sent_at l slice) served.1)
+        (λ slice. ap (λ l. sent_at l slice) served.1)
     served_passes places slot (Some before) place aside desks now is within served =
         let after = served.0 in
         let step = serves_passes places slot before.hop before.state after.state desks now (ap hop_at is)
@@ -271,5 +271,5 @@ module _ {H : Type 0} (slot_of hop_of : H → ℕ) where
         → Passes slot_of hop_of places new aside new_aside desks now
     passes_served places new slot waits aside new_aside desks now within same served =
         subst (λ (p : List (Option (Place H)) × List H). Passes slot_of hop_of places p.0 aside p.1 desks now)
-            (λ i. (sym served.1 i, sym same i))
+        (λ i. (sym served.1 i, sym same i))
         (served_passes places slot (place_at places slot) served.0 aside desks now refl within served.3)

@@ -89,8 +89,10 @@ module _ {H N : Type 0} (name : H → N) (hop_of : H → ℕ) (desks now : List 
       × PlaceFits n asked x × (hop_at x ≡ before.hop)) back (
         state_place 0 before after served.3 step.0,
         step.1,
-        (let s = serves_fit name desks now hop_of n slot before.hop before.state after.state (fits.0,
-            fits.1) served.4 in
+        (let s = serves_fit name desks now hop_of n slot before.hop before.state after.state (
+          fits.0,
+          fits.1,
+        ) served.4 in
             (s.0, s.1, (let h = served.2 in let f = fits.2 in omega arith))),
         served.2,
       )
@@ -103,11 +105,13 @@ module _ {H N : Type 0} (name : H → N) (hop_of : H → ℕ) (desks now : List 
       let after = moves.now in
       let fits : PlaceFits n asked (Some before) = subst (PlaceFits n asked) moves.was fits in
       subst (λ (p : Option (Place H) × Option (Place H)). PlaceStep name 2 p.0 p.1 desks now
-          × PlaceFits n (asked + 1) p.1) (λ i. (sym moves.was i, sym moves.is i)) (
+      × PlaceFits n (asked + 1) p.1) (λ i. (sym moves.was i, sym moves.is i)) (
         state_place 2 before after moves.admitted (goes_step name desks now slot slice until before.state
             after.state moves.goes),
-        (let s = goes_fit name desks now n slot slice until before.state after.state (fits.0,
-            fits.1) there moves.goes in
+        (let s = goes_fit name desks now n slot slice until before.state after.state (
+          fits.0,
+          fits.1,
+        ) there moves.goes in
             (s.0, s.1, (let h = moves.hop in let f = fits.2 in omega arith))),
       )
 
@@ -120,20 +124,20 @@ module _ {H N : Type 0} (name : H → N) (slot_of : N → ℕ) where
       → PlaceStep name spare (place_at places slot) place desks now → PlaceFits (length desks) new_asked place
       → asked ≤ new_asked → new_asked ≤ 2 ^ 48 → 2 * asked + spare ≤ 2 * new_asked
       → ((w : ℕ → ℕ) → sum_by w new_waiting + sum_by w new_serving
-          + cond (is_waiting_at (place_at places slot)) (w slot) 0
+      + cond (is_waiting_at (place_at places slot)) (w slot) 0
       ≡ sum_by w waiting + sum_by w serving + cond (is_waiting_at place) (w slot) 0)
       → IsSide name slot_of (set places slot place) aside now new_waiting new_serving admitted new_asked
   stepped_side spare places place slot aside desks now waiting new_waiting serving new_serving admitted asked
       new_asked side within step fits later few enough waits =
       let was : slot_at slot_of slot (name_at name (place_at places slot)) ≡ slot =
-          at_slot name slot_of places side.slots slot in
+      at_slot name slot_of places side.slots slot in
       let at : slot_at slot_of slot (name_at name place) ≡ slot = ap (slot_at slot_of slot) step.named ∙ was in
       set_side name slot_of places place slot aside aside desks now waiting new_waiting serving new_serving
-          admitted admitted asked new_asked side (record {
+      admitted admitted asked new_asked side (record {
         within = within;
         balance = λ h. let a = step.balance h in let b = ap (weight_at h) step.named in
             let c : sum_by (home_weight name h) now ≡ sum_by (home_weight name h) desks =
-                homes_sum (weight name h) desks now step.homes in omega arith;
+            homes_sum (weight name h) desks now step.homes in omega arith;
         at = at;
         waits = λ w. let a = waits w in let b = wait_weight_is name slot_of w slot (place_at places slot) was in
             let c = wait_weight_is name slot_of w slot place at in omega arith;
@@ -158,13 +162,13 @@ module _ {H N : Type 0} (name : H → N) (slot_of : N → ℕ) where
             elim (nat_eq k slot) as (λ b. nat_eq k slot ≡ b → f (place_at places k) ≤ 0) [
               | true ↦ λ same. subst (λ (n : ℕ). f (place_at places n) ≤ 0) (sym (eqb-true k slot same))
                   (let a = wait_weight_is name slot_of (on slot) slot (place_at places slot)
-                      (at_slot name slot_of places slots slot) in
+                  (at_slot name slot_of places slots slot) in
                   let c = ap (λ b. cond b (on slot slot) 0) e in omega arith)
               | false ↦ λ apart.
                   (let a = wait_weight_is name slot_of (on slot) k (place_at places k)
-                      (at_slot name slot_of places slots k) in
+                  (at_slot name slot_of places slots k) in
                   let c : ◌≡◌ {A = ℕ} (cond (is_waiting_at (place_at places k)) (on slot k) 0)
-                      (cond (is_waiting_at (place_at places k)) 0 0) =
+                  (cond (is_waiting_at (place_at places k)) 0 0) =
                   ap (λ t. cond (is_waiting_at (place_at places k)) (cond t 1 0) 0) apart in
                   let d = cond_zero (is_waiting_at (place_at places k)) in omega arith)
             ] refl) in
@@ -182,10 +186,10 @@ module _ {H N : Type 0} (name : H → N) (slot_of : N → ℕ) where
       → slot < length places
   waiting_within places slot waits = elim (nat_lt slot (length places)) as (λ b. nat_lt slot (length places) ≡ b
       → slot < length places) [
-    | true ↦ λ e. ltb-true slot (length places) e
-    | false ↦ λ e. absurd (true≢false (sym waits ∙ ap is_waiting_at
-        (get_or_past places slot None (ltb-false slot (length places) e))))
-  ] refl
+        | true ↦ λ e. ltb-true slot (length places) e
+        | false ↦ λ e. absurd (true≢false (sym waits ∙ ap is_waiting_at
+            (get_or_past places slot None (ltb-false slot (length places) e))))
+      ] refl
 
   -- the slots with an order to give are no more than those admitted
   pub waiting_few : (places : List (Option (Place H))) (aside : List H) (desks : List (Desk H))
@@ -211,9 +215,9 @@ module _ {H N : Type 0} (name : H → N) (slot_of : N → ℕ) where
   new_side desks new = record {
     balanced = λ h.
         let a : sum_by (sent_weight name h) desks ≡ 0 = new_sum desks new (sent_weight name h)
-            (λ d is. ap (λ l. weight name h (arrivals l)) is.0) in
+        (λ d is. ap (λ l. weight name h (arrivals l)) is.0) in
         let b : sum_by (home_weight name h) desks ≡ 0 = new_sum desks new (home_weight name h)
-            (λ d is. ap (weight name h) is.1) in omega arith;
+        (λ d is. ap (weight name h) is.1) in omega arith;
     slots = λ slot. refl;
     queued = λ w. refl;
     fits = All-nil (PlaceFits (length desks) 0);
@@ -255,17 +259,17 @@ module _ {H N : Type 0} (name : H → N) (slot_of : N → ℕ) where
       let new_at : slot_at slot_of slot (name_at name place) ≡ slot = ap (slot_at slot_of slot) named ∙ old_at in
       let fits : PlaceFits (length desks) asked (Some before) =
       subst (PlaceFits (length desks) asked) was (All-get_or
-          (PlaceFits (length desks) asked) places slot None within side.fits) in
+      (PlaceFits (length desks) asked) places slot None within side.fits) in
       let b = took.before in let n = took.now in
       subst (λ (l : List (Option (Place H))). IsSide name slot_of l aside now new_waiting serving admitted asked)
-          (sym made)
+      (sym made)
       (set_side name slot_of places place slot aside aside desks now waiting new_waiting serving serving admitted
-          admitted asked asked side (record {
+      admitted asked asked side (record {
         within = within;
         balance = λ h.
             let a : front_at name h place ≡ h (name half) = ap (front_at name h) is ∙ ap (front_weight name h) front in
             let z : front_at name h (place_at places slot) ≡ 0 =
-                ap (front_at name h) was ∙ ap (front_weight name h) left in
+            ap (front_at name h) was ∙ ap (front_weight name h) left in
             let w = ap (weight_at h) named in
             let s = changed_sum slice b n desks now took.desk (sent_weight name h) in
             let t = ap (λ o. weight name h (arrivals (sent o))) took.orders in
@@ -278,7 +282,7 @@ module _ {H N : Type 0} (name : H → N) (slot_of : N → ℕ) where
             let p = wait_weight_is name slot_of w slot (place_at places slot) old_at
             ∙ ap (λ t. cond t (w slot) 0) (ap is_waiting_at was ∙ ap is_waiting left) in
             let q = wait_weight_is name slot_of w slot place new_at
-                ∙ ap (λ t. cond t (w slot) 0) (ap is_waiting_at is ∙ ap is_waiting front) in
+            ∙ ap (λ t. cond t (w slot) 0) (ap is_waiting_at is ∙ ap is_waiting front) in
             omega arith;
         long = changed_len slice b n desks now took.desk;
         fits = subst (PlaceFits (length desks) asked) (sym is) (
@@ -304,12 +308,12 @@ module _ {H N : Type 0} (name : H → N) (slot_of : N → ℕ) where
       → IsSide name slot_of places aside desks waiting serving admitted asked → Taken slice half desks now
       → new_aside ≡ aside ++ half ∷ []
       → length aside < admitted → new_places ≡ places → IsSide name slot_of new_places new_aside now waiting
-          serving admitted asked
+      serving admitted asked
   kept_aside places new_places slice half aside new_aside desks now waiting serving admitted asked side took more
       room made =
       let b = took.before in let n = took.now in
       subst (λ (l : List (Option (Place H))). IsSide name slot_of l new_aside now waiting serving admitted asked)
-          (sym made)
+      (sym made)
       (same_places name slot_of places aside new_aside desks now waiting waiting serving serving admitted asked side
       (λ h.
       let s = changed_sum slice b n desks now took.desk (sent_weight name h) in
@@ -362,9 +366,9 @@ module _ {H N : Type 0} (name : H → N) (slot_of : N → ℕ) where
       place_grown name slot_of places admits.more slot ∙ no_place (place_at places slot) fresh in
       let step = (sends_step name desks now hop_of hop slice half after.state admits.sends).0 in
       subst (λ (l : List (Option (Place H))). IsSide name slot_of l aside now new_waiting serving (admitted + 1)
-          (asked + 1)) (sym admits.is)
+      (asked + 1)) (sym admits.is)
       (set_side name slot_of grown (Some after) slot aside aside desks now waiting new_waiting serving serving
-          admitted (admitted + 1) asked (asked + 1)
+      admitted (admitted + 1) asked (asked + 1)
       (grown_side name slot_of places admits.more aside desks waiting serving admitted asked side) (record {
         within = admits.within;
         balance = λ h.
@@ -373,14 +377,14 @@ module _ {H N : Type 0} (name : H → N) (slot_of : N → ℕ) where
             let q = ap (λ x. weight_at h (name_at name x)) free in
             let n : h (name after.admitted.value) ≡ h (name half) = ap (λ x. h (name x)) admits.admitted in
             let c : sum_by (home_weight name h) now ≡ sum_by (home_weight name h) desks =
-                homes_sum (weight name h) desks now step.homes in
+            homes_sum (weight name h) desks now step.homes in
             omega arith;
         at = ap (λ x. slot_of (name x)) admits.admitted ∙ slot_is;
         waits = λ w.
             let a = noted w in
             let p = ap (wait_weight name slot_of w) free in
             let q = ap (λ n. cond (is_waiting after.state) (w n) 0) (ap (λ x. slot_of (name x)) admits.admitted
-                ∙ slot_is) in
+            ∙ slot_is) in
             omega arith;
         long = step.long;
         fits = let s = sends_fit name desks now hop_of (length desks) hop slice half after.state fits admits.sends in
@@ -413,7 +417,7 @@ module _ {H N : Type 0} (name : H → N) (slot_of : N → ℕ) where
       let e = sum_by-set g places slot None None within in
       let i : f (place_at places slot) ≡ 0 =
       wait_weight_is name slot_of one slot (place_at places slot) (at_slot name slot_of places side.slots slot)
-          ∙ ap (λ t. cond t 1 0) idle in
+      ∙ ap (λ t. cond t 1 0) idle in
       let j : g (place_at places slot) ≡ 1 = ap (λ t. cond t 1 0) there in
       let m = sum_by-one waiting in let n = sum_by-one serving in omega arith where
         cond_le : (b : Bool) → cond b 1 0 ≤ 1
@@ -428,16 +432,16 @@ module _ {H N : Type 0} (name : H → N) (slot_of : N → ℕ) where
       → slot < length places
   admitted_within places slot there = elim (nat_lt slot (length places)) as (λ b. nat_lt slot (length places) ≡ b
       → slot < length places) [
-    | true ↦ λ e. ltb-true slot (length places) e
-    | false ↦ λ e. absurd (true≢false (sym there ∙ ap is_admitted
-        (get_or_past places slot None (ltb-false slot (length places) e))))
-  ] refl
+        | true ↦ λ e. ltb-true slot (length places) e
+        | false ↦ λ e. absurd (true≢false (sym there ∙ ap is_admitted
+            (get_or_past places slot None (ltb-false slot (length places) e))))
+      ] refl
 
   -- the slot that is served next waits
   pub next_waits : (places : List (Option (Place H))) (slot : ℕ) (aside : List H) (desks : List (Desk H))
       (waiting serving new_serving : List ℕ)
       (admitted asked : ℕ) → IsSide name slot_of places aside desks waiting serving admitted asked
-          → serving ≡ new_serving ++ slot ∷ []
+      → serving ≡ new_serving ++ slot ∷ []
       → is_waiting_at (place_at places slot) ≡ true
   next_waits places slot aside desks waiting serving new_serving admitted asked side next =
       queued_here places slot side.slots
@@ -461,16 +465,16 @@ module _ {H N : Type 0} (name : H → N) (slot_of : N → ℕ) where
       let within = moves.1 in
       let fits = All-get_or (PlaceFits (length desks) asked) places slot None within side.fits in
       let step = moved_place name (λ _. 0) desks now slot slice until (length desks) asked
-          (place_at places slot) place fits there moves.3 in
+      (place_at places slot) place fits there moves.3 in
       let is : place_at new_places slot ≡ place = ap (λ l. place_at l slot) moves.2
-          ∙ get_or-set_same places slot place None within in (
+      ∙ get_or-set_same places slot place None within in (
         subst (λ (l : List (Option (Place H))). IsSide name slot_of l aside now new_waiting serving admitted (asked
             + 1)) (sym moves.2)
             (stepped_side 2 places place slot aside desks now waiting new_waiting serving serving admitted asked
-                (asked + 1) side within step.0 step.1
+            (asked + 1) side within step.0 step.1
             (omega arith) (omega arith) (omega arith)
             (λ w. let a = noted w in let b = waits (w slot) in let c = ap
-                (λ x. cond (is_waiting_at x) (w slot) 0) is in omega arith)),
+            (λ x. cond (is_waiting_at x) (w slot) 0) is in omega arith)),
         ap (names_of name) moves.2 ∙ map-set_same (name_at name) places slot place None step.0.named,
         step.0.lanes,
       )
@@ -493,13 +497,13 @@ module _ {H N : Type 0} (name : H → N) (slot_of : N → ℕ) where
       let within = waiting_within places slot true_here in
       let fits = All-get_or (PlaceFits (length desks) asked) places slot None within side.fits in
       let step = served_place name hop_of desks now slot (length desks) asked
-          (place_at places slot) place true_here fits served.3 in
+      (place_at places slot) place true_here fits served.3 in
       let is : place_at new_places slot ≡ place = ap (λ l. place_at l slot) served.1
-          ∙ get_or-set_same places slot place None within in (
+      ∙ get_or-set_same places slot place None within in (
         subst (λ (l : List (Option (Place H))). IsSide name slot_of l aside now new_waiting new_serving admitted
             asked) (sym served.1)
             (stepped_side 0 places place slot aside desks now waiting new_waiting serving new_serving admitted
-                asked asked side within step.0 step.2
+            asked asked side within step.0 step.2
             (omega arith) side.asked_few (omega arith)
             (λ w.
             let a = noted w in
@@ -550,7 +554,7 @@ leaving_idle half old new welcomes =
 abbrev pub admits_from : {H N : Type 0} (name : H → N) (hop_of : H
     → ℕ) (slot slice hop : ℕ) (half : H) (places mid new : List (Option (Place H))) (now : Place H)
     (desks after : List (Desk H)) → Grown places mid → slot < length mid → new ≡ set mid slot (Some now)
-        → now.hop ≡ hop → now.admitted.value ≡ half
+    → now.hop ≡ hop → now.admitted.value ≡ half
     → Sends name hop_of hop slice half now.state desks after
     → Admits name hop_of slot slice hop half places new desks after
 admits_from name hop_of slot slice hop half places mid new now desks after grown within is hopped same sends = record {
@@ -568,4 +572,4 @@ pub still_free : {H N : Type 0} (name : H → N) (slot_of : N → ℕ) (places m
     → is_admitted (place_at places slot) ≡ false → is_admitted (place_at mid slot) ≡ false
 still_free name slot_of places mid slot grown fresh =
     ap (λ l. is_admitted (place_at l slot)) grown.1 ∙ ap is_admitted (place_grown name slot_of places grown.0 slot)
-        ∙ fresh
+    ∙ fresh

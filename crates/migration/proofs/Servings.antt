@@ -22,8 +22,13 @@ use Rattle.migration.proofs.SideSteps.{at_slot, wait_weight_is}
 
 module _ {N : Type 0} where
   abbrev pub roll : List (Option N) → List ℕ → List Lanes → ℕ → ℕ → Roll N
-  roll names hops lanes admitted asked = record { names = names; hops = hops; lanes = lanes; admitted = admitted;
-      asked = asked }
+  roll names hops lanes admitted asked = record {
+    names = names;
+    hops = hops;
+    lanes = lanes;
+    admitted = admitted;
+    asked = asked;
+  }
 
   pub roll_same : (names was : List (Option N)) (hops were : List ℕ) (lanes before : List Lanes)
       (admitted asked : ℕ) → names ≡ was → hops ≡ were → lanes ≡ before
@@ -73,7 +78,7 @@ module _ {H N : Type 0} (name : H → N) (slot_of : N → ℕ) where
       let within = waiting_within name slot_of places slot true_here in
       let a = get_or-le-sum_by f places slot None within in
       let b = wait_weight_is name slot_of (on slot) slot (place_at places slot)
-          (at_slot name slot_of places side.slots slot) in
+      (at_slot name slot_of places side.slots slot) in
       let c = ap (λ t. cond t (on slot slot) 0) true_here in
       let d : on slot slot ≡ 1 = ap (λ t. cond t 1 0) (eq-eqb slot slot refl) in
       let q = side.queued (on slot) in
@@ -110,7 +115,7 @@ module _ {H : Type 0} where
       → Serving new_serving new_places first now
   serving_more serving new_serving places new_places first desks now earlier so_far served slot slice waits =
       elim (nat_eq slot served.slot) as (λ b. nat_eq slot served.slot ≡ b → (0 < sum_by (on slot) new_serving)
-          ⊎ Rose (fulls_at first slice) (fulls_at now slice)) [
+      ⊎ Rose (fulls_at first slice) (fulls_at now slice)) [
         | true ↦ λ e.
             let same : slot ≡ served.slot = eqb-true slot served.slot e in
             inr (rose_since (fulls_at first slice) (fulls_at desks slice) (fulls_at now slice) (earlier slice)
@@ -122,7 +127,7 @@ module _ {H : Type 0} where
                   let a = ap (sum_by (on slot)) served.next in
                   let b = sum_by_push (on slot) new_serving served.slot in
                   let c : on slot served.slot ≡ 0 = ap (λ t. cond t 1 0)
-                      (ne_eqb served.slot slot (λ q. apart (sym q))) in
+                  (ne_eqb served.slot slot (λ q. apart (sym q))) in
                   omega arith)
               | inr rose ↦ inr (rose_later (fulls_at first slice) (fulls_at desks slice) (fulls_at now slice) rose
                   (served.later slice))
@@ -179,4 +184,4 @@ ended_since {H} admitted was aside old_aside slice first desks now homes same al
       ≡ get_or (map (λ (desk : Desk H). count desk.home) desks) slice 0
   by_homes count = ap (λ l. get_or l slice 0)
       (map_map (λ (desk : Desk H). desk.home) count now ∙ ap (map count) homes
-          ∙ sym (map_map (λ (desk : Desk H). desk.home) count desks))
+      ∙ sym (map_map (λ (desk : Desk H). desk.home) count desks))

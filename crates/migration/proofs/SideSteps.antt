@@ -86,7 +86,7 @@ module _ {H N : Type 0} (name : H → N) (slot_of : N → ℕ) where
       (waiting new_waiting serving new_serving : List ℕ) (admitted new_admitted asked new_asked : ℕ)
       → IsSide name slot_of places aside desks waiting serving admitted asked
       → Change places place slot aside new_aside desks now waiting new_waiting serving new_serving admitted
-          new_admitted asked new_asked
+      new_admitted asked new_asked
       → IsSide name slot_of (set places slot place) new_aside now new_waiting new_serving new_admitted new_asked
   set_side places place slot aside new_aside desks now waiting new_waiting serving new_serving admitted
       new_admitted asked new_asked side change =
@@ -104,13 +104,13 @@ module _ {H N : Type 0} (name : H → N) (slot_of : N → ℕ) where
             omega arith;
         slots = by_slot new (λ k. elim (nat_eq k slot) as (λ b. nat_eq k slot ≡ b
             → slot_at slot_of k (name_at name (place_at new k)) ≡ k) [
-          | true ↦ λ e. subst (λ (n : ℕ). slot_at slot_of n (name_at name (place_at new n)) ≡ n)
-              (sym (eqb-true k slot e))
-              (ap (λ x. slot_at slot_of slot (name_at name x))
+              | true ↦ λ e. subst (λ (n : ℕ). slot_at slot_of n (name_at name (place_at new n)) ≡ n)
+                  (sym (eqb-true k slot e))
+                  (ap (λ x. slot_at slot_of slot (name_at name x))
                   (get_or-set_same places slot place None change.within) ∙ change.at)
-          | false ↦ λ e. ap (λ x. slot_at slot_of k (name_at name x))
-              (get_or-set_other places slot k place None (eqb-false k slot e)) ∙ slots k
-        ] refl);
+              | false ↦ λ e. ap (λ x. slot_at slot_of k (name_at name x))
+                  (get_or-set_other places slot k place None (eqb-false k slot e)) ∙ slots k
+            ] refl);
         queued = λ w.
             let a = side.queued w in
             let b = change.waits w in
@@ -119,7 +119,7 @@ module _ {H N : Type 0} (name : H → N) (slot_of : N → ℕ) where
         fits = subst (λ (n : ℕ). All (PlaceFits n new_asked) new) (sym change.long)
             (All-set (PlaceFits (length desks) new_asked) places slot place change.fits
             (All-weaker (PlaceFits (length desks) asked) (PlaceFits (length desks) new_asked)
-                (fits_later (length desks) asked new_asked change.later) places side.fits));
+            (fits_later (length desks) asked new_asked change.later) places side.fits));
         few = let a = side.few in let b = change.count in
             let c = sum_by-set (pending_at {H = H}) places slot place None change.within in omega arith;
         asked_few = change.few;
@@ -132,7 +132,7 @@ module _ {H N : Type 0} (name : H → N) (slot_of : N → ℕ) where
   -- no place changed
   pub same_places : (places : List (Option (Place H))) (aside new_aside : List H) (desks now : List (Desk H))
       (waiting new_waiting serving new_serving : List ℕ) (admitted asked : ℕ)
-          → IsSide name slot_of places aside desks waiting serving admitted asked
+      → IsSide name slot_of places aside desks waiting serving admitted asked
       → ((h : N → ℕ) → weight name h new_aside + sum_by (sent_weight name h) now + sum_by (home_weight name h) desks
       ≡ weight name h aside + sum_by (sent_weight name h) desks + sum_by (home_weight name h) now)
       → ((w : ℕ → ℕ) → sum_by w new_waiting + sum_by w new_serving ≡ sum_by w waiting + sum_by w serving)
@@ -141,15 +141,15 @@ module _ {H N : Type 0} (name : H → N) (slot_of : N → ℕ) where
       → IsSide name slot_of places new_aside now new_waiting new_serving admitted asked
   same_places places aside new_aside desks now waiting new_waiting serving new_serving admitted asked side balance
       waits long count few = record {
-    balanced = λ h. let a = side.balanced h in let b = balance h in omega arith;
-    slots = side.slots;
-    queued = λ w. let a = side.queued w in let b = waits w in omega arith;
-    fits = subst (λ (n : ℕ). All (PlaceFits n asked) places) (sym long) side.fits;
-    few = let a = side.few in omega arith;
-    asked_few = side.asked_few;
-    counted = side.counted;
-    aside_few = few;
-  }
+        balanced = λ h. let a = side.balanced h in let b = balance h in omega arith;
+        slots = side.slots;
+        queued = λ w. let a = side.queued w in let b = waits w in omega arith;
+        fits = subst (λ (n : ℕ). All (PlaceFits n asked) places) (sym long) side.fits;
+        few = let a = side.few in omega arith;
+        asked_few = side.asked_few;
+        counted = side.counted;
+        aside_few = few;
+      }
 
   place_none : (more k : ℕ) → get_or {A = Option (Place H)} (replicate more None) k None ≡ None
   place_none zero k = refl
@@ -234,11 +234,11 @@ module _ {H N : Type 0} (name : H → N) (slot_of : N → ℕ) where
   -- room was made
   pub roomy_side : (places new : List (Option (Place H))) (aside new_aside : List H) (desks : List (Desk H))
       (waiting new_waiting serving new_serving : List ℕ) (admitted asked : ℕ)
-          → IsSide name slot_of places aside desks waiting serving admitted asked
+      → IsSide name slot_of places aside desks waiting serving admitted asked
       → Grown places new → new_aside ≡ aside → new_waiting ≡ waiting → new_serving ≡ serving
       → IsSide name slot_of new new_aside desks new_waiting new_serving admitted asked
   roomy_side places new aside new_aside desks waiting new_waiting serving new_serving admitted asked side grown a w s =
       subst (λ (p : List (Option (Place H)) × List H × List ℕ
-          × List ℕ). IsSide name slot_of p.0 p.1 desks p.2 p.3 admitted asked)
+      × List ℕ). IsSide name slot_of p.0 p.1 desks p.2 p.3 admitted asked)
       (λ i. (sym grown.1 i, sym a i, sym w i, sym s i))
       (grown_side name slot_of places grown.0 aside desks waiting serving admitted asked side)

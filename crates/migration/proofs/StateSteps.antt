@@ -112,9 +112,10 @@ module _ {H N : Type 0} (name : H → N) (desks now : List (Desk H)) where
   sends_step hop_of hop to half state sends = elim sends.outcome [
     | inl put ↦ subst (λ (s : State H). StateStep name 0 (Front half to) s desks now × Again s desks now) (sym put.0)
         (arrive_step to half sends.told sends.named put.1, again_none (Placed to) refl)
-    | inr kept ↦ subst (λ (s : State H). StateStep name 0 (Front half to) s desks now × Again s desks now) (sym kept.0)
-        (stay_step 0 to (Front half to) (Front sends.told to) (λ h. ap h sends.named) (omega arith) kept.1,
-            again_at to (Front sends.told to) refl kept.1)
+    | inr kept ↦ subst (λ (s : State H). StateStep name 0 (Front half to) s desks now × Again s desks now) (sym kept.0) (
+      stay_step 0 to (Front half to) (Front sends.told to) (λ h. ap h sends.named) (omega arith) kept.1,
+      again_at to (Front sends.told to) refl kept.1,
+    )
   ]
 
   pub recalls_step : (spare slot at until to : ℕ) (old state : State H)
@@ -123,9 +124,10 @@ module _ {H N : Type 0} (name : H → N) (desks now : List (Desk H)) where
   recalls_step spare slot at until to old state front count recalls = elim recalls [
     | inl put ↦ subst (λ (s : State H). StateStep name spare old s desks now × Again s desks now) (sym put.0)
         (leave_step spare at slot until to old front count put.1, again_none (Leaving at to) refl)
-    | inr kept ↦ subst (λ (s : State H). StateStep name spare old s desks now × Again s desks now) (sym kept.0)
-        (stay_step spare at old (Recall at until to) (λ h. sym (front h)) count kept.1,
-            again_at at (Recall at until to) refl kept.1)
+    | inr kept ↦ subst (λ (s : State H). StateStep name spare old s desks now × Again s desks now) (sym kept.0) (
+      stay_step spare at old (Recall at until to) (λ h. sym (front h)) count kept.1,
+      again_at at (Recall at until to) refl kept.1,
+    )
   ]
 
   -- the order of a state was offered
@@ -139,9 +141,10 @@ module _ {H N : Type 0} (name : H → N) (desks now : List (Desk H)) where
   serves_step hop_of slot hop (Recall at until to) state serves =
       recalls_step 0 slot at until to (Recall at until to) state (λ h. refl) (omega arith) serves
   serves_step hop_of slot hop (Leaving from to) state serves =
-      subst (λ (s : State H). StateStep name 0 (Leaving from to) s desks now × Again s desks now) (sym serves.0)
-      (same_step 0 (Leaving from to) (Leaving from to) (λ h. refl) (omega arith) serves.1,
-          again_none (Leaving from to) refl)
+      subst (λ (s : State H). StateStep name 0 (Leaving from to) s desks now × Again s desks now) (sym serves.0) (
+        same_step 0 (Leaving from to) (Leaving from to) (λ h. refl) (omega arith) serves.1,
+        again_none (Leaving from to) refl,
+      )
 
   -- a slot moved
   pub goes_step : (slot slice until : ℕ) (old state : State H) → Goes slot slice until old state desks now
@@ -200,6 +203,8 @@ pub homed_place : {H : Type 0} (half : H) (before now : Place H) (back : Option 
     → now.admitted ≡ before.admitted
     → Homes half before.state now.state back → Welcomes half (Some before) (Some now) back
 homed_place half before now None hop admitted homes = (before, now, refl, refl, hop, admitted, homes)
-homed_place half before now (Some other) hop admitted homes =
-    (homes.0, (λ i. Some (record { hop = hop i; state = homes.1 i; admitted = admitted i })),
-        not_leaving before.state homes.2)
+homed_place half before now (Some other) hop admitted homes = (
+  homes.0,
+  (λ i. Some (record { hop = hop i; state = homes.1 i; admitted = admitted i })),
+  not_leaving before.state homes.2,
+)

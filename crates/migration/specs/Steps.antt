@@ -21,7 +21,7 @@ pub record Sends {H N : Type 0} (name : H → N) (hop_of : H
 abbrev pub Recalls : {H : Type 0} → ℕ → ℕ → ℕ → ℕ → State H → List (Desk H) → List (Desk H) → Type 0
 Recalls slot at until to state old new =
     ((state ≡ Leaving at to) × Given at (Leave slot until) old new)
-        ⊎ ((state ≡ Recall at until to) × Refused at old new)
+    ⊎ ((state ≡ Recall at until to) × Refused at old new)
 
 module _ {H N : Type 0} (name : H → N) (hop_of : H → ℕ) where
   -- the order that a slot's state waits to give is offered once
@@ -84,7 +84,7 @@ abbrev pub WelcomesAt : {H : Type 0} → H → ℕ → List (Option (Place H)) �
 WelcomesAt half slot places new (Some back) = (back ≡ half) × (new ≡ places) × Unawaited (place_at places slot)
 WelcomesAt {H} half slot places new None =
     (place : Option (Place H)) × (slot < length places) × (new ≡ slice_set places slot place)
-        × Welcomes half (place_at places slot) place None
+    × Welcomes half (place_at places slot) place None
 
 -- the place of a slot moved, and no other one changed
 abbrev pub MovesAt : {H : Type 0} → ℕ → ℕ → ℕ → List (Option (Place H)) → List (Option (Place H)) → List (Desk H)

@@ -138,7 +138,7 @@ impl<H: Traveller> Side<H> {
         ensures full { AllMetFull (places_of self.new) (desks_of self.old) (desks_of self.new) }
         ensures home { (slice : ℕ) → slice < length (desks_of self.old)
             → HomeEnded (length (aside_of self.new)) (admitted_of self.new) slice (desks_of self.old)
-                (desks_of self.new) }
+            (desks_of self.new) }
     {
         self.take_all(rt);
         self.line_up();
@@ -222,7 +222,7 @@ impl<H: Traveller> Side<H> {
             (desks_of self.old) (desks_of self.new) }
         ensures home { (slice : ℕ) → slice < length (desks_of self.old)
             → HomeEnded (length (aside_of self.new)) (admitted_of self.new) slice (desks_of self.old)
-                (desks_of self.new) }
+            (desks_of self.new) }
         ensures fulls { (slice : ℕ) → fulls_at (desks_of self.new) slice ≡ fulls_at (desks_of self.old) slice }
     {
         for slice in 0..self.desks.len() {

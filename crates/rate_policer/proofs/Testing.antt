@@ -28,7 +28,7 @@ each_from rate (x ∷ xs) cost fits [] after earlier e =
     let first : x ≡ earlier = cc in
     let rest : xs ≡ after = cc in
     subst (λ (c : Cost). FitsSince rate cost c (c ∷ after)) first
-        (subst (λ (since : List Cost). FitsSince rate cost x (x ∷ since)) rest here)
+    (subst (λ (since : List Cost). FitsSince rate cost x (x ∷ since)) rest here)
 each_from rate (x ∷ xs) cost fits (y ∷ ys) after earlier e =
     let rest : xs ≡ ys ++ earlier ∷ after = cc in
     each_from rate xs cost (parts _ _ fits).1 ys after earlier rest
@@ -66,5 +66,7 @@ pub letting_tested : (bucket : BucketState) (passed : List Cost) (cost : Cost) (
 letting_tested bucket passed cost lets stands late told =
     let same = stands.same cost late in
     let tested = conforming_tested bucket.rate passed cost in
-    same_answer lets (conforms bucket.rate passed cost) told (λ yes. same.1 (tested.0 yes),
-        λ through. tested.1 (same.0 through))
+    same_answer lets (conforms bucket.rate passed cost) told (
+      λ yes. same.1 (tested.0 yes),
+      λ through. tested.1 (same.0 through),
+    )

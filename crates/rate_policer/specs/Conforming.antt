@@ -27,7 +27,7 @@ abbrev pub fits_each : ℕ → List Cost → Cost → Bool
 fits_each rate [] cost = true
 fits_each rate (earlier ∷ after) cost =
     nat_le (cost.millibits + volume (earlier ∷ after)) (burst rate + rate * (cost.at - earlier.at))
-        && fits_each rate after cost
+    && fits_each rate after cost
 
 -- whether a cost conforms
 unfoldable pub conforms : ℕ → List Cost → Cost → Bool

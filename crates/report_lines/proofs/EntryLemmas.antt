@@ -43,7 +43,7 @@ answered_given texts told read =
     let message = bound (next message_of outcome.0.1) _ told outcome.2 in
     let is_head = head_given texts head.0 head.1 in
     let is_outcome = next_given outcome_of outcome_word (λ o. Unit {0})
-        (λ text x is. (outcome_given text x is, tt)) head.0.1 outcome.0 outcome.1 in
+    (λ text x is. (outcome_given text x is, tt)) head.0.1 outcome.0 outcome.1 in
     let is_message = messages_given outcome.0.1 message.0 message.1 in
     let last = ended _ told message.0.1 message.2 in
     let same = last.0 in
@@ -51,19 +51,19 @@ answered_given texts told read =
       ap (λ t. codes "C" ∷ t) (is_head.are
           ∙ ap (λ t. decimal head.0.0.0 ∷ decimal head.0.0.1 ∷ decimal head.0.0.2 ∷ t) is_outcome.are
           ∙ ap (λ t. decimal head.0.0.0 ∷ decimal head.0.0.1 ∷ decimal head.0.0.2 ∷ outcome_word outcome.0.0
-              ∷ t) is_message.are
+          ∷ t) is_message.are
           ∙ ap (λ t. decimal head.0.0.0 ∷ decimal head.0.0.1 ∷ decimal head.0.0.2 ∷ outcome_word outcome.0.0
-              ∷ message_word message.0.0 ∷ t) last.1),
+          ∷ message_word message.0.0 ∷ t) last.1),
       record { line = is_head.valid.0; slot = is_head.valid.1; number = is_head.valid.2; message = is_message.valid },
     )
 
 pub answered_taken : (told : Answered) → IsAnswered told
     → answered_of (decimal told.line ∷ decimal told.slot ∷ decimal told.number ∷ outcome_word told.reply.outcome
-        ∷ message_word told.reply.message ∷ [])
+    ∷ message_word told.reply.message ∷ [])
     ≡ Some told
 answered_taken told is =
     let head = head_taken told.line told.slot told.number (outcome_word told.reply.outcome
-        ∷ message_word told.reply.message ∷ []) is.line is.slot is.number in
+    ∷ message_word told.reply.message ∷ []) is.line is.slot is.number in
     let outcome = outcome_taken told.reply.outcome in
     let message = message_taken told.reply.message is.message in
     rw (head, outcome, message) refl
@@ -85,9 +85,9 @@ judged_given texts told read =
       ap (λ t. codes "P" ∷ t) (is_head.are
           ∙ ap (λ t. decimal head.0.0.0 ∷ decimal head.0.0.1 ∷ decimal head.0.0.2 ∷ t) is_commands.are
           ∙ ap (λ t. decimal head.0.0.0 ∷ decimal head.0.0.1 ∷ decimal head.0.0.2 ∷ decimal commands.0.0
-              ∷ t) is_verdict.are
+          ∷ t) is_verdict.are
           ∙ ap (λ t. decimal head.0.0.0 ∷ decimal head.0.0.1 ∷ decimal head.0.0.2 ∷ decimal commands.0.0
-              ∷ verdict_fields its_verdict.0.0 t) is_place.are),
+          ∷ verdict_fields its_verdict.0.0 t) is_place.are),
       record {
         line = is_head.valid.0;
         slot = is_head.valid.1;
@@ -105,7 +105,7 @@ pub judged_taken : (told : Judged) → IsJudged told
     ≡ Some told
 judged_taken told is =
     let head = head_taken told.line told.slot told.number (decimal told.commands
-        ∷ verdict_fields told.verdict (place_fields told.place told.parked)) is.line is.slot is.number in
+    ∷ verdict_fields told.verdict (place_fields told.place told.parked)) is.line is.slot is.number in
     let commands = number_read 0 (2 ^ 64 - 1) told.commands is.commands (omega arith) (omega (arith, is.commands)) in
     let its_verdict = verdict_taken told.verdict (place_fields told.place told.parked) is.verdict in
     let place = place_fields_taken told.place told.parked is.place is.parked in
@@ -121,7 +121,7 @@ refusal_given texts told read =
     let is_at = any_given texts at.0 at.1 in
     let is_slot = slot_given at.0.1 its_slot.0 its_slot.1 in
     let is_what = next_given refused_of refused_word (λ p. Unit {0})
-        (λ text x is. (refused_given text x is, tt)) its_slot.0.1 what.0 what.1 in
+    (λ text x is. (refused_given text x is, tt)) its_slot.0.1 what.0 what.1 in
     let last = ended _ told what.0.1 what.2 in
     let same = last.0 in
     rw (← same) (
@@ -162,9 +162,12 @@ marker_given texts told read =
           ∙ ap (λ t. decimal its_slot.0.0 ∷ decimal life.0.0 ∷ decimal command.0.0 ∷ t) is_peer.are
           ∙ ap (λ t. decimal its_slot.0.0 ∷ decimal life.0.0 ∷ decimal command.0.0 ∷ dotted peer.0.0 ∷ t) is_octets.are
           ∙ ap (λ t. decimal its_slot.0.0 ∷ decimal life.0.0 ∷ decimal command.0.0 ∷ dotted peer.0.0
-              ∷ encode_lower octets.0.0 ∷ t) last.1),
-      record { slot = is_slot.valid; command = is_command.valid;
-          effect = (is_life.valid, is_peer.valid, is_octets.valid) },
+          ∷ encode_lower octets.0.0 ∷ t) last.1),
+      record {
+        slot = is_slot.valid;
+        command = is_command.valid;
+        effect = (is_life.valid, is_peer.valid, is_octets.valid);
+      },
     )
 
 pub marker_taken : (its_slot command life peer : ℕ) (octets : List ℕ) → IsSlot its_slot → IsNumber command
@@ -231,11 +234,11 @@ row_given texts told read =
     let why = bound (next why_of second.0.1) _ told second.2 in
     let is_counters = counters_given texts counters.0 counters.1 in
     let is_first = next_given moment_of moment_word (λ m. IfSome m IsMoment)
-        (λ text x is. moment_given text x is) counters.0.1 first.0 first.1 in
+    (λ text x is. moment_given text x is) counters.0.1 first.0 first.1 in
     let is_second = next_given moment_of moment_word (λ m. IfSome m IsMoment)
-        (λ text x is. moment_given text x is) first.0.1 second.0 second.1 in
+    (λ text x is. moment_given text x is) first.0.1 second.0 second.1 in
     let is_why = next_given why_of why_word (λ w. Unit {0})
-        (λ text x is. (why_given text x is, tt)) second.0.1 why.0 why.1 in
+    (λ text x is. (why_given text x is, tt)) second.0.1 why.0 why.1 in
     let last = ended _ told why.0.1 why.2 in
     let same = last.0 in
     rw (← same) (
@@ -323,7 +326,7 @@ note_parts false all test = cc
 pub note_is : (text : List ℕ) → is_note text ≡ true → IsNote text
 note_is text test =
     let parts = note_parts (nat_lt 0 (length text)) (list_all (λ octet. nat_le 0x20 octet
-        && nat_le octet 0x7e) text) test in
+    && nat_le octet 0x7e) text) test in
     let some = parts.0 in
     let all = AllPass-from_list_all (λ octet. nat_le 0x20 octet && nat_le octet 0x7e) text parts.1 in
     (grind (arith, nat_tests), λ k d inside. printable_is (get_or text k d) (all k d inside))
@@ -332,7 +335,7 @@ pub is_note_by : (text : List ℕ) → IsNote text → is_note text ≡ true
 is_note_by text is =
     let some = is.0 in
     let all = list_all-from_AllPass (λ octet. nat_le 0x20 octet && nat_le octet 0x7e) text
-        (λ k d inside. printable_passes (get_or text k d) (is.1 k d inside)) in
+    (λ k d inside. printable_passes (get_or text k d) (is.1 k d inside)) in
     let first : nat_lt 0 (length text) ≡ true = grind (arith, nat_tests) in
     rw (first, all) refl
 
@@ -362,6 +365,6 @@ pub note_taken : (line : ℕ) (rest : List (List ℕ)) (note : List ℕ) → IsN
 note_taken line rest note is_line same is =
     let test = ap is_note same ∙ is_note_by note is in
     ap (λ r. r >>= (λ at. if is_note (joined at.1) then Some (record { line = at.0; note = joined at.1 })
-        else None)) (any_taken line rest is_line)
+    else None)) (any_taken line rest is_line)
     ∙ ap (λ b. if b then Some (record { line = line; note = joined rest }) else None) test
     ∙ ap (λ n. Some (record { line = line; note = n })) same

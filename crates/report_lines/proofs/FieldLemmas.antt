@@ -213,8 +213,10 @@ idle_given word texts taken is read =
     let life = bound (any_number texts) _ taken read in
     let is_life = any_given texts life.0 life.1 in
     let same : (verdict.Idle life.0.0, life.0.1) ≡ taken = same_taken _ taken life.2 in
-    rw (← same) (record { are = ap (λ w. w ∷ texts) is ∙ ap (λ t. codes "idle" ∷ t) is_life.are;
-        valid = is_life.valid })
+    rw (← same) (record {
+      are = ap (λ w. w ∷ texts) is ∙ ap (λ t. codes "idle" ∷ t) is_life.are;
+      valid = is_life.valid;
+    })
 
 policed_given : (word : List ℕ) (texts : List (List ℕ)) (taken : Verdict × List (List ℕ)) → word ≡ codes "policed"
     → (any_number texts >>= (λ life. Some (verdict.Policed life.0, life.1))) ≡ Some taken
@@ -223,8 +225,10 @@ policed_given word texts taken is read =
     let life = bound (any_number texts) _ taken read in
     let is_life = any_given texts life.0 life.1 in
     let same : (verdict.Policed life.0.0, life.0.1) ≡ taken = same_taken _ taken life.2 in
-    rw (← same) (record { are = ap (λ w. w ∷ texts) is ∙ ap (λ t. codes "policed" ∷ t) is_life.are;
-        valid = is_life.valid })
+    rw (← same) (record {
+      are = ap (λ w. w ∷ texts) is ∙ ap (λ t. codes "policed" ∷ t) is_life.are;
+      valid = is_life.valid;
+    })
 
 no_bearer_given : (word : List ℕ) (texts : List (List ℕ)) (taken : Verdict × List (List ℕ)) → word ≡ codes "nobearer"
     → Some (verdict.NoBearer, texts) ≡ Some taken → OfVerdict (word ∷ texts) taken
@@ -247,17 +251,17 @@ verdict_given [] taken read = cc
 verdict_given (word ∷ texts) taken read =
     word_is word (codes "up") (bytes_eq word (codes "up")) _ _ taken refl (λ is told. up_given word texts taken is told)
     (word_is word (codes "down") (bytes_eq word (codes "down")) _ _ taken refl
-        (λ is told. down_verdict_given word texts taken is told)
+    (λ is told. down_verdict_given word texts taken is told)
     (word_is word (codes "nobearer") (bytes_eq word (codes "nobearer")) _ _ taken refl
-        (λ is told. no_bearer_given word texts taken is told)
+    (λ is told. no_bearer_given word texts taken is told)
     (word_is word (codes "spoof") (bytes_eq word (codes "spoof")) _ _ taken refl
-        (λ is told. spoof_given word texts taken is told)
+    (λ is told. spoof_given word texts taken is told)
     (word_is word (codes "idle") (bytes_eq word (codes "idle")) _ _ taken refl
-        (λ is told. idle_given word texts taken is told)
+    (λ is told. idle_given word texts taken is told)
     (word_is word (codes "held") (bytes_eq word (codes "held")) _ _ taken refl
-        (λ is told. held_given word texts taken is told)
+    (λ is told. held_given word texts taken is told)
     (word_is word (codes "policed") (bytes_eq word (codes "policed")) _ _ taken refl
-        (λ is told. policed_given word texts taken is told)
+    (λ is told. policed_given word texts taken is told)
     (λ none. no_word taken none))))))) read
 
 pub verdict_taken : (told : Verdict) (rest : List (List ℕ)) → IsVerdict told
@@ -289,8 +293,10 @@ down_fate_given word texts taken is read =
     let down = bound (down_of texts) _ taken read in
     let is_down = down_given texts down.0 down.1 in
     let same : (fate.Down down.0.0.0 down.0.0.1 down.0.0.2, down.0.1) ≡ taken = same_taken _ taken down.2 in
-    rw (← same) (record { are = ap (λ w. w ∷ texts) is ∙ ap (λ t. codes "down" ∷ t) is_down.are;
-        valid = is_down.valid })
+    rw (← same) (record {
+      are = ap (λ w. w ∷ texts) is ∙ ap (λ t. codes "down" ∷ t) is_down.are;
+      valid = is_down.valid;
+    })
 
 policed_fate_given : (word : List ℕ) (texts : List (List ℕ)) (taken : Fate × List (List ℕ)) → word ≡ codes "policed"
     → (any_number texts >>= (λ life. Some (fate.Policed life.0, life.1))) ≡ Some taken
@@ -299,8 +305,10 @@ policed_fate_given word texts taken is read =
     let life = bound (any_number texts) _ taken read in
     let is_life = any_given texts life.0 life.1 in
     let same : (fate.Policed life.0.0, life.0.1) ≡ taken = same_taken _ taken life.2 in
-    rw (← same) (record { are = ap (λ w. w ∷ texts) is ∙ ap (λ t. codes "policed" ∷ t) is_life.are;
-        valid = is_life.valid })
+    rw (← same) (record {
+      are = ap (λ w. w ∷ texts) is ∙ ap (λ t. codes "policed" ∷ t) is_life.are;
+      valid = is_life.valid;
+    })
 
 gone_fate_given : (word : List ℕ) (texts : List (List ℕ)) (taken : Fate × List (List ℕ)) → word ≡ codes "gone"
     → (any_number texts >>= (λ life. Some (fate.Gone life.0, life.1))) ≡ Some taken
@@ -309,19 +317,21 @@ gone_fate_given word texts taken is read =
     let life = bound (any_number texts) _ taken read in
     let is_life = any_given texts life.0 life.1 in
     let same : (fate.Gone life.0.0, life.0.1) ≡ taken = same_taken _ taken life.2 in
-    rw (← same) (record { are = ap (λ w. w ∷ texts) is ∙ ap (λ t. codes "gone" ∷ t) is_life.are;
-        valid = is_life.valid })
+    rw (← same) (record {
+      are = ap (λ w. w ∷ texts) is ∙ ap (λ t. codes "gone" ∷ t) is_life.are;
+      valid = is_life.valid;
+    })
 
 pub fate_given : (texts : List (List ℕ)) (taken : Fate × List (List ℕ)) → fate_of texts ≡ Some taken
     → Stands fates IsFate texts taken
 fate_given [] taken read = cc
 fate_given (word ∷ texts) taken read =
     word_is word (codes "down") (bytes_eq word (codes "down")) _ _ taken refl
-        (λ is told. down_fate_given word texts taken is told)
+    (λ is told. down_fate_given word texts taken is told)
     (word_is word (codes "policed") (bytes_eq word (codes "policed")) _ _ taken refl
-        (λ is told. policed_fate_given word texts taken is told)
+    (λ is told. policed_fate_given word texts taken is told)
     (word_is word (codes "gone") (bytes_eq word (codes "gone")) _ _ taken refl
-        (λ is told. gone_fate_given word texts taken is told)
+    (λ is told. gone_fate_given word texts taken is told)
     (λ none. no_word taken none))) read
 
 pub fate_taken : (told : Fate) → IsFate told → fate_of (fate_fields told) ≡ Some (told, [])
@@ -436,9 +446,9 @@ counters_given texts taken read =
     rw (← same) (record {
       are = eight texts life.0.1 ebi.0.1 qci.0.1 seq.0.1 up_octets.0.1 down_octets.0.1 up_packets.0.1 down_packets.0.1
           (decimal life.0.0) (decimal ebi.0.0) (decimal qci.0.0) (decimal seq.0.0) (decimal up_octets.0.0)
-              (decimal down_octets.0.0)
+          (decimal down_octets.0.0)
           (decimal up_packets.0.0) (decimal down_packets.0.0) is_life.are is_ebi.are is_qci.are is_seq.are
-              is_up_octets.are
+          is_up_octets.are
           is_down_octets.are is_up_packets.are is_down_packets.are;
       valid = record {
         life = is_life.valid;
@@ -460,11 +470,11 @@ counters_taken counters rest are =
     let qci = number_read 0 255 counters.qci (omega (arith, are.qci)) (omega arith) are.qci in
     let seq = number_read 0 (2 ^ 61) counters.seq (omega (arith, are.seq)) (omega arith) are.seq in
     let up_octets = number_read 0 (2 ^ 64 - 1) counters.up_octets are.up_octets (omega arith)
-        (omega (arith, are.up_octets)) in
+    (omega (arith, are.up_octets)) in
     let down_octets = number_read 0 (2 ^ 64 - 1) counters.down_octets are.down_octets (omega arith)
-        (omega (arith, are.down_octets)) in
+    (omega (arith, are.down_octets)) in
     let up_packets = number_read 0 (2 ^ 61) counters.up_packets (omega (arith, are.up_packets))
-        (omega arith) are.up_packets in
+    (omega arith) are.up_packets in
     let down_packets = number_read 0 (2 ^ 61) counters.down_packets (omega (arith, are.down_packets))
-        (omega arith) are.down_packets in
+    (omega arith) are.down_packets in
     rw (life, ebi, qci, seq, up_octets, down_octets, up_packets, down_packets) refl

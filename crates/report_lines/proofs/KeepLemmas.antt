@@ -55,25 +55,25 @@ octets_keep (Some both) octets left some is =
 pub message_keeps : (texts : List (List ℕ)) (given : Option (Option (List ℕ) × Option (Bor (List ℕ))))
     (message : Option (List ℕ))
     (left : Option (Bor (List ℕ))) → Gives given (next message_of texts) → given ≡ Some (message, left)
-        → IfSome message HasOctets
+    → IfSome message HasOctets
 message_keeps texts given message left gives is =
     message_kept message
     (messages_given texts (message, pieces_left space left)
-        (given_is given (next message_of texts) message left gives is)).valid
+    (given_is given (next message_of texts) message left gives is)).valid
 
 pub verdict_keeps : (texts : List (List ℕ)) (given : Option (Verdict × Option (Bor (List ℕ)))) (told : Verdict)
     (left : Option (Bor (List ℕ)))
     → Gives given (verdict_of texts) → given ≡ Some (told, left) → KeepsVerdict told
 verdict_keeps texts given told left gives is =
     verdict_kept told (verdict_given texts (told, pieces_left space left)
-        (given_is given (verdict_of texts) told left gives is)).valid
+    (given_is given (verdict_of texts) told left gives is)).valid
 
 pub fate_keeps : (texts : List (List ℕ)) (given : Option (Fate × Option (Bor (List ℕ)))) (told : Fate)
     (left : Option (Bor (List ℕ)))
     → Gives given (fate_of texts) → given ≡ Some (told, left) → KeepsFate told
 fate_keeps texts given told left gives is =
     fate_kept told (fate_given texts (told, pieces_left space left)
-        (given_is given (fate_of texts) told left gives is)).valid
+    (given_is given (fate_of texts) told left gives is)).valid
 
 pub place_keeps : (texts : List (List ℕ)) (place : Option Place) (parked : Bool)
     → place_of texts ≡ Some (place, parked) → KeepsPlace parked place
@@ -85,7 +85,7 @@ noted_by : (texts rest : List (List ℕ)) (line : ℕ) (text : List ℕ) (b : Bo
     → is_note text ≡ b → note_of texts ≡ (if b then Some (record { line = line; note = text }) else None)
 noted_by texts rest line text b read same test =
     ap (λ r. r >>= (λ at. if is_note (joined at.1) then Some (record { line = at.0; note = joined at.1 })
-        else None)) read
+    else None)) read
     ∙ ap (λ t. if is_note t then Some (record { line = line; note = t }) else None) same
     ∙ ap (λ c. if c then Some (record { line = line; note = text }) else None) test
 

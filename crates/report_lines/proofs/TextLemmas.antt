@@ -100,9 +100,13 @@ verdict_lacks : (told : Verdict) (rest : List (List ℕ)) → IsVerdict told →
     → AllLack space (verdict_fields told rest)
 verdict_lacks (verdict.Up life octets) rest is lack =
     (word_lacks (codes "up") refl, (number_lacks life is.0, (octets_lack octets is.1, lack)))
-verdict_lacks (verdict.Down life peer octets) rest is lack =
-    (word_lacks (codes "down") refl, (number_lacks life is.0,
-        (address_lacks peer is.1, (octets_lack octets is.2, lack))))
+verdict_lacks (verdict.Down life peer octets) rest is lack = (
+  word_lacks (codes "down") refl,
+  (
+    number_lacks life is.0,
+    (address_lacks peer is.1, (octets_lack octets is.2, lack)),
+  ),
+)
 verdict_lacks verdict.NoBearer rest is lack = (word_lacks (codes "nobearer") refl, lack)
 verdict_lacks verdict.Spoof rest is lack = (word_lacks (codes "spoof") refl, lack)
 verdict_lacks (verdict.Idle life) rest is lack = (word_lacks (codes "idle") refl, (number_lacks life is, lack))
@@ -147,8 +151,13 @@ effect_lacks slot command (effect.Marker life peer octets) is_slot is_command is
   word_lacks (codes "M") refl,
   (
     number_lacks slot (omega (arith, is_slot)),
-    (number_lacks life is.0, (number_lacks command is_command,
-        (address_lacks peer is.1, (octets_lack octets is.2, tt)))),
+    (
+      number_lacks life is.0,
+      (
+        number_lacks command is_command,
+        (address_lacks peer is.1, (octets_lack octets is.2, tt)),
+      ),
+    ),
   ),
 )
 effect_lacks slot command (effect.Fate packet its_fate) is_slot is_command is = (
@@ -182,7 +191,7 @@ is_other octet other = grind (arith, nat_tests)
 pieces_front : (first rest : List ℕ) → Lacks first → fields_of (first ++ 32 ∷ rest) ≡ first ∷ fields_of rest
 pieces_front first rest lacks =
     slice_split_at (λ octet. octet == 32) first 32 rest
-        (λ k d inside. is_other (get_or first k d) (lacks k d inside)) refl
+    (λ k d inside. is_other (get_or first k d) (lacks k d inside)) refl
 
 note_read : (told : Noted) → IsEntry (entry.Line (line.N told))
     → entry_of (joined (line_fields (line.N told))) ≡ Some (entry.Line (line.N told))
@@ -191,10 +200,10 @@ note_read told is =
     let cut = pieces_front (codes "N") (joined (decimal told.line ∷ told.note ∷ [])) (word_lacks (codes "N") refl) in
     let again = pieces_front (decimal told.line) told.note (number_lacks told.line is.0) in
     let fields : fields_of (joined (line_fields (line.N told))) ≡ codes "N" ∷ decimal told.line ∷ rest =
-        cut ∙ ap (λ t. codes "N" ∷ t) again in
+    cut ∙ ap (λ t. codes "N" ∷ t) again in
     ap entry_of_fields fields
     ∙ ap (λ noted. option_map (λ n. entry.Line (line.N n)) noted)
-        (note_taken told.line rest told.note is.0 (joined-pieces space told.note) is.1)
+    (note_taken told.line rest told.note is.0 (joined-pieces space told.note) is.1)
 
 answer_lacks : (told : Answered) → IsAnswered told → AllLack space (line_fields (line.C told))
 answer_lacks told is = (
@@ -238,7 +247,7 @@ refusal_lacks told is_line is_slot = (
 
 effect_read : (its_slot command : ℕ) (told : Effect) → IsSlot its_slot → IsNumber command → IsEffect told
     → entry_of (joined (effect_fields its_slot command told))
-        ≡ Some (entry.Effect (record { slot = its_slot; command = command; effect = told }))
+    ≡ Some (entry.Effect (record { slot = its_slot; command = command; effect = told }))
 effect_read its_slot command (effect.Marker life peer octets) is_slot is_command is =
     apart (codes "M") (decimal its_slot ∷ decimal life ∷ decimal command ∷ dotted peer ∷ encode_lower octets ∷ [])
     (effect_lacks its_slot command (effect.Marker life peer octets) is_slot is_command is)
@@ -255,7 +264,7 @@ entry_read (entry.Line (line.N told)) is = note_read told is
 entry_read (entry.Line (line.C told)) is =
     apart (codes "C")
     (decimal told.line ∷ decimal told.slot ∷ decimal told.number ∷ outcome_word told.reply.outcome
-        ∷ message_word told.reply.message ∷ [])
+    ∷ message_word told.reply.message ∷ [])
     (answer_lacks told is)
     ∙ ap (λ answered. option_map (λ a. entry.Line (line.C a)) answered) (answered_taken told is)
 entry_read (entry.Line (line.P told)) is =
@@ -266,7 +275,7 @@ entry_read (entry.Line (line.P told)) is =
     ∙ ap (λ judged. option_map (λ j. entry.Line (line.P j)) judged) (judged_taken told is)
 entry_read (entry.Line (line.F told)) is =
     apart (codes "F") (decimal told.line ∷ decimal told.slot ∷ refused_word told.packet ∷ [])
-        (refusal_lacks told is.0 is.1)
+    (refusal_lacks told is.0 is.1)
     ∙ ap (λ refused. option_map (λ r. entry.Line (line.F r)) refused) (refusal_taken told is.0 is.1)
 entry_read (entry.Effect told) is = effect_read told.slot told.command told.effect is.slot is.command is.effect
 entry_read (entry.Charge (charge.R slot row)) is =
@@ -391,7 +400,7 @@ fields_told (letter ∷ texts) told read =
     (letter_is letter (codes "H") texts told (bytes_eq letter (codes "H")) _ _ refl (h_told texts told)
     (letter_is letter (codes "R") texts told (bytes_eq letter (codes "R")) _ _ refl (r_told texts told)
     (letter_is letter (codes "O") texts told (bytes_eq letter (codes "O")) _ _ refl (o_told texts told)
-        (λ none. no_letter told none)))))))) read
+    (λ none. no_letter told none)))))))) read
 
 pub entry_given : (text : List ℕ) (told : Entry) → entry_of text ≡ Some told → (text ≡ entry_text told) × IsEntry told
 entry_given text told read =

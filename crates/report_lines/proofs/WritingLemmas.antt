@@ -17,7 +17,7 @@ behind-append : (texts more : List (List ℕ)) → behind (texts ++ more) ≡ be
 behind-append [] more = refl
 behind-append (text ∷ texts) more =
     ap (λ rest. 32 ∷ text ++ rest) (behind-append texts more)
-        ∙ ap (λ rest. 32 ∷ rest) (sym (append_assoc text (behind texts) (behind more)))
+    ∙ ap (λ rest. 32 ∷ rest) (sym (append_assoc text (behind texts) (behind more)))
 
 verdict_fields-append : (told : Verdict) (more : List (List ℕ))
     → verdict_fields told more ≡ verdict_fields told [] ++ more
@@ -36,7 +36,7 @@ counted told = decimal told.line ∷ decimal told.slot ∷ decimal told.number �
 -- a judgement, and what stands behind its verdict
 judged-behind : (told : Judged) (more : List (List ℕ))
     → joined (codes "P" ∷ decimal told.line ∷ decimal told.slot ∷ decimal told.number ∷ decimal told.commands
-        ∷ verdict_fields told.verdict more)
+    ∷ verdict_fields told.verdict more)
     ≡ joined (line_fields (line.P (without_place told))) ++ behind more
 judged-behind told more =
     joined-behind (codes "P") (counted told ++ verdict_fields told.verdict more)

@@ -203,8 +203,12 @@ answered_of texts = do
   outcome ← next outcome_of head.1
   message ← next message_of outcome.1
   at_end
-      (record { line = head.0.0; slot = head.0.1; number = head.0.2;
-          reply = record { outcome = outcome.0; message = message.0 } })
+      (record {
+        line = head.0.0;
+        slot = head.0.1;
+        number = head.0.2;
+        reply = record { outcome = outcome.0; message = message.0 };
+      })
       message.1
 
 abbrev pub judged_of : List (List ℕ) → Option Judged
@@ -291,7 +295,7 @@ entry_at letter texts =
     else if bytes_eq letter (codes "H") then option_map (λ effected. entry.Effect effected) (settlement_of texts)
     else if bytes_eq letter (codes "R") then option_map (λ row. entry.Charge (charge.R row.0 row.1)) (slot_row texts)
     else if bytes_eq letter (codes "O") then option_map (λ counters. entry.Charge (charge.O counters.0 counters.1))
-        (slot_open texts)
+    (slot_open texts)
     else None
 
 abbrev pub entry_of_fields : List (List ℕ) → Option Entry

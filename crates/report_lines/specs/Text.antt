@@ -46,7 +46,7 @@ abbrev pub counters_fields : Counters → List (List ℕ) → List (List ℕ)
 counters_fields counters behind =
     decimal counters.life ∷ decimal counters.ebi ∷ decimal counters.qci ∷ decimal counters.seq
     ∷ decimal counters.up_octets ∷ decimal counters.down_octets ∷ decimal counters.up_packets
-        ∷ decimal counters.down_packets ∷ behind
+    ∷ decimal counters.down_packets ∷ behind
 
 -- the counters of a charging record
 abbrev pub counters_of : Charged → Counters
@@ -72,7 +72,7 @@ abbrev pub line_fields : LineEntry → List (List ℕ)
 line_fields (line.N noted) = codes "N" ∷ decimal noted.line ∷ noted.note ∷ []
 line_fields (line.C answered) =
     codes "C" ∷ decimal answered.line ∷ decimal answered.slot ∷ decimal answered.number
-        ∷ outcome_word answered.reply.outcome
+    ∷ outcome_word answered.reply.outcome
     ∷ message_word answered.reply.message ∷ []
 line_fields (line.P judged) =
     codes "P" ∷ decimal judged.line ∷ decimal judged.slot ∷ decimal judged.number ∷ decimal judged.commands

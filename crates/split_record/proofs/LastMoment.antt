@@ -23,8 +23,10 @@ of_either false one other last first second = second
 of_tried : (past : Past) (bearer : ActiveBearer) (up : Bool) (octets : ℕ) (passed : Verdict)
     → last_in (tried past bearer up octets passed) ≡ past.last
 of_tried past bearer up octets passed =
-    of_either (passes past bearer up octets) (with_row past (row_for past bearer up octets), passed) (past,
-        verdict.Policed bearer.life) past.last refl refl
+    of_either (passes past bearer up octets) (with_row past (row_for past bearer up octets), passed) (
+      past,
+      verdict.Policed bearer.life,
+    ) past.last refl refl
 
 of_up : (past : Past) (octets : List ℕ) (bearer : Option ActiveBearer)
     → last_in (judged_up past octets bearer) ≡ past.last
@@ -35,9 +37,10 @@ of_up past octets (Some bearer) = of_either _ _ (past, verdict.Spoof) past.last
 of_waiting : (past : Past) (packet : Packet) (bearer : ActiveBearer)
     → last_in (judged_waiting past packet bearer) ≡ past.last
 of_waiting past packet bearer =
-    of_either (nat_le 16 (length past.held)) (past, verdict.Idle bearer.life)
-    (with_held past (record { packet = packet; life = bearer.life }),
-        verdict.Held bearer.life (notice past packet.number bearer.ebi)) past.last refl refl
+    of_either (nat_le 16 (length past.held)) (past, verdict.Idle bearer.life) (
+      with_held past (record { packet = packet; life = bearer.life }),
+      verdict.Held bearer.life (notice past packet.number bearer.ebi),
+    ) past.last refl refl
 
 of_to : (past : Past) (packet : Packet) (bearer : ActiveBearer) (enb : Option Peer)
     → last_in (judged_to past packet bearer enb) ≡ past.last

@@ -34,7 +34,7 @@ of_effect attached session (Attach enb up down) = refl
 of_effect modified session (Modify seq mme asks) = refl
 of_effect asked session (AddBearer seq qci mbr_up mbr_down gbr_up gbr_down tft) =
     of_bearer session seq (qos_asked session.bearers qci mbr_up mbr_down gbr_up gbr_down)
-        (least_free session.bearers) (filters_given tft)
+    (least_free session.bearers) (filters_given tft)
 of_effect refiltered session (Filters seq ebi tft) = of_filters session ebi (filters_made session.bearers ebi tft)
 of_effect dropped session (Drop seq ebi) = refl
 of_effect rerated session (Ambr seq up down) = refl

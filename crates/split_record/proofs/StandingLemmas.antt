@@ -28,7 +28,7 @@ version_is old slot events taken command session after number stands stepped cou
     let past = past_of slot events in
     let count : number ≡ past.commands + 1 = omega (arith, counted, stands.commands, past_counts slot events) in
     let next : session ≡ next_session past command = stepped
-        ∙ ap (λ (s : SessionState). (controlled s command).0) stands.session in
+    ∙ ap (λ (s : SessionState). (controlled s command).0) stands.session in
     is ∙ ap (λ (s : SessionState). version_of s number) next ∙ ap (version_of (next_session past command)) count
 
 -- a version is that of the session under the count of commands
@@ -36,14 +36,14 @@ version_of_session : SessionsAreOfCommands → VersionsAreOfCommands → (slot :
     → version_after slot events ≡ version_of (session_after slot events) (length (commands_of events))
 version_of_session sessions versions slot events =
     versions slot events ∙ ap (λ (s : SessionState). version_of s (length (commands_of events)))
-        (sym (sessions slot events))
+    (sym (sessions slot events))
 
 pub command_stands : SessionsAreOfCommands → VersionsAreOfCommands → CommandsAreLearnt
     → (old new : SubscriberState) (slot : ℕ) (events : List Event) (taken : ℕ) (command : CommandKind)
     → StandsFor old slot events taken → new.session ≡ (controlled old.session command).0
     → new.version ≡ version_of new.session (old.version.number + 1)
     → new.packets ≡ old.packets → counters.StandsFor new.counters
-        (learnt (past_of slot events).packets new.version).0 taken
+    (learnt (past_of slot events).packets new.version).0 taken
     → StandsFor new slot (events ++ event.Command command ∷ []) taken
 command_stands sessions versions learns old new slot events taken command stands stepped versioned packets counts =
     let past = past_of slot events in
@@ -51,11 +51,11 @@ command_stands sessions versions learns old new slot events taken command stands
     let behind = learns slot events command in
     let session : new.session ≡ session_after slot more =
     stepped ∙ ap (λ (s : SessionState). (controlled s command).0) stands.session
-        ∙ sym (ap (λ (p : SlotPast). p.session) behind) in
+    ∙ sym (ap (λ (p : SlotPast). p.session) behind) in
     let count : old.version.number + 1 ≡ length (commands_of more) =
-        omega (arith, stands.commands, commands_more events command) in
+    omega (arith, stands.commands, commands_more events command) in
     let next = version_is old slot events taken command new.session new.version (old.version.number
-        + 1) stands stepped refl versioned in
+    + 1) stands stepped refl versioned in
     record {
       session = session;
       version = versioned ∙ ap (version_of new.session) count
@@ -63,7 +63,7 @@ command_stands sessions versions learns old new slot events taken command stands
           ∙ sym (version_of_session sessions versions slot more);
       counters = subst (λ (p : Past). counters.StandsFor new.counters p taken)
           (ap (λ (v : VersionState). (learnt past.packets v).0) next
-              ∙ sym (ap (λ (p : SlotPast). p.packets) behind)) counts;
+          ∙ sym (ap (λ (p : SlotPast). p.packets) behind)) counts;
       commands = ap (λ (v : VersionState). v.number) versioned ∙ count;
       packets = packets ∙ stands.packets ∙ sym (packets_stay events command);
     }
@@ -101,14 +101,14 @@ pub record Learns (stood : counters.CountersState) (before after : VersionState)
 pub learns : FewCommandsFollow → (old : SubscriberState) (slot : ℕ) (events : List Event) (taken : ℕ)
     (command : CommandKind) (stood : counters.CountersState)
     (before after : VersionState) (session : SessionState) → HasRoom old → StandsFor old slot events taken
-        → stood ≡ old.counters → before ≡ old.version
+    → stood ≡ old.counters → before ≡ old.version
     → session ≡ (controlled old.session command).0 → after ≡ version_of session (old.version.number + 1)
     → Learns stood before after slot events taken command
 learns follow old slot events taken command stood before after session room stands counted versioned stepped made =
     let packets = (past_of slot events).packets in
     let few = events_are_few old slot events taken room stands in
     let next = version_is old slot events taken command session after (old.version.number
-        + 1) stands stepped refl made in
+    + 1) stands stepped refl made in
     record {
       stands = subst (λ (s : counters.CountersState). counters.StandsFor s packets taken) (sym counted) stands.counters;
       same = sym stands.version ∙ sym versioned;

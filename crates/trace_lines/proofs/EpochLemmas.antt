@@ -34,11 +34,16 @@ next_line : (before : List Line) (line : Line) (lines : List Line) (b : Bool) �
     → (NoneEnds [] (before ++ line ∷ []) → Cut (before ++ line ∷ []) lines (epochs_behind (before ++ line ∷ []) lines))
     → Cut [] lines (epochs_behind [] lines)
     → Cut before (line ∷ lines) (if b then (before ++ line ∷ []) ∷ epochs_behind [] lines
-        else epochs_behind (before ++ line ∷ []) lines)
+    else epochs_behind (before ++ line ∷ []) lines)
 next_line before line lines true ends none goes_on begins = record {
   whole = ap (λ rest. (before ++ line ∷ []) ++ rest) begins.whole ∙ append_assoc before (line ∷ []) lines;
-  cut = cut_first (before ++ line ∷ []) (epochs_behind [] lines) (some_more before line) (before, line, refl, none,
-      ends) begins.cut;
+  cut = cut_first (before ++ line ∷ []) (epochs_behind [] lines) (some_more before line) (
+    before,
+    line,
+    refl,
+    none,
+    ends,
+  ) begins.cut;
 }
 next_line before line lines false ends none goes_on begins =
     let rest = goes_on (none_more [] before line none ends) in
@@ -49,7 +54,7 @@ are_cut [] [] none = record { whole = refl; cut = tt }
 are_cut (line ∷ before) [] none = record { whole = refl; cut = (omega arith, inr none) }
 are_cut [] (line ∷ lines) none =
     next_line [] line lines (ends_epoch [] line) refl none (λ still. are_cut (line ∷ []) lines still)
-        (are_cut [] lines tt)
+    (are_cut [] lines tt)
 are_cut (first ∷ before) (line ∷ lines) none =
     next_line (first ∷ before) line lines (ends_epoch (first ∷ before) line) refl none
     (λ still. are_cut (first ∷ (before ++ line ∷ [])) lines still) (are_cut [] lines tt)

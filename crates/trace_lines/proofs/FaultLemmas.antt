@@ -20,7 +20,7 @@ use Rattle.trace_lines.specs.Refusal.{Form, an_imsi, an_address, a_teid, a_numbe
 -- an argument is read, or its refusal is the fault
 read_or : {A B : Type 0} (value : Option A) (why : LineBad) (f : A → Result B LineBad) (fault : Option LineBad)
     → ((x : A) → result_err (f x) ≡ fault) → result_err (ok_or value why >>= f)
-        ≡ (if is_some value then fault else Some why)
+    ≡ (if is_some value then fault else Some why)
 read_or (Some x) why f fault rest = rest x
 read_or None why f fault rest = refl
 
@@ -37,27 +37,27 @@ attach_fault : (texts : List (List ℕ))
 attach_fault (a ∷ b ∷ c ∷ d ∷ e ∷ []) =
     read_or (imsi_of a) Number _ _ (λ imsi. read_or (address_of b) Number _ _ (λ addr. read_or (teid_of c) Number _ _
     (λ teid. read_or (number_in 0 (2 ^ 32 - 1) d) Number _ _
-        (λ up. read_or (number_in 0 (2 ^ 32 - 1) e) Number _ _ (λ down. refl)))))
+    (λ up. read_or (number_in 0 (2 ^ 32 - 1) e) Number _ _ (λ down. refl)))))
 attach_fault _ = refl
 
 bearer_fault : (texts : List (List ℕ))
     → result_err (bearer_meaning texts)
     ≡ kind_fault (Some (an_imsi ∷ a_number 1 255 ∷ a_bearer_rate ∷ a_bearer_rate ∷ a_bearer_rate ∷ a_bearer_rate
-        ∷ some_octets ∷ [])) texts
+    ∷ some_octets ∷ [])) texts
 bearer_fault (a ∷ b ∷ c ∷ d ∷ e ∷ f ∷ g ∷ []) =
     read_or (imsi_of a) Number _ _ (λ imsi. read_or (number_in 1 255 b) Number _ _
-        (λ qci. read_or (number_in 0 (2 ^ 40 - 1) c) Number _ _
+    (λ qci. read_or (number_in 0 (2 ^ 40 - 1) c) Number _ _
     (λ mbr_up. read_or (number_in 0 (2 ^ 40 - 1) d) Number _ _
-        (λ mbr_down. read_or (number_in 0 (2 ^ 40 - 1) e) Number _ _
+    (λ mbr_down. read_or (number_in 0 (2 ^ 40 - 1) e) Number _ _
     (λ gbr_up. read_or (number_in 0 (2 ^ 40 - 1) f) Number _ _
-        (λ gbr_down. read_or (octets_of g) Hex _ _ (λ tft. refl)))))))
+    (λ gbr_down. read_or (octets_of g) Hex _ _ (λ tft. refl)))))))
 bearer_fault _ = refl
 
 filters_fault : (texts : List (List ℕ)) → result_err (filters_meaning texts)
     ≡ kind_fault (Some (an_imsi ∷ an_ebi ∷ some_octets ∷ [])) texts
 filters_fault (a ∷ b ∷ c ∷ []) =
     read_or (imsi_of a) Number _ _ (λ imsi. read_or (number_in 5 15 b) Number _ _
-        (λ ebi. read_or (octets_of c) Hex _ _ (λ tft. refl)))
+    (λ ebi. read_or (octets_of c) Hex _ _ (λ tft. refl)))
 filters_fault _ = refl
 
 drop_fault : (texts : List (List ℕ)) → result_err (drop_meaning texts) ≡ kind_fault (Some (an_imsi ∷ an_ebi ∷ [])) texts
@@ -68,7 +68,7 @@ ambr_fault : (texts : List (List ℕ)) → result_err (ambr_meaning texts)
     ≡ kind_fault (Some (an_imsi ∷ a_session_rate ∷ a_session_rate ∷ [])) texts
 ambr_fault (a ∷ b ∷ c ∷ []) =
     read_or (imsi_of a) Number _ _ (λ imsi. read_or (number_in 0 (2 ^ 32 - 1) b) Number _ _
-        (λ up. read_or (number_in 0 (2 ^ 32 - 1) c) Number _ _
+    (λ up. read_or (number_in 0 (2 ^ 32 - 1) c) Number _ _
     (λ down. refl)))
 ambr_fault _ = refl
 
@@ -105,7 +105,7 @@ kinds_fault word texts =
 -- a kind, then the moment
 moment_fault : (back : Bool) (kind : LineKind) (number moment : ℕ)
     → result_err {T = Line} (if back then Err MomentBack
-        else Ok (record { number = number; moment = moment; kind = kind }))
+    else Ok (record { number = number; moment = moment; kind = kind }))
     ≡ (if back then Some MomentBack else None)
 moment_fault true kind number moment = refl
 moment_fault false kind number moment = refl
@@ -120,7 +120,7 @@ behind_moment : (moment : Option ℕ) (least number : ℕ) (said : Result LineKi
     → result_err said ≡ fault
     → result_err (ok_or moment Number >>= (λ at. said >>= (λ kind. moment_meaning least number at kind)))
     ≡ (if is_none moment then Some Number else or_else fault (if nat_lt (unwrap_or moment 0) least
-        then Some MomentBack else None))
+    then Some MomentBack else None))
 behind_moment None least number said fault same = refl
 behind_moment (Some at) least number said fault same =
     behind_kind said least number at ∙ ap (λ why. or_else why (if nat_lt at least then Some MomentBack else None)) same
@@ -129,7 +129,7 @@ faults_of_fields : (least number : ℕ) (texts : List (List ℕ))
     → result_err (line_of_fields least number texts) ≡ fields_fault least texts
 faults_of_fields least number (moment ∷ word ∷ texts) =
     behind_moment (moment_of moment) least number (kind_meaning word texts) (kind_fault (forms_of word) texts)
-        (kinds_fault word texts)
+    (kinds_fault word texts)
 faults_of_fields least number [] = refl
 faults_of_fields least number (moment ∷ []) = refl
 

@@ -29,7 +29,7 @@ pub number_taken : (least last n : ℕ) (text : List ℕ) → n < 2 ^ 64 → lea
     → number_in least last text ≡ Some n
 number_taken least last n text fits low high same =
     ap (number_in least last) (from_lowered text (decimal n) same (low_decimal n fits))
-        ∙ number_read least last n fits low high
+    ∙ number_read least last n fits low high
 
 pub number_given : (least last n : ℕ) (text : List ℕ) → last < 2 ^ 64 → number_in least last text ≡ Some n
     → (in_lower_case text ≡ decimal n) × (least ≤ n) × (n ≤ last)
@@ -77,7 +77,7 @@ imsi_from_tests text digits low high =
 pub imsi_given : (text digits : List ℕ) → imsi_of text ≡ Some digits → (in_lower_case text ≡ digits) × IsImsi digits
 imsi_given text digits read =
     let test = chosen (list_all is_ascii_digit text && (nat_le 6 (length text) && nat_le (length text) 15)) text
-        digits read in
+    digits read in
     let passed = test.0 in
     let all : list_all is_ascii_digit text ≡ true = grind (arith, nat_tests) in
     let low : 6 ≤ length text = grind (arith, nat_tests) in
@@ -136,8 +136,12 @@ pub teid_taken : (text : List ℕ) (teid : ℕ) → teid < 2 ^ 32 → in_lower_c
 teid_taken text teid fits same =
     let read = octets_taken text (to_be_bytes w32 teid) (are_octets teid) same in
     let lengths = ap length same in
-    let eight : length text ≡ 8 = omega (arith, length-map text lower,
-        length-encode_with lower_digits (to_be_bytes w32 teid), lengths) in
+    let eight : length text ≡ 8 = omega (
+      arith,
+      length-map text lower,
+      length-encode_with lower_digits (to_be_bytes w32 teid),
+      lengths,
+    ) in
     teid_from text (to_be_bytes w32 teid) eight read ∙ ap Some (from_be_bytes-to_be_bytes_4 teid fits)
 
 -- four octets and the number that they are

@@ -55,7 +55,7 @@ whole_line room number least line rest no_newline short =
     let long_octets : length octets ≡ length line + suc (length rest) = length-append line (newline ∷ rest) in
     let full : nat_le (length line + 1 + room) (length octets) ≡ nat_le room (length rest) = grind (arith, nat_tests) in
     let pieces : slice_split ends_line (take (length line + 1 + room) octets) ≡ line
-        ∷ slice_split ends_line (take room rest) =
+    ∷ slice_split ends_line (take room rest) =
     ap (slice_split ends_line) (taken_line room line rest)
     ∙ slice_split_at ends_line line newline (take room rest) (all_differ line no_newline) refl
     in
@@ -103,9 +103,9 @@ first_piece : (front octets piece : List ℕ) (pieces : List (List ℕ)) → NoN
 first_piece [] octets piece pieces no_newline first = first
 first_piece (octet ∷ front) octets piece pieces no_newline first =
     slice_split-cons_no ends_line octet (front ++ octets)
-        (differs octet (All-head (λ o. o ≢ newline) octet front no_newline))
+    (differs octet (All-head (λ o. o ≢ newline) octet front no_newline))
     ∙ ap (onto_first octet) (first_piece front octets piece pieces
-        (All-tail (λ o. o ≢ newline) octet front no_newline) first)
+    (All-tail (λ o. o ≢ newline) octet front no_newline) first)
 
 -- a list of pieces that isn't empty has a first one
 long_pieces : (full : Bool) (number least : ℕ) (front octets : List ℕ) (pieces : List (List ℕ)) → NoNewline front
@@ -131,7 +131,7 @@ line_long room number least front rest no_newline too_long within =
     let full = nat_le room (length (front ++ rest)) in
     ap (λ octets. pieces_meaning full number least (slice_split ends_line octets)) taken
     ∙ long_pieces full number least front (take beyond rest)
-        (slice_split ends_line (take beyond rest)) no_newline too_long refl
+    (slice_split ends_line (take beyond rest)) no_newline too_long refl
     (omega (arith, length-slice_split ends_line (take beyond rest)))
 
 -- the octets that are looked at end with an unfinished line
@@ -145,7 +145,7 @@ input_big number least front rest no_newline short =
     let fits : nat_lt line_max (length front) ≡ false = grind (arith, nat_tests) in
     let pieces : slice_split ends_line (take (length front) (front ++ rest)) ≡ front ∷ [] =
     ap (slice_split ends_line) (take-append_seam front rest)
-        ∙ slice_split_none ends_line front (all_differ front no_newline)
+    ∙ slice_split_none ends_line front (all_differ front no_newline)
     in
     ap (λ b. pieces_meaning b number least (slice_split ends_line (take (length front) (front ++ rest)))) full
     ∙ ap (pieces_meaning true number least) pieces

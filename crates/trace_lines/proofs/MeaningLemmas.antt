@@ -76,7 +76,7 @@ fields_of_kind kind.Fence is = tt
 lacks_from_test : (word : List ℕ) → list_all (λ octet. not (octet == 32)) word ≡ true → All (λ octet. octet ≢ 32) word
 lacks_from_test word test k d inside =
     let passed = AllPass-from_list_all (λ octet. not (octet == 32)) word test k d inside in λ same.
-        grind (arith, nat_tests)
+    grind (arith, nat_tests)
 
 word_lacks : (said : LineKind) → All (λ octet. octet ≢ 32) (kind_word said)
 word_lacks (kind.S11 octets) = lacks_from_test (codes "S11") refl
@@ -223,7 +223,7 @@ pub meaning_taken : (least : ℕ) (text : List ℕ) (line : Line) → Means text
 meaning_taken least text line means above =
     let same = same_fields text line means in
     ap (λ b. cond b (Err Field) (line_of_fields least line.number (fields_of text)))
-        (fields_some (fields_of text) line means.is_line same)
+    (fields_some (fields_of text) line means.is_line same)
     ∙ fields_taken least (fields_of text) line means.is_line same above
 
 -- fields that are read as a line are its fields
@@ -264,12 +264,12 @@ fields_given least number (moment ∷ word ∷ texts) line read =
     let at = taken (number_in 0 (2 ^ 50 - 1) moment) Number _ line read in
     let said = bound (kind_meaning word texts) _ line at.2 in
     let forward = forward_line (nat_lt at.0 least) (record { number = number; moment = at.0; kind = said.0 }) line
-        said.2 in
+    said.2 in
     let is_moment = number_only 0 (2 ^ 50 - 1) at.0 moment (lit< tt) at.1 in
     let same : record { number = number; moment = at.0; kind = said.0 } ≡ line = forward.1 in
     rw (← same)
     (given_fields moment word texts at.0 said.0 least number is_moment.0 is_moment.2
-        (kind_given word texts said.0 said.1) (above_least at.0 least forward.0))
+    (kind_given word texts said.0 said.1) (above_least at.0 least forward.0))
 
 if_some : (b : Bool) (read : Result Line LineBad) (line : Line) → cond b (Err Field) read ≡ Ok line → read ≡ Ok line
 if_some true read line is = cc
@@ -288,7 +288,7 @@ pub read_some : (least number : ℕ) (text : List ℕ) (line : Line)
 read_some least number text line read =
     let given = fields_given least number (fields_of text) line read in
     ap (λ b. cond b (Err Field) (line_of_fields least number (fields_of text)))
-        (fields_some (fields_of text) line given.is_line given.same) ∙ read
+    (fields_some (fields_of text) line given.is_line given.same) ∙ read
 
 -- the text of a line means it
 pub text_means : (line : Line) → IsLine line → Means (line_text line) line
@@ -296,7 +296,7 @@ text_means line is = record {
   is_line = is;
   is_text = ap (λ texts. joined (lowered_fields texts)) (line_apart line is)
       ∙ ap (λ texts. joined (decimal line.moment ∷ kind_word line.kind ∷ texts))
-          (fields_kept (arguments line.kind) (fields_of_kind line.kind is.kind));
+      (fields_kept (arguments line.kind) (fields_of_kind line.kind is.kind));
 }
 
 pub one_meaning : (text : List ℕ) (line other : Line) → Means text line → Means text other
@@ -305,7 +305,7 @@ one_meaning text line other means also numbers =
     let first = meaning_taken 0 text line means (omega arith) in
     let second = meaning_taken 0 text other also (omega arith) in
     let again : line_meaning 0 line.number text ≡ line_meaning 0 other.number text =
-        ap (λ n. line_meaning 0 n text) numbers in
+    ap (λ n. line_meaning 0 n text) numbers in
     ok_same (line_meaning 0 line.number text) (line_meaning 0 other.number text) line other first second again
 
 -- a text is as long as that of the line that it means
@@ -348,7 +348,10 @@ pub is_line_by : (moment : ℕ) (text word : List ℕ) (texts : List (List ℕ))
     → number_meaning 0 (2 ^ 50 - 1) text ≡ Ok moment → kind_meaning word texts ≡ Ok said
     → IsLine (record { number = number; moment = moment; kind = said })
 is_line_by moment text word texts said number at is = record {
-  moment = omega (arith, (number_only 0 (2 ^ 50 - 1) moment text (lit< tt)
-      (some_from_ok (number_in 0 (2 ^ 50 - 1) text) Number moment at)).2);
+  moment = omega (
+    arith,
+    (number_only 0 (2 ^ 50 - 1) moment text (lit< tt)
+        (some_from_ok (number_in 0 (2 ^ 50 - 1) text) Number moment at)).2,
+  );
   kind = (kind_given word texts said is).is_kind;
 }

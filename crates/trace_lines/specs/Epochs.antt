@@ -19,7 +19,7 @@ octets_in lines = sum_by (λ line. length (line_text line)) lines
 abbrev pub ends_epoch : List Line → Line → Bool
 ends_epoch before line =
     is_fence line.kind || nat_le 65536 (length before + 1)
-        || nat_le 67108864 (octets_in before + length (line_text line))
+    || nat_le 67108864 (octets_in before + length (line_text line))
 
 -- the epochs of lines, where these lines stand before them in the first one
 abbrev pub epochs_behind : List Line → List Line → List (List Line)
@@ -27,7 +27,7 @@ epochs_behind [] [] = []
 epochs_behind (line ∷ before) [] = (line ∷ before) ∷ []
 epochs_behind before (line ∷ lines) =
     if ends_epoch before line then (before ++ line ∷ []) ∷ epochs_behind [] lines
-        else epochs_behind (before ++ line ∷ []) lines
+    else epochs_behind (before ++ line ∷ []) lines
 
 abbrev pub epochs_of : List Line → List (List Line)
 epochs_of lines = epochs_behind [] lines

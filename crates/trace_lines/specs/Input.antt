@@ -47,13 +47,13 @@ pieces_meaning full number least (rest ∷ []) = rest_meaning full number least 
 pieces_meaning full number least (line ∷ next ∷ pieces) =
     if nat_lt line_max (length line) then stopped (long number)
     else line_then number (line_meaning least number line)
-        (λ l. pieces_meaning full (number + 1) l.moment (next ∷ pieces))
+    (λ l. pieces_meaning full (number + 1) l.moment (next ∷ pieces))
 
 -- what octets say from the line of this number on, where so many are looked at and no moment goes below the least
 unfoldable pub input_within : ℕ → ℕ → ℕ → List ℕ → Input
 input_within room number least octets =
     pieces_meaning (nat_le room (length octets)) number least
-        (slice_split (λ octet. octet == newline) (take room octets))
+    (slice_split (λ octet. octet == newline) (take room octets))
 
 -- what a trace says: lines count from 1, moments from 0, and just so many octets are looked at
 abbrev pub input_of : List ℕ → Input

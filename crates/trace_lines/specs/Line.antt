@@ -33,7 +33,7 @@ IsKind (kind.Attach imsi enb up down) =
     IsImsi imsi × (enb.addr < 2 ^ 32) × (enb.teid < 2 ^ 32) × IsSessionRate up × IsSessionRate down
 IsKind (kind.Bearer imsi qci mbr_up mbr_down gbr_up gbr_down tft) =
     IsImsi imsi × ((1 ≤ qci) × (qci ≤ 255)) × IsBearerRate mbr_up × IsBearerRate mbr_down × IsBearerRate gbr_up
-        × IsBearerRate gbr_down
+    × IsBearerRate gbr_down
     × IsOctets tft
 IsKind (kind.Filters imsi ebi tft) = IsImsi imsi × IsEbi ebi × IsOctets tft
 IsKind (kind.Drop imsi ebi) = IsImsi imsi × IsEbi ebi

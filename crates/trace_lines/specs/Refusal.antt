@@ -33,10 +33,10 @@ forms_of word =
     else if bytes_eq word (codes "SGI") then Some (some_octets ∷ [])
     else if bytes_eq word (codes "S11") then Some (some_octets ∷ [])
     else if bytes_eq word (codes "ATTACH") then Some (an_imsi ∷ an_address ∷ a_teid ∷ a_session_rate
-        ∷ a_session_rate ∷ [])
+    ∷ a_session_rate ∷ [])
     else if bytes_eq word (codes "BEARER")
     then Some (an_imsi ∷ a_number 1 255 ∷ a_bearer_rate ∷ a_bearer_rate ∷ a_bearer_rate ∷ a_bearer_rate
-        ∷ some_octets ∷ [])
+    ∷ some_octets ∷ [])
     else if bytes_eq word (codes "FILTERS") then Some (an_imsi ∷ an_ebi ∷ some_octets ∷ [])
     else if bytes_eq word (codes "DROP") then Some (an_imsi ∷ an_ebi ∷ [])
     else if bytes_eq word (codes "AMBR") then Some (an_imsi ∷ a_session_rate ∷ a_session_rate ∷ [])

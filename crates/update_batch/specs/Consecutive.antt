@@ -5,7 +5,7 @@ use Rattle.std.specs.Prelude.{◌≡◌, ℕ, ◌+◌, List, [], ◌∷◌, ◌+
 abbrev pub AreConsecutive : {V : Type 0} → (V → ℕ) → List V → Type 0
 AreConsecutive {V} number versions =
     (before : List V) (one : V) (next : V) (after : List V) → versions ≡ before ++ one ∷ next ∷ after
-        → number next ≡ number one + 1
+    → number next ≡ number one + 1
 
 -- the version has the number after the last one's, if there is a last one
 abbrev pub IsNext : {V : Type 0} → (V → ℕ) → List V → V → Type 0

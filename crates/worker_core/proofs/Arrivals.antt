@@ -30,7 +30,7 @@ sum_by-through name h [] = refl
 sum_by-through {X} name h (x ∷ xs) =
     let f : X → ℕ = λ x. h (name x) in
     sum_by-cons f x xs ∙ ap (λ n. h (name x) + n) (sum_by-through name h xs)
-        ∙ sym (sum_by-cons h (name x) (map name xs))
+    ∙ sym (sum_by-cons h (name x) (map name xs))
 
 module _ {H N : Type 0} (name : H → N) where
   pub weight-push : (h : N → ℕ) (halves : List H) (half : H)
@@ -51,7 +51,7 @@ module _ {H N : Type 0} (name : H → N) where
       let f : H → ℕ = λ x. h (name x) in
       let e : weight name h (arrivals (came ++ Leave slot until ∷ [])) ≡ weight name h (arrivals came) =
       ap (sum_by f) (arrivals-append came (Leave slot until ∷ [])) ∙ sum_by-append f (arrivals came) []
-          ∙ (omega arith) in
+      ∙ (omega arith) in
       e ∙ kept h
 
   pub kept_names : (came : List (Order H)) (old new home : List H) → map name new ≡ map name old

@@ -27,7 +27,7 @@ module _ {H : Type 0} where
       → All (IsTold (came ++ order ∷ [])) leaving
   told_more came order leaving told =
       All-weaker (IsTold came) (IsTold (came ++ order ∷ []))
-          (λ x is. ordered_more came order x.slot x.until is) leaving told
+      (λ x is. ordered_more came order x.slot x.until is) leaving told
 
 same_leave : (H : Type 0) (slot until : ℕ) → is_leave {H = H} slot until (Leave slot until) ≡ true
 same_leave H slot until = ap (λ b. b && nat_eq until until) (eq-eqb slot slot refl) ∙ eq-eqb until until refl
@@ -85,9 +85,9 @@ pub picked_all : {X : Type 0} (P : X → Type 0) (test : X → Bool) (xs : List 
 picked_all P test [] all = All-nil P
 picked_all P test (x ∷ xs) all =
     elim (test x) as (λ b. test x ≡ b → All P (cond b (x ∷ filter test xs) (filter test xs))) [
-  | true ↦ λ e. All-cons P x (filter test xs) (All-head P x xs all) (picked_all P test xs (All-tail P x xs all))
-  | false ↦ λ e. picked_all P test xs (All-tail P x xs all)
-] refl
+      | true ↦ λ e. All-cons P x (filter test xs) (All-head P x xs all) (picked_all P test xs (All-tail P x xs all))
+      | false ↦ λ e. picked_all P test xs (All-tail P x xs all)
+    ] refl
 
 -- a test of a list that a write meets
 any_set : {X : Type 0} (p : X → Bool) (xs : List X) (k : ℕ) (y : X) → k < length xs → p y ≡ true
@@ -115,9 +115,9 @@ any_filter : {X : Type 0} (p test : X → Bool) (xs : List X) → ((x : X) → t
 any_filter p test [] drops = refl
 any_filter p test (x ∷ xs) drops = elim (test x) as (λ b. test x ≡ b
     → list_any p (cond b (x ∷ filter test xs) (filter test xs)) ≡ (p x || list_any p xs)) [
-  | true ↦ λ e. ap (λ b. p x || b) (any_filter p test xs drops)
-  | false ↦ λ e. any_filter p test xs drops ∙ sym (ap (λ b. b || list_any p xs) (drops x e))
-] refl
+      | true ↦ λ e. ap (λ b. p x || b) (any_filter p test xs drops)
+      | false ↦ λ e. any_filter p test xs drops ∙ sym (ap (λ b. b || list_any p xs) (drops x e))
+    ] refl
 
 other_fails : (slot until other done : ℕ) → other ≢ slot
     → is_met other done (record { slot = slot; until = until }) ≡ false

@@ -65,16 +65,16 @@ module _ {H : Type 0} (turns : H → ℕ) (turned_at : H → ℕ → Type 0) (pl
       record {
         turned = λ k low high. elim (nat_eq k i) as (λ b. nat_eq k i ≡ b
             → count_at turns new k ≡ raised (count_at turns first k)) [
-          | true ↦ λ e. subst (λ (n : ℕ). count_at turns new n ≡ raised (count_at turns first n))
-              (sym (eqb-true k i e)) here
-          | false ↦ λ e. let apart : k ≢ i = eqb-false k i e in count-set_other turns old i k turned apart
-              ∙ so_far.turned k low (omega arith)
-        ] refl;
+              | true ↦ λ e. subst (λ (n : ℕ). count_at turns new n ≡ raised (count_at turns first n))
+                  (sym (eqb-true k i e)) here
+              | false ↦ λ e. let apart : k ≢ i = eqb-false k i e in count-set_other turns old i k turned apart
+                  ∙ so_far.turned k low (omega arith)
+            ] refl;
         placed = λ k none low high. elim (nat_eq k i) as (λ b. nat_eq k i ≡ b → turned_at (get_or new k none) place) [
           | true ↦ λ e. subst (λ (n : ℕ). turned_at (get_or new n none) place) (sym (eqb-true k i e)) (placed_here none)
           | false ↦ λ e. let apart : k ≢ i = eqb-false k i e in
               subst (λ (x : H). turned_at x place) (sym (get_or-set_other old i k turned none apart))
-                  (so_far.placed k none low (omega arith))
+              (so_far.placed k none low (omega arith))
         ] refl;
         others = λ k none outside. elim outside [
           | inl low ↦ get_or-set_other old i k turned none (λ e. absurd (omega arith)) ∙ so_far.others k none (inl low)
@@ -92,19 +92,19 @@ module _ {H : Type 0} (turns : H → ℕ) (turned_at : H → ℕ → Type 0) (pl
   turned_round cursor first mid new long longer within before after = record {
     turned = λ k low high. elim (nat_lt k cursor) as (λ b. nat_lt k cursor ≡ b
         → count_at turns new k ≡ raised (count_at turns first k)) [
-      | true ↦ λ e. let below : k < cursor = ltb-true k cursor e in
-          after.turned k low below ∙ ap raised (count_same turns first mid k long
+          | true ↦ λ e. let below : k < cursor = ltb-true k cursor e in
+              after.turned k low below ∙ ap raised (count_same turns first mid k long
               (λ none. before.others k none (inl below)))
-      | false ↦ λ e. let above : cursor ≤ k = ltb-false k cursor e in
-          count_same turns mid new k (omega arith) (λ none. after.others k none (inr above))
+          | false ↦ λ e. let above : cursor ≤ k = ltb-false k cursor e in
+              count_same turns mid new k (omega arith) (λ none. after.others k none (inr above))
               ∙ before.turned k above high
-    ] refl;
+        ] refl;
     placed = λ k none low high. elim (nat_lt k cursor) as (λ b. nat_lt k cursor ≡ b
         → turned_at (get_or new k none) place) [
-      | true ↦ λ e. after.placed k none low (ltb-true k cursor e)
-      | false ↦ λ e. let above : cursor ≤ k = ltb-false k cursor e in
-          subst (λ (x : H). turned_at x place) (sym (after.others k none (inr above))) (before.placed k none above high)
-    ] refl;
+          | true ↦ λ e. after.placed k none low (ltb-true k cursor e)
+          | false ↦ λ e. let above : cursor ≤ k = ltb-false k cursor e in
+              subst (λ (x : H). turned_at x place) (sym (after.others k none (inr above))) (before.placed k none above high)
+        ] refl;
     others = λ k none outside. elim outside [
       | inl low ↦ absurd (omega arith)
       | inr high ↦ after.others k none (inr (omega arith)) ∙ before.others k none (inr high)
@@ -169,24 +169,24 @@ module _ {H : Type 0} (turns works : H → ℕ) (turned_at : H → ℕ → Type 
         worked = worked;
         turned = λ k low near. elim (nat_lt k cursor) as (λ b. nat_lt k cursor ≡ b
             → count_at turns new k ≡ raised (count_at turns first k)) [
-          | true ↦ λ e. let below : k < cursor = ltb-true k cursor e in let s =
-              steps_low cursor len k below in absurd (omega arith)
-          | false ↦ λ e. let above : cursor ≤ k = ltb-false k cursor e in let s = steps_high cursor len k above in
-              turned.turned k above (omega arith)
-        ] refl;
+              | true ↦ λ e. let below : k < cursor = ltb-true k cursor e in let s =
+                  steps_low cursor len k below in absurd (omega arith)
+              | false ↦ λ e. let above : cursor ≤ k = ltb-false k cursor e in let s = steps_high cursor len k above in
+                  turned.turned k above (omega arith)
+            ] refl;
         placed = λ k none low near. elim (nat_lt k cursor) as (λ b. nat_lt k cursor ≡ b
             → turned_at (get_or new k none) place) [
-          | true ↦ λ e. let below : k < cursor = ltb-true k cursor e in let s =
-              steps_low cursor len k below in absurd (omega arith)
-          | false ↦ λ e. let above : cursor ≤ k = ltb-false k cursor e in let s = steps_high cursor len k above in
-              turned.placed k none above (omega arith)
-        ] refl;
+              | true ↦ λ e. let below : k < cursor = ltb-true k cursor e in let s =
+                  steps_low cursor len k below in absurd (omega arith)
+              | false ↦ λ e. let above : cursor ≤ k = ltb-false k cursor e in let s = steps_high cursor len k above in
+                  turned.placed k none above (omega arith)
+            ] refl;
         behind = λ k none low far. elim (nat_lt k cursor) as (λ b. nat_lt k cursor ≡ b
             → get_or new k none ≡ get_or first k none) [
-          | true ↦ λ e. turned.others k none (inl (ltb-true k cursor e))
-          | false ↦ λ e. let above : cursor ≤ k = ltb-false k cursor e in let s = steps_high cursor len k above in
-              turned.others k none (inr (omega arith))
-        ] refl;
+              | true ↦ λ e. turned.others k none (inl (ltb-true k cursor e))
+              | false ↦ λ e. let above : cursor ≤ k = ltb-false k cursor e in let s = steps_high cursor len k above in
+                  turned.others k none (inr (omega arith))
+            ] refl;
       }
 
   -- a half before the cursor worked
@@ -203,28 +203,28 @@ module _ {H : Type 0} (turns works : H → ℕ) (turned_at : H → ℕ → Type 
         worked = worked_later works at first mid new idle long worked;
         turned = λ k low near. elim (nat_lt k cursor) as (λ b. nat_lt k cursor ≡ b
             → count_at turns new k ≡ raised (count_at turns first k)) [
-          | true ↦ λ e. let below : k < cursor = ltb-true k cursor e in let s = steps_low cursor len k below in
-              turned_again.turned k (omega arith) (omega arith)
-              ∙ ap raised (count_same turns first mid k long (λ none. turned.others k none (inl below)))
-          | false ↦ λ e. let above : cursor ≤ k = ltb-false k cursor e in
-              count_same turns mid new k (omega arith) (λ none. turned_again.others k none (inr (omega arith)))
-              ∙ turned.turned k above low
-        ] refl;
+              | true ↦ λ e. let below : k < cursor = ltb-true k cursor e in let s = steps_low cursor len k below in
+                  turned_again.turned k (omega arith) (omega arith)
+                  ∙ ap raised (count_same turns first mid k long (λ none. turned.others k none (inl below)))
+              | false ↦ λ e. let above : cursor ≤ k = ltb-false k cursor e in
+                  count_same turns mid new k (omega arith) (λ none. turned_again.others k none (inr (omega arith)))
+                  ∙ turned.turned k above low
+            ] refl;
         placed = λ k none low near. elim (nat_lt k cursor) as (λ b. nat_lt k cursor ≡ b
             → turned_at (get_or new k none) place) [
-          | true ↦ λ e. let below : k < cursor = ltb-true k cursor e in let s = steps_low cursor len k below in
-              turned_again.placed k none (omega arith) (omega arith)
-          | false ↦ λ e. let above : cursor ≤ k = ltb-false k cursor e in
-              subst (λ (x : H). turned_at x place) (sym (turned_again.others k none (inr (omega arith))))
+              | true ↦ λ e. let below : k < cursor = ltb-true k cursor e in let s = steps_low cursor len k below in
+                  turned_again.placed k none (omega arith) (omega arith)
+              | false ↦ λ e. let above : cursor ≤ k = ltb-false k cursor e in
+                  subst (λ (x : H). turned_at x place) (sym (turned_again.others k none (inr (omega arith))))
                   (turned.placed k none above low)
-        ] refl;
+            ] refl;
         behind = λ k none low far. elim (nat_lt k cursor) as (λ b. nat_lt k cursor ≡ b
             → get_or new k none ≡ get_or first k none) [
-          | true ↦ λ e. let below : k < cursor = ltb-true k cursor e in let s = steps_low cursor len k below in
-              turned_again.others k none (inr (omega arith)) ∙ turned.others k none (inl below)
-          | false ↦ λ e. let above : cursor ≤ k = ltb-false k cursor e in let s =
-              steps_high cursor len k above in absurd (omega arith)
-        ] refl;
+              | true ↦ λ e. let below : k < cursor = ltb-true k cursor e in let s = steps_low cursor len k below in
+                  turned_again.others k none (inr (omega arith)) ∙ turned.others k none (inl below)
+              | false ↦ λ e. let above : cursor ≤ k = ltb-false k cursor e in let s =
+                  steps_high cursor len k above in absurd (omega arith)
+            ] refl;
       }
 
 -- the second part of a round, whatever it came to
@@ -249,7 +249,7 @@ module _ {H : Type 0} (turns works : H → ℕ) (turned_at : H → ℕ
       → IfOk result (λ at. IfSome at (λ k. WorkedRound turns works turned_at place cursor k first new))
   then_worked result worked = IfOk-weaker result _ _ (λ at some. IfSome_then at some (λ k more.
       round_second turns works turned_at place cursor k first mid new more.1 within long longer all_before before.1
-          more.2 more.3)) worked
+      more.2 more.3)) worked
 
 pub idle_after : (E : Type 0) (did : Did) (n : ℕ) → (did ≡ Worked → ⊥) → works_after {E = E} (Ok did) n ≡ n
 idle_after E Idle n other = refl

@@ -6,8 +6,13 @@ use Rattle.worker_core.specs.Steps.{View}
 
 module _ {H : Type 0} where
   abbrev pub view : List (Order H) → List H → List H → List Leaving → ℕ → View H
-  view took gone held leaving cursor = record { took = took; gone = gone; held = held; leaving = leaving;
-      cursor = cursor }
+  view took gone held leaving cursor = record {
+    took = took;
+    gone = gone;
+    held = held;
+    leaving = leaving;
+    cursor = cursor;
+  }
 
   pub view_same : (took : List (Order H)) (gone : List H) (cursor : ℕ) (held old : List H)
       (leaving before : List Leaving) → held ≡ old → leaving ≡ before

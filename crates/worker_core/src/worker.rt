@@ -150,7 +150,7 @@ impl<H: Traveller> Worker<H> {
         ensures orders { orders_of self.new ≡ orders_of self.old }
         ensures gone { IsTrue result
             → GoesHome H.name H.slot_of H.done_of (taken (orders_of self.old)) (sent (home_of self.old))
-                (sent (home_of self.new)) }
+            (sent (home_of self.new)) }
         ensures went { IsTrue result
             → WentHome (λ half. H.slot_of (H.name half)) H.done_of (view_of self.old) (view_of self.new) }
         ensures none { IsFalse result → view_of self.new ≡ view_of self.old }

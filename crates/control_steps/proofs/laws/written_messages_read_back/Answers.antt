@@ -15,5 +15,5 @@ returns c =
       own_numbers = own;
     } in
     read_back c.messages_read_back.ensures (written (row_of c.args.session.now c.args.command.now)
-        c.args.session.now c.args.command.now)
+    c.args.session.now c.args.command.now)
     (written_fits (row_of c.args.session.now c.args.command.now) c.args.session.now c.args.command.now are)

@@ -13,12 +13,12 @@ loop-ask-preserved c =
           let index_is = w.in-Some.ensures.value in
           let given = ap (option_map (accepted c.args.slot c.ask-item.result.ebi)) (sym index_is) in
           let pushed = filter_map_pushed (ask_accepted c.args.slot c.args.bearers.now) c.args.asks.now
-              c.loop-ask.ask-index c.ask-item.result _ _ c.loop-ask-test.true c.ask-item.is given refl in
+          c.loop-ask.ask-index c.ask-item.result _ _ c.loop-ask-test.true c.ask-item.is given refl in
           rw (w.ies-is, w.in_ok-push-in-Some.ensures.items, c.loop-ask.invariant, w.in_ok-accepted-in-Some.ensures)
           (ap (λ rest. cause_element REQUEST_ACCEPTED ∷ rest) pushed)
       | in-None w ↦
           let given = ap (option_map (accepted c.args.slot c.ask-item.result.ebi)) (sym w.in-None.ensures.value) in
           let kept = filter_map_skipped (ask_accepted c.args.slot c.args.bearers.now) c.args.asks.now
-              c.loop-ask.ask-index c.ask-item.result _ c.loop-ask-test.true c.ask-item.is given refl in
+          c.loop-ask.ask-index c.ask-item.result _ c.loop-ask-test.true c.ask-item.is given refl in
           rw (w.ies-is, c.loop-ask.invariant) (ap (λ rest. cause_element REQUEST_ACCEPTED ∷ rest) kept)
     ]

@@ -5,4 +5,4 @@ pub invariant_of-result : goal.invariant_of-result
 invariant_of-result c =
     rw (c.of.ensures, c.in_ok-ies.ensures)
     (modify_bearer_response_fits c.args.slot c.args.teid c.args.seq c.args.bearers.now c.args.asks.now
-        c.ranges.teid.fits c.requires.seq c.requires.asks.few)
+    c.ranges.teid.fits c.requires.seq c.requires.asks.few)

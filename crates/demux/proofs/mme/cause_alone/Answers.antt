@@ -5,4 +5,4 @@ pub invariant_of-message : goal.invariant_of-message
 invariant_of-message c =
     rw (c.of.ensures, c.in_ok-vec.ensures.items)
     (cause_alone_fits c.args.teid c.args.request c.args.seq c.args.code c.ranges.teid.fits c.requires.request
-        c.requires.seq)
+    c.requires.seq)

@@ -9,13 +9,13 @@ pub returns-in_ok-echo_note-in-EchoRequest : goal.returns-in_ok-echo_note-in-Ech
 unfolding resolved
 returns-in_ok-echo_note-in-EchoRequest c = λ slices.
     rw (tunnel_read c.args.moment c.args.octets.now c.in-Ok.head c.in-Ok.body.now kind.EchoRequest
-        c.in-Ok.ensures.message c.in-EchoRequest.is)
+    c.in-Ok.ensures.message c.in-EchoRequest.is)
     (ap Note (c.in_ok-echo_note-in-EchoRequest.ensures c.in-Ok.head.seq (sym c.unwrap_or-seq.ensures)))
 
 pub returns-in-Gpdu : goal.returns-in-Gpdu
 returns-in-Gpdu c = λ slices.
     rw (tunnel_read c.args.moment c.args.octets.now c.in-Ok.head c.in-Ok.body.now kind.Gpdu c.in-Ok.ensures.message
-        c.in-Gpdu.is)
+    c.in-Gpdu.is)
     (c.decide_tunnelled.ensures slices)
 
 pub returns-in_ok-words-in-Err : goal.returns-in_ok-words-in-Err
@@ -28,5 +28,5 @@ pub returns-in_ok-words-in-EchoResponse : goal.returns-in_ok-words-in-EchoRespon
 unfolding resolved
 returns-in_ok-words-in-EchoResponse c = λ slices.
     rw (tunnel_noted c.args.moment c.args.octets.now c.in-Ok.head c.in-Ok.body.now c.in-Ok.ensures.message
-        c.in-EchoResponse.is)
+    c.in-EchoResponse.is)
     (ap Note c.in_ok-words-in-EchoResponse.ensures)

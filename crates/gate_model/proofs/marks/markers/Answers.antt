@@ -22,4 +22,4 @@ returns c =
     c.loop-bearer.invariant
     ∙ ap (flat_map (marker_for c.args.after.now))
     (take_all c.loop-bearer.bearer-index c.bearers-bearer-items.result.now c.loop-bearer-test.false
-        ∙ c.bearers-bearer-items.ensures.value)
+    ∙ c.bearers-bearer-items.ensures.value)

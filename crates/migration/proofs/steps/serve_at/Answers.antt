@@ -8,16 +8,16 @@ use Rattle.migration.proofs.steps.serve_at.Goals as goal
 pub serve-requires-clause-fits : goal.serve-requires-clause-fits
 serve-requires-clause-fits g c = λ κs within.
     let there : c.index_mut.result.now ≡ get_or c.args.places.now.items c.args.slot c.index_mut.result.now =
-        search rules in
+    search rules in
     let is = there ∙ same_default c.args.places.now.items c.args.slot c.index_mut.result.now None c.requires.within in
     subst (PlaceFits (length c.args.desks.now.items) (2 ^ 48)) (sym is) c.requires.fits
 
 pub returns : goal.returns
 returns g c =
     let there : c.index_mut.result.now ≡ get_or c.args.places.now.items c.args.slot c.index_mut.result.now =
-        search rules in
+    search rules in
     let is = there ∙ same_default c.args.places.now.items c.args.slot c.index_mut.result.now None
-        c.requires.within in record {
+    c.requires.within in record {
       served = (
         c.serve.new.place,
         search rules,

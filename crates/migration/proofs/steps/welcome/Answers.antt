@@ -8,9 +8,9 @@ pub returns : goal.returns
 returns g c =
     let within : c.args.slot < length c.args.places.now.items = let a = c.args.places.now.ok in omega arith in
     let there : c.index_mut.result.now ≡ get_or c.args.places.now.items c.args.slot c.index_mut.result.now =
-        search rules in
+    search rules in
     let is = there ∙ same_default c.args.places.now.items c.args.slot c.index_mut.result.now None within in
     welcomed_at c.args.half c.args.slot c.args.places.now.items _ c.received.new.place c.received.result within
-        (search rules)
+    (search rules)
     (subst (λ (p : Option (Place g.row.H.Denot)). Welcomes c.args.half p c.received.new.place c.received.result) is
-        c.received.ensures)
+    c.received.ensures)

@@ -16,7 +16,7 @@ returns-then-not-fits_since-clause-conforms c =
 pub loop-place-preserved : goal.loop-place-preserved
 loop-place-preserved c = below_more _ _ c.loop-place.invariant
     (fits_from c.args.rate c.args.passed.now c.args.cost c.index-passed-place.result c.loop-place.place
-        c.index-passed-place.is
+    c.index-passed-place.is
     (rw take_rest at (c.fits_since.ensures.0 c.if-not-fits_since.false)))
 
 pub returns-clause-conforms : goal.returns-clause-conforms
@@ -30,7 +30,7 @@ returns-clause-conforms c = (
 pub returns-then-not-fits_since-clause-tested : goal.returns-then-not-fits_since-clause-tested
 returns-then-not-fits_since-clause-tested c =
     same_answer _ _ (returns-then-not-fits_since-clause-conforms c)
-        (conforming_tested c.args.rate c.args.passed.now c.args.cost)
+    (conforming_tested c.args.rate c.args.passed.now c.args.cost)
 
 pub returns-clause-tested : goal.returns-clause-tested
 returns-clause-tested c =
@@ -39,6 +39,6 @@ returns-clause-tested c =
 pub returns-then-cost-burst-clause-tested : goal.returns-then-cost-burst-clause-tested
 returns-then-cost-burst-clause-tested c =
     let above : burst c.args.rate < c.args.cost.millibits =
-        omega (arith, c.burst.ensures.value, c.if-cost-burst.true) in
+    omega (arith, c.burst.ensures.value, c.if-cost-burst.true) in
     same_answer _ _ (λ no. absurd (cc), λ conforms. absurd (omega (arith, conforms.alone, above)))
     (conforming_tested c.args.rate c.args.passed.now c.args.cost)

@@ -7,7 +7,7 @@ use Rattle.report_lines.proofs.writing.push_judgement.Goals as goal
 pub returns-then-places : goal.returns-then-places
 returns-then-places c =
     shown_by c.args.judgement.now c.args.places c.push_place.result c.args.out.now.items
-        c.push_unplaced.new.out.items c.push_place.new.out.items
+    c.push_unplaced.new.out.items c.push_place.new.out.items
     (place_fields c.judgement.inside.place c.judgement.inside.parked) c.if-places.true c.in_ok-push_unplaced.ensures
     (ap (λ (told : Judged). place_fields told.place told.parked) c.judgement.view_is) c.push_place.ensures
 

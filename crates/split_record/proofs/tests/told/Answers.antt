@@ -19,7 +19,7 @@ stays (Err failed) subscriber slot events taken stands = tt
 pub returns-in-Take : goal.returns-in-Take
 returns-in-Take c = λ slot events taken stands.
     stays c.rows_text.result c.take_closed.new.self slot events (length (records_after slot events))
-        (c.take_closed.ensures.stands slot events taken stands)
+    (c.take_closed.ensures.stands slot events taken stands)
 
 pub returns-in-Opens : goal.returns-in-Opens
 returns-in-Opens c =

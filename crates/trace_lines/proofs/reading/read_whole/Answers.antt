@@ -7,4 +7,4 @@ returns-in-Ok-clause-line c = whole_read c.args.least c.args.number c.args.text.
 pub returns-in-Err-clause-refusal : goal.returns-in-Err-clause-refusal
 returns-in-Err-clause-refusal c =
     rw c.refused.ensures (whole_refused c.args.least c.args.number c.args.text.now c.in-Err.why
-        c.in-Err.ensures.refusal)
+    c.in-Err.ensures.refusal)

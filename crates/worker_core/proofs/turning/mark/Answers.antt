@@ -14,7 +14,7 @@ returns-in-Some-clause-told g c = λ came told ordered. All-set (IsTold came) _ 
 pub returns-in-Some-clause-noted : goal.returns-in-Some-clause-noted
 returns-in-Some-clause-noted g c =
     noted_set (λ half. g.H.Traveller.slot_of (g.H.Traveller.name half)) _ _ _ _ _ c.in-Some.k c.deref.ensures.value
-        c.in-Some.ensures
+    c.in-Some.ensures
 
 pub returns-in-None-clause-told : goal.returns-in-None-clause-told
 returns-in-None-clause-told g c = λ came told ordered.

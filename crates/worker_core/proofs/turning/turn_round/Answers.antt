@@ -6,14 +6,14 @@ pub returns-in-None-clause-idle : goal.returns-in-None-clause-idle
 returns-in-None-clause-idle g c =
     let a = c.args.held.now.ok in let b = c.turn_some.new.held.ok in let d = c.turn_some-in-None.new.held.ok in
     then_idle g.H.Traveller.turns g.H.Traveller.works g.H.Traveller.turned_at c.args.place c.args.cursor
-        c.len-end.result _ _ _
+    c.len-end.result _ _ _
     (omega arith) (omega arith) (omega arith) (omega arith)
-        (c.in_ok-at.ensures.idle (search rules)) _ c.turn_some-in-None.ensures.idle
+    (c.in_ok-at.ensures.idle (search rules)) _ c.turn_some-in-None.ensures.idle
 
 pub returns-in-None-clause-worked : goal.returns-in-None-clause-worked
 returns-in-None-clause-worked g c =
     let a = c.args.held.now.ok in let b = c.turn_some.new.held.ok in let d = c.turn_some-in-None.new.held.ok in
     then_worked g.H.Traveller.turns g.H.Traveller.works g.H.Traveller.turned_at c.args.place c.args.cursor
-        c.len-end.result _ _ _
+    c.len-end.result _ _ _
     (omega arith) (omega arith) (omega arith) (omega arith)
-        (c.in_ok-at.ensures.idle (search rules)) _ c.turn_some-in-None.ensures.worked
+    (c.in_ok-at.ensures.idle (search rules)) _ c.turn_some-in-None.ensures.worked

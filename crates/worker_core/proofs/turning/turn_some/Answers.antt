@@ -16,7 +16,7 @@ returns-in-Worked-clause-names g c =
 pub returns-in-Worked-clause-worked : goal.returns-in-Worked-clause-worked
 returns-in-Worked-clause-worked g c =
     let long : length c.loop-i.held.items ≡ length c.args.held.now.items = let a = c.loop-i.held.ok in let b =
-        c.args.held.now.ok in omega arith in
+    c.args.held.now.ok in omega arith in
     let within : c.loop-i.i < length c.loop-i.held.items = omega arith in (
       (omega arith),
       (omega arith),
@@ -25,13 +25,13 @@ returns-in-Worked-clause-worked g c =
           c.index_mut.ensures.value c.turn.ensures.turns c.turn.ensures.place,
       worked_alone g.H.Traveller.works _ _ _ _ _ c.loop-i.invariant.3 long within c.index_mut.ensures.value
           (c.turn.ensures.works ∙ ap (λ r. works_after r (g.H.Traveller.works c.index_mut.result.now))
-              (c.in_ok-turn.was ∙ ap Ok c.in-Worked.is)),
+          (c.in_ok-turn.was ∙ ap Ok c.in-Worked.is)),
     )
 
 pub loop-i-preserved : goal.loop-i-preserved
 loop-i-preserved g c =
     let long : length c.loop-i.held.items ≡ length c.args.held.now.items = let a = c.loop-i.held.ok in let b =
-        c.args.held.now.ok in omega arith in
+    c.args.held.now.ok in omega arith in
     let within : c.loop-i.i < length c.loop-i.held.items = omega arith in (
       names_kept g.H.Traveller.name _ _ _ _ c.index_mut.ensures.value c.turn.ensures.name ∙ c.loop-i.invariant.0,
       c.loop-i.invariant.1,
@@ -41,5 +41,5 @@ loop-i-preserved g c =
       idle_more g.H.Traveller.works _ _ _ _ _ c.loop-i.invariant.3 within c.index_mut.ensures.value
           (c.turn.ensures.works ∙ ap (λ r. works_after r (g.H.Traveller.works c.index_mut.result.now)) c.in_ok-turn.was
           ∙ idle_after AllocError c.in_ok-turn.field-0 (g.H.Traveller.works c.index_mut.result.now)
-              c.in_default.not-Worked),
+          c.in_default.not-Worked),
     )

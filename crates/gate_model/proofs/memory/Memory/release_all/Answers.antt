@@ -21,5 +21,5 @@ loop-row-preserved c =
 pub returns : goal.returns
 returns c =
     ap (fold released (past_at c.args.version.now c.args.self.now, c.args.effects.now.items))
-        (sym (take_all c.loop-row.row-index c.args.rows.now c.loop-row-test.false))
+    (sym (take_all c.loop-row.row-index c.args.rows.now c.loop-row-test.false))
     ∙ c.loop-row.invariant

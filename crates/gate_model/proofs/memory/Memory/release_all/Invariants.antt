@@ -8,4 +8,4 @@ use Rattle.gate_model.proofs.memory.Memory.release_all.Given as goal
 abbrev pub invariant-loop-row : goal.invariant-loop-row
 invariant-loop-row l =
     fold released (past_at l.version l.fn.self, l.fn.effects.items) (take l.row-index l.rows)
-        ≡ (past_at l.version l.self, l.effects.items)
+    ≡ (past_at l.version l.self, l.effects.items)

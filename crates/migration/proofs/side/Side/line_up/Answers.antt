@@ -9,13 +9,13 @@ pub line_up-requires : goal.line_up-requires
 line_up-requires g c =
     let few = waiting_few g.H.Traveller.name g.H.Traveller.slot_of _ _ _ _ _ _ _ c.args.self.now.laid in
     let a = c.args.self.now.waiting.ok in let b = c.args.self.now.serving.ok in let r =
-        c.args.self.now.serving_room in omega arith
+    c.args.self.now.serving_room in omega arith
 
 pub invariant_of-self : goal.invariant_of-self
 invariant_of-self g c = record {
   laid = same_places g.H.Traveller.name g.H.Traveller.slot_of _ _ _ _ _ _ _ _ _ _ _ c.args.self.now.laid (λ h. refl)
       (λ w. let a = c.line_up.ensures.all w in let b = ap (sum_by w) c.line_up.ensures.empty in omega arith) refl
-          (omega arith) c.args.self.now.laid.aside_few;
+      (omega arith) c.args.self.now.laid.aside_few;
   aside_room = search rules;
   waiting_room = search rules;
   serving_room = search rules;

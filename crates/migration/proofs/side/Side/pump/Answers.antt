@@ -8,7 +8,7 @@ use Rattle.migration.proofs.side.Side.pump.Goals as goal
 pub returns-clause-full : goal.returns-clause-full
 returns-clause-full g c =
     met_full_since _ _ _ _ (λ slice. ap (λ l. fulls_at l slice) c.line_up.ensures.desks
-        ∙ c.take_all.ensures.fulls slice) c.serve_all.ensures.full
+    ∙ c.take_all.ensures.fulls slice) c.serve_all.ensures.full
 
 pub returns-clause-home : goal.returns-clause-home
 returns-clause-home g c = λ slice within.
@@ -20,6 +20,6 @@ returns-clause-home g c = λ slice within.
 pub returns-clause-passed : goal.returns-clause-passed
 returns-clause-passed g c =
     passes_then (λ half. g.H.Traveller.slot_of (g.H.Traveller.name half)) g.H.Traveller.hop_of _ _ _ _ _ _ _ _ _
-        c.take_all.ensures.passed
+    c.take_all.ensures.passed
     (passes_then (λ half. g.H.Traveller.slot_of (g.H.Traveller.name half)) g.H.Traveller.hop_of _ _ _ _ _ _ _ _ _
-        c.line_up.ensures.passed c.serve_all.ensures.passed)
+    c.line_up.ensures.passed c.serve_all.ensures.passed)

@@ -35,7 +35,7 @@ pub returns-clause-full : goal.returns-clause-full
 returns-clause-full g c =
     let a = c.loop.self.serving.ok in
     serving_none _ _ _ _ (none_left c.loop.self.serving.items (let d = c.loop.invariant.3 in omega arith))
-        c.loop.invariant.4
+    c.loop.invariant.4
 
 pub returns-clause-passed : goal.returns-clause-passed
 returns-clause-passed g c = c.loop.invariant.6

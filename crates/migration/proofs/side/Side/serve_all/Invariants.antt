@@ -16,5 +16,5 @@ invariant-loop g l =
     × ((slice : ℕ) → (fulls_at l.self.desks.items slice ≡ fulls_at l.fn.self.desks.items slice)
     ⊎ Rose (fulls_at l.fn.self.desks.items slice) (fulls_at l.self.desks.items slice))
     × Passes (λ half. g.H.Traveller.slot_of (g.H.Traveller.name half)) g.H.Traveller.hop_of l.fn.self.places.items
-        l.self.places.items l.fn.self.aside.items l.self.aside.items
+    l.self.places.items l.fn.self.aside.items l.self.aside.items
     l.fn.self.desks.items l.self.desks.items

@@ -9,21 +9,21 @@ pub serve_at-waits-requires-clause-within : goal.serve_at-waits-requires-clause-
 serve_at-waits-requires-clause-within g c =
     λ κs within. waiting_within g.H.Traveller.name g.H.Traveller.slot_of c.args.self.now.places.items c.in-Some.slot
     (next_waits g.H.Traveller.name g.H.Traveller.slot_of c.args.self.now.places.items c.in-Some.slot _ _ _
-        c.args.self.now.serving.items c.pop.new.self.items _ _ c.args.self.now.laid (search rules))
+    c.args.self.now.serving.items c.pop.new.self.items _ _ c.args.self.now.laid (search rules))
 
 pub serve_at-waits-requires-clause-fits : goal.serve_at-waits-requires-clause-fits
 serve_at-waits-requires-clause-fits g c = λ κs within.
     place_fits g.H.Traveller.name g.H.Traveller.slot_of c.args.self.now.places.items c.in-Some.slot _ _ _ _ _ _
-        c.args.self.now.laid
+    c.args.self.now.laid
     (waiting_within g.H.Traveller.name g.H.Traveller.slot_of c.args.self.now.places.items c.in-Some.slot
     (next_waits g.H.Traveller.name g.H.Traveller.slot_of c.args.self.now.places.items c.in-Some.slot _ _ _
-        c.args.self.now.serving.items c.pop.new.self.items _ _ c.args.self.now.laid (search rules)))
+    c.args.self.now.serving.items c.pop.new.self.items _ _ c.args.self.now.laid (search rules)))
 
 pub note-requires : goal.note-requires
 note-requires g c = λ waits.
     let few = waiting_few g.H.Traveller.name g.H.Traveller.slot_of _ _ _ _ _ _ _ c.args.self.now.laid in
     let a = c.args.self.now.waiting.ok in let b = c.args.self.now.serving.ok in let r =
-        c.args.self.now.waiting_room in let s = c.requires in omega arith
+    c.args.self.now.waiting_room in let s = c.requires in omega arith
 
 pub invariant_of-self : goal.invariant_of-self
 invariant_of-self g c = record {
@@ -39,30 +39,30 @@ invariant_of-self g c = record {
 pub returns-clause-roll : goal.returns-clause-roll
 returns-clause-roll g c =
     let served = served_side g.H.Traveller.name g.H.Traveller.slot_of g.H.Traveller.hop_of _ _ c.in-Some.slot
-        c.serve_at-waits.result _ _ c.serve_at-waits.new.desks.items _ c.note.new.waiting.items
-        c.args.self.now.serving.items c.pop.new.self.items _ _ c.args.self.now.laid
+    c.serve_at-waits.result _ _ c.serve_at-waits.new.desks.items _ c.note.new.waiting.items
+    c.args.self.now.serving.items c.pop.new.self.items _ _ c.args.self.now.laid
     (search rules) c.serve_at-waits.ensures.served c.note.ensures.noted in
     roll_same _ _ _ _ _ _ _ _ served.1 served.2 served.3
 
 pub returns-clause-homes : goal.returns-clause-homes
 returns-clause-homes g c =
     (served_side g.H.Traveller.name g.H.Traveller.slot_of g.H.Traveller.hop_of _ _ c.in-Some.slot
-        c.serve_at-waits.result _ _ c.serve_at-waits.new.desks.items _ c.note.new.waiting.items
-        c.args.self.now.serving.items c.pop.new.self.items _ _ c.args.self.now.laid
+    c.serve_at-waits.result _ _ c.serve_at-waits.new.desks.items _ c.note.new.waiting.items
+    c.args.self.now.serving.items c.pop.new.self.items _ _ c.args.self.now.laid
     (search rules) c.serve_at-waits.ensures.served c.note.ensures.noted).4
 
 pub returns-clause-served : goal.returns-clause-served
 returns-clause-served g c =
     (served_side g.H.Traveller.name g.H.Traveller.slot_of g.H.Traveller.hop_of _ _ c.in-Some.slot
-        c.serve_at-waits.result _ _ c.serve_at-waits.new.desks.items _ c.note.new.waiting.items
-        c.args.self.now.serving.items c.pop.new.self.items _ _ c.args.self.now.laid
+    c.serve_at-waits.result _ _ c.serve_at-waits.new.desks.items _ c.note.new.waiting.items
+    c.args.self.now.serving.items c.pop.new.self.items _ _ c.args.self.now.laid
     (search rules) c.serve_at-waits.ensures.served c.note.ensures.noted).5
 
 pub returns-clause-passed : goal.returns-clause-passed
 returns-clause-passed g c =
     passes_served (λ half. g.H.Traveller.slot_of (g.H.Traveller.name half)) g.H.Traveller.hop_of g.H.Traveller.name
-        c.args.self.now.places.items _ c.in-Some.slot c.serve_at-waits.result _ _ _ _
+    c.args.self.now.places.items _ c.in-Some.slot c.serve_at-waits.result _ _ _ _
     (waiting_within g.H.Traveller.name g.H.Traveller.slot_of c.args.self.now.places.items c.in-Some.slot
     (next_waits g.H.Traveller.name g.H.Traveller.slot_of c.args.self.now.places.items c.in-Some.slot _ _ _
-        c.args.self.now.serving.items c.pop.new.self.items _ _ c.args.self.now.laid (search rules)))
+    c.args.self.now.serving.items c.pop.new.self.items _ _ c.args.self.now.laid (search rules)))
     refl c.serve_at-waits.ensures.served

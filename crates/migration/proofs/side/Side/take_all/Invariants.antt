@@ -10,5 +10,5 @@ invariant-loop-slice g l =
     × (vec_len l.self.desks ≡ vec_len l.fn.self.desks)
     × TakenBelow l.slice l.self.admitted l.self.aside.items l.fn.self.desks.items l.self.desks.items
     × Passes (λ half. g.H.Traveller.slot_of (g.H.Traveller.name half)) g.H.Traveller.hop_of l.fn.self.places.items
-        l.self.places.items l.fn.self.aside.items l.self.aside.items
+    l.self.places.items l.fn.self.aside.items l.self.aside.items
     l.fn.self.desks.items l.self.desks.items

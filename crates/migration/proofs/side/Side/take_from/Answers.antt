@@ -32,7 +32,7 @@ returns-clause-took g c =
 pub returns-then-not-take_one-clause-passed : goal.returns-then-not-take_one-clause-passed
 returns-then-not-take_one-clause-passed g c =
     passes_then (λ half. g.H.Traveller.slot_of (g.H.Traveller.name half)) g.H.Traveller.hop_of _ _ _ _ _ _ _ _ _
-        c.loop.invariant.3 c.take_one.ensures.passed
+    c.loop.invariant.3 c.take_one.ensures.passed
 
 pub returns-clause-passed : goal.returns-clause-passed
 returns-clause-passed g c = c.loop.invariant.3

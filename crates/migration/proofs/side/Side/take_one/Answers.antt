@@ -22,7 +22,7 @@ push_reserved-requires-in-None g c =
     let w = c.in-None.ensures in
     let idle = leaving_idle _ _ _ w.3 in
     let few = waiting_fewer g.H.Traveller.name g.H.Traveller.slot_of c.args.self.now.places.items
-        c.slot-slot.result _ _ _ _ _ _ c.args.self.now.laid
+    c.slot-slot.result _ _ _ _ _ _ c.args.self.now.laid
     w.1 idle.0 idle.1 in
     let a = c.args.self.now.waiting.ok in let r = c.args.self.now.waiting_room in omega arith
 
@@ -53,7 +53,7 @@ pub returns-in-Some-welcome-clause-roll : goal.returns-in-Some-welcome-clause-ro
 returns-in-Some-welcome-clause-roll g c =
     let took = c.in-Some.ensures.taken in
     roll_same _ _ _ _ _ _ _ _ (ap (names_of g.H.Traveller.name) c.in-Some-welcome.ensures.1)
-        (ap hops_of c.in-Some-welcome.ensures.1)
+    (ap hops_of c.in-Some-welcome.ensures.1)
     (changed_lanes c.args.slice took.before took.now _ _ took.desk)
 
 pub returns-in-Some-welcome-clause-took : goal.returns-in-Some-welcome-clause-took
@@ -65,10 +65,10 @@ returns-in-None-clause-roll g c =
     let took = c.in-Some.ensures.taken in
     let w = c.in-None.ensures in
     let same = welcomed_name g.H.Traveller.name c.args.self.now.places.items w.0 c.slot-slot.result c.in-Some.half
-        _ refl w.3 in
+    _ refl w.3 in
     roll_same _ _ _ _ _ _ _ _
     (ap (names_of g.H.Traveller.name) w.2 ∙ names_set g.H.Traveller.name c.args.self.now.places.items w.0
-        c.slot-slot.result same.0)
+    c.slot-slot.result same.0)
     (ap hops_of w.2 ∙ hops_set g.H.Traveller.name c.args.self.now.places.items w.0 c.slot-slot.result same.1)
     (changed_lanes c.args.slice took.before took.now _ _ took.desk)
 
@@ -87,7 +87,7 @@ returns-in_default-clause-passed g c = passes_empty (λ half. g.H.Traveller.slot
 pub returns-in-Some-welcome-clause-passed : goal.returns-in-Some-welcome-clause-passed
 returns-in-Some-welcome-clause-passed g c =
     passes_aside (λ half. g.H.Traveller.slot_of (g.H.Traveller.name half)) g.H.Traveller.hop_of c.args.slice
-        c.in-Some.half _ _ _ _ _ _ c.in-Some.ensures.taken c.in-Some-welcome.ensures.1
+    c.in-Some.half _ _ _ _ _ _ c.in-Some.ensures.taken c.in-Some-welcome.ensures.1
     (c.push_reserved.ensures.items ∙ ap (λ h. c.args.self.now.aside.items ++ h ∷ []) c.in-Some-welcome.ensures.0)
     (subst (λ n. Unawaited (place_at c.args.self.now.places.items n)) c.slot-slot.ensures c.in-Some-welcome.ensures.2)
 
@@ -95,4 +95,4 @@ pub returns-in-None-clause-passed : goal.returns-in-None-clause-passed
 returns-in-None-clause-passed g c =
     let w = c.in-None.ensures in
     passes_home (λ half. g.H.Traveller.slot_of (g.H.Traveller.name half)) g.H.Traveller.hop_of c.args.slice
-        c.slot-slot.result c.in-Some.half w.0 _ _ _ _ _ c.in-Some.ensures.taken w.1 w.2 w.3
+    c.slot-slot.result c.in-Some.half w.0 _ _ _ _ _ c.in-Some.ensures.taken w.1 w.2 w.3

@@ -25,16 +25,27 @@ pub returns-then-millibits-level-clause-tested : goal.returns-then-millibits-lev
 returns-then-millibits-level-clause-tested c = λ passed stands.
     let cost = cost_of c.args.octets c.args.at in
     let millibits : c.of-millibits.result.millibits ≡ cost.millibits =
-        ap (λ cost. cost.millibits) c.of-millibits.ensures in
-    let lets : LetsThrough c.args.self.now cost = omega (arith, millibits, c.level_at-level.ensures,
-        c.if-millibits-level.true) in
+    ap (λ cost. cost.millibits) c.of-millibits.ensures in
+    let lets : LetsThrough c.args.self.now cost = omega (
+      arith,
+      millibits,
+      c.level_at-level.ensures,
+      c.if-millibits-level.true,
+    ) in
     letting_tested c.args.self.now passed cost true stands c.requires (λ yes. lets, λ through. refl)
 
 pub returns-clause-tested : goal.returns-clause-tested
 returns-clause-tested c = λ passed stands.
     let cost = cost_of c.args.octets c.args.at in
     let millibits : c.of-millibits.result.millibits ≡ cost.millibits =
-        ap (λ cost. cost.millibits) c.of-millibits.ensures in
-    letting_tested c.args.self.now passed cost false stands c.requires
-    (λ yes. absurd (cc), λ through. absurd (omega (arith, through, millibits, c.level_at-level.ensures,
-        c.if-millibits-level.false)))
+    ap (λ cost. cost.millibits) c.of-millibits.ensures in
+    letting_tested c.args.self.now passed cost false stands c.requires (
+      λ yes. absurd (cc),
+      λ through. absurd (omega (
+        arith,
+        through,
+        millibits,
+        c.level_at-level.ensures,
+        c.if-millibits-level.false,
+      )),
+    )

@@ -19,12 +19,12 @@ pub returns-clause-effects : goal.returns-clause-effects
 returns-clause-effects c = λ slot events taken stands.
     let stepped : c.step.new.session ≡ (controlled c.args.self.now.session c.args.command.now).0 =
     c.in_ok-reply.ensures.session ∙ ap (λ (s : SubscriberState). (controlled s.session c.args.command.now).0)
-        c.self.view_is in
+    c.self.view_is in
     let versioned : c.in_ok-after.after ≡ version_of c.step.new.session (c.args.self.now.version.number + 1) =
     c.in_ok-after.ensures ∙ ap (λ (v : VersionState). version_of c.step.new.session (v.number + 1)) c.before-2.view_is
     ∙ ap (λ (s : SubscriberState). version_of c.step.new.session (s.version.number + 1)) c.self.view_is in
     let is = learns c.known_pasts.ensures.follows c.args.self.now slot events taken c.args.command.now
-        c.self.inside.counters c.self.inside.version
+    c.self.inside.counters c.self.inside.version
     c.in_ok-after.after c.step.new.session c.requires stands (ap (λ (s : SubscriberState). s.counters) c.self.view_is)
     (ap (λ (s : SubscriberState). s.version) c.self.view_is) stepped versioned in
     c.in_ok-effects.ensures.effects (past_of slot events).packets taken is.stands is.same is.follows
@@ -34,15 +34,15 @@ pub returns-clause-stands : goal.returns-clause-stands
 returns-clause-stands c = λ slot events taken stands.
     let stepped : c.step.new.session ≡ (controlled c.args.self.now.session c.args.command.now).0 =
     c.in_ok-reply.ensures.session ∙ ap (λ (s : SubscriberState). (controlled s.session c.args.command.now).0)
-        c.self.view_is in
+    c.self.view_is in
     let versioned : c.in_ok-after.after ≡ version_of c.step.new.session (c.args.self.now.version.number + 1) =
     c.in_ok-after.ensures ∙ ap (λ (v : VersionState). version_of c.step.new.session (v.number + 1)) c.before-2.view_is
     ∙ ap (λ (s : SubscriberState). version_of c.step.new.session (s.version.number + 1)) c.self.view_is in
     let is = learns c.known_pasts.ensures.follows c.args.self.now slot events taken c.args.command.now
-        c.self.inside.counters c.self.inside.version
+    c.self.inside.counters c.self.inside.version
     c.in_ok-after.after c.step.new.session c.requires stands (ap (λ (s : SubscriberState). s.counters) c.self.view_is)
     (ap (λ (s : SubscriberState). s.version) c.self.view_is) stepped versioned in
     command_stands c.known_pasts.ensures.sessions c.known_pasts.ensures.versions c.known_pasts.ensures.learnt
     c.args.self.now _ slot events taken c.args.command.now stands stepped versioned
-        (ap (λ (s : SubscriberState). s.packets) c.self.view_is)
+    (ap (λ (s : SubscriberState). s.packets) c.self.view_is)
     (c.in_ok-effects.ensures.stands (past_of slot events).packets taken is.stands is.same is.follows)

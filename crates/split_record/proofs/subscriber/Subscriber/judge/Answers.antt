@@ -50,16 +50,16 @@ pub returns-in-Ok-clause-stands : goal.returns-in-Ok-clause-stands
 returns-in-Ok-clause-stands c = λ slot events taken stands.
     let is = judges c slot events taken stands in
     packet_stands c.known_pasts.ensures.versions c.known_pasts.ensures.judged c.args.self.now _ slot events taken
-        (judged_packet c) stands
+    (judged_packet c) stands
     (ap (λ (s : SubscriberState). s.session) c.self.view_is) (ap (λ (s : SubscriberState). s.version) c.self.view_is)
     (ap (λ (s : SubscriberState). s.packets + 1) c.self.view_is)
     (c.in-Ok.ensures.stands (past_of slot events).packets taken (judged_packet c) is.stood is.before is.few
-        (numbered c))
+    (numbered c))
 
 pub returns-in-Ok-clause-last : goal.returns-in-Ok-clause-last
 returns-in-Ok-clause-last c =
     let room = c.requires.room in
     let is = judges c room.0 room.1 room.2 room.3 in
     (c.in-Ok.ensures.stands (past_of room.0 room.1).packets room.2 (judged_packet c) is.stood is.before is.few
-        (numbered c)).last
+    (numbered c)).last
     ∙ judged_last (past_of room.0 room.1).packets (judged_packet c)

@@ -40,7 +40,7 @@ pub returns-clause-stands : goal.returns-clause-stands
 returns-clause-stands c = λ slot events taken stands.
     let is = judges c slot events taken stands in
     packet_stands c.known_pasts.ensures.versions c.known_pasts.ensures.judged c.args.self.now _ slot events taken
-        c.args.packet.now stands
+    c.args.packet.now stands
     (ap (λ (s : SubscriberState). s.session) c.self.view_is) (ap (λ (s : SubscriberState). s.version) c.self.view_is)
     (ap (λ (s : SubscriberState). s.packets + 1) c.self.view_is)
     (c.in_ok-verdict.ensures.stands (past_of slot events).packets taken is.stood is.before is.few)

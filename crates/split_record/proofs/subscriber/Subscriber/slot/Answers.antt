@@ -8,5 +8,5 @@ use Rattle.split_record.proofs.subscriber.Subscriber.slot.Goals as goal
 pub returns : goal.returns
 returns c = λ slot events taken stands.
     ap (λ (i : Inside). i.session.slot) c.self-inside.view_is
-        ∙ ap (λ (s : SubscriberState). s.session.slot) c.self.view_is
+    ∙ ap (λ (s : SubscriberState). s.session.slot) c.self.view_is
     ∙ ap (λ (s : SessionState). s.slot) stands.session ∙ slot_stays slot events

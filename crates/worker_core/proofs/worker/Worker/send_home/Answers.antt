@@ -13,14 +13,14 @@ use Rattle.worker_core.proofs.worker.Worker.send_home.Goals as goal
 pub returns-in_default-clause-full : goal.returns-in_default-clause-full
 returns-in_default-clause-full g c = λ _ some.
     absurd (none_due g.H.Traveller.name g.H.Traveller.slot_of g.H.Traveller.done_of _ _ _ _ c.deref.ensures.value
-        c.deref-2.ensures.value c.in_default.ensures some)
+    c.deref-2.ensures.value c.in_default.ensures some)
 
 pub offer-requires-clause-few : goal.offer-requires-clause-few
 offer-requires-clause-few g c κs within =
     let found = due_here g.H.Traveller.name g.H.Traveller.slot_of g.H.Traveller.done_of _ _ _ _ c.in-Some.at
     c.deref.ensures.value c.deref-2.ensures.value c.in-Some.ensures in
     let here = due_within g.H.Traveller.name g.H.Traveller.slot_of g.H.Traveller.done_of _ _ _ c.remove-half.result
-        found in
+    found in
     home_few g.H.Traveller.name (taken c.args.self.now.orders) c.args.self.now.held.items (sent c.args.self.now.home)
     (omega arith) c.args.self.now.orders.few c.args.self.now.kept
 
@@ -29,19 +29,19 @@ invariant_of-self-in-Ok g c =
     let found = due_here g.H.Traveller.name g.H.Traveller.slot_of g.H.Traveller.done_of _ _ _ _ c.in-Some.at
     c.deref.ensures.value c.deref-2.ensures.value c.in-Some.ensures in
     let here = due_within g.H.Traveller.name g.H.Traveller.slot_of g.H.Traveller.done_of _ _ _ c.remove-half.result
-        found in
+    found in
     let more = c.in-Ok.ensures.ok.0 in
     record {
       kept = subst (λ (p : List g.row.H.Denot × List g.row.H.Denot). Kept g.H.Traveller.name
           (taken c.args.self.now.orders) p.0 p.1)
           (λ i. (sym c.remove-half.ensures.items i, sym more i))
           (kept_home g.H.Traveller.name (taken c.args.self.now.orders) c.args.self.now.held.items
-              (sent c.args.self.now.home) c.in-Some.at c.remove-half.result
+          (sent c.args.self.now.home) c.in-Some.at c.remove-half.result
           here c.remove-half.ensures.value c.args.self.now.kept);
       told = subst (All (IsTold (taken c.args.self.now.orders))) (sym c.forget.ensures)
           (picked_all (IsTold (taken c.args.self.now.orders))
-              (λ (x : Leaving). not (nat_eq x.slot c.slot-slot.result)) c.args.self.now.leaving.items
-              c.args.self.now.told);
+          (λ (x : Leaving). not (nat_eq x.slot c.slot-slot.result)) c.args.self.now.leaving.items
+          c.args.self.now.told);
       within = search rules;
     }
 
@@ -57,7 +57,7 @@ returns-in-Ok-clause-went g c = λ _.
     let found = due_here g.H.Traveller.name g.H.Traveller.slot_of g.H.Traveller.done_of _ _ _ _ c.in-Some.at
     c.deref.ensures.value c.deref-2.ensures.value c.in-Some.ensures in
     let here = due_within g.H.Traveller.name g.H.Traveller.slot_of g.H.Traveller.done_of _ _ _ c.remove-half.result
-        found in
+    found in
     record {
       at = c.in-Some.at;
       half = c.remove-half.result;
@@ -70,8 +70,8 @@ returns-in-Ok-clause-went g c = λ _.
           (g.H.Traveller.slot_of (g.H.Traveller.name c.remove-half.result)) c.args.self.now.leaving.items l)
           (sym c.forget.ensures)
           (subst (λ (slot : ℕ). SameElsewhere slot c.args.self.now.leaving.items
-              (filter (λ (x : Leaving). not (nat_eq x.slot c.slot-slot.result)) c.args.self.now.leaving.items))
-              c.slot-slot.ensures
+          (filter (λ (x : Leaving). not (nat_eq x.slot c.slot-slot.result)) c.args.self.now.leaving.items))
+          c.slot-slot.ensures
           (forgotten c.slot-slot.result c.args.self.now.leaving.items));
       cursor = search rules;
     }

@@ -31,7 +31,7 @@ invariant_of-self-in-Arrive g c =
           (sent c.args.self.now.home))
           (λ i. (sym came i, sym c.push_reserved.ensures.items i))
           (kept_arrive g.H.Traveller.name old c.args.self.now.held.items
-              (sent c.args.self.now.home) c.in-Arrive.half c.args.self.now.kept);
+          (sent c.args.self.now.home) c.in-Arrive.half c.args.self.now.kept);
       told = subst (λ (l : List (Order g.row.H.Denot)). All (IsTold l) c.args.self.now.leaving.items) (sym came)
           (told_more old (Arrive c.in-Arrive.half) c.args.self.now.leaving.items c.args.self.now.told);
       within = search rules;
@@ -46,11 +46,11 @@ invariant_of-self-in-Leave g c =
       kept = subst (λ (l : List (Order g.row.H.Denot)).
           Kept g.H.Traveller.name l c.args.self.now.held.items (sent c.args.self.now.home)) (sym came)
           (kept_leave g.H.Traveller.name old c.args.self.now.held.items
-              (sent c.args.self.now.home) c.in-Leave.slot c.in-Leave.until c.args.self.now.kept);
+          (sent c.args.self.now.home) c.in-Leave.slot c.in-Leave.until c.args.self.now.kept);
       told = c.mark.ensures.told (taken c.take.new.self)
           (subst (λ (l : List (Order g.row.H.Denot)). All (IsTold l) c.args.self.now.leaving.items) (sym came)
           (told_more old (Leave c.in-Leave.slot c.in-Leave.until) c.args.self.now.leaving.items c.args.self.now.told))
           (subst (λ (l : List (Order g.row.H.Denot)). IsOrdered l c.in-Leave.slot c.in-Leave.until) (sym came)
-              (ordered_last old c.in-Leave.slot c.in-Leave.until));
+          (ordered_last old c.in-Leave.slot c.in-Leave.until));
       within = search rules;
     }
