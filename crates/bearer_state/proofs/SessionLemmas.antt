@@ -19,12 +19,14 @@ use Rattle.bearer_state.proofs.BearerLemmas.{each_without, each_with, each_mappe
 abbrev IsBelow : ℕ → Bearer → Type 0
 IsBelow lives bearer = bearer.life < lives
 
-begins_if : (passes : Bool) (xs ys : List Bearer) → BeginsWithDefault xs → BeginsWithDefault ys → BeginsWithDefault (if passes then xs else ys)
+begins_if : (passes : Bool) (xs ys : List Bearer) → BeginsWithDefault xs → BeginsWithDefault ys
+    → BeginsWithDefault (if passes then xs else ys)
 begins_if true xs ys has other = has
 begins_if false xs ys has other = other
 
 -- the default bearer stays where each is changed
-has_mapped : (change : Bearer → Bearer) → ((b : Bearer) → (index_of b ≡ 0) × IsActivePhase b.phase → (index_of (change b) ≡ 0) × IsActivePhase (change b).phase)
+has_mapped : (change : Bearer → Bearer) → ((b : Bearer) → (index_of b ≡ 0) × IsActivePhase b.phase
+    → (index_of (change b) ≡ 0) × IsActivePhase (change b).phase)
     → (live : Bool) (bearers : List Bearer) → HasBearersOf live bearers → HasBearersOf live (map change bearers)
 has_mapped change kept false bearers has = ap (map change) has
 has_mapped change kept true [] has = elim has [ ]
@@ -32,8 +34,10 @@ has_mapped change kept true (b ∷ bs) has = kept b has
 
 -- or the first of some
 has_with : (test : Bearer → Bool) (change : Bearer → Bearer)
-    → ((b : Bearer) → (index_of b ≡ 0) × IsActivePhase b.phase → (index_of (change b) ≡ 0) × IsActivePhase (change b).phase)
-    → (live : Bool) (bearers : List Bearer) → HasBearersOf live bearers → HasBearersOf live (with_first test change bearers)
+    → ((b : Bearer) → (index_of b ≡ 0) × IsActivePhase b.phase → (index_of (change b) ≡ 0)
+    × IsActivePhase (change b).phase)
+    → (live : Bool) (bearers : List Bearer) → HasBearersOf live bearers
+    → HasBearersOf live (with_first test change bearers)
 has_with test change kept false bearers has = ap (with_first test change) has
 has_with test change kept true [] has = elim has [ ]
 has_with test change kept true (b ∷ bs) has =
@@ -60,7 +64,8 @@ active_not_asked seq (Active ebi) active = refl
 first_not_dedicated : (ebi : ℕ) (b : Bearer) → index_of b ≡ 0 → is_dedicated ebi b ≡ false
 first_not_dedicated ebi b first = grind (arith, nat_tests, first)
 
-with_bearers : (session : SessionState) (bearers : List Bearer) → IsSession session → AllByRecursion (IsBelow session.lives) bearers
+with_bearers : (session : SessionState) (bearers : List Bearer) → IsSession session
+    → AllByRecursion (IsBelow session.lives) bearers
     → HasBearersOf session.live bearers → IsSession (record session { bearers = bearers })
 with_bearers session bearers fits below has = record {
   up = fits.up;
@@ -84,16 +89,20 @@ rebound_fits session asks fits =
     (each_mapped (IsBelow session.lives) (rebound_bearer asks) (λ b below. below) session.bearers fits.lives_below)
     (has_mapped (rebound_bearer asks) (λ b has. has) session.live session.bearers fits.bearers)
 
-pub refiltered_fits : (session : SessionState) (ebi : ℕ) (filters : List Filter) → IsSession session → IsSession (refiltered session ebi filters)
+pub refiltered_fits : (session : SessionState) (ebi : ℕ) (filters : List Filter) → IsSession session
+    → IsSession (refiltered session ebi filters)
 refiltered_fits session ebi filters fits =
     with_bearers session (with_first (is_active ebi) (filtered filters) session.bearers) fits
-    (each_with (IsBelow session.lives) (is_active ebi) (filtered filters) (λ b below. below) session.bearers fits.lives_below)
+    (each_with (IsBelow session.lives) (is_active ebi) (filtered filters)
+    (λ b below. below) session.bearers fits.lives_below)
     (has_with (is_active ebi) (filtered filters) (λ b has. has) session.live session.bearers fits.bearers)
 
-pub granted_fits : (session : SessionState) (seq ebi : ℕ) (enb : Peer) → IsSession session → IsSession (granted session seq ebi enb)
+pub granted_fits : (session : SessionState) (seq ebi : ℕ) (enb : Peer) → IsSession session
+    → IsSession (granted session seq ebi enb)
 granted_fits session seq ebi enb fits =
     with_bearers session (with_first (is_asked seq) (granted_bearer ebi enb) session.bearers) fits
-    (each_with (IsBelow session.lives) (is_asked seq) (granted_bearer ebi enb) (λ b below. below) session.bearers fits.lives_below)
+    (each_with (IsBelow session.lives) (is_asked seq) (granted_bearer ebi enb)
+    (λ b below. below) session.bearers fits.lives_below)
     (has_with (is_asked seq) (granted_bearer ebi enb) (λ b has. (has.0, tt)) session.live session.bearers fits.bearers)
 
 pub denied_fits : (session : SessionState) (seq : ℕ) → IsSession session → IsSession (denied session seq)
@@ -106,13 +115,16 @@ pub dropped_fits : (session : SessionState) (ebi : ℕ) → IsSession session �
 dropped_fits session ebi fits =
     with_bearers session (without_first (is_dedicated ebi) session.bearers) fits
     (each_without (IsBelow session.lives) (is_dedicated ebi) session.bearers fits.lives_below)
-    (has_without (is_dedicated ebi) (λ b has. first_not_dedicated ebi b has.0) session.live session.bearers fits.bearers)
+    (has_without (is_dedicated ebi) (λ b has. first_not_dedicated ebi b has.0) session.live session.bearers
+    fits.bearers)
 
-placed_if_live : (new : Bearer) (live : Bool) (bearers : List Bearer) → live ≡ true → HasBearersOf live bearers → HasBearersOf live (placed new bearers)
+placed_if_live : (new : Bearer) (live : Bool) (bearers : List Bearer) → live ≡ true → HasBearersOf live bearers
+    → HasBearersOf live (placed new bearers)
 placed_if_live new true bearers is has = has_placed new bearers has
 placed_if_live new false bearers is has = cc
 
-pub asked_fits : (session : SessionState) (index seq : ℕ) (qos : Qos) (filters : List Filter) → IsSession session → session.live ≡ true
+pub asked_fits : (session : SessionState) (index seq : ℕ) (qos : Qos) (filters : List Filter) → IsSession session
+    → session.live ≡ true
     → session.lives ≤ 2 ^ 61 - 20 → IsSession (with_asked session index seq qos filters)
 asked_fits session index seq qos filters fits live few =
     let new : Bearer = asked_bearer session.lives index seq qos filters in
@@ -123,7 +135,8 @@ asked_fits session index seq qos filters fits live few =
       rates = fits.rates;
       lives = omega arith;
       lives_below = each_placed (IsBelow (session.lives + 1)) new session.bearers newest
-          (each_implied (IsBelow session.lives) (IsBelow (session.lives + 1)) (λ b below. omega (arith, below)) session.bearers fits.lives_below);
+          (each_implied (IsBelow session.lives) (IsBelow (session.lives + 1))
+          (λ b below. omega (arith, below)) session.bearers fits.lives_below);
       bearers = placed_if_live new session.live session.bearers live fits.bearers;
       last = fits.last;
     }

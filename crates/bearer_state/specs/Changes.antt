@@ -36,7 +36,8 @@ no_filters index = record { index = index; filters = [] }
 
 -- the default bearer
 abbrev pub default_bearer : ℕ → ℕ → Qos → Option Peer → Bearer
-default_bearer life ebi qos enb = record { life = life; phase = Active ebi; qos = qos; enb = enb; choice = no_filters 0 }
+default_bearer life ebi qos enb =
+    record { life = life; phase = Active ebi; qos = qos; enb = enb; choice = no_filters 0 }
 
 -- a bearer that the MME is asked for
 abbrev pub asked_bearer : ℕ → ℕ → ℕ → Qos → List Filter → Bearer
@@ -104,14 +105,16 @@ with_asked session index seq qos filters = record session {
 
 -- the first bearer that was asked for so is active from now on; or it goes
 abbrev pub granted : SessionState → ℕ → ℕ → Peer → SessionState
-granted session seq ebi enb = record session { bearers = with_first (is_asked seq) (granted_bearer ebi enb) session.bearers }
+granted session seq ebi enb =
+    record session { bearers = with_first (is_asked seq) (granted_bearer ebi enb) session.bearers }
 
 abbrev pub denied : SessionState → ℕ → SessionState
 denied session seq = record session { bearers = without_first (is_asked seq) session.bearers }
 
 -- other filters of an active bearer (5.4.3)
 abbrev pub refiltered : SessionState → ℕ → List Filter → SessionState
-refiltered session ebi filters = record session { bearers = with_first (is_active ebi) (filtered filters) session.bearers }
+refiltered session ebi filters =
+    record session { bearers = with_first (is_active ebi) (filtered filters) session.bearers }
 
 -- an active bearer goes that isn't the default one (5.4.4)
 abbrev pub dropped : SessionState → ℕ → SessionState

@@ -24,7 +24,8 @@ pub record VersionState : Type 0 where
 
 -- what a version keeps of a bearer under an EBI
 abbrev pub active_of : Bearer → ℕ → ActiveBearer
-active_of bearer ebi = record { index = index_of bearer; life = bearer.life; ebi = ebi; qos = bearer.qos; enb = bearer.enb }
+active_of bearer ebi =
+    record { index = index_of bearer; life = bearer.life; ebi = ebi; qos = bearer.qos; enb = bearer.enb }
 
 -- a bearer that isn't active yet isn't in a version
 abbrev pub active_in : Bearer → Phase → Option ActiveBearer
@@ -81,5 +82,6 @@ pub record IsVersion (version : VersionState) : Type 0 where
   pub rates : version.rates ≤ 2 ^ 61
   pub each : AllByRecursion IsActiveBearer version.bearers
   pub apart : EachPair IsActiveBefore version.bearers
-  pub rows : map (λ (row : BearerFilters). row.index) version.rows ≡ map (λ (bearer : ActiveBearer). bearer.index) version.bearers
+  pub rows : map (λ (row : BearerFilters). row.index) version.rows
+      ≡ map (λ (bearer : ActiveBearer). bearer.index) version.bearers
   pub none_if_not_live : version.live ≡ false → version.bearers ≡ []

@@ -256,7 +256,8 @@ fn place_asked(bearers: &[Bearer], seq: u32) -> Option<usize>
 /// Where a bearer of an index has its place.
 fn place_of(bearers: &[Bearer], index: u8) -> usize
     ensures within { result ≤ length bearers.now }
-    ensures value { (bearer : Bearer) → index_of bearer ≡ index → insert bearers.now result bearer ≡ placed bearer bearers.now }
+    ensures value { (bearer : Bearer) → index_of bearer ≡ index
+        → insert bearers.now result bearer ≡ placed bearer bearers.now }
 {
     for (at, bearer) in bearers.iter().enumerate() {
         if index < bearer.choice.index {

@@ -52,15 +52,17 @@ finished-size piece (item ∷ items) =
 
 piece_after-size : (piece : List Forwarded) (item : Item) → length (piece_after piece item) ≤ length piece + 1
 piece_after-size piece (mark why) = omega arith
-piece_after-size piece (packet p) = elim (is_full (piece ++ p ∷ [])) as (λ b. length (cond b [] (piece ++ p ∷ [])) ≤ length piece + 1) [
-  | true ↦ omega arith
-  | false ↦ omega (arith, length-append piece (p ∷ []))
-]
+piece_after-size piece (packet p) =
+    elim (is_full (piece ++ p ∷ [])) as (λ b. length (cond b [] (piece ++ p ∷ [])) ≤ length piece + 1) [
+      | true ↦ omega arith
+      | false ↦ omega (arith, length-append piece (p ∷ []))
+    ]
 
 last_piece-size : (piece : List Forwarded) (items : List Item)
     → length (fold piece_after piece items) ≤ length piece + length items
 last_piece-size piece [] = omega arith
-last_piece-size piece (item ∷ items) = omega (arith, piece_after-size piece item, last_piece-size (piece_after piece item) items)
+last_piece-size piece (item ∷ items) =
+    omega (arith, piece_after-size piece item, last_piece-size (piece_after piece item) items)
 
 at_most_one : (b : Bool) → cond b 1 0 ≤ 1
 at_most_one true = omega arith
@@ -69,12 +71,22 @@ at_most_one false = omega arith
 up_packets-size : (piece : List Forwarded) → up_packets piece ≤ length piece
 up_packets-size [] = omega arith
 up_packets-size (p ∷ piece) =
-    omega (arith, sum_by-append (λ (q : Forwarded). if q.up then 1 else 0) (p ∷ []) piece, at_most_one p.up, up_packets-size piece)
+    omega (
+      arith,
+      sum_by-append (λ (q : Forwarded). if q.up then 1 else 0) (p ∷ []) piece,
+      at_most_one p.up,
+      up_packets-size piece,
+    )
 
 down_packets-size : (piece : List Forwarded) → down_packets piece ≤ length piece
 down_packets-size [] = omega arith
 down_packets-size (p ∷ piece) =
-    omega (arith, sum_by-append (λ (q : Forwarded). if not q.up then 1 else 0) (p ∷ []) piece, at_most_one (not p.up), down_packets-size piece)
+    omega (
+      arith,
+      sum_by-append (λ (q : Forwarded). if not q.up then 1 else 0) (p ∷ []) piece,
+      at_most_one (not p.up),
+      down_packets-size piece,
+    )
 
 -- so are the counters of each life
 open-bounded : (happened : List Happening) (life : ℕ) → IsBounded (length happened) (open_at happened life)
@@ -93,5 +105,6 @@ are_bounded book happened taken stands =
     subst (λ opens. All (IsBounded (length happened)) opens) (sym stands.opens)
     (λ k d within.
     let in_lives = length-map (lives_of happened) (open_at happened) in
-    subst (IsBounded (length happened)) (sym (get_or-map (open_at happened) (lives_of happened) k 0 d (omega (arith, within, in_lives))))
+    subst (IsBounded (length happened)) (sym (get_or-map (open_at happened) (lives_of happened) k 0 d
+    (omega (arith, within, in_lives))))
     (open-bounded happened (get_or (lives_of happened) k 0)))

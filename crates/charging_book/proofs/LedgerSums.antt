@@ -22,7 +22,13 @@ module _ (of_row : Charged → ℕ) (of_counters : Counters → ℕ) (weight : F
   rows_have (row ∷ rows) (done ∷ pieces) tell =
       let first : of_row row ≡ sum_by weight done.piece = ap of_row tell.0
       ∙ row_has row.life row.ebi row.qci row.seq done in
-      omega (arith, sum_by-cons of_row row rows, first, rows_have rows pieces tell.1, sum_by-append weight done.piece (joined pieces))
+      omega (
+        arith,
+        sum_by-cons of_row row rows,
+        first,
+        rows_have rows pieces tell.1,
+        sum_by-append weight done.piece (joined pieces),
+      )
 
   opens_have : (opens : List Counters) (last : List Forwarded) → TellLast opens last
       → sum_by of_counters opens ≡ sum_by weight last

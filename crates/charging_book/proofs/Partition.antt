@@ -51,7 +51,8 @@ packets-push : (life : ℕ) (before : List Happening) (now : Happening)
 packets-push life before now = filter_map-append (packet_by life) before (now ∷ [])
 
 rows_for-push : (life : ℕ) (before : List Happening) (now : Happening)
-    → rows_for life (rows_of (before ++ now ∷ [])) ≡ rows_for life (rows_of before) ++ rows_for life (rows_at before now)
+    → rows_for life (rows_of (before ++ now ∷ [])) ≡ rows_for life (rows_of before)
+    ++ rows_for life (rows_at before now)
 rows_for-push life before now =
     ap (rows_for life) (rows-push before now)
     ∙ filter-append (λ (row : Charged). row.life == life) (rows_of before) (rows_at before now)
@@ -95,7 +96,8 @@ adds life before now item step own made over holds =
       pieces = holds.pieces ++ done;
       packets =
           ap (λ t. joined (holds.pieces ++ done) ++ t) last
-          ∙ ap (λ t. t ++ piece_after (last_of life before) item) (flat_map-append (λ (d : Finished). d.piece) holds.pieces done)
+          ∙ ap (λ t. t ++ piece_after (last_of life before) item)
+          (flat_map-append (λ (d : Finished). d.piece) holds.pieces done)
           ∙ append_assoc (joined holds.pieces) (joined done) (piece_after (last_of life before) item)
           ∙ ap (λ t. joined holds.pieces ++ t) (item_kept (last_of life before) item)
           ∙ sym (append_assoc (joined holds.pieces) (last_of life before) (packet_in item))
@@ -115,7 +117,8 @@ starts life ebi qci before may holds =
     let now = started life ebi qci in
     let last : last_of life (before ++ now ∷ []) ≡ [] =
     last-step life before now (record { ebi = ebi; qci = qci; items = [] })
-    (ap (λ b. if b then record { ebi = ebi; qci = qci; items = [] } else story_of before life) (eq-eqb life life refl)) in
+    (ap (λ b. if b then record { ebi = ebi; qci = qci; items = [] }
+    else story_of before life) (eq-eqb life life refl)) in
     let none_left = holds.over (none_of_all life (lives_of before) may) in
     record {
       pieces = holds.pieces;
@@ -136,7 +139,8 @@ rows_of_other : (life other : ℕ) (before : List Happening) (item : Item) → o
     → rows_for life (rows_by other (story_of before other) item) ≡ []
 rows_of_other life other before item differs =
     let story = story_of before other in
-    others_rows life other story.ebi story.qci (length (finished story.items)) (finishes (last_piece story.items) item) differs
+    others_rows life other story.ebi story.qci (length (finished story.items))
+    (finishes (last_piece story.items) item) differs
 
 holds-step : (life : ℕ) (before : List Happening) (now : Happening) → MayHappen before now → Holds life before
     → Holds life (before ++ now ∷ [])
@@ -144,35 +148,42 @@ holds-step life before (started other ebi qci) may holds = elim (eqb_tells other
   | inl same ↦ subst (λ l. Holds l (before ++ started other ebi qci ∷ [])) same.1
       (starts other ebi qci before may (subst (λ l. Holds l before) (sym same.1) holds))
   | inr apart ↦ passes life before (started other ebi qci)
-      (ap (λ b. if b then record { ebi = ebi; qci = qci; items = [] } else story_of before life) (ne_eqb other life apart.1))
+      (ap (λ b. if b then record { ebi = ebi; qci = qci; items = [] }
+      else story_of before life) (ne_eqb other life apart.1))
       refl refl (none_before life other (lives_of before)) holds
 ]
 holds-step life before (forwarded other p) may holds = elim (eqb_tells other life) [
   | inl same ↦ subst (λ l. Holds l (before ++ forwarded other p ∷ [])) same.1
-      (adds other before (forwarded other p) (packet p) (own-forwarded other p (story_of before other)) (own_packet other p) refl
-      (λ none. absurd (none_contained other (lives_of before) none may)) (subst (λ l. Holds l before) (sym same.1) holds))
-  | inr apart ↦ passes life before (forwarded other p) (other-forwarded other p life (story_of before life) (λ is. apart.1 (sym is)))
+      (adds other before (forwarded other p) (packet p) (own-forwarded other p (story_of before other))
+      (own_packet other p) refl
+      (λ none. absurd (none_contained other (lives_of before) none may))
+      (subst (λ l. Holds l before) (sym same.1) holds))
+  | inr apart ↦ passes life before (forwarded other p)
+      (other-forwarded other p life (story_of before life) (λ is. apart.1 (sym is)))
       (others_packet life other p apart.1) (rows_of_other life other before (packet p) apart.1) (λ none. none) holds
 ]
 holds-step life before (closed other Volume) may holds = elim (eqb_tells other life) [
   | inl same ↦ subst (λ l. Holds l (before ++ closed other Volume ∷ [])) same.1
       (adds other before (closed other Volume) (mark Volume) (own-closed other Volume (story_of before other)) refl refl
       (λ none. refl) (subst (λ l. Holds l before) (sym same.1) holds))
-  | inr apart ↦ passes life before (closed other Volume) (other-closed other Volume life (story_of before life) (λ is. apart.1 (sym is)))
+  | inr apart ↦ passes life before (closed other Volume)
+      (other-closed other Volume life (story_of before life) (λ is. apart.1 (sym is)))
       refl (rows_of_other life other before (mark Volume) apart.1) (λ none. none) holds
 ]
 holds-step life before (closed other Qos) may holds = elim (eqb_tells other life) [
   | inl same ↦ subst (λ l. Holds l (before ++ closed other Qos ∷ [])) same.1
       (adds other before (closed other Qos) (mark Qos) (own-closed other Qos (story_of before other)) refl refl
       (λ none. refl) (subst (λ l. Holds l before) (sym same.1) holds))
-  | inr apart ↦ passes life before (closed other Qos) (other-closed other Qos life (story_of before life) (λ is. apart.1 (sym is)))
+  | inr apart ↦ passes life before (closed other Qos)
+      (other-closed other Qos life (story_of before life) (λ is. apart.1 (sym is)))
       refl (rows_of_other life other before (mark Qos) apart.1) (λ none. none) holds
 ]
 holds-step life before (closed other Gone) may holds = elim (eqb_tells other life) [
   | inl same ↦ subst (λ l. Holds l (before ++ closed other Gone ∷ [])) same.1
       (adds other before (closed other Gone) (mark Gone) (own-closed other Gone (story_of before other)) refl refl
       (λ none. refl) (subst (λ l. Holds l before) (sym same.1) holds))
-  | inr apart ↦ passes life before (closed other Gone) (other-closed other Gone life (story_of before life) (λ is. apart.1 (sym is)))
+  | inr apart ↦ passes life before (closed other Gone)
+      (other-closed other Gone life (story_of before life) (λ is. apart.1 (sym is)))
       refl (rows_of_other life other before (mark Gone) apart.1) (none_with life other (lives_of before) apart.1) holds
 ]
 
@@ -180,11 +191,17 @@ holds-from : (life : ℕ) (before later : List Happening) → AllMay before late
     → Holds life (before ++ later)
 holds-from life before [] may holds = rw (append-nil before) holds
 holds-from life before (now ∷ later) may holds =
-    rw (append_assoc before (now ∷ []) later) at (holds-from life (before ++ now ∷ []) later may.1 (holds-step life before now may.0 holds))
+    rw (append_assoc before (now ∷ []) later) at (holds-from life (before ++ now ∷ []) later may.1
+    (holds-step life before now may.0 holds))
 
 pub ledgers_are_partitions : LedgersArePartitions
 ledgers_are_partitions happened life lawful =
-    let holds = holds-from life [] happened lawful (record { pieces = []; packets = refl; rows = tt; over = λ none. refl }) in
+    let holds = holds-from life [] happened lawful (record {
+      pieces = [];
+      packets = refl;
+      rows = tt;
+      over = λ none. refl;
+    }) in
     record {
       pieces = holds.pieces;
       last = last_of life happened;

@@ -36,12 +36,14 @@ item_kept piece (packet p) = packet_kept (is_full (piece ++ p ∷ [])) refl
 pub own_rows : (life ebi qci seq : ℕ) (done : List Finished)
     → rows_for life (map (row_of life ebi qci seq) done) ≡ map (row_of life ebi qci seq) done
 own_rows life ebi qci seq [] = refl
-own_rows life ebi qci seq (d ∷ ds) = rw (eq-eqb life life refl) (ap (λ rows. row_of life ebi qci seq d ∷ rows) (own_rows life ebi qci seq ds))
+own_rows life ebi qci seq (d ∷ ds) =
+    rw (eq-eqb life life refl) (ap (λ rows. row_of life ebi qci seq d ∷ rows) (own_rows life ebi qci seq ds))
 
 pub others_rows : (life other ebi qci seq : ℕ) (done : List Finished) → other ≢ life
     → rows_for life (map (row_of other ebi qci seq) done) ≡ []
 others_rows life other ebi qci seq [] differs = refl
-others_rows life other ebi qci seq (d ∷ ds) differs = rw (ne_eqb other life differs) (others_rows life other ebi qci seq ds differs)
+others_rows life other ebi qci seq (d ∷ ds) differs =
+    rw (ne_eqb other life differs) (others_rows life other ebi qci seq ds differs)
 
 pub rows_tell : (life ebi qci seq : ℕ) (done : List Finished) → TellPieces (map (row_of life ebi qci seq) done) done
 rows_tell life ebi qci seq [] = tt
@@ -78,6 +80,7 @@ opens_tell life happened (x ∷ xs) distinct over = elim (eqb_tells x life) [
       ∙ ap (λ y. open_at happened y ∷ []) same.1) in
       rw only refl
   | inr other ↦
-      let fewer : opens_for life (map (open_at happened) (x ∷ xs)) ≡ opens_for life (map (open_at happened) xs) = rw (ne_eqb x life other.1) refl in
+      let fewer : opens_for life (map (open_at happened) (x ∷ xs)) ≡ opens_for life (map (open_at happened) xs) =
+      rw (ne_eqb x life other.1) refl in
       rw fewer (opens_tell life happened xs distinct.1 (λ none. over (other.1, none)))
 ]

@@ -15,7 +15,8 @@ use Rattle.charging_book.proofs.Steps.{rows_from-append}
 pub life_has_room : (book : Accounts) (happened : List Happening) (taken life : ℕ) → StandsFor book happened taken
     → length happened ≤ 2 ^ 61 - 20 → LifeHasRoom book life
 life_has_room book happened taken life stands few k d within same =
-    let bounded : IsBounded (length happened) (get_or book.opens k d) = are_bounded book happened taken stands k d within in
+    let bounded : IsBounded (length happened) (get_or book.opens k d) =
+    are_bounded book happened taken stands k d within in
     record {
       rows = omega (arith, bounded.rows, few);
       up = omega (arith, bounded.up, few);
@@ -54,13 +55,15 @@ may_at before postings place posting within is may =
     ≡ map happening_of (take place postings) ++ happening_of posting ∷ map happening_of (drop (suc place) postings) =
     ap (map happening_of) (sym (take-append-drop place postings) ∙ ap (λ xs. take place postings ++ xs) rest)
     ∙ map-append happening_of (take place postings) (posting ∷ drop (suc place) postings) in
-    (may_all_behind before (map happening_of (take place postings)) (happening_of posting ∷ map happening_of (drop (suc place) postings))
+    (may_all_behind before (map happening_of (take place postings)) (happening_of posting
+    ∷ map happening_of (drop (suc place) postings))
     (subst (MayAllFollow before) split may)).0
 
 pub posted_one : (before : List Happening) (postings : List Posting) (place : ℕ) (posting : Posting)
     → place < length postings
     → posting ≡ get_or postings place posting
-    → (before ++ map happening_of (take place postings)) ++ happening_of posting ∷ [] ≡ before ++ map happening_of (take (place + 1) postings)
+    → (before ++ map happening_of (take place postings)) ++ happening_of posting ∷ [] ≡ before
+    ++ map happening_of (take (place + 1) postings)
 posted_one before postings place posting within is =
     append_assoc before (map happening_of (take place postings)) (happening_of posting ∷ [])
     ∙ ap (λ xs. before ++ xs) (sym (ap (map happening_of) (take_more postings place posting within
@@ -74,7 +77,8 @@ pub stands_joined : (book copy new : Accounts) (happened more : List Happening) 
     → new.opens ≡ copy.opens → new.moments ≡ copy.moments → new.rows ≡ book.rows ++ copy.rows
     → StandsFor new (happened ++ more) taken
 stands_joined book copy new happened more taken stands after opens moments rows =
-    let all : rows_of (happened ++ more) ≡ rows_of happened ++ rows_from happened more = rows_from-append [] happened more in
+    let all : rows_of (happened ++ more) ≡ rows_of happened ++ rows_from happened more =
+    rows_from-append [] happened more in
     record {
       lawful = after.lawful;
       opens = opens ∙ after.opens;

@@ -56,7 +56,8 @@ counters-push life ebi qci seq piece p =
       sum_by-append (λ q. if q.up then 1 else 0) piece (p ∷ []),
       sum_by-append (λ q. if not q.up then 1 else 0) piece (p ∷ []),
     )
-    (counters-by_way p.up life ebi qci seq (up_octets piece) (down_octets piece) (up_packets piece) (down_packets piece) p.octets)
+    (counters-by_way p.up life ebi qci seq (up_octets piece) (down_octets piece) (up_packets piece)
+    (down_packets piece) p.octets)
 
 last_at-push : (piece : List Forwarded) (p : Forwarded) → Some p.at ≡ last_at (piece ++ p ∷ [])
 last_at-push piece p = sym (fold-append (λ _ q. Some q.at) None piece (p ∷ []))
@@ -87,19 +88,22 @@ pub record IsAt (book : Accounts) (place life : ℕ) (counters : Counters) (mome
   pub counters_are : counters ≡ get_or book.opens place counters
   pub moments_are : moments ≡ get_or book.moments place moments
 
-pub is-at : (book : Accounts) (opens : List Counters) (spans : List Moments) (place life : ℕ) (counters : Counters) (moments : Moments)
+pub is-at : (book : Accounts) (opens : List Counters) (spans : List Moments) (place life : ℕ) (counters : Counters)
+    (moments : Moments)
     → opens ≡ book.opens → spans ≡ book.moments → place < length opens
     → get_or (map (λ counters. counters.life) opens) place 0 ≡ life
     → counters ≡ get_or opens place counters → moments ≡ get_or spans place moments
     → IsAt book place life counters moments
-is-at book opens spans place life counters moments same_opens same_spans within found counters_are moments_are = record {
-  within = rw (← same_opens) within;
-  found = ap (λ xs. get_or (map (λ counters. counters.life) xs) place 0) (sym same_opens) ∙ found;
-  counters_are = counters_are ∙ ap (λ xs. get_or xs place counters) same_opens;
-  moments_are = moments_are ∙ ap (λ xs. get_or xs place moments) same_spans;
-}
+is-at book opens spans place life counters moments same_opens same_spans within found counters_are moments_are =
+    record {
+      within = rw (← same_opens) within;
+      found = ap (λ xs. get_or (map (λ counters. counters.life) xs) place 0) (sym same_opens) ∙ found;
+      counters_are = counters_are ∙ ap (λ xs. get_or xs place counters) same_opens;
+      moments_are = moments_are ∙ ap (λ xs. get_or xs place moments) same_spans;
+    }
 
-at-lives : (book : Accounts) (happened : List Happening) (taken place life : ℕ) (counters : Counters) (moments : Moments)
+at-lives : (book : Accounts) (happened : List Happening) (taken place life : ℕ) (counters : Counters)
+    (moments : Moments)
     → StandsFor book happened taken → IsAt book place life counters moments
     → (place < length (lives_of happened)) × (get_or (lives_of happened) place 0 ≡ life)
     × (counters ≡ open_at happened life) × (moments ≡ moments_at happened life)
@@ -132,7 +136,8 @@ stands-at book new happened taken now life place stands may lives others within 
     let distinct = lives-distinct happened stands.lawful in
     let same_lives : lives_of later ≡ lives_of happened = lives-push happened now ∙ lives in
     let same_open : (other : ℕ) → other ≢ life → open_at later other ≡ open_at happened other =
-    λ other differs. ap (λ story. open_of other story.ebi story.qci (length (finished story.items)) (last_piece story.items))
+    λ other differs. ap (λ story. open_of other story.ebi story.qci (length (finished story.items))
+    (last_piece story.items))
     (story-push happened now other ∙ others other differs) in
     let same_moments : (other : ℕ) → other ≢ life → moments_at later other ≡ moments_at happened other =
     λ other differs. ap (λ story. moments_of (last_piece story.items)) (story-push happened now other
@@ -140,15 +145,22 @@ stands-at book new happened taken now life place stands may lives others within 
     record {
       lawful = lawful-push happened now stands.lawful may;
       opens = opens ∙ ap (λ xs. set xs place (open_at later life)) stands.opens
-          ∙ sym (map-at (open_at happened) (open_at later) life (lives_of happened) place distinct within found same_open)
+          ∙ sym (map-at (open_at happened) (open_at later) life
+          (lives_of happened) place distinct within found same_open)
           ∙ ap (map (open_at later)) (sym same_lives);
       moments = moments ∙ ap (λ xs. set xs place (moments_at later life)) stands.moments
-          ∙ sym (map-at (moments_at happened) (moments_at later) life (lives_of happened) place distinct within found same_moments)
+          ∙ sym (map-at (moments_at happened) (moments_at later) life
+          (lives_of happened) place distinct within found same_moments)
           ∙ ap (map (moments_at later)) (sym same_lives);
       rows = rows ∙ ap (λ xs. xs ++ rows_at happened now) stands.rows
           ∙ sym (drop-append-le taken (rows_of happened) (rows_at happened now) stands.within)
           ∙ ap (drop taken) (sym (rows-push happened now));
-      within = omega (arith, stands.within, ap length (rows-push happened now), length-append (rows_of happened) (rows_at happened now));
+      within = omega (
+        arith,
+        stands.within,
+        ap length (rows-push happened now),
+        length-append (rows_of happened) (rows_at happened now),
+      );
     }
 
 -- an item more in a life's story
@@ -156,16 +168,20 @@ open-push : (happened : List Happening) (now : Happening) (life : ℕ) (item : I
     → story_step life (story_of happened life) now ≡ with_item (story_of happened life) item
     → open_at (happened ++ now ∷ []) life
     ≡ open_of life (story_of happened life).ebi (story_of happened life).qci
-    (length (finished (story_of happened life).items) + length (finishes (last_piece (story_of happened life).items) item))
+    (length (finished (story_of happened life).items) + length
+    (finishes (last_piece (story_of happened life).items) item))
     (piece_after (last_piece (story_of happened life).items) item)
 open-push happened now life item step =
     let story = story_of happened life in
-    let rows : length (finished (story.items ++ item ∷ [])) ≡ length (finished story.items) + length (finishes (last_piece story.items) item) =
+    let rows : length (finished (story.items ++ item ∷ [])) ≡ length (finished story.items)
+    + length (finishes (last_piece story.items) item) =
     ap length (finished-push story.items item)
     ∙ length-append (finished story.items) (finishes (last_piece story.items) item) in
-    ap (λ next. open_of life next.ebi next.qci (length (finished next.items)) (last_piece next.items)) (story-push happened now life ∙ step)
+    ap (λ next. open_of life next.ebi next.qci (length (finished next.items)) (last_piece next.items))
+    (story-push happened now life ∙ step)
     ∙ ap (λ seq. open_of life story.ebi story.qci seq (last_piece (story.items ++ item ∷ []))) rows
-    ∙ ap (open_of life story.ebi story.qci (length (finished story.items) + length (finishes (last_piece story.items) item)))
+    ∙ ap (open_of life story.ebi story.qci (length (finished story.items)
+    + length (finishes (last_piece story.items) item)))
     (last_piece-push story.items item)
 
 moments_at-push : (happened : List Happening) (now : Happening) (life : ℕ) (item : Item)
@@ -195,19 +211,25 @@ other-closed life why other story differs = rw (ne_eqb life other (λ is. differ
 -- whether a packet fills its piece
 pub unfilled : (piece : List Forwarded) (p : Forwarded) → is_full (piece ++ p ∷ []) ≡ false
     → (finishes piece (packet p) ≡ []) × (piece_after piece (packet p) ≡ piece ++ p ∷ [])
-unfilled piece p full =
-    (ap (λ b. cond b (record { piece = piece ++ p ∷ []; why = Volume } ∷ []) []) full, ap (λ b. cond b [] (piece ++ p ∷ [])) full)
+unfilled piece p full = (
+  ap (λ b. cond b (record { piece = piece ++ p ∷ []; why = Volume } ∷ []) []) full,
+  ap (λ b. cond b [] (piece ++ p ∷ [])) full,
+)
 
 pub filled : (piece : List Forwarded) (p : Forwarded) → is_full (piece ++ p ∷ []) ≡ true
     → (finishes piece (packet p) ≡ record { piece = piece ++ p ∷ []; why = Volume } ∷ [])
     × (piece_after piece (packet p) ≡ [])
-filled piece p full =
-    (ap (λ b. cond b (record { piece = piece ++ p ∷ []; why = Volume } ∷ []) []) full, ap (λ b. cond b [] (piece ++ p ∷ [])) full)
+filled piece p full = (
+  ap (λ b. cond b (record { piece = piece ++ p ∷ []; why = Volume } ∷ []) []) full,
+  ap (λ b. cond b [] (piece ++ p ∷ [])) full,
+)
 
 -- a packet that doesn't fill its piece
-pub stands-counted : (book new : Accounts) (happened : List Happening) (taken life place : ℕ) (p : Forwarded) (counters : Counters) (moments : Moments)
+pub stands-counted : (book new : Accounts) (happened : List Happening) (taken life place : ℕ) (p : Forwarded)
+    (counters : Counters) (moments : Moments)
     → StandsFor book happened taken → IsAt book place life counters moments → Contains (lives_in book) life
-    → nat_le volume ((with_packet counters p.up p.octets).up_octets + (with_packet counters p.up p.octets).down_octets) ≡ false
+    → nat_le volume ((with_packet counters p.up p.octets).up_octets
+    + (with_packet counters p.up p.octets).down_octets) ≡ false
     → new.opens ≡ set book.opens place (with_packet counters p.up p.octets)
     → new.moments ≡ set book.moments place (with_moment moments p.at) → new.rows ≡ book.rows
     → StandsFor new (happened ++ forwarded life p ∷ []) taken
@@ -218,7 +240,8 @@ stands-counted book new happened taken life place p counters moments stands at i
     let seq = length (finished story.items) in
     let more : with_packet counters p.up p.octets ≡ open_of life story.ebi story.qci seq (piece ++ p ∷ []) =
     ap (λ c. with_packet c p.up p.octets) known.2 ∙ counters-push life story.ebi story.qci seq piece p in
-    let not_full : is_full (piece ++ p ∷ []) ≡ false = sym (ap (λ c. nat_le volume (c.up_octets + c.down_octets)) more) ∙ room in
+    let not_full : is_full (piece ++ p ∷ []) ≡ false =
+    sym (ap (λ c. nat_le volume (c.up_octets + c.down_octets)) more) ∙ room in
     let done = unfilled piece p not_full in
     let step = own-forwarded life p story in
     let now_open : with_packet counters p.up p.octets ≡ open_at (happened ++ forwarded life p ∷ []) life =
@@ -232,12 +255,15 @@ stands-counted book new happened taken life place p counters moments stands at i
     (subst (λ lives. Contains lives life) (lives-stand book happened taken stands) is_open) refl
     (λ other differs. other-forwarded life p other (story_of happened other) differs) known.0 known.1
     (opens ∙ ap (set book.opens place) now_open) (spans ∙ ap (set book.moments place) now_moments)
-    (rows ∙ sym (append-nil book.rows) ∙ ap (λ xs. book.rows ++ map (row_of life story.ebi story.qci seq) xs) (sym done.0))
+    (rows ∙ sym (append-nil book.rows) ∙ ap (λ xs. book.rows ++ map (row_of life story.ebi story.qci seq) xs)
+    (sym done.0))
 
 -- one that fills it
-pub stands-filled : (book new : Accounts) (happened : List Happening) (taken life place : ℕ) (p : Forwarded) (counters : Counters) (moments : Moments)
+pub stands-filled : (book new : Accounts) (happened : List Happening) (taken life place : ℕ) (p : Forwarded)
+    (counters : Counters) (moments : Moments)
     → StandsFor book happened taken → IsAt book place life counters moments → Contains (lives_in book) life
-    → nat_le volume ((with_packet counters p.up p.octets).up_octets + (with_packet counters p.up p.octets).down_octets) ≡ true
+    → nat_le volume ((with_packet counters p.up p.octets).up_octets
+    + (with_packet counters p.up p.octets).down_octets) ≡ true
     → new.opens ≡ set book.opens place (next_piece (with_packet counters p.up p.octets))
     → new.moments ≡ set book.moments place no_moments
     → new.rows ≡ book.rows ++ row_from (with_packet counters p.up p.octets) (with_moment moments p.at) Volume ∷ []
@@ -272,7 +298,8 @@ stands-filled book new happened taken life place p counters moments stands at is
     ∙ ap (λ xs. book.rows ++ map (row_of life story.ebi story.qci seq) xs) (sym done.0))
 
 -- a mark after which the next piece begins
-pub stands-marked : (book new : Accounts) (happened : List Happening) (taken life place : ℕ) (why : Why) (counters : Counters) (moments : Moments)
+pub stands-marked : (book new : Accounts) (happened : List Happening) (taken life place : ℕ) (why : Why)
+    (counters : Counters) (moments : Moments)
     → StandsFor book happened taken → IsAt book place life counters moments → Contains (lives_in book) life
     → lives_step (lives_of happened) (closed life why) ≡ lives_of happened
     → new.opens ≡ set book.opens place (next_piece counters) → new.moments ≡ set book.moments place no_moments
@@ -292,7 +319,8 @@ stands-marked book new happened taken life place why counters moments stands at 
     ∙ ap (λ m. book.rows ++ row_from (open_at happened life) m why ∷ []) known.3)
 
 -- the end of a life
-pub stands-gone : (book new : Accounts) (happened : List Happening) (taken life place : ℕ) (counters : Counters) (moments : Moments)
+pub stands-gone : (book new : Accounts) (happened : List Happening) (taken life place : ℕ) (counters : Counters)
+    (moments : Moments)
     → StandsFor book happened taken → IsAt book place life counters moments → Contains (lives_in book) life
     → new.opens ≡ remove book.opens place → new.moments ≡ remove book.moments place
     → new.rows ≡ book.rows ++ row_from counters moments Gone ∷ []
@@ -306,23 +334,32 @@ stands-gone book new happened taken life place counters moments stands at is_ope
     let others : (other : ℕ) → other ≢ life → story_of later other ≡ story_of happened other =
     λ other differs. story-push happened now other ∙ other-closed life Gone other (story_of happened other) differs in
     let same_open : (other : ℕ) → other ≢ life → open_at later other ≡ open_at happened other =
-    λ other differs. ap (λ story. open_of other story.ebi story.qci (length (finished story.items)) (last_piece story.items)) (others other differs) in
+    λ other differs. ap (λ story. open_of other story.ebi story.qci (length (finished story.items))
+    (last_piece story.items)) (others other differs) in
     let same_moments : (other : ℕ) → other ≢ life → moments_at later other ≡ moments_at happened other =
     λ other differs. ap (λ story. moments_of (last_piece story.items)) (others other differs) in
     record {
-      lawful = lawful-push happened now stands.lawful (subst (λ xs. Contains xs life) (lives-stand book happened taken stands) is_open);
+      lawful = lawful-push happened now stands.lawful (subst (λ xs. Contains xs life)
+          (lives-stand book happened taken stands) is_open);
       opens = opens ∙ ap (λ xs. remove xs place) stands.opens
-          ∙ sym (map-without (open_at happened) (open_at later) life (lives_of happened) place distinct known.0 known.1 same_open)
+          ∙ sym (map-without (open_at happened) (open_at later) life
+          (lives_of happened) place distinct known.0 known.1 same_open)
           ∙ ap (map (open_at later)) (sym lives);
       moments = spans ∙ ap (λ xs. remove xs place) stands.moments
-          ∙ sym (map-without (moments_at happened) (moments_at later) life (lives_of happened) place distinct known.0 known.1 same_moments)
+          ∙ sym (map-without (moments_at happened) (moments_at later) life
+          (lives_of happened) place distinct known.0 known.1 same_moments)
           ∙ ap (map (moments_at later)) (sym lives);
       rows = rows ∙ ap (λ c. book.rows ++ row_from c moments Gone ∷ []) known.2
           ∙ ap (λ m. book.rows ++ row_from (open_at happened life) m Gone ∷ []) known.3
           ∙ ap (λ xs. xs ++ rows_at happened now) stands.rows
           ∙ sym (drop-append-le taken (rows_of happened) (rows_at happened now) stands.within)
           ∙ ap (drop taken) (sym (rows-push happened now));
-      within = omega (arith, stands.within, ap length (rows-push happened now), length-append (rows_of happened) (rows_at happened now));
+      within = omega (
+        arith,
+        stands.within,
+        ap length (rows-push happened now),
+        length-append (rows_of happened) (rows_at happened now),
+      );
     }
 
 -- a life starts
@@ -338,12 +375,15 @@ stands-started book new happened taken life ebi qci stands fresh opens spans row
     subst (λ xs. All (λ other. other ≢ life) xs) (lives-stand book happened taken stands) fresh in
     let none = none_of_all life (lives_of happened) may in
     let own : story_of later life ≡ record { ebi = ebi; qci = qci; items = [] } =
-    story-push happened now life ∙ ap (λ b. if b then record { ebi = ebi; qci = qci; items = [] } else story_of happened life) (eq-eqb life life refl) in
+    story-push happened now life ∙ ap (λ b. if b then record { ebi = ebi; qci = qci; items = [] }
+    else story_of happened life) (eq-eqb life life refl) in
     let others : (other : ℕ) → other ≢ life → story_of later other ≡ story_of happened other =
     λ other differs. story-push happened now other
-    ∙ ap (λ b. if b then record { ebi = ebi; qci = qci; items = [] } else story_of happened other) (ne_eqb life other (λ is. differs (sym is))) in
+    ∙ ap (λ b. if b then record { ebi = ebi; qci = qci; items = [] }
+    else story_of happened other) (ne_eqb life other (λ is. differs (sym is))) in
     let same_open : (other : ℕ) → other ≢ life → open_at later other ≡ open_at happened other =
-    λ other differs. ap (λ story. open_of other story.ebi story.qci (length (finished story.items)) (last_piece story.items)) (others other differs) in
+    λ other differs. ap (λ story. open_of other story.ebi story.qci (length (finished story.items))
+    (last_piece story.items)) (others other differs) in
     let same_moments : (other : ℕ) → other ≢ life → moments_at later other ≡ moments_at happened other =
     λ other differs. ap (λ story. moments_of (last_piece story.items)) (others other differs) in
     let own_open : open_at later life ≡ open_of life ebi qci 0 [] =
@@ -362,7 +402,12 @@ stands-started book new happened taken life ebi qci stands fresh opens spans row
           ∙ sym (map_push (moments_at later) (lives_of happened) life)
           ∙ ap (map (moments_at later)) (sym (lives-push happened now));
       rows = rows ∙ stands.rows ∙ ap (drop taken) (sym (rows-push happened now ∙ append-nil (rows_of happened)));
-      within = omega (arith, stands.within, ap length (rows-push happened now), length-append (rows_of happened) (rows_at happened now));
+      within = omega (
+        arith,
+        stands.within,
+        ap length (rows-push happened now),
+        length-append (rows_of happened) (rows_at happened now),
+      );
     }
 
 -- only `Gone` ends a life

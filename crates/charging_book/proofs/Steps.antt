@@ -12,7 +12,8 @@ finished_from-append : (piece : List Forwarded) (xs ys : List Item)
 finished_from-append piece [] ys = refl
 finished_from-append piece (x ∷ xs) ys =
     ap (λ rest. finishes piece x ++ rest) (finished_from-append (piece_after piece x) xs ys)
-    ∙ sym (append_assoc (finishes piece x) (finished_from (piece_after piece x) xs) (finished_from (fold piece_after (piece_after piece x) xs) ys))
+    ∙ sym (append_assoc (finishes piece x) (finished_from (piece_after piece x) xs)
+    (finished_from (fold piece_after (piece_after piece x) xs) ys))
 
 pub finished-push : (items : List Item) (item : Item)
     → finished (items ++ item ∷ []) ≡ finished items ++ finishes (last_piece items) item
@@ -26,7 +27,8 @@ last_piece-push items item = fold-append piece_after [] items (item ∷ [])
 
 pub story-push : (happened : List Happening) (now : Happening) (life : ℕ)
     → story_of (happened ++ now ∷ []) life ≡ story_step life (story_of happened life) now
-story-push happened now life = fold-append (story_step life) (record { ebi = 0; qci = 0; items = [] }) happened (now ∷ [])
+story-push happened now life =
+    fold-append (story_step life) (record { ebi = 0; qci = 0; items = [] }) happened (now ∷ [])
 
 pub lives-push : (happened : List Happening) (now : Happening)
     → lives_of (happened ++ now ∷ []) ≡ lives_step (lives_of happened) now
@@ -59,11 +61,13 @@ lawful-push happened now lawful may = may_from-push [] happened now lawful may
 -- the lives of what may happen are distinct
 distinct-step : (before : List Happening) (now : Happening) → MayHappen before now → AreDistinct (lives_of before)
     → AreDistinct (lives_step (lives_of before) now)
-distinct-step before (started life ebi qci) may distinct = distinct-push (lives_of before) life distinct (none_of_all life (lives_of before) may)
+distinct-step before (started life ebi qci) may distinct =
+    distinct-push (lives_of before) life distinct (none_of_all life (lives_of before) may)
 distinct-step before (forwarded life p) may distinct = distinct
 distinct-step before (closed life Volume) may distinct = distinct
 distinct-step before (closed life Qos) may distinct = distinct
-distinct-step before (closed life Gone) may distinct = distinct-filter (λ other. not (other == life)) (lives_of before) distinct
+distinct-step before (closed life Gone) may distinct =
+    distinct-filter (λ other. not (other == life)) (lives_of before) distinct
 
 distinct_from : (before xs : List Happening) → AllMay before xs → AreDistinct (lives_of before)
     → AreDistinct (lives_of (before ++ xs))

@@ -22,7 +22,8 @@ with_item story item = record { ebi = story.ebi; qci = story.qci; items = story.
 
 -- a life's story behind a happening
 abbrev pub story_step : ℕ → Story → Happening → Story
-story_step life story (started other ebi qci) = if other == life then record { ebi = ebi; qci = qci; items = [] } else story
+story_step life story (started other ebi qci) =
+    if other == life then record { ebi = ebi; qci = qci; items = [] } else story
 story_step life story (forwarded other p) = if other == life then with_item story (packet p) else story
 story_step life story (closed other why) = if other == life then with_item story (mark why) else story
 

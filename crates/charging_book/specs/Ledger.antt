@@ -57,19 +57,23 @@ abbrev pub charged_octets : Bool → ℕ → List Charged → ℕ
 charged_octets up life rows = sum_by (λ row. if up then row.up_octets else row.down_octets) (rows_for life rows)
 
 abbrev pub open_octets : Bool → ℕ → List Counters → ℕ
-open_octets up life opens = sum_by (λ counters. if up then counters.up_octets else counters.down_octets) (opens_for life opens)
+open_octets up life opens =
+    sum_by (λ counters. if up then counters.up_octets else counters.down_octets) (opens_for life opens)
 
 -- its packets one way over rows · over open counters
 abbrev pub charged_packets : Bool → ℕ → List Charged → ℕ
 charged_packets up life rows = sum_by (λ row. if up then row.up_packets else row.down_packets) (rows_for life rows)
 
 abbrev pub open_packets : Bool → ℕ → List Counters → ℕ
-open_packets up life opens = sum_by (λ counters. if up then counters.up_packets else counters.down_packets) (opens_for life opens)
+open_packets up life opens =
+    sum_by (λ counters. if up then counters.up_packets else counters.down_packets) (opens_for life opens)
 
 abbrev pub EachOctetOnce : Type 0
 EachOctetOnce = (happened : List Happening) (up : Bool) (life : ℕ) → IsLawful happened
-    → charged_octets up life (rows_of happened) + open_octets up life (opens_of happened) ≡ octets_in up (packets_of life happened)
+    → charged_octets up life (rows_of happened) + open_octets up life (opens_of happened)
+    ≡ octets_in up (packets_of life happened)
 
 abbrev pub EachPacketOnce : Type 0
 EachPacketOnce = (happened : List Happening) (up : Bool) (life : ℕ) → IsLawful happened
-    → charged_packets up life (rows_of happened) + open_packets up life (opens_of happened) ≡ packets_in up (packets_of life happened)
+    → charged_packets up life (rows_of happened) + open_packets up life (opens_of happened)
+    ≡ packets_in up (packets_of life happened)

@@ -52,7 +52,8 @@ pub record Finished : Type 0 where
 
 -- what an item finishes, behind a piece so far
 abbrev pub finishes : List Forwarded → Item → List Finished
-finishes piece (packet p) = if is_full (piece ++ p ∷ []) then record { piece = piece ++ p ∷ []; why = Volume } ∷ [] else []
+finishes piece (packet p) =
+    if is_full (piece ++ p ∷ []) then record { piece = piece ++ p ∷ []; why = Volume } ∷ [] else []
 finishes piece (mark why) = record { piece = piece; why = why } ∷ []
 
 -- the piece behind an item

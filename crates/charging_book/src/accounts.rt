@@ -75,7 +75,8 @@ impl Book {
         requires room { LifeHasRoom self.old life }
 
         ensures stands { (happened : List Happening) (taken : ℕ) → StandsFor self.old happened taken
-            → OnOk result (StandsFor self.new (happened ++ forwarded life (record { up = up; octets = octets; at = at }) ∷ []) taken) }
+            → OnOk result (StandsFor self.new (happened ++ forwarded life
+            (record { up = up; octets = octets; at = at }) ∷ []) taken) }
         ensures unchanged { OnErr result (self.new ≡ self.old) }
     {
         let place = place_of(&self.opens, life);

@@ -6,7 +6,8 @@ use Rattle.lane_core.specs.declared.order.Log.{Log}
 
 -- each item may follow those before it
 abbrev pub Lawful : {T : Type 0} → (List T → T → Type 0) → List T → Type 0
-Lawful {T} follows items = (before : List T) (item : T) (after : List T) → items ≡ before ++ item ∷ after → follows before item
+Lawful {T} follows items =
+    (before : List T) (item : T) (after : List T) → items ≡ before ++ item ∷ after → follows before item
 
 abbrev pub log : {T : Type 0} → Bool → Bool → List T → List T → Log T
 log pushes pops sent got = record { pushes = pushes; pops = pops; sent = sent; got = got }

@@ -99,7 +99,8 @@ impl<T: Carried> Receiver<T> {
         // The next item, or nothing, and that answer is counted.
         ensures next { MatchOption result
             ((taken self.new ≡ taken self.old) × (empty_answers self.new ≡ raised (empty_answers self.old)))
-            (λ item. (taken self.new ≡ taken self.old ++ item ∷ []) × (empty_answers self.new ≡ empty_answers self.old)) }
+            (λ item. (taken self.new ≡ taken self.old ++ item ∷ [])
+            × (empty_answers self.new ≡ empty_answers self.old)) }
     {
         match self.pop(rt) {
             Some(item) => Some(item),

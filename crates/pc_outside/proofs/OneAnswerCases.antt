@@ -18,7 +18,8 @@ same_line (x ∷ xs) [] rest rest' same none none' = absurd (none 0 0 (omega ari
 same_line (x ∷ xs) (y ∷ ys) rest rest' same none none' =
     let head : x ≡ y = cc in
     let tail : xs ++ 10 ∷ rest ≡ ys ++ 10 ∷ rest' = cc in
-    let both = same_line xs ys rest rest' tail (λ k d within. none (suc k) d (omega arith)) (λ k d within. none' (suc k) d (omega arith)) in
+    let both = same_line xs ys rest rest' tail (λ k d within. none (suc k) d (omega arith))
+    (λ k d within. none' (suc k) d (omega arith)) in
     (cc (both.0, head), both.1)
 
 -- a last line has no newline

@@ -27,7 +27,8 @@ pub reads-of_answers : (read : LineRead) (start now new : Held) (left left_now :
     → IsReading start now left left_now seen
     → ((behind : List ℕ) → left_now ≡ Some behind
     → Answers read now.room new.room (now.front ++ behind) (new.front ++ behind) new.line new.last)
-    → Reads read start.room new.room (prepend_known start.front left) (prepend_known new.front left_now) new.line new.last
+    → Reads read start.room new.room (prepend_known start.front left)
+    (prepend_known new.front left_now) new.line new.last
 reads-of_answers read start now new None left_now seen so_far answers = tt
 reads-of_answers read start now new (Some xs) None seen so_far answers = absurd so_far.consumed
 reads-of_answers read start now new (Some xs) (Some ys) seen so_far answers =
@@ -51,7 +52,8 @@ pub settles-behind : (read : LineRead) (now new : Held) (behind : List ℕ) → 
     → Settles read now new
     → Answers read now.room new.room (now.front ++ behind) (new.front ++ behind) new.line new.last
 settles-behind Line now new behind line not_last gives =
-    subst (λ last. HoldsLine now.room new.room (now.front ++ behind) (new.front ++ behind) new.line last) (sym (gives.last ∙ not_last))
+    subst (λ last. HoldsLine now.room new.room (now.front ++ behind) (new.front ++ behind) new.line last)
+    (sym (gives.last ∙ not_last))
     (record {
       no_newline = gives.no_newline;
       short = gives.short;
@@ -99,13 +101,15 @@ settles-stays LineLong Line now new long gives =
 settles-stays LineLong End now new long gives = absurd gives
 settles-stays LineLong ReadFault now new long gives = absurd gives
 settles-stays LineLong LineLong now new long gives = (refl, ap (λ held. held.front) gives.0)
-settles-stays LineLong TooLong now new long gives = absurd (omega (arith, long.long, long.within, gives.1.short, gives.1.full))
+settles-stays LineLong TooLong now new long gives =
+    absurd (omega (arith, long.long, long.within, gives.1.short, gives.1.full))
 settles-stays TooLong Line now new full gives =
     absurd (newline_within now.front new.line new.front full.front full.rest gives.whole.parts full.parts
     (omega (arith, full.full, gives.whole.given)) full.no_newline)
 settles-stays TooLong End now new full gives = absurd gives
 settles-stays TooLong ReadFault now new full gives = absurd gives
-settles-stays TooLong LineLong now new full gives = absurd (omega (arith, gives.1.long, gives.1.within, full.short, full.full))
+settles-stays TooLong LineLong now new full gives =
+    absurd (omega (arith, gives.1.long, gives.1.within, full.short, full.full))
 settles-stays TooLong TooLong now new full gives = (refl, ap (λ held. held.front) gives.0)
 
 -- a state that has stopped is known by its octets and room

@@ -7,5 +7,10 @@ pub front_and_rest : (octets front into : List ℕ) (from n : ℕ) → front ≡
     → n ≤ length octets - from
     → drop from octets ≡ take n (front ++ into) ++ drop (from + n) octets
 front_and_rest octets front into from n is within =
-    let count : length front ≡ n = omega (arith, ap length is, length-take n (drop from octets), length-drop from octets) in
+    let count : length front ≡ n = omega (
+      arith,
+      ap length is,
+      length-take n (drop from octets),
+      length-drop from octets,
+    ) in
     rw (take_at front into n count, is, ← drop-drop n from octets) (sym (take-append-drop n (drop from octets)))

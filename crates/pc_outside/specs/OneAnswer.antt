@@ -5,7 +5,8 @@ use Rattle.pc_outside.specs.declared.reading.LineRead.{LineRead}
 use Rattle.pc_outside.specs.declared.reading.LineRead.TheVariants.{ReadFault}
 
 -- two answers, their lines, whether these are the last ones, and what they leave are the same
-pub record AreOne (first second : LineRead) (after after' : ℕ) (rest rest' line line' : List ℕ) (last last' : Bool) : Type 0 where
+pub record AreOne (first second : LineRead) (after after' : ℕ) (rest rest' line line' : List ℕ)
+    (last last' : Bool) : Type 0 where
   pub read : first ≡ second
   pub room : after ≡ after'
   pub left : rest ≡ rest'
@@ -14,7 +15,8 @@ pub record AreOne (first second : LineRead) (after after' : ℕ) (rest rest' lin
 
 -- no two answers fit the same octets and room
 abbrev pub OneAnswer : Type 0
-OneAnswer = (first second : LineRead) (room after after' : ℕ) (octets rest rest' line line' : List ℕ) (last last' : Bool)
+OneAnswer = (first second : LineRead) (room after after' : ℕ) (octets rest rest' line line' : List ℕ)
+    (last last' : Bool)
     → first ≢ ReadFault → second ≢ ReadFault
     → Answers first room after octets rest line last → Answers second room after' octets rest' line' last'
     → AreOne first second after after' rest rest' line line' last last'

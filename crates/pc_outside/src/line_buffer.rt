@@ -233,7 +233,8 @@ fn read_between<S: Source>(
     ensures len { vec_len octets.new ≡ vec_len octets.old }
     ensures before { take at octets.new.items ≡ take at octets.old.items }
     ensures count { IfOk result (λ count. at + count ≤ end) }
-    ensures given { IfOk result (λ count. Consumes (S.left source.old) (S.left source.new) (slice_range octets.new.items at (at + count))) }
+    ensures given { IfOk result (λ count. Consumes (S.left source.old) (S.left source.new)
+        (slice_range octets.new.items at (at + count))) }
     ensures end { IfOk result (λ count. count ≡ 0 → IsAtEnd (S.left source.new)) }
     ensures kept { OnErr result (Keeps (S.left source.old) (S.left source.new)) }
 

@@ -183,7 +183,8 @@ impl Sink for MemSink {
         // Which calls fail, and how much the others take.
         ensures fails { IsErr result ↔ (Contains self.old.fail_at self.old.calls
             ⊎ (self.old.room ≤ length self.old.written)) }
-        ensures taken { IfOk result (λ n. n ≡ min self.old.piece (min (length from.now) (self.old.room - length self.old.written))) }
+        ensures taken { IfOk result (λ n. n ≡ min self.old.piece
+            (min (length from.now) (self.old.room - length self.old.written))) }
 
         // The call is counted, and its failure.
         ensures call { self.new.calls ≡ counted self.old.calls }

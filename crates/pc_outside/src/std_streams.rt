@@ -39,7 +39,8 @@ impl<R: Read> Source for StdSource<R> {
         ensures cause { OnErr result (Rises (read_faults self.old) (read_faults self.new)) }
 
         // What the reader gave is handed on, and its failures are counted.
-        ensures handed_on { ReadConsumes (R.remaining (reader_of self.old)) (R.remaining (reader_of self.new)) result into.new }
+        ensures handed_on { ReadConsumes (R.remaining (reader_of self.old))
+            (R.remaining (reader_of self.new)) result into.new }
         ensures no_fault { OnOk result (read_faults self.new ≡ read_faults self.old) }
         ensures fault { OnErr result (read_faults self.new ≡ counted (read_faults self.old)) }
     {
@@ -85,7 +86,8 @@ impl<W: Write> Sink for StdSink<W> {
         ensures cause { OnErr result (Rises (write_faults self.old) (write_faults self.new)) }
 
         // What the writer took is answered, and its failures are counted.
-        ensures handed_on { WriteAppends (W.contents (writer_of self.old)) (W.contents (writer_of self.new)) result from.now }
+        ensures handed_on { WriteAppends (W.contents (writer_of self.old))
+            (W.contents (writer_of self.new)) result from.now }
         ensures no_fault { OnOk result (write_faults self.new ≡ write_faults self.old) }
         ensures fault { OnErr result (write_faults self.new ≡ counted (write_faults self.old)) }
     {

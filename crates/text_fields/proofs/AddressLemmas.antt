@@ -41,15 +41,18 @@ four_read a b c d fits_a fits_b fits_c fits_d =
 four : (a b c d : ℕ) → a < 256 → b < 256 → c < 256 → d < 256
     → address_of (join_with_byte dot (map decimal (a ∷ b ∷ c ∷ d ∷ []))) ≡ Some (from_be_bytes w32 (a ∷ b ∷ c ∷ d ∷ []))
 four a b c d fits_a fits_b fits_c fits_d =
-    ap parts_of (pieces-joined dot (decimal a) (map decimal (b ∷ c ∷ d ∷ [])) (four_lack a b c d fits_a fits_b fits_c fits_d))
+    ap parts_of (pieces-joined dot (decimal a) (map decimal (b ∷ c ∷ d ∷ []))
+    (four_lack a b c d fits_a fits_b fits_c fits_d))
     ∙ four_read a b c d fits_a fits_b fits_c fits_d
 
 pub address_read : (address : ℕ) → address < 2 ^ 32 → address_of (dotted address) ≡ Some address
 address_read address fits =
-    four _ _ _ _ (omega arith) (omega arith) (omega arith) (omega arith) ∙ ap Some (from_be_bytes-to_be_bytes_4 address fits)
+    four _ _ _ _ (omega arith) (omega arith) (omega arith) (omega arith)
+    ∙ ap Some (from_be_bytes-to_be_bytes_4 address fits)
 
 -- what was bound
-bound : {A B : Type 0} (r : Option A) (f : A → Option B) (y : B) → (r >>= f) ≡ Some y → (x : A) × (r ≡ Some x) × (f x ≡ Some y)
+bound : {A B : Type 0} (r : Option A) (f : A → Option B) (y : B) → (r >>= f) ≡ Some y → (x : A) × (r ≡ Some x)
+    × (f x ≡ Some y)
 bound (Some x) f y is = (x, refl, is)
 bound None f y is = cc
 
@@ -80,16 +83,20 @@ parts_only (t ∷ u ∷ v ∷ w ∷ []) address read =
     let d = number_only 0 255 fourth.0 w (omega arith) fourth.1 in
     let whole : from_be_bytes w32 (bytes_of first.0 second.0 third.0 fourth.0) ≡ address = cc (fourth.2) in
     let bytes = be_bytes_4 (bytes_of first.0 second.0 third.0 fourth.0) address refl
-    (λ i. each_fits first.0 second.0 third.0 fourth.0 i (omega arith) (omega arith) (omega arith) (omega arith)) (sym whole) in
-    let texts = four_texts t u v w first.0 second.0 third.0 fourth.0 a.0 b.0 c.0 d.0 in
-    (ap (join_with_byte dot) (sym texts) ∙ ap (λ octets. join_with_byte dot (map decimal octets)) (sym bytes), omega arith)
+    (λ i. each_fits first.0 second.0 third.0 fourth.0 i (omega arith) (omega arith) (omega arith) (omega arith))
+    (sym whole) in
+    let texts = four_texts t u v w first.0 second.0 third.0 fourth.0 a.0 b.0 c.0 d.0 in (
+      ap (join_with_byte dot) (sym texts) ∙ ap (λ octets. join_with_byte dot (map decimal octets)) (sym bytes),
+      omega arith,
+    )
 parts_only [] address read = cc
 parts_only (t ∷ []) address read = cc
 parts_only (t ∷ u ∷ []) address read = cc
 parts_only (t ∷ u ∷ v ∷ []) address read = cc
 parts_only (t ∷ u ∷ v ∷ w ∷ x ∷ texts) address read = cc
 
-pub address_only : (address : ℕ) (text : List ℕ) → address_of text ≡ Some address → (text ≡ dotted address) × (address < 2 ^ 32)
+pub address_only : (address : ℕ) (text : List ℕ) → address_of text ≡ Some address → (text ≡ dotted address)
+    × (address < 2 ^ 32)
 address_only address text read =
     let parts = parts_only (pieces dot text) address read in
     (sym (joined-pieces dot text) ∙ parts.0, parts.1)

@@ -11,7 +11,8 @@ not_true true = λ no. absurd (no refl)
 not_true false = λ no. refl
 
 pub cut_found : (at : ℕ) (text : List ℕ) (place : ℕ) → IsFirstByte (is_byte at) text (Some place)
-    → slice_split (λ octet. octet == at) text ≡ take place text ∷ slice_split (λ octet. octet == at) (drop (place + 1) text)
+    → slice_split (λ octet. octet == at) text ≡ take place text
+    ∷ slice_split (λ octet. octet == at) (drop (place + 1) text)
 cut_found at text place found =
     let there : position_or_len (λ octet. octet == at) text ≡ place =
     position_or_len_is (λ octet. octet == at) text place 0 (omega (arith, found.0.high))
@@ -24,6 +25,8 @@ cut_found at text place found =
 pub get_or-default : (xs : List ℕ) (k d : ℕ) → k < length xs → get_or xs k d ≡ get_or xs k 0
 get_or-default xs k d inside = grind (arith, common_steps)
 
-pub cut_nowhere : (at : ℕ) (text : List ℕ) → IsFirstByte (is_byte at) text None → slice_split (λ octet. octet == at) text ≡ text ∷ []
+pub cut_nowhere : (at : ℕ) (text : List ℕ) → IsFirstByte (is_byte at) text None
+    → slice_split (λ octet. octet == at) text ≡ text ∷ []
 cut_nowhere at text none =
-    slice_split_none (λ octet. octet == at) text (λ k d inside. rw (get_or-default text k d inside) (not_true _ (none k (omega arith) inside)))
+    slice_split_none (λ octet. octet == at) text (λ k d inside.
+    rw (get_or-default text k d inside) (not_true _ (none k (omega arith) inside)))

@@ -17,7 +17,8 @@ pub own : IsNumeralModel (λ digits. list_all is_ascii_digit digits ≡ true) (d
 own = numerals_by_value _ (search rules)
 
 -- the digit at a place stays within 0 to 9
-pub digit_in_range : (digits : List ℕ) (i : ℕ) → list_all is_ascii_digit digits ≡ true → i < length digits → IsInRange 48 57 (get_or digits i 0)
+pub digit_in_range : (digits : List ℕ) (i : ℕ) → list_all is_ascii_digit digits ≡ true → i < length digits
+    → IsInRange 48 57 (get_or digits i 0)
 digit_in_range digits i all inside = digit_at digits i (own.to digits all) inside
 
 -- one digit more
@@ -58,7 +59,8 @@ chosen false value n read = cc
 pub number_only : (least last n : ℕ) (text : List ℕ) → last < 2 ^ 64 → number_in least last text ≡ Some n
     → (text ≡ decimal n) × (least ≤ n) × (n ≤ last)
 number_only least last n text fits read =
-    let test = chosen (is_decimal text && (nat_le least (digits_value 10 text) && nat_le (digits_value 10 text) last)) (digits_value 10 text) n read in
+    let test = chosen (is_decimal text && (nat_le least (digits_value 10 text)
+    && nat_le (digits_value 10 text) last)) (digits_value 10 text) n read in
     let passed = test.0 in
     let value : digits_value 10 text ≡ n = test.1 in
     let digits : list_all is_ascii_digit text ≡ true = grind (arith, nat_tests) in

@@ -19,7 +19,8 @@ pub pieces-joined : (at : ℕ) (first : List ℕ) (texts : List (List ℕ)) → 
     → pieces at (join_with_byte at (first ∷ texts)) ≡ first ∷ texts
 pieces-joined at first [] lack = slice_split_none (λ octet. octet == at) first (all_differ at first lack.0)
 pieces-joined at first (next ∷ texts) lack =
-    slice_split_at (λ octet. octet == at) first at (join_with_byte at (next ∷ texts)) (all_differ at first lack.0) (same at)
+    slice_split_at (λ octet. octet == at) first at (join_with_byte at (next ∷ texts)) (all_differ at first lack.0)
+    (same at)
     ∙ ap (λ rest. first ∷ rest) (pieces-joined at next texts lack.1)
 
 pub joined-pieces : (at : ℕ) (text : List ℕ) → join_with_byte at (pieces at text) ≡ text
@@ -29,7 +30,8 @@ joined-pieces at text = join_with_byte-slice_split at text
 is_other : (at octet : ℕ) → (octet == at) ≡ false → octet ≢ at
 is_other at octet test same = grind (arith, nat_tests)
 
-onto_lacks : (at octet : ℕ) (texts : List (List ℕ)) → octet ≢ at → AllLack at texts → AllLack at (onto_first octet texts)
+onto_lacks : (at octet : ℕ) (texts : List (List ℕ)) → octet ≢ at → AllLack at texts
+    → AllLack at (onto_first octet texts)
 onto_lacks at octet [] other lack = (All-cons (λ o. o ≢ at) octet [] other (All-nil (λ o. o ≢ at)), tt)
 onto_lacks at octet (text ∷ texts) other lack = (All-cons (λ o. o ≢ at) octet text other lack.0, lack.1)
 

@@ -33,22 +33,26 @@ computed_at (suc n) value all below =
     ]
 
 -- `0` to `9` are 48 to 57, `a` to `f` are 97 to 102
-pub digit_computed : (value : ℕ) → value < 16 → slice_index lower_digits value ≡ (if nat_lt value 10 then value + 48 else value + 87)
+pub digit_computed : (value : ℕ) → value < 16 → slice_index lower_digits value
+    ≡ (if nat_lt value 10 then value + 48 else value + 87)
 digit_computed value below = eqb-true _ _ (computed_at 16 value refl below)
 
 -- the octet of two digits
-pub two_digits : (high low first second place : ℕ) → hex_digit_value high ≡ Some first → hex_digit_value low ≡ Some second
+pub two_digits : (high low first second place : ℕ) → hex_digit_value high ≡ Some first
+    → hex_digit_value low ≡ Some second
     → pair_value high low place ≡ Ok (first * 16 + second)
 two_digits high low first second place is_first is_second = rw (is_first, is_second) refl
 
 -- a digit in lower case is the digit of its value, and the other way round
-lower_digit : (digit value : ℕ) → hex_digit_value digit ≡ Some value → (lower digit ≡ slice_index lower_digits value) × (value < 16)
+lower_digit : (digit value : ℕ) → hex_digit_value digit ≡ Some value
+    → (lower digit ≡ slice_index lower_digits value) × (value < 16)
 lower_digit digit value is =
     let small : value < 16 = grind (arith, nat_tests) in
     let computed = digit_computed value small in
     (grind (arith, nat_tests), small)
 
-value_of_lower : (digit value : ℕ) → value < 16 → lower digit ≡ slice_index lower_digits value → hex_digit_value digit ≡ Some value
+value_of_lower : (digit value : ℕ) → value < 16 → lower digit ≡ slice_index lower_digits value
+    → hex_digit_value digit ≡ Some value
 value_of_lower digit value small is = let computed = digit_computed value small in grind (arith, nat_tests)
 
 -- what a decoded pair and its rest were made of
@@ -61,9 +65,11 @@ record Parts (high low : ℕ) (behind : Result (List ℕ) FromHexError) (octets 
   rest_is : behind ≡ Ok rest
   octets_are : octets ≡ (first * 16 + second) ∷ rest
 
-parts : (high low at : ℕ) (h l : Option ℕ) (behind : Result (List ℕ) FromHexError) (octets : List ℕ) → hex_digit_value high ≡ h
+parts : (high low at : ℕ) (h l : Option ℕ) (behind : Result (List ℕ) FromHexError) (octets : List ℕ)
+    → hex_digit_value high ≡ h
     → hex_digit_value low ≡ l
-    → (((digit_or_error high at h >>= (λ x. digit_or_error low (at + 1) l >>= (λ y. Ok (x * 16 + y)))) >>= (λ octet. behind >>= (λ rest. Ok (octet ∷ rest)))) ≡ Ok octets)
+    → (((digit_or_error high at h >>= (λ x. digit_or_error low (at + 1) l >>= (λ y. Ok (x * 16 + y)))) >>=
+    (λ octet. behind >>= (λ rest. Ok (octet ∷ rest)))) ≡ Ok octets)
     → Parts high low behind octets
 parts high low at (Some first) (Some second) (Ok rest) octets is_h is_l decoded = record {
   first = first;
@@ -79,12 +85,14 @@ parts high low at (Some first) None behind octets is_h is_l decoded = cc
 parts high low at None l behind octets is_h is_l decoded = cc
 
 -- what decodes, in lower case, is the text of its octets
-pairs_lower : (at : ℕ) (text octets : List ℕ) → decode_pairs at text ≡ Ok octets → map lower text ≡ encode_with lower_digits octets
+pairs_lower : (at : ℕ) (text octets : List ℕ) → decode_pairs at text ≡ Ok octets
+    → map lower text ≡ encode_with lower_digits octets
 unfolding decode_pairs encode_with
 pairs_lower at [] octets decoded = let none : [] ≡ octets = cc in rw (← none) refl
 pairs_lower at (digit ∷ []) octets decoded = cc
 pairs_lower at (high ∷ low ∷ text) octets decoded =
-    let p = parts high low at (hex_digit_value high) (hex_digit_value low) (decode_pairs (at + 2) text) octets refl refl decoded in
+    let p = parts high low at (hex_digit_value high) (hex_digit_value low)
+    (decode_pairs (at + 2) text) octets refl refl decoded in
     let rest = pairs_lower (at + 2) text p.rest p.rest_is in
     let first = lower_digit high p.first p.high_is in
     let second = lower_digit low p.second p.low_is in
@@ -124,7 +132,8 @@ bytes_from_all octets all i =
 all_from_bytes : (octets : List ℕ) → IsBytes octets → All (λ octet. octet < 256) octets
 all_from_bytes octets bytes k d inside = rw (get_or-default octets k d inside) (bytes k)
 
-ok_from_some : (answer : Result (List ℕ) FromHexError) (octets : List ℕ) → result_ok answer ≡ Some octets → answer ≡ Ok octets
+ok_from_some : (answer : Result (List ℕ) FromHexError) (octets : List ℕ) → result_ok answer ≡ Some octets
+    → answer ≡ Ok octets
 ok_from_some (Ok rest) octets is = let same : rest ≡ octets = cc in ap Ok same
 ok_from_some (Err why) octets is = cc
 
@@ -146,7 +155,12 @@ pub octets_read : (text octets : List ℕ) → 0 < length octets → All (λ oct
     → in_lower_case text ≡ encode_lower octets → octets_of text ≡ Some octets
 octets_read text octets some all same =
     let lengths = ap length same in
-    let twice : length text ≡ 2 * length octets = omega (arith, length-map text lower, length-encode_with lower_digits octets, lengths) in
+    let twice : length text ≡ 2 * length octets = omega (
+      arith,
+      length-map text lower,
+      length-encode_with lower_digits octets,
+      lengths,
+    ) in
     read_some text octets (omega arith)
     (decode_of-even text (omega arith) ∙ lower_pairs 0 text octets (bytes_from_all octets all) same)
 
@@ -154,7 +168,8 @@ octets_read text octets some all same =
 true_or_false : true ≡ false → ⊥
 true_or_false same = cc
 
-refused : (text : List ℕ) → list_all is_hex_digit text ≡ false → (decoded : Result (List ℕ) FromHexError) → decode_of text ≡ decoded
+refused : (text : List ℕ) → list_all is_hex_digit text ≡ false → (decoded : Result (List ℕ) FromHexError)
+    → decode_of text ≡ decoded
     → result_ok decoded ≡ None
 refused text bad (Ok octets) is =
     let all = list_all-from_AllPass is_hex_digit text (decode_of-ok text octets is).1 in
@@ -168,29 +183,38 @@ no_octets (octet ∷ text) bad = refused (octet ∷ text) bad (decode_of (octet 
 -- two more digits are tested
 pub two_tested : (digits : List ℕ) (place : ℕ) → 2 * place + 1 < length digits
     → list_all is_hex_digit (take (2 * (place + 1)) digits)
-    ≡ (list_all is_hex_digit (take (2 * place) digits) && (is_hex_digit (slice_index digits (2 * place)) && is_hex_digit (slice_index digits (2 * place + 1))))
+    ≡ (list_all is_hex_digit (take (2 * place) digits)
+    && (is_hex_digit (slice_index digits (2 * place)) && is_hex_digit (slice_index digits (2 * place + 1))))
 two_tested digits place inside =
     let two : 2 * (place + 1) ≡ 2 * place + 1 + 1 = omega arith in
     let second = list_all_more is_hex_digit digits (2 * place + 1) 0 inside in
     let first = list_all_more is_hex_digit digits (2 * place) 0 (omega arith) in
-    rw (two, second, first) (and_assoc (list_all is_hex_digit (take (2 * place) digits)) (is_hex_digit (slice_index digits (2 * place))) (is_hex_digit (slice_index digits (2 * place + 1))))
+    rw (two, second, first) (and_assoc (list_all is_hex_digit (take (2 * place) digits))
+    (is_hex_digit (slice_index digits (2 * place))) (is_hex_digit (slice_index digits (2 * place + 1))))
 
 -- the octet of two digits, as it is computed
-pub octet_computed : (first second : ℕ) → first < 16 → second < 16 → (first * 16 % 256 + second) % 256 ≡ first * 16 + second
+pub octet_computed : (first second : ℕ) → first < 16 → second < 16
+    → (first * 16 % 256 + second) % 256 ≡ first * 16 + second
 octet_computed first second high low = omega arith
 
 -- one octet more is decoded
-pub octet_decoded : (digits octets : List ℕ) (place : ℕ) (all : Bool) (first second : ℕ) → 2 * place + 1 < length digits → place < length octets
-    → (is_hex_digit (slice_index digits (2 * place)) ≡ true → (hex_digit_value (slice_index digits (2 * place)) ≡ Some first) × (first < 16))
+pub octet_decoded : (digits octets : List ℕ) (place : ℕ) (all : Bool) (first second : ℕ)
+    → 2 * place + 1 < length digits → place < length octets
+    → (is_hex_digit (slice_index digits (2 * place)) ≡ true
+    → (hex_digit_value (slice_index digits (2 * place)) ≡ Some first) × (first < 16))
     → (is_hex_digit (slice_index digits (2 * place + 1)) ≡ true
     → (hex_digit_value (slice_index digits (2 * place + 1)) ≡ Some second) × (second < 16))
-    → (all ≡ true → decode_pairs 0 digits ≡ prepend (take place octets) (decode_pairs (2 * place) (drop (2 * place) digits)))
-    → (all && (is_hex_digit (slice_index digits (2 * place)) && is_hex_digit (slice_index digits (2 * place + 1)))) ≡ true
+    → (all ≡ true → decode_pairs 0 digits ≡ prepend (take place octets)
+    (decode_pairs (2 * place) (drop (2 * place) digits)))
+    → (all && (is_hex_digit (slice_index digits (2 * place)) && is_hex_digit (slice_index digits (2 * place + 1))))
+    ≡ true
     → decode_pairs 0 digits
-    ≡ prepend (take (place + 1) (slice_set octets place ((first * 16 % 256 + second) % 256))) (decode_pairs (2 * (place + 1)) (drop (2 * (place + 1)) digits))
+    ≡ prepend (take (place + 1) (slice_set octets place ((first * 16 % 256 + second) % 256)))
+    (decode_pairs (2 * (place + 1)) (drop (2 * (place + 1)) digits))
 octet_decoded digits octets place all first second inside room high low before good =
     let both = and_parts all _ good in
-    let two = and_parts (is_hex_digit (slice_index digits (2 * place))) (is_hex_digit (slice_index digits (2 * place + 1))) both.1 in
+    let two = and_parts (is_hex_digit (slice_index digits (2 * place)))
+    (is_hex_digit (slice_index digits (2 * place + 1))) both.1 in
     let h = high two.0 in
     let l = low two.1 in
     rw (octet_computed first second h.1 l.1)
@@ -200,6 +224,7 @@ octet_decoded digits octets place all first second inside room high low before g
 
 -- all octets are decoded
 pub all_decoded : (digits octets : List ℕ) (place : ℕ) → length digits ≡ 2 * length octets → length octets ≤ place
-    → decode_pairs 0 digits ≡ prepend (take place octets) (decode_pairs (2 * place) (drop (2 * place) digits)) → decode_of digits ≡ Ok octets
+    → decode_pairs 0 digits ≡ prepend (take place octets) (decode_pairs (2 * place) (drop (2 * place) digits))
+    → decode_of digits ≡ Ok octets
 all_decoded digits octets place twice past decoded =
     decode_of-even digits (omega arith) ∙ decode_done digits octets place past (omega arith) decoded

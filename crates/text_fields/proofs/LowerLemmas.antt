@@ -40,7 +40,8 @@ lower_octets_read octets some fits =
     ap (λ b. cond b None (octets_of (encode_lower octets))) (none_upper (encode_lower octets) field.plain)
     ∙ octets_read (encode_lower octets) octets some fits (kept (encode_lower octets) field.plain)
 
-chosen : (b : Bool) (value : Option (List ℕ)) (octets : List ℕ) → cond b None value ≡ Some octets → (b ≡ false) × (value ≡ Some octets)
+chosen : (b : Bool) (value : Option (List ℕ)) (octets : List ℕ) → cond b None value ≡ Some octets → (b ≡ false)
+    × (value ≡ Some octets)
 chosen true value octets is = cc
 chosen false value octets is = (refl, is)
 

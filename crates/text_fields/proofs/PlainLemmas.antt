@@ -64,12 +64,14 @@ pub field-decimal : (n : ℕ) → n < 2 ^ 64 → IsField (decimal n)
 field-decimal n fits = record { some = decimal_nonempty n fits; plain = all_plain (decimal n) (low_decimal n fits) }
 
 -- an address
-low_dotted : (a b c d : ℕ) → a < 256 → b < 256 → c < 256 → d < 256 → All IsLow (join_with_byte dot (map decimal (a ∷ b ∷ c ∷ d ∷ [])))
+low_dotted : (a b c d : ℕ) → a < 256 → b < 256 → c < 256 → d < 256
+    → All IsLow (join_with_byte dot (map decimal (a ∷ b ∷ c ∷ d ∷ [])))
 low_dotted a b c d fits_a fits_b fits_c fits_d =
     let dot_low : IsLow dot = (omega arith, omega arith) in
     All-append IsLow (decimal a) _ (low_decimal a (omega arith)) (All-cons IsLow dot _ dot_low
     (All-append IsLow (decimal b) _ (low_decimal b (omega arith)) (All-cons IsLow dot _ dot_low
-    (All-append IsLow (decimal c) _ (low_decimal c (omega arith)) (All-cons IsLow dot _ dot_low (low_decimal d (omega arith)))))))
+    (All-append IsLow (decimal c) _ (low_decimal c (omega arith))
+    (All-cons IsLow dot _ dot_low (low_decimal d (omega arith)))))))
 
 pub low_address : (address : ℕ) → address < 2 ^ 32 → All IsLow (dotted address)
 low_address address fits = low_dotted _ _ _ _ (omega arith) (omega arith) (omega arith) (omega arith)
@@ -96,10 +98,12 @@ plain_digits (octet ∷ octets) fits =
     let first = slice_index lower_digits (octet / 16) in
     let second = slice_index lower_digits (octet % 16) in
     let rest = encode_with lower_digits octets in
-    All-cons IsPlain first (second ∷ rest) (plain_digit (octet / 16) (omega arith)) (All-cons IsPlain second rest (plain_digit (octet % 16) (omega arith))
+    All-cons IsPlain first (second ∷ rest) (plain_digit (octet / 16) (omega arith))
+    (All-cons IsPlain second rest (plain_digit (octet % 16) (omega arith))
     (plain_digits octets (All-tail (λ o. o < 256) octet octets fits)))
 
-pub field-encode_lower : (octets : List ℕ) → 0 < length octets → All (λ octet. octet < 256) octets → IsField (encode_lower octets)
+pub field-encode_lower : (octets : List ℕ) → 0 < length octets → All (λ octet. octet < 256) octets
+    → IsField (encode_lower octets)
 field-encode_lower octets some fits = record {
   some = omega (arith, some, length-encode_with lower_digits octets);
   plain = plain_digits octets fits;

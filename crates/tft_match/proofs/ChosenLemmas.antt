@@ -24,7 +24,11 @@ before_across : (a b c : Rank) → (IsBefore a b → ⊥) → IsBefore a c → I
 before_across a b c not_before before = grind arith
 
 one_of : {X : Type 0} (x y : X) → Contains (x ∷ []) y → x ≡ y
-one_of x y there = elim (Contains-push_cases [] x y there) [ inl nowhere ↦ absurd (none_in_nil y nowhere) | inr same ↦ same ]
+one_of x y there = elim (Contains-push_cases [] x y there) [
+  | inl nowhere ↦ absurd
+      (none_in_nil y nowhere)
+  | inr same ↦ same
+]
 
 -- what stands first: there is none in no ranks, and else one of them that none is before
 record IsEarliest (ranks : List Rank) (rank : Rank) : Type 0 where
@@ -35,7 +39,8 @@ abbrev Earliest : List Rank → Option Rank → Type 0
 Earliest ranks None = ranks ≡ []
 Earliest ranks (Some rank) = IsEarliest ranks rank
 
-earliest_step : (rank : Rank) (ranks : List Rank) (first : Option Rank) → Earliest ranks first → Earliest (rank ∷ ranks) (Some (earlier_of rank first))
+earliest_step : (rank : Rank) (ranks : List Rank) (first : Option Rank) → Earliest ranks first
+    → Earliest (rank ∷ ranks) (Some (earlier_of rank first))
 earliest_step rank ranks None nothing = record {
   there = Contains-append_left (rank ∷ []) ranks rank (0, omega arith, refl);
   none_before = λ other there before. elim (Contains-append_cases (rank ∷ []) ranks other there) [
@@ -48,7 +53,8 @@ earliest_step rank ranks (Some first) earliest =
       | inl is ↦ subst (λ b. IsEarliest (rank ∷ ranks) (cond b first rank)) (sym is.0) (record {
         there = Contains-append_right (rank ∷ []) ranks first earliest.there;
         none_before = λ other there before. elim (Contains-append_cases (rank ∷ []) ranks other there) [
-          | inl here ↦ not_before_itself first (before_trans first rank first is.1 (subst (λ (r : Rank). IsBefore r first) (sym (one_of rank other here)) before))
+          | inl here ↦ not_before_itself first (before_trans first rank first is.1
+              (subst (λ (r : Rank). IsBefore r first) (sym (one_of rank other here)) before))
           | inr behind ↦ earliest.none_before other behind before
         ];
       })
@@ -72,7 +78,8 @@ record HasFilter (row : BearerFilters) (packet : List ℕ) (filters : List Filte
   fits : Fits Down packet filter
   ranked : rank_of row filter ≡ rank
 
-more_filters : (row : BearerFilters) (packet : List ℕ) (f : Filter) (fs : List Filter) (rank : Rank) → HasFilter row packet fs rank → HasFilter row packet (f ∷ fs) rank
+more_filters : (row : BearerFilters) (packet : List ℕ) (f : Filter) (fs : List Filter) (rank : Rank)
+    → HasFilter row packet fs rank → HasFilter row packet (f ∷ fs) rank
 more_filters row packet f fs rank has = record {
   filter = has.filter;
   in_row = Contains-append_right (f ∷ []) fs has.filter has.in_row;
@@ -84,7 +91,8 @@ more_filters row packet f fs rank has = record {
 abbrev ranks_in_row : BearerFilters → List ℕ → List Filter → List Rank
 ranks_in_row row packet filters = map (rank_of row) (filter (fits Down packet) filters)
 
-row_step : (row : BearerFilters) (packet : List ℕ) (f : Filter) (fs : List Filter) (rank : Rank) (fit : Bool) → fits Down packet f ≡ fit
+row_step : (row : BearerFilters) (packet : List ℕ) (f : Filter) (fs : List Filter) (rank : Rank) (fit : Bool)
+    → fits Down packet f ≡ fit
     → Contains (map (rank_of row) (cond fit (f ∷ filter (fits Down packet) fs) (filter (fits Down packet) fs))) rank
     → (Contains (ranks_in_row row packet fs) rank → HasFilter row packet fs rank) → HasFilter row packet (f ∷ fs) rank
 row_step row packet f fs rank false unfit there rest = more_filters row packet f fs rank (rest there)
@@ -99,17 +107,22 @@ row_step row packet f fs rank true fit there rest =
       | inr behind ↦ more_filters row packet f fs rank (rest behind)
     ]
 
-row_found : (row : BearerFilters) (packet : List ℕ) (filters : List Filter) (rank : Rank) → Contains (ranks_in_row row packet filters) rank
+row_found : (row : BearerFilters) (packet : List ℕ) (filters : List Filter) (rank : Rank)
+    → Contains (ranks_in_row row packet filters) rank
     → HasFilter row packet filters rank
 row_found row packet [] rank there = absurd (none_in_nil rank there)
-row_found row packet (f ∷ fs) rank there = row_step row packet f fs rank (fits Down packet f) refl there (row_found row packet fs rank)
+row_found row packet (f ∷ fs) rank there =
+    row_step row packet f fs rank (fits Down packet f) refl there (row_found row packet fs rank)
 
-kept_step : (row : BearerFilters) (packet : List ℕ) (f : Filter) (fs : List Filter) (rank : Rank) (fit : Bool) → Contains (ranks_in_row row packet fs) rank
+kept_step : (row : BearerFilters) (packet : List ℕ) (f : Filter) (fs : List Filter) (rank : Rank) (fit : Bool)
+    → Contains (ranks_in_row row packet fs) rank
     → Contains (map (rank_of row) (cond fit (f ∷ filter (fits Down packet) fs) (filter (fits Down packet) fs))) rank
-kept_step row packet f fs rank true there = Contains-append_right (rank_of row f ∷ []) (ranks_in_row row packet fs) rank there
+kept_step row packet f fs rank true there =
+    Contains-append_right (rank_of row f ∷ []) (ranks_in_row row packet fs) rank there
 kept_step row packet f fs rank false there = there
 
-row_holds : (row : BearerFilters) (packet : List ℕ) (filters : List Filter) (f : Filter) → Contains filters f → Fits Down packet f
+row_holds : (row : BearerFilters) (packet : List ℕ) (filters : List Filter) (f : Filter) → Contains filters f
+    → Fits Down packet f
     → Contains (ranks_in_row row packet filters) (rank_of row f)
 row_holds row packet [] f inside fit = absurd (none_in_nil f inside)
 row_holds row packet (g ∷ gs) f inside fit =
@@ -117,13 +130,20 @@ row_holds row packet (g ∷ gs) f inside fit =
       | inl here ↦
           let same : g ≡ f = one_of g f here in
           let tested : fits Down packet g ≡ true = ap (fits Down packet) same ∙ (fits_tested Down packet f).1 fit in
-          subst (λ b. Contains (map (rank_of row) (cond b (g ∷ filter (fits Down packet) gs) (filter (fits Down packet) gs))) (rank_of row f)) (sym tested)
-          (Contains-append_left (rank_of row g ∷ []) (ranks_in_row row packet gs) (rank_of row f) (0, omega arith, ap (rank_of row) same))
-      | inr behind ↦ kept_step row packet g gs (rank_of row f) (fits Down packet g) (row_holds row packet gs f behind fit)
+          subst (λ b. Contains (map (rank_of row) (cond b (g ∷ filter (fits Down packet) gs)
+          (filter (fits Down packet) gs))) (rank_of row f)) (sym tested)
+          (Contains-append_left (rank_of row g ∷ []) (ranks_in_row row packet gs) (rank_of row f) (
+            0,
+            omega arith,
+            ap (rank_of row) same,
+          ))
+      | inr behind ↦ kept_step row packet g gs (rank_of row f) (fits Down packet g)
+          (row_holds row packet gs f behind fit)
     ]
 
 -- the ranks of candidates are those that candidates have
-ranks_found : (rows : List BearerFilters) (packet : List ℕ) (rank : Rank) → Contains (candidate_ranks rows packet) rank → HasRank rows packet rank
+ranks_found : (rows : List BearerFilters) (packet : List ℕ) (rank : Rank)
+    → Contains (candidate_ranks rows packet) rank → HasRank rows packet rank
 ranks_found [] packet rank there = absurd (none_in_nil rank there)
 ranks_found (row ∷ rows) packet rank there =
     elim (Contains-append_cases (ranks_in_row row packet row.filters) (candidate_ranks rows packet) rank there) [
@@ -153,28 +173,34 @@ ranks_found (row ∷ rows) packet rank there =
           }
     ]
 
-ranks_hold : (rows : List BearerFilters) (packet : List ℕ) (row : BearerFilters) (f : Filter) → Contains rows row → Contains row.filters f → Fits Down packet f
+ranks_hold : (rows : List BearerFilters) (packet : List ℕ) (row : BearerFilters) (f : Filter) → Contains rows row
+    → Contains row.filters f → Fits Down packet f
     → Contains (candidate_ranks rows packet) (rank_of row f)
 ranks_hold [] packet row f in_rows in_row fit = absurd (none_in_nil row in_rows)
 ranks_hold (other ∷ rows) packet row f in_rows in_row fit =
     elim (Contains-append_cases (other ∷ []) rows row in_rows) [
       | inl here ↦
           let same : other ≡ row = one_of other row here in
-          subst (λ (r : BearerFilters). Contains (ranks_in_row r packet r.filters ++ candidate_ranks rows packet) (rank_of row f)) (sym same)
+          subst (λ (r : BearerFilters). Contains (ranks_in_row r packet r.filters ++ candidate_ranks rows packet)
+          (rank_of row f)) (sym same)
           (Contains-append_left (ranks_in_row row packet row.filters) (candidate_ranks rows packet) (rank_of row f)
           (row_holds row packet row.filters f in_row fit))
-      | inr behind ↦ Contains-append_right (ranks_in_row other packet other.filters) (candidate_ranks rows packet) (rank_of row f)
+      | inr behind ↦ Contains-append_right (ranks_in_row other packet other.filters) (candidate_ranks rows packet)
+          (rank_of row f)
           (ranks_hold rows packet row f behind in_row fit)
     ]
 
-ranks_had : (rows : List BearerFilters) (packet : List ℕ) (rank : Rank) → HasRank rows packet rank → Contains (candidate_ranks rows packet) rank
+ranks_had : (rows : List BearerFilters) (packet : List ℕ) (rank : Rank) → HasRank rows packet rank
+    → Contains (candidate_ranks rows packet) rank
 ranks_had rows packet rank has =
     subst (Contains (candidate_ranks rows packet)) has.ranked
     (ranks_hold rows packet has.row has.filter has.candidate.in_rows has.candidate.in_row has.candidate.fits)
 
 -- the first of them is the rank of the first candidate
-first_from : (rows : List BearerFilters) (packet : List ℕ) (first : Option Rank) → Earliest (candidate_ranks rows packet) first → IsFirstRank rows packet first
-first_from rows packet None nothing = λ rank has. none_in_nil rank (subst (λ (xs : List Rank). Contains xs rank) nothing (ranks_had rows packet rank has))
+first_from : (rows : List BearerFilters) (packet : List ℕ) (first : Option Rank)
+    → Earliest (candidate_ranks rows packet) first → IsFirstRank rows packet first
+first_from rows packet None nothing = λ rank has. none_in_nil rank
+    (subst (λ (xs : List Rank). Contains xs rank) nothing (ranks_had rows packet rank has))
 first_from rows packet (Some first) earliest = record {
   reached = ranks_found rows packet first earliest.there;
   none_before = λ other has. earliest.none_before other (ranks_had rows packet other has);
@@ -213,7 +239,8 @@ default_found (row ∷ rows) found =
           let filters : row.filters ≡ [] = none_long row.filters (eqb-true (length row.filters) 0 parts.1) in
           let same : row ≡ record { index = 0; filters = [] } = default_is row.index row.filters index filters in
           Contains-append_left (row ∷ []) rows (record { index = 0; filters = [] }) (0, omega arith, same)
-      | inr behind ↦ Contains-append_right (row ∷ []) rows (record { index = 0; filters = [] }) (default_found rows behind)
+      | inr behind ↦ Contains-append_right (row ∷ []) rows (record { index = 0; filters = [] })
+          (default_found rows behind)
     ]
 
 default_had : (rows : List BearerFilters) → HasDefault rows → has_default rows ≡ true
@@ -226,11 +253,14 @@ default_had (row ∷ rows) has =
       | inr behind ↦ ap (λ b. is_default row || b) (default_had rows behind) ∙ or_true (is_default row)
     ]
 
-takes_by : (rows : List BearerFilters) (packet : List ℕ) (first : Option Rank) (default : Bool) → IsFirstRank rows packet first → has_default rows ≡ default
+takes_by : (rows : List BearerFilters) (packet : List ℕ) (first : Option Rank) (default : Bool)
+    → IsFirstRank rows packet first → has_default rows ≡ default
     → Takes rows packet (bearer_by first default)
 takes_by rows packet (Some first) default least is = takes_first rows packet first least
-takes_by rows packet None true no_rank is = by_default rows packet (no_candidate rows packet no_rank) (default_found rows is)
-takes_by rows packet None false no_rank is = none rows packet (no_candidate rows packet no_rank) (λ there. absurd (let known = default_had rows there in cc))
+takes_by rows packet None true no_rank is =
+    by_default rows packet (no_candidate rows packet no_rank) (default_found rows is)
+takes_by rows packet None false no_rank is =
+    none rows packet (no_candidate rows packet no_rank) (λ there. absurd (let known = default_had rows there in cc))
 
 pub chosen_taken : ChosenIsTaken
 unfolding chosen

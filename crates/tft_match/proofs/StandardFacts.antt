@@ -171,7 +171,15 @@ chosen-none = refl
 
 -- two bearers whose filters fit: the lower precedence counts first, and at one precedence the lower index
 abbrev voice : ℕ → ℕ → BearerFilters
-voice index precedence = record { index = index; filters = record { id = 7; direction = 3; precedence = precedence; components = Protocol 17 ∷ [] } ∷ [] }
+voice index precedence = record {
+  index = index;
+  filters = record {
+    id = 7;
+    direction = 3;
+    precedence = precedence;
+    components = Protocol 17 ∷ [];
+  } ∷ [];
+}
 
 chosen-by_precedence : chosen (voice 1 10 ∷ voice 2 9 ∷ []) udp ≡ Some 2
 unfolding chosen

@@ -9,7 +9,8 @@ use Rattle.tft_match.specs.Choice.{Rank, rank_of, Takes}
 -- whether a rank is before another one: by precedence, then by index, then by identifier
 abbrev pub is_before : Rank → Rank → Bool
 is_before (precedence, index, id) (precedence', index', id') =
-    nat_lt precedence precedence' || (precedence == precedence') && (nat_lt index index' || (index == index') && nat_lt id id')
+    nat_lt precedence precedence' || (precedence == precedence')
+    && (nat_lt index index' || (index == index') && nat_lt id id')
 
 -- the earlier of two ranks, of which the second may be missing · the first of ranks
 abbrev pub earlier_of : Rank → Option Rank → Rank

@@ -80,4 +80,5 @@ pub record Fits (direction : Direction) (packet : List ℕ) (filter : Filter) : 
 
 -- the same as a test
 abbrev pub fits : Direction → List ℕ → Filter → Bool
-fits direction packet filter = has (counted direction) filter.direction && list_all (holds direction packet) filter.components
+fits direction packet filter =
+    has (counted direction) filter.direction && list_all (holds direction packet) filter.components

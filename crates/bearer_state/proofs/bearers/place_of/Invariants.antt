@@ -5,4 +5,5 @@ use Rattle.bearer_state.specs.Changes.{placed}
 use Rattle.bearer_state.proofs.bearers.place_of.Given as goal
 
 abbrev pub invariant-loop-at : goal.invariant-loop-at
-invariant-loop-at l = (bearer : Bearer) → index_of bearer ≡ l.index → placed bearer l.bearers ≡ take l.at l.bearers ++ placed bearer (drop l.at l.bearers)
+invariant-loop-at l = (bearer : Bearer) → index_of bearer ≡ l.index
+    → placed bearer l.bearers ≡ take l.at l.bearers ++ placed bearer (drop l.at l.bearers)

@@ -9,9 +9,13 @@ pub loop-bearer-preserved : goal.loop-bearer-preserved
 loop-bearer-preserved c =
     elim c.match-bearer.branch [
       | in-Asked w ↦
-          let kept = filter_map_skipped (λ (b : Bearer). row_in b b.phase) c.args.bearers.now c.loop-bearer.bearer-index c.bearer-item.result _ c.loop-bearer-test.true c.bearer-item.is (ap (row_in c.bearer-item.result) w.in-Asked.is) c.loop-bearer.invariant in
+          let kept = filter_map_skipped (λ (b : Bearer). row_in b b.phase) c.args.bearers.now
+          c.loop-bearer.bearer-index c.bearer-item.result _ c.loop-bearer-test.true c.bearer-item.is
+          (ap (row_in c.bearer-item.result) w.in-Asked.is) c.loop-bearer.invariant in
           cc
       | in-Active+in_ok-try_clone-in-Active+in_ok-push-in-Active w ↦
-          let pushed = filter_map_pushed (λ (b : Bearer). row_in b b.phase) c.args.bearers.now c.loop-bearer.bearer-index c.bearer-item.result _ _ c.loop-bearer-test.true c.bearer-item.is (ap (row_in c.bearer-item.result) w.in-Active.is) c.loop-bearer.invariant in
+          let pushed = filter_map_pushed (λ (b : Bearer). row_in b b.phase) c.args.bearers.now
+          c.loop-bearer.bearer-index c.bearer-item.result _ _ c.loop-bearer-test.true c.bearer-item.is
+          (ap (row_in c.bearer-item.result) w.in-Active.is) c.loop-bearer.invariant in
           cc (w.in_ok-push-in-Active.ensures.items, w.in_ok-try_clone-in-Active.ensures)
     ]

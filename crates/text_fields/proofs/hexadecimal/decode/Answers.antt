@@ -10,9 +10,11 @@ loop-place-preserved c =
       tested = rw (c.loop-place.invariant.tested, c.is_hex_digit.ensures, c.is_hex_digit-in-loop-place.ensures)
           (sym (two_tested digits place (omega arith)));
       decoded = rw (c.is_hex_digit.ensures, c.is_hex_digit-in-loop-place.ensures)
-          (octet_decoded digits c.loop-place.octets place c.loop-place.all _ _ (omega arith) (omega arith) c.nibble.ensures c.nibble-in-loop-place.ensures c.loop-place.invariant.decoded);
+          (octet_decoded digits c.loop-place.octets place c.loop-place.all _ _ (omega arith)
+          (omega arith) c.nibble.ensures c.nibble-in-loop-place.ensures c.loop-place.invariant.decoded);
     }
 
 pub returns-clause-octets : goal.returns-clause-octets
 returns-clause-octets c good =
-    all_decoded c.args.digits.now c.loop-place.octets c.loop-place.place (omega arith) (omega arith) (c.loop-place.invariant.decoded good)
+    all_decoded c.args.digits.now c.loop-place.octets c.loop-place.place (omega arith) (omega arith)
+    (c.loop-place.invariant.decoded good)

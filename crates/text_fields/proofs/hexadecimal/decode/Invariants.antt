@@ -8,5 +8,6 @@ abbrev pub invariant-loop-place : goal.invariant-loop-place
 invariant-loop-place l = record {
   tested : l.all ≡ list_all is_hex_digit (take (2 * l.place) l.digits);
   decoded : l.all ≡ true
-      → decode_pairs 0 l.digits ≡ prepend (take l.place l.octets) (decode_pairs (2 * l.place) (drop (2 * l.place) l.digits));
+      → decode_pairs 0 l.digits ≡ prepend (take l.place l.octets)
+      (decode_pairs (2 * l.place) (drop (2 * l.place) l.digits));
 }

@@ -4,7 +4,8 @@ use Rattle.text_fields.proofs.hexadecimal.encode.Goals as goal
 
 pub loop-place-preserved : goal.loop-place-preserved
 loop-place-preserved c =
-    encode_step _ c.args.octets.now c.loop-place.digits c.loop-place.place _ _ (omega arith) (omega arith) c.digit.ensures
+    encode_step _ c.args.octets.now c.loop-place.digits c.loop-place.place _ _ (omega arith)
+    (omega arith) c.digit.ensures
     c.digit-in-loop-place.ensures c.loop-place.invariant
 
 pub returns : goal.returns

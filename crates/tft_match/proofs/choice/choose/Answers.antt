@@ -18,7 +18,8 @@ pub returns-in-None : goal.returns-in-None
 returns-in-None c =
     let rows = c.args.rows.now in
     let packet = c.args.packet.now in
-    let taken = by_default rows packet (no_candidate rows packet c.in-None.ensures) (c.has_default.ensures.0 c.if-has_default.true) in
+    let taken = by_default rows packet (no_candidate rows packet c.in-None.ensures)
+    (c.has_default.ensures.0 c.if-has_default.true) in
     let only = takes_one rows packet (Some 0) taken in
     record { taken = taken; only = only; chosen = only (chosen rows packet) (chosen_taken rows packet) }
 
@@ -26,6 +27,7 @@ pub returns-in-None-2 : goal.returns-in-None-2
 returns-in-None-2 c =
     let rows = c.args.rows.now in
     let packet = c.args.packet.now in
-    let taken = none rows packet (no_candidate rows packet c.in-None.ensures) (λ there. false≢true (sym c.if-has_default.false ∙ c.has_default.ensures.1 there)) in
+    let taken = none rows packet (no_candidate rows packet c.in-None.ensures)
+    (λ there. false≢true (sym c.if-has_default.false ∙ c.has_default.ensures.1 there)) in
     let only = takes_one rows packet None taken in
     record { taken = taken; only = only; chosen = only (chosen rows packet) (chosen_taken rows packet) }

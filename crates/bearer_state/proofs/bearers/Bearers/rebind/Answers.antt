@@ -6,5 +6,7 @@ use Rattle.bearer_state.proofs.bearers.Bearers.rebind.Goals as goal
 
 pub invariant_of-self : goal.invariant_of-self
 invariant_of-self c =
-    let changed : take c.self.inside.items.len (c.rebind.new.bearers ++ drop (length c.rebind.new.bearers) c.self.inside.items.items) ≡ map (rebound_bearer c.args.asks.now) c.self.inside.items.items = grind (arith, common_steps) in
+    let changed : take c.self.inside.items.len (c.rebind.new.bearers
+    ++ drop (length c.rebind.new.bearers) c.self.inside.items.items)
+    ≡ map (rebound_bearer c.args.asks.now) c.self.inside.items.items = grind (arith, common_steps) in
     rw changed (bearers_rebound c.args.asks.now c.self.inside.items.items c.self.invariant)

@@ -14,8 +14,10 @@ returns-in-Gone-clause-stands c = λ happened taken stands.
     let moments = c.index-2.result.now in
     let opens = ap (λ book. book.opens) c.self.view_is in
     let spans = ap (λ book. book.moments) c.self.view_is in
-    let at = is-at old c.self.inside.opens.items c.self.inside.spans.items place c.args.life counters moments opens spans
-    (rw c.deref.ensures.value at c.place_of-place.ensures.within) (rw c.deref.ensures.value at c.place_of-place.ensures.found)
+    let at = is-at old c.self.inside.opens.items c.self.inside.spans.items place c.args.life counters moments opens
+    spans
+    (rw c.deref.ensures.value at c.place_of-place.ensures.within)
+    (rw c.deref.ensures.value at c.place_of-place.ensures.found)
     c.index.ensures c.index-2.ensures in
     rw c.in-Gone.is (stands-gone old _ happened taken c.args.life place counters moments stands at c.requires.is_open
     (c.remove.ensures.items ∙ ap (λ xs. remove xs place) opens)
@@ -31,8 +33,10 @@ returns-in_default-clause-stands c = λ happened taken stands.
     let moments = c.index-2.result.now in
     let opens = ap (λ book. book.opens) c.self.view_is in
     let spans = ap (λ book. book.moments) c.self.view_is in
-    let at = is-at old c.self.inside.opens.items c.self.inside.spans.items place c.args.life counters moments opens spans
-    (rw c.deref.ensures.value at c.place_of-place.ensures.within) (rw c.deref.ensures.value at c.place_of-place.ensures.found)
+    let at = is-at old c.self.inside.opens.items c.self.inside.spans.items place c.args.life counters moments opens
+    spans
+    (rw c.deref.ensures.value at c.place_of-place.ensures.within)
+    (rw c.deref.ensures.value at c.place_of-place.ensures.found)
     c.index.ensures c.index-2.ensures in
     stands-marked old _ happened taken c.args.life place c.args.why counters moments stands at c.requires.is_open
     (lives-marked (lives_of happened) c.args.life c.args.why c.in_default.not-Gone)

@@ -14,10 +14,13 @@ returns-in_ok-push-clause-stands c = λ happened taken stands.
     let moments = c.index-2.result.now in
     let opens = ap (λ book. book.opens) c.self.view_is in
     let spans = ap (λ book. book.moments) c.self.view_is in
-    let at = is-at old c.self.inside.opens.items c.self.inside.spans.items place c.args.life counters moments opens spans
-    (rw c.deref.ensures.value at c.place_of-place.ensures.within) (rw c.deref.ensures.value at c.place_of-place.ensures.found)
+    let at = is-at old c.self.inside.opens.items c.self.inside.spans.items place c.args.life counters moments opens
+    spans
+    (rw c.deref.ensures.value at c.place_of-place.ensures.within)
+    (rw c.deref.ensures.value at c.place_of-place.ensures.found)
     c.index.ensures c.index-2.ensures in
-    stands-filled old _ happened taken c.args.life place (record { up = c.args.up; octets = c.args.octets; at = c.args.at })
+    stands-filled old _ happened taken c.args.life place
+    (record { up = c.args.up; octets = c.args.octets; at = c.args.at })
     counters moments stands at c.requires.is_open
     (ap (λ counted. nat_le volume (counted.up_octets + counted.down_octets)) (sym c.with-counted.ensures)
     ∙ sym c.is_full.ensures ∙ c.if-is_full.true)
@@ -37,10 +40,13 @@ returns-else-is_full-clause-stands c = λ happened taken stands.
     let moments = c.index-2.result.now in
     let opens = ap (λ book. book.opens) c.self.view_is in
     let spans = ap (λ book. book.moments) c.self.view_is in
-    let at = is-at old c.self.inside.opens.items c.self.inside.spans.items place c.args.life counters moments opens spans
-    (rw c.deref.ensures.value at c.place_of-place.ensures.within) (rw c.deref.ensures.value at c.place_of-place.ensures.found)
+    let at = is-at old c.self.inside.opens.items c.self.inside.spans.items place c.args.life counters moments opens
+    spans
+    (rw c.deref.ensures.value at c.place_of-place.ensures.within)
+    (rw c.deref.ensures.value at c.place_of-place.ensures.found)
     c.index.ensures c.index-2.ensures in
-    stands-counted old _ happened taken c.args.life place (record { up = c.args.up; octets = c.args.octets; at = c.args.at })
+    stands-counted old _ happened taken c.args.life place
+    (record { up = c.args.up; octets = c.args.octets; at = c.args.at })
     counters moments stands at c.requires.is_open
     (ap (λ counted. nat_le volume (counted.up_octets + counted.down_octets)) (sym c.with-counted.ensures)
     ∙ sym c.is_full.ensures ∙ c.if-is_full.false)

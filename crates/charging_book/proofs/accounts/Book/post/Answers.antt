@@ -27,5 +27,6 @@ returns-clause-stands c = λ happened taken stands may.
     (c.loop-posting.invariant happened taken stands may) in
     stands_joined old copy _ happened (map happening_of c.args.postings.now) taken stands all
     (ap (λ book. book.opens) c.copy-2.view_is) (ap (λ book. book.moments) c.copy-2.view_is)
-    (pushed c.deref.result.now (ap (λ book. book.rows) c.self.view_is) c.in_ok-extend_from_slice.was c.extend_from_slice.ensures.items
+    (pushed c.deref.result.now (ap (λ book. book.rows) c.self.view_is) c.in_ok-extend_from_slice.was
+    c.extend_from_slice.ensures.items
     ∙ ap (λ rows. old.rows ++ rows) (c.deref.ensures.value ∙ ap (λ book. book.rows) c.copy-2.view_is))

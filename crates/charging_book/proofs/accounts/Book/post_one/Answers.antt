@@ -8,7 +8,8 @@ pub returns-then-not-may_start-clause-stands : goal.returns-then-not-may_start-c
 returns-then-not-may_start-clause-stands c = λ happened taken stands may.
     let follow = subst (λ posting. MayFollow happened (happening_of posting)) c.in-Start.is may in
     absurd (false≢true (sym c.if-not-may_start.true
-    ∙ c.may_start.ensures.1 (may_start c.args.self.now happened taken c.in-Start.life stands follow.may follow.in_range)))
+    ∙ c.may_start.ensures.1 (may_start c.args.self.now happened taken c.in-Start.life stands follow.may
+    follow.in_range)))
 
 pub returns-then-not-may_go_on-clause-stands : goal.returns-then-not-may_go_on-clause-stands
 returns-then-not-may_go_on-clause-stands c = λ happened taken stands may.
@@ -20,4 +21,5 @@ pub returns-then-not-may_go_on-2-clause-stands : goal.returns-then-not-may_go_on
 returns-then-not-may_go_on-2-clause-stands c = λ happened taken stands may.
     let follow = subst (λ posting. MayFollow happened (happening_of posting)) c.in-Close.is may in
     absurd (false≢true (sym c.if-not-may_go_on-2.true
-    ∙ c.may_go_on-in-Close.ensures.1 (may_go_on c.args.self.now happened taken c.in-Close.life stands follow.may follow.few)))
+    ∙ c.may_go_on-in-Close.ensures.1 (may_go_on c.args.self.now happened taken c.in-Close.life stands follow.may
+    follow.few)))

@@ -15,7 +15,11 @@ returns-clause-gains g c =
           ∙ ap (λ front. front ++ slice_range now at (at + count)) (c.move_to_start.ensures.moved
           ∙ ap (λ held. held.front) c.self.view_is);
       consumed = c.in_ok-count.ensures.given;
-      counted = length-between now at (at + count) (omega (arith, c.in_ok-count.ensures.count, c.in_ok-count.ensures.len)) ∙ omega arith;
+      counted = length-between now at (at + count) (omega (
+        arith,
+        c.in_ok-count.ensures.count,
+        c.in_ok-count.ensures.len,
+      )) ∙ omega arith;
       room = rw (← c.self.view_is) (omega arith);
       line = sym c.requires.no_line;
       last = ap (λ held. held.last) c.self.view_is;

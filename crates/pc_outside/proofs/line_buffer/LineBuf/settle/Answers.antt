@@ -15,7 +15,11 @@ pub returns-in-None-clause-settled : goal.returns-in-None-clause-settled
 returns-in-None-clause-settled c = (
   refl,
   rw (← c.self.view_is)
-      (found_long _ _ (omega (arith, length-between c.self.inside.octets.items c.self.inside.from c.self.inside.to (omega arith)))
+      (found_long _ _ (omega (
+        arith,
+        length-between c.self.inside.octets.items c.self.inside.from c.self.inside.to
+            (omega arith),
+      ))
       (rw c.deref.ensures.value at c.if-front-gt-LINE_MAX.true) (rw c.deref.ensures.value at c.in-None.ensures.none)),
 )
 
@@ -23,7 +27,11 @@ pub returns-in-None-2-clause-settled : goal.returns-in-None-2-clause-settled
 returns-in-None-2-clause-settled c = (
   refl,
   rw (← c.self.view_is)
-      (found_full _ _ (omega (arith, length-between c.self.inside.octets.items c.self.inside.from c.self.inside.to (omega arith)))
+      (found_full _ _ (omega (
+        arith,
+        length-between c.self.inside.octets.items c.self.inside.from c.self.inside.to
+            (omega arith),
+      ))
       (rw c.deref.ensures.value at c.if-front-gt-LINE_MAX.false) (rw c.deref.ensures.value at c.in-None.ensures.none)),
 )
 
@@ -31,6 +39,10 @@ pub returns-in-None-3-clause-waits : goal.returns-in-None-3-clause-waits
 returns-in-None-3-clause-waits c = (
   refl,
   rw (← c.self.view_is)
-      (found_unfinished _ (omega (arith, length-between c.self.inside.octets.items c.self.inside.from c.self.inside.to (omega arith)))
+      (found_unfinished _ (omega (
+        arith,
+        length-between c.self.inside.octets.items c.self.inside.from
+            c.self.inside.to (omega arith),
+      ))
       (rw c.deref.ensures.value at c.if-front-gt-LINE_MAX.false) (rw c.deref.ensures.value at c.in-None.ensures.none)),
 )
