@@ -1,10 +1,10 @@
 //! The gateway on one thread: each line is answered at once.
 ghost use Rattle.std.specs.Prelude.{◌≡◌, ℕ, ◌≤◌, ◌<◌, ◌^◌, ◌==◌, ◌∷◌, ◌++◌, [], List, flat_map, length, map, find, None, OnOk, IfOk};
 ghost use Rattle.std.specs.Option.{option_copied};
-ghost use Rattle.address_book.specs.Book.{slot_in};
 ghost use Rattle.bearer_state.specs.declared.version.ActiveBearer.{ActiveBearer};
 ghost use Rattle.charging_book.specs.Rows.{Counters};
 ghost use Rattle.demux.specs.Resolved.{IsDue, book_with, slot_of};
+ghost use Rattle.demux.specs.declared.decision.Whose.TheVariants.{New};
 ghost use Rattle.ipv4_packet.specs.Packet.{IsPacket};
 ghost use Rattle.gate_model.specs.declared.event.Event.{Event};
 ghost use Rattle.split_record.specs.Standing.{StandsFor};
@@ -19,7 +19,7 @@ ghost use Rattle.pepc.specs.Standing.{BringsNothing, HasRoom, IsInBook, IsLate, 
 
 use crate::entry_text::{push_answer, push_handled, push_move, push_note, push_open};
 use crate::gathered::Gathered;
-use address_book::{AddressBook, AdmitNo};
+use address_book::AddressBook;
 use bearer_state::ActiveBearer;
 use charging_book::Open;
 use control_steps::Command;
@@ -238,21 +238,17 @@ impl Solo {
 
     // The slot of a new IMSI, which gets a subscriber.
     fn admit(&mut self, alloc: Global, imsi: Imsi) -> Result<Slot, AllocError>
-        requires new { slot_in self.old.book imsi ≡ None }
+        requires due { IsDue self.old.book (New imsi) }
 
         ensures slot { (story : Story) → Stands self.old story
             → IfOk result (λ slot. slot ≡ length story.book) }
         ensures stands { (story : Story) → Stands self.old story
             → OnOk result (Stands self.new (with_book story (story.book ++ imsi ∷ []))) }
     {
-        match self.book.admit(imsi) {
-            Ok(slot) => {
-                let home = home_slice(slot, SLICES);
-                self.subscribers.push(Subscriber::new(alloc, slot, home)?)?;
-                Ok(slot)
-            }
-            Err(AdmitNo::PoolUsed) | Err(AdmitNo::NoMemory) => Err(AllocError),
-        }
+        let slot = Whose::New(imsi).admit(&mut self.book)?;
+        let home = home_slice(slot, SLICES);
+        self.subscribers.push(Subscriber::new(alloc, slot, home)?)?;
+        Ok(slot)
     }
 }
 
