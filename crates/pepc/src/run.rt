@@ -263,12 +263,12 @@ fn status_without(why: Unwritten) -> Status
 }
 
 // Appends what stands behind the lines of the last epoch, and the open counters.
-fn push_rest(gateway: &mut Solo, report: &mut Vec<u8>) -> Result<(), AllocError>
-    ensures { (story : Story) → Stands gateway.old story
+fn push_rest(solo: &mut Solo, report: &mut Vec<u8>) -> Result<(), AllocError>
+    ensures { (story : Story) → Stands solo.old story
         → OnOk result (report.new.items ≡ report.old.items ++ rest_text story) }
 {
-    gateway.close(report)?;
-    gateway.push_opens(report)
+    solo.close(report)?;
+    solo.push_opens(report)
 }
 
 // Ends the last epoch, and writes it with the open counters.

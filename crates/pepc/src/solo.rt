@@ -171,6 +171,7 @@ impl Solo {
         let line = self.lines + 1;
         let place = slot.0 as usize;
         let subscriber = &mut self.subscribers[place];
+        // Below 2^16, as a G-PDU asks.
         let _len = packet_len(packet.ip.octets());
         let handled = subscriber.judge(packet.moment, packet.way, &packet.ip)?;
         push_handled(alloc, report, line, slot, handled)?;

@@ -13,13 +13,13 @@ pub enum Status {
     ReadFault,
     /// The sink failed; a front of a report was written.
     WriteFault,
-    /// Memory ran out; a front of a report was written.
+    /// Memory ran out; the texts of some first whole epochs were written.
     NoMemory,
-    /// A line is refused; its note is the last line entry.
+    /// A line is refused; the report ends with it, and its note is the last line entry.
     BadLine,
-    /// A line has more than 132,000 octets.
+    /// A line has more than 132,000 octets; the report of the lines before was written.
     LineLong,
-    /// The input has 2^40 octets or more.
+    /// The input has 2^40 octets or more; the report of the lines before was written.
     TooLong,
 }
 
