@@ -2,7 +2,8 @@
 use crate::copying::session_of;
 use crate::memory::Memory;
 use crate::{Command, Event, Happened, NoMemory, Packet, Slot};
-use bearer_state::Session;
+use bearer_state::{Session, Version};
+use charging_book::Posting;
 use control_steps::step;
 use std::alloc::Global;
 use std::marker::Model;
@@ -36,7 +37,8 @@ impl Model for Gateway {
 }
 
 impl Gateway {
-    ghost use Rattle.std.specs.Prelude.{◌≡◌, ℕ, List, [], ◌∷◌, ◌++◌, OnOk, OnErr, IfOk, IsTrue, ◌↔◌};
+    ghost use Rattle.std.specs.Prelude.{◌≡◌, ℕ, List, [], ◌∷◌, ◌++◌, map, OnOk, OnErr, IfOk, IsTrue, ◌↔◌};
+    ghost use Rattle.charging_book.specs.Postings.{happening_of};
     ghost use Rattle.gate_model.specs.declared.event.Event.{Event};
     ghost use Rattle.gate_model.specs.SlotPast.{past_of, happens, happened_after, commanded, met, command_happens, packet_happens};
     ghost use Rattle.gate_model.specs.Room.{HasRoom};
@@ -83,7 +85,23 @@ impl Gateway {
         }
     }
 
-    fn command(&mut self, command: &Command) -> Result<Happened, NoMemory>
+    /// What the slot's charging book heard, in order.
+    pub fn postings(&self) -> &[Posting]
+        ensures { map happening_of result.now ≡ self.now.packets.charged }
+    {
+        self.memory.postings()
+    }
+
+    /// The version that packets go by now.
+    pub fn version(&self) -> Result<Version, NoMemory>
+        requires { HasRoom self.now }
+        ensures { IfOk result (λ version. version ≡ self.now.packets.version) }
+    {
+        self.session.version(self.commands)
+    }
+
+    /// What becomes of a command.
+    pub fn command(&mut self, command: &Command) -> Result<Happened, NoMemory>
         requires { HasRoom self.old }
         ensures happened { IfOk result (λ happened. happened ≡ command_happens self.old command.now) }
         ensures past { OnOk result (self.new ≡ commanded self.old command.now) }
@@ -101,7 +119,8 @@ impl Gateway {
         Ok(Happened::Replied(reply, effects))
     }
 
-    fn packet(&mut self, packet: &Packet) -> Result<Happened, NoMemory>
+    /// What becomes of a packet.
+    pub fn packet(&mut self, packet: &Packet) -> Result<Happened, NoMemory>
         requires { HasRoom self.old }
         ensures happened { IfOk result (λ happened. happened ≡ packet_happens self.old packet.now) }
         ensures past { OnOk result (self.new ≡ met self.old packet.now) }

@@ -112,6 +112,13 @@ impl Memory {
         self.last = Some(at);
     }
 
+    /// What the book heard.
+    pub(crate) fn postings(&self) -> &[Posting]
+        ensures { map happening_of result.now ≡ self.now.charged }
+    {
+        &self.charged
+    }
+
     /// The packets that were held are held no more.
     pub(crate) fn take_held(&mut self) -> Vec<HeldPacket>
         ensures taken { result.items ≡ self.old.held }
