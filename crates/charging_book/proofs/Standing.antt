@@ -2,7 +2,7 @@
 use Rattle.std.proofs.Common.{◌≡◌, ◌≢◌, ℕ, ◌+◌, ◌<◌, Bool, true, false, not, nat_le, List, [], ◌∷◌, ◌++◌, length, map, drop, if◌then◌else◌, All, Contains, Option, None, Some, get_or, set, sym, ◌∙◌, ap, refl, subst, arith, cond, eq-eqb, length-append}
 use Rattle.std.specs.List.{remove}
 use Rattle.std.proofs.lemmas.Bool.{ne_eqb}
-use Rattle.std.proofs.lemmas.List.{append-nil, drop-append-le, get_or-map, map_push, length-map}
+use Rattle.std.proofs.lemmas.List.{append-nil, drop-append-le, get_or_default, get_or-map, map_push, length-map}
 use Rattle.std.proofs.lemmas.List.Sums.{sum_by-append, fold-append}
 use Rattle.charging_book.specs.declared.records.Why.{Why}
 use Rattle.charging_book.specs.declared.records.Why.TheVariants.{Volume, Qos, Gone}
@@ -80,6 +80,14 @@ pub lives-stand : (book : Accounts) (happened : List Happening) (taken : ℕ) �
     → lives_in book ≡ lives_of happened
 lives-stand book happened taken stands =
     ap (λ opens. map (λ counters. counters.life) opens) stands.opens ∙ lives-opens happened (lives_of happened)
+
+-- a life that stands at a place is one of them
+pub life_there : (book : Accounts) (place life : ℕ) → place < length book.opens → get_or (lives_in book) place 0 ≡ life
+    → Contains (lives_in book) life
+life_there book place life within found =
+    let inside : place < length (lives_in book) =
+    subst (λ n. place < n) (sym (length-map book.opens (λ counters. counters.life))) within in
+    (place, inside, get_or_default (lives_in book) place life 0 inside ∙ found)
 
 -- where a life stands, its counters stand
 pub record IsAt (book : Accounts) (place life : ℕ) (counters : Counters) (moments : Moments) : Type 0 where

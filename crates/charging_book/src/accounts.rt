@@ -37,6 +37,8 @@ impl Book {
     ghost use Rattle.std.specs.Prelude.{◌≡◌, ◌≢◌, ◌-◌, ◌^◌, ◌<◌, ◌≤◌, ℕ, List, [], ◌∷◌, ◌++◌, length, map, All, Contains, OnOk, OnErr, IsTrue, ◌↔◌};
     ghost use Rattle.charging_book.specs.Happenings.{Happening, started, forwarded, closed, rows_of};
     ghost use Rattle.charging_book.specs.Accounts.{StandsFor, LifeHasRoom, lives_in};
+    ghost use Rattle.charging_book.specs.Counters.{HasRoom};
+    ghost use Rattle.std.specs.List.{HoldsAt};
 
     /// A book of no life.
     pub fn new(alloc: Global) -> Book
@@ -80,6 +82,21 @@ impl Book {
         ensures unchanged { OnErr result (self.new ≡ self.old) }
     {
         let place = place_of(&self.opens, life);
+        self.count_at(place, up, octets, at)
+    }
+
+    // The same for the life that stands at a place.
+    fn count_at(&mut self, place: usize, up: bool, octets: u32, at: Moment) -> Result<(), NoMemory>
+        requires within { place < length self.old.opens }
+        requires room { HoldsAt HasRoom self.old.opens place }
+
+        ensures stands { (life : ℕ) (happened : List Happening) (taken : ℕ)
+            → slice_index (lives_in self.old) place ≡ life
+            → StandsFor self.old happened taken
+            → OnOk result (StandsFor self.new
+            (happened ++ forwarded life (record { up = up; octets = octets; at = at }) ∷ []) taken) }
+        ensures unchanged { OnErr result (self.new ≡ self.old) }
+    {
         let counted = self.opens[place].with(up, octets);
         let span = self.spans[place].with(at);
         if counted.is_full() {
@@ -186,12 +203,27 @@ fn find_place(opens: &[Open], life: u64) -> Option<usize>
     ensures found { IfSome result (λ place. slice_index (map (λ counters. counters.life) opens.now) place ≡ life) }
     ensures none { IfNone result (All (λ other. other ≢ life) (map (λ counters. counters.life) opens.now)) }
 {
+    let guess = guess_of(opens, life);
+    if guess < opens.len() {
+        let counted = &opens[guess];
+        if counted.life == life {
+            return Some(guess);
+        }
+    }
     for (place, counted) in opens.iter().enumerate() {
         if counted.life == life {
             return Some(place);
         }
     }
     None
+}
+
+// Where a life stands if none between it and the first open one is over.
+fn guess_of(opens: &[Open], life: u64) -> usize {
+    match opens.first() {
+        Some(first) => life.wrapping_sub(first.life) as usize,
+        None => 0,
+    }
 }
 
 // Where an open life stands.

@@ -18,20 +18,25 @@ use Rattle.packet_steps.specs.Meters.{bucket_of, own_meter, bucket_for, Polices,
 use Rattle.packet_steps.specs.Plans.{PolicesBehind, Tries}
 
 -- a filter and one element more
-pub filter_push : {X : Type 0} (p : X → Bool) (xs : List X) (x : X) → filter p (xs ++ x ∷ []) ≡ filter p xs ++ cond (p x) (x ∷ []) []
+pub filter_push : {X : Type 0} (p : X → Bool) (xs : List X) (x : X)
+    → filter p (xs ++ x ∷ []) ≡ filter p xs ++ cond (p x) (x ∷ []) []
 filter_push p [] x = refl
 filter_push p (y ∷ ys) x =
     let rest = filter_push p ys x in
-    elim (p y) as (λ b. cond b (y ∷ filter p (ys ++ x ∷ [])) (filter p (ys ++ x ∷ [])) ≡ cond b (y ∷ filter p ys) (filter p ys) ++ cond (p x) (x ∷ []) []) [
+    elim (p y) as (λ b. cond b (y ∷ filter p (ys ++ x ∷ [])) (filter p (ys ++ x ∷ []))
+    ≡ cond b (y ∷ filter p ys) (filter p ys) ++ cond (p x) (x ∷ []) []) [
       | true ↦ ap (λ zs. y ∷ zs) rest
       | false ↦ rest
     ]
 
-pub filter_with : {X : Type 0} (p : X → Bool) (xs : List X) (x : X) → p x ≡ true → filter p (xs ++ x ∷ []) ≡ filter p xs ++ x ∷ []
+pub filter_with : {X : Type 0} (p : X → Bool) (xs : List X) (x : X) → p x ≡ true
+    → filter p (xs ++ x ∷ []) ≡ filter p xs ++ x ∷ []
 filter_with p xs x is = filter_push p xs x ∙ ap (λ b. filter p xs ++ cond b (x ∷ []) []) is
 
-pub filter_without : {X : Type 0} (p : X → Bool) (xs : List X) (x : X) → p x ≡ false → filter p (xs ++ x ∷ []) ≡ filter p xs
-filter_without p xs x is = filter_push p xs x ∙ ap (λ b. filter p xs ++ cond b (x ∷ []) []) is ∙ append-nil (filter p xs)
+pub filter_without : {X : Type 0} (p : X → Bool) (xs : List X) (x : X) → p x ≡ false
+    → filter p (xs ++ x ∷ []) ≡ filter p xs
+filter_without p xs x is = filter_push p xs x ∙ ap (λ b. filter p xs ++ cond b (x ∷ []) []) is
+    ∙ append-nil (filter p xs)
 
 pub one_way : (up : Bool) → same_way up up ≡ true
 one_way true = refl
@@ -43,31 +48,39 @@ own_by : (guaranteed up : Bool) (life rates : ℕ)
 own_by true up life rates = ap (λ b. b && same_way up up) (eq-eqb life life refl) ∙ one_way up
 own_by false up life rates = ap (λ b. b && same_way up up) (eq-eqb rates rates refl) ∙ one_way up
 
-pub is_own : (past : Past) (bearer : ActiveBearer) (up : Bool) (octets : ℕ) → is_policed_with past.version bearer up (row_for past bearer up octets) ≡ true
+pub is_own : (past : Past) (bearer : ActiveBearer) (up : Bool) (octets : ℕ)
+    → is_policed_with past.version bearer up (row_for past bearer up octets) ≡ true
 is_own past bearer up octets = own_by (is_guaranteed bearer.qos.qci) up bearer.life past.version.rates
 
 pub history_push : (past : Past) (bearer : ActiveBearer) (up : Bool) (octets : ℕ)
     → history_for past.version bearer up (past.forwarded ++ row_for past bearer up octets ∷ [])
     ≡ history_for past.version bearer up past.forwarded ++ row_for past bearer up octets ∷ []
 history_push past bearer up octets =
-    filter_with (is_policed_with past.version bearer up) past.forwarded (row_for past bearer up octets) (is_own past bearer up octets)
+    filter_with (is_policed_with past.version bearer up) past.forwarded (row_for past bearer up octets)
+    (is_own past bearer up octets)
 
 -- the bucket of an active bearer polices it
-polices_by : (meters : Meters) (past : Past) (bearer : ActiveBearer) (up : Bool) → MetersStand meters past → Contains past.version.bearers bearer
+polices_by : (meters : Meters) (past : Past) (bearer : ActiveBearer) (up : Bool) → MetersStand meters past
+    → Contains past.version.bearers bearer
     → (guaranteed : Bool) → is_guaranteed bearer.qos.qci ≡ guaranteed
     → Polices (cond guaranteed (bucket_of up (own_meter meters bearer.index)) (bucket_of up meters.shared))
     (cond guaranteed (mbr up bearer.qos) (ambr up past.version))
-    (filter (λ row. cond guaranteed (is_of_life bearer.life up row) (is_of_rates past.version.rates up row)) past.forwarded) (moment_of past)
+    (filter (λ row. cond guaranteed (is_of_life bearer.life up row)
+    (is_of_rates past.version.rates up row)) past.forwarded) (moment_of past)
 polices_by meters past bearer up stands there true is = stands.own bearer up there is
 polices_by meters past bearer up stands there false is = stands.shared up
 
-pub polices : (meters : Meters) (past : Past) (bearer : ActiveBearer) (up : Bool) → MetersStand meters past → Contains past.version.bearers bearer
-    → Polices (bucket_for meters bearer up) (rate_for past.version bearer up) (history_for past.version bearer up past.forwarded) (moment_of past)
-polices meters past bearer up stands there = polices_by meters past bearer up stands there (is_guaranteed bearer.qos.qci) refl
+pub polices : (meters : Meters) (past : Past) (bearer : ActiveBearer) (up : Bool) → MetersStand meters past
+    → Contains past.version.bearers bearer
+    → Polices (bucket_for meters bearer up) (rate_for past.version bearer up)
+    (history_for past.version bearer up past.forwarded) (moment_of past)
+polices meters past bearer up stands there = polices_by meters past bearer up stands there
+    (is_guaranteed bearer.qos.qci) refl
 
 -- what a bucket was asked for, and how it answered
 pub record Asked (old new : BucketState) (at octets : ℕ) (answer : Bool) : Type 0 where
-  pub tested : (passed : List Cost) → buckets.StandsFor old passed → last_of old ≤ at → answer ≡ conforms (rate_of old) passed (cost_of octets at)
+  pub tested : (passed : List Cost) → buckets.StandsFor old passed → last_of old ≤ at
+  → answer ≡ conforms (rate_of old) passed (cost_of octets at)
   pub charged : (passed : List Cost) → buckets.StandsFor old passed → last_of old ≤ at
       → MatchBool answer (buckets.StandsFor new (passed ++ cost_of octets at ∷ [])) (buckets.StandsFor new passed)
   pub rate : rate_of new ≡ rate_of old
@@ -78,7 +91,8 @@ tested_by : (past : Past) (bearer : ActiveBearer) (up : Bool) (at octets : ℕ) 
     → moment_of past ≤ at → Asked old new at octets answer → answer ≡ passes (at_moment past at) bearer up octets
 tested_by past bearer up at octets old new answer known late asked =
     asked.tested (costs (history_for past.version bearer up past.forwarded)) known.stands (le_trans known.asked late)
-    ∙ ap (λ rate. conforms rate (costs (history_for past.version bearer up past.forwarded)) (cost_of octets at)) known.rate_is
+    ∙ ap (λ rate. conforms rate (costs (history_for past.version bearer up past.forwarded))
+    (cost_of octets at)) known.rate_is
 
 pub tries_yes : (past : Past) (bearer : ActiveBearer) (up : Bool) (at octets : ℕ) (old new : BucketState)
     → Polices old (rate_for past.version bearer up) (history_for past.version bearer up past.forwarded) (moment_of past)
@@ -89,8 +103,10 @@ tries_yes past bearer up at octets old new known late asked = (
     rate_is = asked.rate ∙ known.rate_is;
     stands = subst (buckets.StandsFor new)
         (sym (ap costs (history_push (at_moment past at) bearer up octets)
-        ∙ map_push (λ (row : ForwardedRow). cost_of row.octets row.at) (history_for past.version bearer up past.forwarded) (row_for (at_moment past at) bearer up octets)))
-        (asked.charged (costs (history_for past.version bearer up past.forwarded)) known.stands (le_trans known.asked late));
+        ∙ map_push (λ (row : ForwardedRow). cost_of row.octets row.at)
+        (history_for past.version bearer up past.forwarded) (row_for (at_moment past at) bearer up octets)))
+        (asked.charged (costs (history_for past.version bearer up past.forwarded)) known.stands
+        (le_trans known.asked late));
     asked = subst (λ moment. moment ≤ at) (sym (asked.asked (le_trans known.asked late))) (omega arith);
   },
 )
@@ -98,21 +114,28 @@ tries_yes past bearer up at octets old new known late asked = (
 pub tries_no : (past : Past) (bearer : ActiveBearer) (up : Bool) (at octets : ℕ) (old new : BucketState)
     → Polices old (rate_for past.version bearer up) (history_for past.version bearer up past.forwarded) (moment_of past)
     → moment_of past ≤ at → Asked old new at octets false → Tries (at_moment past at) bearer up octets None
-tries_no past bearer up at octets old new known late asked = sym (tested_by past bearer up at octets old new false known late asked)
+tries_no past bearer up at octets old new known late asked = sym
+    (tested_by past bearer up at octets old new false known late asked)
 
 -- the same of the bucket in its place
-pub tried_yes : (meters : Meters) (past : Past) (bearer : ActiveBearer) (up : Bool) (at octets : ℕ) (old new : BucketState) → old ≡ bucket_for meters bearer up
-    → MetersStand meters past → Contains past.version.bearers bearer → moment_of past ≤ at → Asked old new at octets true
+pub tried_yes : (meters : Meters) (past : Past) (bearer : ActiveBearer) (up : Bool) (at octets : ℕ)
+    (old new : BucketState) → old ≡ bucket_for meters bearer up
+    → MetersStand meters past → Contains past.version.bearers bearer → moment_of past ≤ at
+    → Asked old new at octets true
     → Tries (at_moment past at) bearer up octets (Some new)
 tried_yes meters past bearer up at octets old new is stands there late asked =
     tries_yes past bearer up at octets old new
-    (subst (λ b. Polices b (rate_for past.version bearer up) (history_for past.version bearer up past.forwarded) (moment_of past)) (sym is)
+    (subst (λ b. Polices b (rate_for past.version bearer up) (history_for past.version bearer up past.forwarded)
+    (moment_of past)) (sym is)
     (polices meters past bearer up stands there)) late asked
 
-pub tried_no : (meters : Meters) (past : Past) (bearer : ActiveBearer) (up : Bool) (at octets : ℕ) (old new : BucketState) → old ≡ bucket_for meters bearer up
-    → MetersStand meters past → Contains past.version.bearers bearer → moment_of past ≤ at → Asked old new at octets false
+pub tried_no : (meters : Meters) (past : Past) (bearer : ActiveBearer) (up : Bool) (at octets : ℕ)
+    (old new : BucketState) → old ≡ bucket_for meters bearer up
+    → MetersStand meters past → Contains past.version.bearers bearer → moment_of past ≤ at
+    → Asked old new at octets false
     → Tries (at_moment past at) bearer up octets None
 tried_no meters past bearer up at octets old new is stands there late asked =
     tries_no past bearer up at octets old new
-    (subst (λ b. Polices b (rate_for past.version bearer up) (history_for past.version bearer up past.forwarded) (moment_of past)) (sym is)
+    (subst (λ b. Polices b (rate_for past.version bearer up) (history_for past.version bearer up past.forwarded)
+    (moment_of past)) (sym is)
     (polices meters past bearer up stands there)) late asked

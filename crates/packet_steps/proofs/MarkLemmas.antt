@@ -20,17 +20,23 @@ abbrev starting : ActiveBearer → Posting
 starting bearer = Start bearer.life bearer.ebi bearer.qos.qci
 
 pieces_are : (was_set : Bool) (before after : List ActiveBearer)
-    → map happening_of (cond was_set (map cutting (filter shares_ambr (shared_with after before))) []) ≡ cut was_set before after
+    → map happening_of (cond was_set (map cutting (filter shares_ambr (shared_with after before))) [])
+    ≡ cut was_set before after
 pieces_are true before after = map_map happening_of cutting (filter shares_ambr (shared_with after before))
 pieces_are false before after = refl
 
-pub marks_joined : (was_set : Bool) (before after : List ActiveBearer) (first pieces lives all : List Posting) → first ≡ map closing (lacking_in after before)
-    → pieces ≡ cond was_set (map cutting (filter shares_ambr (shared_with after before))) [] → lives ≡ map starting (lacking_in before after)
+pub marks_joined : (was_set : Bool) (before after : List ActiveBearer) (first pieces lives all : List Posting)
+    → first ≡ map closing (lacking_in after before)
+    → pieces ≡ cond was_set (map cutting (filter shares_ambr (shared_with after before))) []
+    → lives ≡ map starting (lacking_in before after)
     → all ≡ (first ++ pieces) ++ lives → map happening_of all ≡ marks_between was_set before after
 marks_joined was_set before after first pieces lives all first_is pieces_is lives_is all_is =
-    let one : map happening_of first ≡ ended before after = ap (map happening_of) first_is ∙ map_map happening_of closing (lacking_in after before) in
-    let two : map happening_of pieces ≡ cut was_set before after = ap (map happening_of) pieces_is ∙ pieces_are was_set before after in
-    let three : map happening_of lives ≡ begun before after = ap (map happening_of) lives_is ∙ map_map happening_of starting (lacking_in before after) in
+    let one : map happening_of first ≡ ended before after = ap (map happening_of) first_is
+    ∙ map_map happening_of closing (lacking_in after before) in
+    let two : map happening_of pieces ≡ cut was_set before after = ap (map happening_of) pieces_is
+    ∙ pieces_are was_set before after in
+    let three : map happening_of lives ≡ begun before after = ap (map happening_of) lives_is
+    ∙ map_map happening_of starting (lacking_in before after) in
     ap (map happening_of) all_is ∙ map-append happening_of (first ++ pieces) lives
     ∙ ap (λ xs. xs ++ map happening_of lives) (map-append happening_of first pieces)
     ∙ ap (λ xs. (xs ++ map happening_of pieces) ++ map happening_of lives) one

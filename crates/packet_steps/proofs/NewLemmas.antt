@@ -24,7 +24,8 @@ none_polices : (slot : ℕ) (up : Bool) → Polices (bucket_of up (new_meter 0 0
 none_polices slot true = full_polices 0 0 0 true
 none_polices slot false = full_polices 0 0 0 false
 
-pub new_stands : (none : Meter) (accounts : book.Accounts) (held : List HeldRow) (slot : ℕ) → none ≡ new_meter 0 0 → book.StandsFor accounts [] 0 → held ≡ []
+pub new_stands : (none : Meter) (accounts : book.Accounts) (held : List HeldRow) (slot : ℕ) → none ≡ new_meter 0 0
+    → book.StandsFor accounts [] 0 → held ≡ []
     → StandsFor (record {
       meters = record { shared = none; own = none ∷ none ∷ none ∷ none ∷ none ∷ none ∷ none ∷ none ∷ none ∷ none ∷ none ∷ [] };
       book = accounts;
@@ -34,7 +35,8 @@ pub new_stands : (none : Meter) (accounts : book.Accounts) (held : List HeldRow)
 new_stands none accounts held slot is charges nothing = record {
   meters = record {
     sized = refl;
-    shared = λ up. subst (λ (meter : Meter). Polices (bucket_of up meter) (ambr up (new_past slot).version) [] 0) (sym is) (none_polices slot up);
+    shared = λ up. subst (λ (meter : Meter). Polices (bucket_of up meter) (ambr up (new_past slot).version) [] 0)
+        (sym is) (none_polices slot up);
     own = λ bearer up there. absurd (omega (arith, there.1));
   };
   charges = charges;

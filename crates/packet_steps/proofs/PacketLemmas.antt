@@ -35,31 +35,41 @@ packet_passes octets whole =
     let header : header_len octets ≤ length octets = omega (arith, whole.header, whole.total) in
     let total : total_length octets ≤ length octets = omega (arith, whole.total) in
     ap (λ t. t && (total_length octets == length octets))
-    (all_fail (nat_lt (length octets) 20) (not (version_of octets == 4)) (breaks_header octets) (breaks_total octets) _ _ _ _
+    (all_fail (nat_lt (length octets) 20) (not (version_of octets == 4)) (breaks_header octets)
+    (breaks_total octets) _ _ _ _
     (not_below (length octets) 20 least) (ap not (eq-eqb (version_of octets) 4 whole.version))
-    (neither (nat_lt (header_words octets) 5) (nat_lt (length octets) (header_len octets)) (not_below (header_words octets) 5 whole.words) (not_below (length octets) (header_len octets) header))
+    (neither (nat_lt (header_words octets) 5) (nat_lt (length octets) (header_len octets))
+    (not_below (header_words octets) 5 whole.words) (not_below (length octets) (header_len octets) header))
     (neither (nat_lt (total_length octets) (header_len octets)) (nat_lt (length octets) (total_length octets))
-    (not_below (total_length octets) (header_len octets) whole.header) (not_below (length octets) (total_length octets) total)))
+    (not_below (total_length octets) (header_len octets) whole.header)
+    (not_below (length octets) (total_length octets) total)))
     ∙ eq-eqb (total_length octets) (length octets) whole.total
 
 -- while attached, a packet is judged by its way
-by_way : (past : Past) (packet : Packet) → past.version.live ≡ true → is_packet packet.octets ≡ true → judged_now past packet ≡ judged_by_way past packet packet.way
+by_way : (past : Past) (packet : Packet) → past.version.live ≡ true → is_packet packet.octets ≡ true
+    → judged_now past packet ≡ judged_by_way past packet packet.way
 by_way past packet live whole =
     let judged : Bool → Past × Verdict = λ t. cond t (judged_by_way past packet packet.way) (past, verdict.NoBearer) in
     ap judged (ap (λ t. t && is_packet packet.octets) live ∙ whole)
 
-pub judged_going_up : (past : Past) (packet : Packet) (version : VersionState) (index : ℕ) (octets : List ℕ) → past.version ≡ version → version.live ≡ true
-    → IsPacket octets → packet.octets ≡ octets → packet.way ≡ Up index → judged_up past octets (bearer_at version.bearers index) ≡ judged_now past packet
+pub judged_going_up : (past : Past) (packet : Packet) (version : VersionState) (index : ℕ) (octets : List ℕ)
+    → past.version ≡ version → version.live ≡ true
+    → IsPacket octets → packet.octets ≡ octets → packet.way ≡ Up index
+    → judged_up past octets (bearer_at version.bearers index) ≡ judged_now past packet
 judged_going_up past packet version index octets same live whole is way =
-    sym (by_way past packet (ap (λ (v : VersionState). v.live) same ∙ live) (ap is_packet is ∙ packet_passes octets whole)
+    sym (by_way past packet (ap (λ (v : VersionState). v.live) same ∙ live)
+    (ap is_packet is ∙ packet_passes octets whole)
     ∙ ap (judged_by_way past packet) way
     ∙ ap (λ o. judged_up past o (bearer_at past.version.bearers index)) is
     ∙ ap (λ (v : VersionState). judged_up past octets (bearer_at v.bearers index)) same)
 
-pub judged_going_down : (past : Past) (packet : Packet) (version : VersionState) (octets : List ℕ) → past.version ≡ version → version.live ≡ true
-    → IsPacket octets → packet.octets ≡ octets → packet.way ≡ Down → judged_down past packet (bearer_for version octets) ≡ judged_now past packet
+pub judged_going_down : (past : Past) (packet : Packet) (version : VersionState) (octets : List ℕ)
+    → past.version ≡ version → version.live ≡ true
+    → IsPacket octets → packet.octets ≡ octets → packet.way ≡ Down
+    → judged_down past packet (bearer_for version octets) ≡ judged_now past packet
 judged_going_down past packet version octets same live whole is way =
-    sym (by_way past packet (ap (λ (v : VersionState). v.live) same ∙ live) (ap is_packet is ∙ packet_passes octets whole)
+    sym (by_way past packet (ap (λ (v : VersionState). v.live) same ∙ live)
+    (ap is_packet is ∙ packet_passes octets whole)
     ∙ ap (judged_by_way past packet) way
     ∙ ap (λ o. judged_down past packet (bearer_for past.version o)) is
     ∙ ap (λ (v : VersionState). judged_down past packet (bearer_for v octets)) same)

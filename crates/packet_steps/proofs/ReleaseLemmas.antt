@@ -28,15 +28,19 @@ use Rattle.packet_steps.specs.Releases.{Releases}
 use Rattle.packet_steps.proofs.MeterLemmas.{put_stands}
 
 -- what was tried at the last packet's moment was tried now
-pub tries_now : (past : Past) (bearer : ActiveBearer) (up : Bool) (at octets : ℕ) (tried : Option BucketState) → moment_of past ≡ at
+pub tries_now : (past : Past) (bearer : ActiveBearer) (up : Bool) (at octets : ℕ) (tried : Option BucketState)
+    → moment_of past ≡ at
     → Tries (at_moment past at) bearer up octets tried → Tries past bearer up octets tried
-tries_now past bearer up at octets None now known = subst (λ moment. Tries (at_moment past moment) bearer up octets None) (sym now) known
+tries_now past bearer up at octets None now known = subst
+    (λ moment. Tries (at_moment past moment) bearer up octets None) (sym now) known
 tries_now past bearer up at octets (Some bucket) now known =
     subst (λ moment. Tries (at_moment past moment) bearer up octets (Some bucket)) (sym now) known
 
 -- one effect more
-pub told_more : (old new : Release) (before : List Happening) (so_far : Past × List Effect) (row : HeldRow) (fate_ : Fate) → Releases old before so_far
-    → new.meters ≡ old.meters → new.postings.items ≡ old.postings.items → new.effects.items ≡ old.effects.items ++ effect.Fate row.packet.number fate_ ∷ []
+pub told_more : (old new : Release) (before : List Happening) (so_far : Past × List Effect) (row : HeldRow)
+    (fate_ : Fate) → Releases old before so_far
+    → new.meters ≡ old.meters → new.postings.items ≡ old.postings.items
+    → new.effects.items ≡ old.effects.items ++ effect.Fate row.packet.number fate_ ∷ []
     → Releases new before (fated so_far row fate_)
 told_more old new before so_far row fate_ known meters postings effects = record {
   meters = subst (λ (m : Meters). MetersStand m so_far.0) (sym meters) known.meters;
@@ -45,7 +49,8 @@ told_more old new before so_far row fate_ known meters postings effects = record
 }
 
 -- a packet that waits on
-pub waits_more : (release : Release) (before : List Happening) (so_far : Past × List Effect) (row : HeldRow) → Releases release before so_far
+pub waits_more : (release : Release) (before : List Happening) (so_far : Past × List Effect) (row : HeldRow)
+    → Releases release before so_far
     → Releases release before (with_held so_far.0 row, so_far.1)
 waits_more release before so_far row known = record {
   meters = record { sized = known.meters.sized; shared = known.meters.shared; own = known.meters.own };
@@ -54,54 +59,67 @@ waits_more release before so_far row known = record {
 }
 
 -- a packet that doesn't conform
-pub policed_more : (old new : Release) (before : List Happening) (so_far : Past × List Effect) (row : HeldRow) (bearer : ActiveBearer) (peer : Peer) → Releases old before so_far
+pub policed_more : (old new : Release) (before : List Happening) (so_far : Past × List Effect) (row : HeldRow)
+    (bearer : ActiveBearer) (peer : Peer) → Releases old before so_far
     → passes so_far.0 bearer false (length row.packet.octets) ≡ false
     → new.meters ≡ old.meters → new.postings.items ≡ old.postings.items
     → new.effects.items ≡ old.effects.items ++ effect.Fate row.packet.number (fate.Policed row.life) ∷ []
     → Releases new before (released_to so_far row bearer (Some peer))
 policed_more old new before so_far row bearer peer known fails meters postings effects =
     let outcome : Bool → Past × List Effect = λ passed.
-    cond passed (fated (with_row so_far.0 (row_for so_far.0 bearer false (length row.packet.octets)), so_far.1) row (fate.Down row.life peer.addr (gpdu peer row.packet.octets)))
+    cond passed (fated (with_row so_far.0 (row_for so_far.0 bearer false (length row.packet.octets)), so_far.1) row
+    (fate.Down row.life peer.addr (gpdu peer row.packet.octets)))
     (fated so_far row (fate.Policed row.life)) in
     subst (λ passed. Releases new before (outcome passed)) (sym fails)
     (told_more old new before so_far row (fate.Policed row.life) known meters postings effects)
 
 -- a packet that is forwarded
-pub passed_more : (old new : Release) (before : List Happening) (so_far : Past × List Effect) (row : HeldRow) (bearer : ActiveBearer) (peer : Peer) (bucket : BucketState) (at : ℕ)
-    → Releases old before so_far → IsVersion so_far.0.version → Contains so_far.0.version.bearers bearer → moment_of so_far.0 ≡ at
+pub passed_more : (old new : Release) (before : List Happening) (so_far : Past × List Effect) (row : HeldRow)
+    (bearer : ActiveBearer) (peer : Peer) (bucket : BucketState) (at : ℕ)
+    → Releases old before so_far → IsVersion so_far.0.version → Contains so_far.0.version.bearers bearer
+    → moment_of so_far.0 ≡ at
     → Tries (at_moment so_far.0 at) bearer false (length row.packet.octets) (Some bucket)
     → new.meters ≡ put_bucket old.meters bearer false bucket
     → new.postings.items ≡ old.postings.items ++ Packet bearer.life false (length row.packet.octets) at ∷ []
-    → new.effects.items ≡ old.effects.items ++ effect.Fate row.packet.number (fate.Down row.life peer.addr (gpdu peer row.packet.octets)) ∷ []
+    → new.effects.items ≡ old.effects.items
+    ++ effect.Fate row.packet.number (fate.Down row.life peer.addr (gpdu peer row.packet.octets)) ∷ []
     → Releases new before (released_to so_far row bearer (Some peer))
 passed_more old new before so_far row bearer peer bucket at known ranges there now tried meters postings effects =
     let octets = length row.packet.octets in
     let passing = tries_now so_far.0 bearer false at octets (Some bucket) now tried in
     let outcome : Bool → Past × List Effect = λ passed.
-    cond passed (fated (with_row so_far.0 (row_for so_far.0 bearer false octets), so_far.1) row (fate.Down row.life peer.addr (gpdu peer row.packet.octets)))
+    cond passed (fated (with_row so_far.0 (row_for so_far.0 bearer false octets), so_far.1) row
+    (fate.Down row.life peer.addr (gpdu peer row.packet.octets)))
     (fated so_far row (fate.Policed row.life)) in
-    let posted : ℕ → Happening = λ moment. forwarded bearer.life (record { up = false; octets = octets; at = moment }) in
+    let posted : ℕ → Happening = λ moment. forwarded bearer.life
+    (record { up = false; octets = octets; at = moment }) in
     subst (λ passed. Releases new before (outcome passed)) (sym passing.0) (record {
-      meters = subst (λ (m : Meters). MetersStand m (with_row so_far.0 (row_for so_far.0 bearer false octets))) (sym meters)
+      meters = subst (λ (m : Meters). MetersStand m (with_row so_far.0 (row_for so_far.0 bearer false octets)))
+          (sym meters)
           (put_stands old.meters so_far.0 bearer false octets bucket known.meters ranges there passing.1);
       postings = ap (λ ps. before ++ map happening_of ps) postings
           ∙ ap (λ hs. before ++ hs) (map_push happening_of old.postings.items (Packet bearer.life false octets at))
           ∙ sym (append_assoc before (map happening_of old.postings.items) (posted at ∷ []))
           ∙ ap (λ hs. hs ++ posted at ∷ []) known.postings
           ∙ ap (λ moment. so_far.0.charged ++ posted moment ∷ []) (sym now);
-      effects = effects ∙ ap (λ es. es ++ effect.Fate row.packet.number (fate.Down row.life peer.addr (gpdu peer row.packet.octets)) ∷ []) known.effects;
+      effects = effects ∙ ap (λ es. es
+          ++ effect.Fate row.packet.number (fate.Down row.life peer.addr (gpdu peer row.packet.octets)) ∷ []) known.effects;
     })
 
 -- the same of octets that are the packet's
-pub passed_here : (old new : Release) (before : List Happening) (so_far : Past × List Effect) (row : HeldRow) (bearer : ActiveBearer) (peer : Peer) (bucket : BucketState) (at : ℕ) (octets : List ℕ)
-    → octets ≡ row.packet.octets → Releases old before so_far → IsVersion so_far.0.version → Contains so_far.0.version.bearers bearer → moment_of so_far.0 ≡ at
+pub passed_here : (old new : Release) (before : List Happening) (so_far : Past × List Effect) (row : HeldRow)
+    (bearer : ActiveBearer) (peer : Peer) (bucket : BucketState) (at : ℕ) (octets : List ℕ)
+    → octets ≡ row.packet.octets → Releases old before so_far → IsVersion so_far.0.version
+    → Contains so_far.0.version.bearers bearer → moment_of so_far.0 ≡ at
     → Tries (at_moment so_far.0 at) bearer false (length octets) (Some bucket)
     → new.meters ≡ put_bucket old.meters bearer false bucket
     → new.postings.items ≡ old.postings.items ++ Packet bearer.life false (length octets) at ∷ []
-    → new.effects.items ≡ old.effects.items ++ effect.Fate row.packet.number (fate.Down row.life peer.addr (gpdu peer octets)) ∷ []
+    → new.effects.items ≡ old.effects.items
+    ++ effect.Fate row.packet.number (fate.Down row.life peer.addr (gpdu peer octets)) ∷ []
     → Releases new before (released_to so_far row bearer (Some peer))
 passed_here old new before so_far row bearer peer bucket at octets is known ranges there now tried meters postings effects =
     passed_more old new before so_far row bearer peer bucket at known ranges there now
     (subst (λ (text : List ℕ). Tries (at_moment so_far.0 at) bearer false (length text) (Some bucket)) is tried) meters
     (postings ∙ ap (λ (text : List ℕ). old.postings.items ++ Packet bearer.life false (length text) at ∷ []) is)
-    (effects ∙ ap (λ (text : List ℕ). old.effects.items ++ effect.Fate row.packet.number (fate.Down row.life peer.addr (gpdu peer text)) ∷ []) is)
+    (effects ∙ ap (λ (text : List ℕ). old.effects.items
+    ++ effect.Fate row.packet.number (fate.Down row.life peer.addr (gpdu peer text)) ∷ []) is)

@@ -21,9 +21,11 @@ use Rattle.packet_steps.proofs.BearerLemmas.{none_in_nil, of_cons}
 use Rattle.packet_steps.proofs.MeterLemmas.{meters_later, put_stands}
 
 -- the moment isn't earlier than that of the last packet
-pub late_by : (counters : CountersState) (past : Past) (taken at : ℕ) → StandsFor counters past taken → IfSome (last_of counters) (λ last. last ≤ at)
+pub late_by : (counters : CountersState) (past : Past) (taken at : ℕ) → StandsFor counters past taken
+    → IfSome (last_of counters) (λ last. last ≤ at)
     → moment_of past ≤ at
-late_by counters past taken at stands late = by (past.last) (subst (λ last. IfSome last (λ moment. moment ≤ at)) stands.last late)
+late_by counters past taken at stands late = by (past.last)
+    (subst (λ last. IfSome last (λ moment. moment ≤ at)) stands.last late)
   where
     by : (last : Option ℕ) → IfSome last (λ moment. moment ≤ at) → unwrap_or last 0 ≤ at
     by None late = omega arith
@@ -34,7 +36,8 @@ or_true true = refl
 or_true false = refl
 
 -- a bearer's life is among those of the bearers
-pub has_it : (bearers : List ActiveBearer) (bearer : ActiveBearer) → Contains bearers bearer → has_life bearers bearer.life ≡ true
+pub has_it : (bearers : List ActiveBearer) (bearer : ActiveBearer) → Contains bearers bearer
+    → has_life bearers bearer.life ≡ true
 has_it [] bearer there = absurd (none_in_nil bearer there)
 has_it (b ∷ bearers) bearer there =
     elim (of_cons b bearers bearer there) [
@@ -43,7 +46,8 @@ has_it (b ∷ bearers) bearer there =
     ]
 
 -- nothing but time went by
-pub stays_stand : (counters new : CountersState) (past : Past) (taken at : ℕ) → StandsFor counters past taken → moment_of past ≤ at
+pub stays_stand : (counters new : CountersState) (past : Past) (taken at : ℕ) → StandsFor counters past taken
+    → moment_of past ≤ at
     → new ≡ record counters { last = Some at } → StandsFor new (at_moment past at) taken
 stays_stand counters new past taken at stands late is =
     subst (λ (c : CountersState). StandsFor c (at_moment past at) taken) (sym is) (record {
@@ -57,8 +61,10 @@ stays_stand counters new past taken at stands late is =
     })
 
 -- one packet more is held
-pub holds_stand : (counters new : CountersState) (past : Past) (taken at : ℕ) (row : HeldRow) → StandsFor counters past taken → moment_of past ≤ at
-    → new ≡ record counters { held = counters.held ++ row ∷ []; last = Some at } → StandsFor new (with_held (at_moment past at) row) taken
+pub holds_stand : (counters new : CountersState) (past : Past) (taken at : ℕ) (row : HeldRow)
+    → StandsFor counters past taken → moment_of past ≤ at
+    → new ≡ record counters { held = counters.held ++ row ∷ []; last = Some at }
+    → StandsFor new (with_held (at_moment past at) row) taken
 holds_stand counters new past taken at row stands late is =
     subst (λ (c : CountersState). StandsFor c (with_held (at_moment past at) row) taken) (sym is) (record {
       meters =
@@ -73,8 +79,10 @@ holds_stand counters new past taken at row stands late is =
     })
 
 -- what is forwarded may be charged
-pub may_charge : (counters : CountersState) (past : Past) (taken at octets : ℕ) (bearer : ActiveBearer) (up : Bool) → StandsFor counters past taken
-    → Contains past.version.bearers bearer → AreFew past.charged → MayFollow past.charged (happening_for (row_for (at_moment past at) bearer up octets))
+pub may_charge : (counters : CountersState) (past : Past) (taken at octets : ℕ) (bearer : ActiveBearer) (up : Bool)
+    → StandsFor counters past taken
+    → Contains past.version.bearers bearer → AreFew past.charged
+    → MayFollow past.charged (happening_for (row_for (at_moment past at) bearer up octets))
 may_charge counters past taken at octets bearer up stands there few = record {
   may = (stands.open_lives bearer.life).1 (has_it past.version.bearers bearer there);
   in_range = tt;
@@ -82,8 +90,10 @@ may_charge counters past taken at octets bearer up stands there few = record {
 }
 
 -- one packet more is forwarded and charged
-pub passes_stand : (counters new : CountersState) (past : Past) (taken at octets : ℕ) (bearer : ActiveBearer) (up : Bool) (bucket : BucketState)
-    → StandsFor counters past taken → moment_of past ≤ at → Contains past.version.bearers bearer → PolicesBehind (at_moment past at) bearer up octets bucket
+pub passes_stand : (counters new : CountersState) (past : Past) (taken at octets : ℕ) (bearer : ActiveBearer)
+    (up : Bool) (bucket : BucketState)
+    → StandsFor counters past taken → moment_of past ≤ at → Contains past.version.bearers bearer
+    → PolicesBehind (at_moment past at) bearer up octets bucket
     → new.meters ≡ put_bucket counters.meters bearer up bucket
     → book.StandsFor new.book (past.charged ++ happening_for (row_for (at_moment past at) bearer up octets) ∷ []) taken
     → new.held ≡ counters.held → new.last ≡ Some at
@@ -92,11 +102,14 @@ passes_stand counters new past taken at octets bearer up bucket stands late ther
     let row = row_for (at_moment past at) bearer up octets in
     record {
       meters = subst (λ (m : Meters). MetersStand m (with_row (at_moment past at) row)) (sym meters)
-          (put_stands counters.meters (at_moment past at) bearer up octets bucket (meters_later counters.meters past at stands.meters late) stands.ranges there behind);
+          (put_stands counters.meters (at_moment past at) bearer up octets bucket
+          (meters_later counters.meters past at stands.meters late) stands.ranges there behind);
       charges = charges;
       held = held ∙ stands.held;
       last = last;
-      open_lives = λ life. subst (λ lives. Contains lives life ↔ IsTrue (has_life past.version.bearers life)) (sym (lives-push past.charged (happening_for row))) (stands.open_lives life);
-      rates = All-push (λ (r : ForwardedRow). r.rates ≤ past.version.rates) past.forwarded row stands.rates (omega arith);
+      open_lives = λ life. subst (λ lives. Contains lives life ↔ IsTrue (has_life past.version.bearers life))
+          (sym (lives-push past.charged (happening_for row))) (stands.open_lives life);
+      rates = All-push (λ (r : ForwardedRow). r.rates ≤ past.version.rates) past.forwarded row stands.rates
+          (omega arith);
       ranges = stands.ranges;
     }

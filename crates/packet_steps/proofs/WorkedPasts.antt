@@ -110,19 +110,22 @@ after past (p ∷ packets) = after (judged past p).0 packets
 
 -- up from the subscriber's own address alone, on a bearer that is there, while attached, and only what is a packet
 uplink : verdicts (fresh (one_bearer 1000 1 (Some first_enb)))
-    (packet 0 5 (Up 0) (from_user 2) ∷ packet 1 5 (Up 0) (from_user 3) ∷ packet 2 5 (Up 1) (from_user 2) ∷ packet 3 5 (Up 0) (from_user 2 ++ 0 ∷ []) ∷ [])
+    (packet 0 5 (Up 0) (from_user 2) ∷ packet 1 5 (Up 0) (from_user 3) ∷ packet 2 5 (Up 1) (from_user 2) ∷ packet 3 5
+    (Up 0) (from_user 2 ++ 0 ∷ []) ∷ [])
     ≡ verdict.Up 0 (from_user 2) ∷ verdict.Spoof ∷ verdict.NoBearer ∷ verdict.NoBearer ∷ []
 unfolding conforms
 uplink = refl
 
-not_attached : (judged (fresh (record (one_bearer 1000 1 (Some first_enb)) { live = false })) (packet 0 5 (Up 0) (from_user 2))).1 ≡ verdict.NoBearer
+not_attached : (judged (fresh (record (one_bearer 1000 1 (Some first_enb)) { live = false }))
+    (packet 0 5 (Up 0) (from_user 2))).1 ≡ verdict.NoBearer
 not_attached = refl
 
 -- down by the filters, to the eNodeB in the tunnel's octets; a later fragment has no port
 abbrev tunnelled : ℕ → List ℕ → List ℕ
 tunnelled teid octets = 0x30 ∷ 0xff ∷ 0 ∷ 28 ∷ 0 ∷ 0 ∷ 0xa ∷ teid ∷ octets
 
-downlink : verdicts (fresh (two_bearers (Some first_enb))) (packet 0 5 Down (to_user 0) ∷ packet 1 5 Down (to_user 1) ∷ [])
+downlink : verdicts (fresh (two_bearers (Some first_enb)))
+    (packet 0 5 Down (to_user 0) ∷ packet 1 5 Down (to_user 1) ∷ [])
     ≡ verdict.Down 1 0xc6336407 (tunnelled 1 (to_user 0)) ∷ verdict.Down 0 0xc6336407 (tunnelled 1 (to_user 1)) ∷ []
 unfolding conforms chosen gpdu
 downlink = refl
@@ -142,7 +145,8 @@ numbered : (judged (fresh (one_bearer 1000 1 None)) (packet 0x81_0203 1 Down (to
 unfolding conforms chosen notification
 numbered = refl
 
-untold : (judged (fresh (record (one_bearer 1000 1 None) { mme = None })) (packet 0 1 Down (to_user 0))).1 ≡ verdict.Held 0 None
+untold : (judged (fresh (record (one_bearer 1000 1 None) { mme = None })) (packet 0 1 Down (to_user 0))).1
+    ≡ verdict.Held 0 None
 unfolding chosen
 untold = refl
 
@@ -183,7 +187,8 @@ marker : (learnt (fresh (one_bearer 1000 1 (Some first_enb))) (one_bearer 1000 1
 unfolding end_marker
 marker = refl
 
-no_marker : map (λ (version : VersionState). (learnt (fresh (two_bearers (Some first_enb))) version).1) (two_bearers (Some first_enb) ∷ two_bearers None ∷ [])
+no_marker : map (λ (version : VersionState). (learnt (fresh (two_bearers (Some first_enb))) version).1)
+    (two_bearers (Some first_enb) ∷ two_bearers None ∷ [])
     ≡ [] ∷ [] ∷ []
 no_marker = refl
 
@@ -195,7 +200,8 @@ none_behind_gone = refl
 -- held packets in their order: one whose bearer is gone, one that is forwarded and charged by its own 28 octets at the
 -- moment of the last packet, and one that waits on
 abbrev held_three : Past
-held_three = after (fresh (two_bearers None)) (packet 4 7 Down (to_user 0) ∷ packet 5 8 Down (to_user 1) ∷ packet 6 9 (Up 0) (from_user 3) ∷ [])
+held_three = after (fresh (two_bearers None))
+    (packet 4 7 Down (to_user 0) ∷ packet 5 8 Down (to_user 1) ∷ packet 6 9 (Up 0) (from_user 3) ∷ [])
 
 released_one : (learnt held_three (one_bearer 1000 1 (Some first_enb))).1
     ≡ effect.Fate 4 (fate.Gone 1) ∷ effect.Fate 5 (fate.Down 0 0xc6336407 (tunnelled 1 (to_user 1))) ∷ []

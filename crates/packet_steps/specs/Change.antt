@@ -41,10 +41,13 @@ shares_ambr bearer = not (is_guaranteed bearer.qos.qci)
 
 abbrev pub cut : Bool → List ActiveBearer → List ActiveBearer → List book.Happening
 cut was_set before after =
-    if was_set then map (λ (bearer : ActiveBearer). book.closed bearer.life Qos) (filter shares_ambr (shared_with after before)) else []
+    if was_set
+    then map (λ (bearer : ActiveBearer). book.closed bearer.life Qos) (filter shares_ambr (shared_with after before))
+    else []
 
 abbrev pub begun : List ActiveBearer → List ActiveBearer → List book.Happening
-begun before after = map (λ (bearer : ActiveBearer). book.started bearer.life bearer.ebi bearer.qos.qci) (lacking_in before after)
+begun before after =
+    map (λ (bearer : ActiveBearer). book.started bearer.life bearer.ebi bearer.qos.qci) (lacking_in before after)
 
 -- what the book hears of the change
 abbrev pub marks_between : Bool → List ActiveBearer → List ActiveBearer → List book.Happening
@@ -60,7 +63,8 @@ same_peer peer other = peer.teid == other.teid && (peer.addr == other.addr)
 abbrev pub marker_between : ℕ → Option Peer → Option Peer → List Effect
 marker_between life None new = []
 marker_between life (Some old) None = []
-marker_between life (Some old) (Some new) = if same_peer old new then [] else effect.Marker life old.addr (end_marker old) ∷ []
+marker_between life (Some old) (Some new) =
+    if same_peer old new then [] else effect.Marker life old.addr (end_marker old) ∷ []
 
 abbrev pub enb_of : List ActiveBearer → ℕ → Option Peer
 enb_of bearers life = option_and_then (λ (bearer : ActiveBearer). bearer.enb) (bearer_of bearers life)

@@ -52,7 +52,9 @@ with_begun before meters bearer =
 
 abbrev pub learnt_meters : VersionState → VersionState → Meters → Meters
 learnt_meters before after meters =
-    fold (with_begun before) (if nat_lt before.rates after.rates then record meters { shared = new_meter after.up after.down } else meters) after.bearers
+    fold (with_begun before)
+    (if nat_lt before.rates after.rates then record meters { shared = new_meter after.up after.down } else meters)
+    after.bearers
 
 -- a bucket has this rate and stands for these rows, and was not asked later than at a moment
 pub record Polices (b : bucket.BucketState) (rate : ℕ) (rows : List ForwardedRow) (moment : ℕ) : Type 0 where
@@ -64,6 +66,9 @@ pub record Polices (b : bucket.BucketState) (rate : ℕ) (rows : List ForwardedR
 pub record MetersStand (meters : Meters) (past : Past) : Type 0 where
   pub sized : length meters.own ≡ 11
   pub shared : (up : Bool)
-      → Polices (bucket_of up meters.shared) (ambr up past.version) (filter (is_of_rates past.version.rates up) past.forwarded) (moment_of past)
-  pub own : (bearer : ActiveBearer) (up : Bool) → Contains past.version.bearers bearer → IsTrue (is_guaranteed bearer.qos.qci)
-      → Polices (bucket_of up (own_meter meters bearer.index)) (mbr up bearer.qos) (filter (is_of_life bearer.life up) past.forwarded) (moment_of past)
+      → Polices (bucket_of up meters.shared) (ambr up past.version)
+      (filter (is_of_rates past.version.rates up) past.forwarded) (moment_of past)
+  pub own : (bearer : ActiveBearer) (up : Bool) → Contains past.version.bearers bearer
+      → IsTrue (is_guaranteed bearer.qos.qci)
+      → Polices (bucket_of up (own_meter meters bearer.index)) (mbr up bearer.qos)
+      (filter (is_of_life bearer.life up) past.forwarded) (moment_of past)

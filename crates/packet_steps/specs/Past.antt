@@ -17,7 +17,13 @@ pub record Past : Type 0 where
 
 -- before the first event of a slot
 abbrev pub new_past : ℕ → Past
-new_past slot = record { version = version_of (new_session slot) 0; forwarded = []; held = []; last = None; charged = [] }
+new_past slot = record {
+  version = version_of (new_session slot) 0;
+  forwarded = [];
+  held = [];
+  last = None;
+  charged = [];
+}
 
 -- the moment of the last packet, 0 before the first
 abbrev pub moment_of : Past → ℕ
@@ -40,7 +46,10 @@ happening_for row = book.forwarded row.life (record { up = row.up; octets = row.
 
 -- the past with one packet more forwarded: it is charged by its own octets
 abbrev pub with_row : Past → ForwardedRow → Past
-with_row past row = record past { forwarded = past.forwarded ++ row ∷ []; charged = past.charged ++ happening_for row ∷ [] }
+with_row past row = record past {
+  forwarded = past.forwarded ++ row ∷ [];
+  charged = past.charged ++ happening_for row ∷ [];
+}
 
 -- with one packet more held
 abbrev pub with_held : Past → HeldRow → Past

@@ -24,10 +24,12 @@ PolicesBehind past bearer up octets bucket =
 -- octets of a bearer were tried: the bucket that is left where they pass
 abbrev pub Tries : Past → ActiveBearer → Bool → ℕ → Option BucketState → Type 0
 Tries past bearer up octets None = passes past bearer up octets ≡ false
-Tries past bearer up octets (Some bucket) = (passes past bearer up octets ≡ true) × PolicesBehind past bearer up octets bucket
+Tries past bearer up octets (Some bucket) =
+    (passes past bearer up octets ≡ true) × PolicesBehind past bearer up octets bucket
 
 -- octets pass, and this is the past behind them
-pub record Passes (past : Past) (bearer : ActiveBearer) (up : Bool) (octets : ℕ) (bucket : BucketState) (next : Past) : Type 0 where
+pub record Passes (past : Past) (bearer : ActiveBearer) (up : Bool) (octets : ℕ) (bucket : BucketState)
+    (next : Past) : Type 0 where
   pub next_is : next ≡ with_row past (row_for past bearer up octets)
   pub there : Contains past.version.bearers bearer
   pub behind : PolicesBehind past bearer up octets bucket

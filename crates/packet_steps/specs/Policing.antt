@@ -48,4 +48,5 @@ history_for version bearer up rows = filter (is_policed_with version bearer up) 
 -- whether octets of a bearer pass now
 abbrev pub passes : Past → ActiveBearer → Bool → ℕ → Bool
 passes past bearer up octets =
-    conforms (rate_for past.version bearer up) (costs (history_for past.version bearer up past.forwarded)) (cost_of octets (moment_of past))
+    conforms (rate_for past.version bearer up) (costs (history_for past.version bearer up past.forwarded))
+    (cost_of octets (moment_of past))

@@ -26,7 +26,8 @@ book_of counters = counters.book
 
 -- the lives that are open in the book are those of the active bearers
 abbrev pub OpenAreActive : Past → Type 0
-OpenAreActive past = (life : ℕ) → Contains (happenings.lives_of past.charged) life ↔ IsTrue (has_life past.version.bearers life)
+OpenAreActive past =
+    (life : ℕ) → Contains (happenings.lives_of past.charged) life ↔ IsTrue (has_life past.version.bearers life)
 
 -- counters stand for a past, with so many rows of its book taken out
 pub record StandsFor (counters : CountersState) (past : Past) (taken : ℕ) : Type 0 where

@@ -20,7 +20,8 @@ use Rattle.packet_steps.specs.Policing.{passes}
 -- octets of a bearer pass, are counted and get this verdict, or its rate is used up
 abbrev pub tried : Past → ActiveBearer → Bool → ℕ → Verdict → Past × Verdict
 tried past bearer up octets passed =
-    if passes past bearer up octets then (with_row past (row_for past bearer up octets), passed) else (past, verdict.Policed bearer.life)
+    if passes past bearer up octets then (with_row past (row_for past bearer up octets), passed)
+    else (past, verdict.Policed bearer.life)
 
 -- up: the active bearer of the index takes what comes from the subscriber's own address
 abbrev pub judged_up : Past → List ℕ → Option ActiveBearer → Past × Verdict
@@ -32,13 +33,17 @@ judged_up past octets (Some bearer) =
 
 -- the message for a packet that is held: it goes where none is held yet, and an MME is known
 abbrev pub notice : Past → ℕ → ℕ → Option (List ℕ)
-notice past number ebi = if length past.held == 0 then option_map (λ mme. notification mme number ebi) past.version.mme else None
+notice past number ebi =
+    if length past.held == 0 then option_map (λ mme. notification mme number ebi) past.version.mme else None
 
 -- down: a packet waits for its bearer's eNodeB, but at most sixteen wait
 abbrev pub judged_waiting : Past → Packet → ActiveBearer → Past × Verdict
 judged_waiting past packet bearer =
     if nat_le 16 (length past.held) then (past, verdict.Idle bearer.life)
-    else (with_held past (record { packet = packet; life = bearer.life }), verdict.Held bearer.life (notice past packet.number bearer.ebi))
+    else (
+      with_held past (record { packet = packet; life = bearer.life }),
+      verdict.Held bearer.life (notice past packet.number bearer.ebi),
+    )
 
 abbrev pub judged_to : Past → Packet → ActiveBearer → Option Peer → Past × Verdict
 judged_to past packet bearer None = judged_waiting past packet bearer
@@ -64,7 +69,8 @@ is_packet octets = is_none (first_fault octets) && (total_length octets == lengt
 -- a subscriber that isn't attached has no bearer, and octets that are no packet take none
 abbrev pub judged_now : Past → Packet → Past × Verdict
 judged_now past packet =
-    if past.version.live && is_packet packet.octets then judged_by_way past packet packet.way else (past, verdict.NoBearer)
+    if past.version.live && is_packet packet.octets then judged_by_way past packet packet.way
+    else (past, verdict.NoBearer)
 
 -- the packet's moment is that of the last packet from now on
 abbrev pub at_moment : Past → ℕ → Past

@@ -18,9 +18,11 @@ pub fn advance(
     before: &Version,
     after: &Version,
 ) -> Result<Effects, NoMemory>
-    ensures effects { (past : Past) (taken : ℕ) → StandsFor counters.old past taken → past.version ≡ before.now → Follows past after.now
+    ensures effects { (past : Past) (taken : ℕ) → StandsFor counters.old past taken → past.version ≡ before.now
+        → Follows past after.now
         → IfOk result (λ effects. effects ≡ (learnt past after.now).1) }
-    ensures stands { (past : Past) (taken : ℕ) → StandsFor counters.old past taken → past.version ≡ before.now → Follows past after.now
+    ensures stands { (past : Past) (taken : ℕ) → StandsFor counters.old past taken → past.version ≡ before.now
+        → Follows past after.now
         → OnOk result (StandsFor counters.new (learnt past after.now).0 taken) }
     ensures moment { last_of counters.new ≡ last_of counters.old }
     ensures unchanged { OnErr result (counters.new ≡ counters.old) }

@@ -25,18 +25,21 @@ pub fn judge<'a>(
 ) -> Result<Judged<'a>, NoMemory>
     requires { IfSome (last_of counters.old) (λ last. last ≤ moment) }
 
-    ensures verdict { (past : Past) (taken : ℕ) (packet : Packet) → StandsFor counters.old past taken → past.version ≡ version.now → AreFew past.charged
+    ensures verdict { (past : Past) (taken : ℕ) (packet : Packet) → StandsFor counters.old past taken
+        → past.version ≡ version.now → AreFew past.charged
         → packet ≡ record { number = number; moment = moment; way = way; octets = ip.now }
         → IfOk result (λ told. verdict_of told ≡ (judged past packet).1) }
-    ensures stands { (past : Past) (taken : ℕ) (packet : Packet) → StandsFor counters.old past taken → past.version ≡ version.now → AreFew past.charged
+    ensures stands { (past : Past) (taken : ℕ) (packet : Packet) → StandsFor counters.old past taken
+        → past.version ≡ version.now → AreFew past.charged
         → packet ≡ record { number = number; moment = moment; way = way; octets = ip.now }
         → OnOk result (StandsFor counters.new (judged past packet).0 taken) }
     ensures unchanged { OnErr result (counters.new ≡ counters.old) }
 {
-    let octets = ip.octets();
-    let plan = counters.plan(version, number, moment, way, ip)?;
-    counters.carry_out(&plan, number, moment, way, octets)?;
-    Ok(plan.lend(octets))
+    match way {
+        // Each way is compiled by itself.
+        Way::Up(index) => lent(counters, version, number, moment, Way::Up(index), ip),
+        Way::Down => lent(counters, version, number, moment, Way::Down, ip),
+    }
 }
 
 /// What becomes of a packet by a version. The moment isn't earlier than that of the last packet.
@@ -48,9 +51,11 @@ pub fn handle(
 ) -> Result<Verdict, NoMemory>
     requires { IfSome (last_of counters.old) (λ last. last ≤ packet.now.moment) }
 
-    ensures verdict { (past : Past) (taken : ℕ) → StandsFor counters.old past taken → past.version ≡ version.now → AreFew past.charged
+    ensures verdict { (past : Past) (taken : ℕ) → StandsFor counters.old past taken → past.version ≡ version.now
+        → AreFew past.charged
         → IfOk result (λ verdict. verdict ≡ (judged past packet.now).1) }
-    ensures stands { (past : Past) (taken : ℕ) → StandsFor counters.old past taken → past.version ≡ version.now → AreFew past.charged
+    ensures stands { (past : Past) (taken : ℕ) → StandsFor counters.old past taken → past.version ≡ version.now
+        → AreFew past.charged
         → OnOk result (StandsFor counters.new (judged past packet.now).0 taken) }
     ensures unchanged { OnErr result (counters.new ≡ counters.old) }
 {
@@ -59,10 +64,81 @@ pub fn handle(
         counters.stay(packet.moment);
         return Ok(Verdict::NoBearer);
     };
-    let plan = counters.plan(version, packet.number, packet.moment, packet.way, &ip)?;
+    match packet.way {
+        Way::Up(index) => owned(
+            counters,
+            version,
+            packet.number,
+            packet.moment,
+            Way::Up(index),
+            &ip,
+        ),
+        Way::Down => owned(
+            counters,
+            version,
+            packet.number,
+            packet.moment,
+            Way::Down,
+            &ip,
+        ),
+    }
+}
+
+/// The octets lent.
+#[inline(always)]
+fn lent<'a>(
+    counters: &mut Counters,
+    version: &Version,
+    number: u64,
+    moment: Moment,
+    way: Way,
+    ip: &'a Ip4<'_>,
+) -> Result<Judged<'a>, NoMemory>
+    requires { IfSome (last_of counters.old) (λ last. last ≤ moment) }
+
+    ensures verdict { (past : Past) (taken : ℕ) (packet : Packet) → StandsFor counters.old past taken
+        → past.version ≡ version.now → AreFew past.charged
+        → packet ≡ record { number = number; moment = moment; way = way; octets = ip.now }
+        → IfOk result (λ told. verdict_of told ≡ (judged past packet).1) }
+    ensures stands { (past : Past) (taken : ℕ) (packet : Packet) → StandsFor counters.old past taken
+        → past.version ≡ version.now → AreFew past.charged
+        → packet ≡ record { number = number; moment = moment; way = way; octets = ip.now }
+        → OnOk result (StandsFor counters.new (judged past packet).0 taken) }
+    ensures unchanged { OnErr result (counters.new ≡ counters.old) }
+{
+    let octets = ip.octets();
+    let plan = counters.plan(version, number, moment, way, ip)?;
+    counters.carry_out(&plan, number, moment, way, octets)?;
+    Ok(plan.lend(octets))
+}
+
+/// The octets owned.
+#[inline(always)]
+fn owned(
+    counters: &mut Counters,
+    version: &Version,
+    number: u64,
+    moment: Moment,
+    way: Way,
+    ip: &Ip4<'_>,
+) -> Result<Verdict, NoMemory>
+    requires { IfSome (last_of counters.old) (λ last. last ≤ moment) }
+
+    ensures verdict { (past : Past) (taken : ℕ) (packet : Packet) → StandsFor counters.old past taken
+        → past.version ≡ version.now → AreFew past.charged
+        → packet ≡ record { number = number; moment = moment; way = way; octets = ip.now }
+        → IfOk result (λ verdict. verdict ≡ (judged past packet).1) }
+    ensures stands { (past : Past) (taken : ℕ) (packet : Packet) → StandsFor counters.old past taken
+        → past.version ≡ version.now → AreFew past.charged
+        → packet ≡ record { number = number; moment = moment; way = way; octets = ip.now }
+        → OnOk result (StandsFor counters.new (judged past packet).0 taken) }
+    ensures unchanged { OnErr result (counters.new ≡ counters.old) }
+{
+    let octets = ip.octets();
+    let plan = counters.plan(version, number, moment, way, ip)?;
     let alloc = *counters.held.allocator();
     let verdict = plan.verdict(alloc, octets)?;
-    counters.carry_out(&plan, packet.number, packet.moment, packet.way, octets)?;
+    counters.carry_out(&plan, number, moment, way, octets)?;
     Ok(verdict)
 }
 

@@ -28,6 +28,7 @@ impl Counters {
     ghost use Rattle.packet_steps.specs.Past.{row_for, with_row, with_held};
 
     /// What is to become of a packet; nothing is done yet.
+    #[inline(always)]
     pub(crate) fn plan(
         &self,
         version: &Version,
@@ -38,7 +39,8 @@ impl Counters {
     ) -> Result<Plan, NoMemory>
         requires late { IfSome (last_of self.now) (λ last. last ≤ moment) }
         requires packet { IsPacket ip.now }
-        ensures { (past : Past) (taken : ℕ) (packet : Packet) → StandsFor self.now past taken → past.version ≡ version.now
+        ensures { (past : Past) (taken : ℕ) (packet : Packet) → StandsFor self.now past taken
+            → past.version ≡ version.now
             → packet ≡ record { number = number; moment = moment; way = way; octets = ip.now }
             → IfOk result (Plans (at_moment past moment) packet (judged_now (at_moment past moment) packet)) }
     {
@@ -51,10 +53,13 @@ impl Counters {
         }
     }
 
+    #[inline(always)]
     fn plan_up(&self, version: &Version, index: u8, moment: Moment, ip: &Ip4<'_>) -> Plan
         requires { IfSome (last_of self.now) (λ last. last ≤ moment) }
-        ensures { (past : Past) (taken : ℕ) (packet : Packet) → StandsFor self.now past taken → past.version ≡ version.now → packet.octets ≡ ip.now
-            → Plans (at_moment past moment) packet (judged_up (at_moment past moment) ip.now (bearer_at version.now.bearers index)) result }
+        ensures { (past : Past) (taken : ℕ) (packet : Packet) → StandsFor self.now past taken
+            → past.version ≡ version.now → packet.octets ≡ ip.now
+            → Plans (at_moment past moment) packet
+            (judged_up (at_moment past moment) ip.now (bearer_at version.now.bearers index)) result }
     {
         let Some(bearer) = active_at(version, index) else {
             return Plan::NoBearer;
@@ -74,6 +79,7 @@ impl Counters {
         }
     }
 
+    #[inline(always)]
     fn plan_down(
         &self,
         version: &Version,
@@ -82,9 +88,11 @@ impl Counters {
         ip: &Ip4<'_>,
     ) -> Result<Plan, NoMemory>
         requires { IfSome (last_of self.now) (λ last. last ≤ moment) }
-        ensures { (past : Past) (taken : ℕ) (packet : Packet) → StandsFor self.now past taken → past.version ≡ version.now
+        ensures { (past : Past) (taken : ℕ) (packet : Packet) → StandsFor self.now past taken
+            → past.version ≡ version.now
             → packet.octets ≡ ip.now → packet.number ≡ number
-            → IfOk result (Plans (at_moment past moment) packet (judged_down (at_moment past moment) packet (bearer_for version.now ip.now))) }
+            → IfOk result (Plans (at_moment past moment) packet
+            (judged_down (at_moment past moment) packet (bearer_for version.now ip.now))) }
     {
         let Some(bearer) = taking(version, ip) else {
             return Ok(Plan::NoBearer);
@@ -112,7 +120,8 @@ impl Counters {
         bearer: &ActiveBearer,
     ) -> Result<Plan, NoMemory>
         requires { IsEbi bearer.now.ebi }
-        ensures { (past : Past) (packet : Packet) → self.now.held ≡ past.held → past.version.mme ≡ version.now.mme → packet.number ≡ number
+        ensures { (past : Past) (packet : Packet) → self.now.held ≡ past.held → past.version.mme ≡ version.now.mme
+            → packet.number ≡ number
             → IfOk result (Plans past packet (judged_waiting past packet bearer.now)) }
     {
         if self.held.len() >= MOST_HELD {
@@ -143,17 +152,27 @@ impl Counters {
 }
 
 /// The active bearer of an index.
+#[inline(always)]
 fn active_at<'v>(version: &'v Version, index: u8) -> Option<&'v ActiveBearer>
     ensures value { option_copied result ≡ bearer_at version.now.bearers index }
     ensures there { IfSome result (λ bearer. Contains version.now.bearers bearer.now) }
     ensures index { IfSome result (λ bearer. bearer.now.index < 11) }
     ensures ebi { IfSome result (λ bearer. IsEbi bearer.now.ebi) }
 {
-    let _bearers = version.bearers();
+    let bearers = version.bearers();
+    let place = usize::from(index);
+    if place < bearers.len() {
+        // Where no lower index is free, the bearer stands at its own.
+        let bearer = &bearers[place];
+        if bearer.index == index {
+            return Some(bearer);
+        }
+    }
     version.bearer_at(index)
 }
 
 /// The active bearer that a downlink packet takes.
+#[inline(always)]
 fn taking<'v>(version: &'v Version, ip: &Ip4<'_>) -> Option<&'v ActiveBearer>
     ensures value { option_copied result ≡ bearer_for version.now ip.now }
     ensures there { IfSome result (λ bearer. Contains version.now.bearers bearer.now) }

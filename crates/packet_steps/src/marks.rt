@@ -50,7 +50,8 @@ fn ended(
     before: &[ActiveBearer],
     after: &[ActiveBearer],
 ) -> Result<Vec<Posting>, NoMemory>
-    ensures { IfOk result (λ postings. postings.items ≡ map (λ bearer. Posting.Close bearer.life Why.Gone) (lacking_in after.now before.now)) }
+    ensures { IfOk result (λ postings. postings.items
+        ≡ map (λ bearer. Posting.Close bearer.life Why.Gone) (lacking_in after.now before.now)) }
 {
     before
         .iter()
@@ -70,7 +71,8 @@ fn cut(
     after: &[ActiveBearer],
 ) -> Result<Vec<Posting>, NoMemory>
     ensures { IfOk result (λ postings. postings.items
-        ≡ (if was_set then map (λ bearer. Posting.Close bearer.life Why.Qos) (filter shares_ambr (shared_with after.now before.now)) else [])) }
+        ≡ (if was_set then map (λ bearer. Posting.Close bearer.life Why.Qos)
+        (filter shares_ambr (shared_with after.now before.now)) else [])) }
 {
     if was_set {
         pieces(alloc, before, after)

@@ -55,6 +55,7 @@ impl Meter {
 
 impl Meters {
     /// The bucket that polices a bearer one way.
+    #[inline(always)]
     pub(crate) fn bucket(&self, bearer: &ActiveBearer, up: bool) -> Bucket
         requires { bearer.now.index < 11 }
         ensures { result ≡ bucket_for self.now bearer.now up }
@@ -67,6 +68,7 @@ impl Meters {
     }
 
     /// Puts a bucket in its place, where there is one.
+    #[inline(always)]
     pub(crate) fn put(&mut self, bearer: &ActiveBearer, up: bool, bucket: Bucket)
         ensures { self.new ≡ put_bucket self.old bearer.now up bucket }
     {
@@ -121,6 +123,7 @@ impl Meters {
     }
 
     /// Whether octets of a bearer pass at a moment: the bucket that is left, if so.
+    #[inline(always)]
     pub(crate) fn tried(
         &self,
         bearer: &ActiveBearer,
@@ -129,7 +132,8 @@ impl Meters {
         octets: u32,
     ) -> Option<Bucket>
         requires { bearer.now.index < 11 }
-        ensures { (past : Past) → MetersStand self.now past → Contains past.version.bearers bearer.now → moment_of past ≤ at
+        ensures { (past : Past) → MetersStand self.now past → Contains past.version.bearers bearer.now
+            → moment_of past ≤ at
             → Tries (at_moment past at) bearer.now up octets result }
     {
         let mut bucket = self.bucket(bearer, up);

@@ -37,6 +37,7 @@ pub enum Plan {
 
 impl Plan {
     /// The verdict, of octets that are lent.
+    #[inline(always)]
     pub(crate) fn lend<'a>(self, octets: &'a [u8]) -> Judged<'a>
         ensures { verdict_of result ≡ verdict_by self octets.now }
     {
@@ -59,6 +60,7 @@ impl Plan {
     }
 
     /// The verdict, with octets of its own.
+    #[inline(always)]
     pub(crate) fn verdict(&self, alloc: Global, octets: &[u8]) -> Result<Verdict, NoMemory>
         requires { length octets.now < 2 ^ 16 }
         ensures { IfOk result (λ verdict. verdict ≡ verdict_by self.now octets.now) }

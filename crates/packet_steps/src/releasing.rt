@@ -36,7 +36,8 @@ impl Release {
         at: Moment,
         held: &HeldPacket,
     ) -> Result<(), NoMemory>
-        ensures { (base : List Happening) (so_far : Past × List Effect) → Releases self.old base so_far → so_far.0.version ≡ after.now
+        ensures { (base : List Happening) (so_far : Past × List Effect) → Releases self.old base so_far
+            → so_far.0.version ≡ after.now
             → moment_of so_far.0 ≡ at → OnOk result (Releases self.new base (released so_far held.now)) }
     {
         let Some(bearer) = active_of(after, held.life) else {
@@ -58,7 +59,8 @@ impl Release {
         peer: Peer,
     ) -> Result<(), NoMemory>
         requires { bearer.now.index < 11 }
-        ensures { (base : List Happening) (so_far : Past × List Effect) → Releases self.old base so_far → IsVersion so_far.0.version
+        ensures { (base : List Happening) (so_far : Past × List Effect) → Releases self.old base so_far
+            → IsVersion so_far.0.version
             → Contains so_far.0.version.bearers bearer.now → bearer.now.life ≡ held.now.life → moment_of so_far.0 ≡ at
             → OnOk result (Releases self.new base (released_to so_far held.now bearer.now (Some peer))) }
     {
@@ -87,7 +89,8 @@ impl Release {
     fn tell(&mut self, held: &HeldPacket, fate: Fate) -> Result<(), NoMemory>
         ensures meters { self.new.meters ≡ self.old.meters }
         ensures postings { self.new.postings.items ≡ self.old.postings.items }
-        ensures effects { OnOk result (self.new.effects.items ≡ self.old.effects.items ++ effect.Fate held.now.packet.number fate ∷ []) }
+        ensures effects { OnOk result
+            (self.new.effects.items ≡ self.old.effects.items ++ effect.Fate held.now.packet.number fate ∷ []) }
     {
         self.effects.push(Effect::Fate {
             packet: held.packet.number,
@@ -105,7 +108,8 @@ pub(crate) fn look_at_all(
     at: Moment,
     held: &[HeldPacket],
 ) -> Result<(), NoMemory>
-    ensures { (base : List Happening) (so_far : Past × List Effect) → Releases release.old base so_far → so_far.0.version ≡ after.now
+    ensures { (base : List Happening) (so_far : Past × List Effect) → Releases release.old base so_far
+        → so_far.0.version ≡ after.now
         → moment_of so_far.0 ≡ at → OnOk result (Releases release.new base (fold released so_far held.now)) }
 {
     for row in held {

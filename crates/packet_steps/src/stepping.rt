@@ -22,6 +22,7 @@ impl Counters {
     ghost use Rattle.std.specs.Prelude.{[], ◌∷◌, ◌++◌};
 
     /// Does what a plan says of a packet, or nothing where memory is wanting.
+    #[inline(always)]
     pub(crate) fn carry_out(
         &mut self,
         plan: &Plan,
@@ -31,7 +32,8 @@ impl Counters {
         octets: &[u8],
     ) -> Result<(), NoMemory>
         requires packet { IsPacket octets.now }
-        ensures stands { (past next : Past) (taken : ℕ) (packet : Packet) → StandsFor self.old past taken → moment_of past ≤ moment
+        ensures stands { (past next : Past) (taken : ℕ) (packet : Packet) → StandsFor self.old past taken
+            → moment_of past ≤ moment
             → AreFew past.charged → packet ≡ record { number = number; moment = moment; way = way; octets = octets.now }
             → Does plan.now (at_moment past moment) packet next → OnOk result (StandsFor self.new next taken) }
         ensures unchanged { OnErr result (self.new ≡ self.old) }
@@ -82,6 +84,7 @@ impl Counters {
         Ok(())
     }
 
+    #[inline(always)]
     fn pass(
         &mut self,
         bearer: &ActiveBearer,
@@ -90,9 +93,12 @@ impl Counters {
         moment: Moment,
         octets: u32,
     ) -> Result<(), NoMemory>
-        ensures stands { (past : Past) (taken : ℕ) → StandsFor self.old past taken → moment_of past ≤ moment → AreFew past.charged
-            → Contains past.version.bearers bearer.now → PolicesBehind (at_moment past moment) bearer.now up octets bucket
-            → OnOk result (StandsFor self.new (with_row (at_moment past moment) (row_for (at_moment past moment) bearer.now up octets)) taken) }
+        ensures stands { (past : Past) (taken : ℕ) → StandsFor self.old past taken → moment_of past ≤ moment
+            → AreFew past.charged
+            → Contains past.version.bearers bearer.now
+            → PolicesBehind (at_moment past moment) bearer.now up octets bucket
+            → OnOk result (StandsFor self.new
+            (with_row (at_moment past moment) (row_for (at_moment past moment) bearer.now up octets)) taken) }
         ensures unchanged { OnErr result (self.new ≡ self.old) }
     {
         self.book.post_one(&Posting::Packet {

@@ -4,7 +4,7 @@ ghost use Rattle.charging_book.specs.Happenings.{Happening};
 ghost use Rattle.charging_book.specs.Postings.{happening_of, MayFollow, MayAllFollow};
 ghost use Rattle.charging_book.specs.Accounts.{StandsFor};
 
-use super::Book;
+use super::{Book, find_place};
 use crate::{NoMemory, Why};
 use pc_base::Moment;
 
@@ -80,10 +80,13 @@ impl Book {
                 octets,
                 at,
             } => {
-                if !self.may_go_on(life) {
+                let Some(place) = find_place(&self.opens, life) else {
+                    return Ok(());
+                };
+                if !self.opens[place].has_room() {
                     return Ok(());
                 }
-                self.count(life, up, octets, at)
+                self.count_at(place, up, octets, at)
             }
             Posting::Close { life, why } => {
                 if !self.may_go_on(life) {

@@ -15,24 +15,29 @@ use Rattle.packet_steps.proofs.AdvanceLemmas.{release_starts, postings_follow, l
 use Rattle.packet_steps.proofs.advancing.advance.Goals as goal
 
 -- what was brought in all is what is learnt
-brought : (c : goal.After-drop-release-2) (past : Past) → (taken : ℕ) → StandsFor c.args.counters.now past taken → past.version ≡ c.args.before.now
+brought : (c : goal.After-drop-release-2) (past : Past) → (taken : ℕ) → StandsFor c.args.counters.now past taken
+    → past.version ≡ c.args.before.now
     → Follows past c.args.after.now → Releases c.look_at_all.new.release past.charged (learnt past c.args.after.now)
 brought c past taken stands same follows =
     let old = c.args.counters.now in
     let after = c.args.after.now in
     let begun : Release = record { meters = c.learnt-meters.result; postings = c.in_ok-postings.postings; effects = c.in_ok-effects.effects } in
     let starts = release_starts old past taken after begun stands follows c.bearers-bearers.ensures.valid
-    (c.learnt-meters.ensures ∙ ap (λ (m : Meters). learnt_meters c.args.before.now after m) (ap (λ (s : CountersState). s.meters) c.counters.view_is)
+    (c.learnt-meters.ensures ∙ ap (λ (m : Meters). learnt_meters c.args.before.now after m)
+    (ap (λ (s : CountersState). s.meters) c.counters.view_is)
     ∙ ap (λ (v : VersionState). learnt_meters v after old.meters) (sym same))
     (c.in_ok-postings.ensures ∙ ap (λ (v : VersionState). marks v after) (sym same))
     (c.in_ok-effects.ensures ∙ ap (λ (v : VersionState). markers v after) (sym same)) in
-    let now = ap (λ last. unwrap_or last 0) (sym (ap (λ (s : CountersState). s.last) c.counters.view_is ∙ stands.last)) ∙ sym c.last_moment-at.ensures in
-    subst (λ (rows : List HeldRow). Releases c.look_at_all.new.release past.charged (fold released (marked past after, markers past.version after) rows))
+    let now = ap (λ last. unwrap_or last 0)
+    (sym (ap (λ (s : CountersState). s.last) c.counters.view_is ∙ stands.last)) ∙ sym c.last_moment-at.ensures in
+    subst (λ (rows : List HeldRow). Releases c.look_at_all.new.release past.charged
+    (fold released (marked past after, markers past.version after) rows))
     (c.deref.ensures.value ∙ ap (λ (s : CountersState). s.held) c.counters.view_is ∙ stands.held)
     (c.in_ok-look_at_all.ensures past.charged (marked past after, markers past.version after) starts refl now)
 
 pub returns-clause-effects : goal.returns-clause-effects
-returns-clause-effects c = λ past taken stands same follows. c.of.ensures ∙ (brought c past taken stands same follows).effects
+returns-clause-effects c = λ past taken stands same follows. c.of.ensures
+    ∙ (brought c past taken stands same follows).effects
 
 pub returns-clause-stands : goal.returns-clause-stands
 returns-clause-stands c = λ past taken stands same follows.
@@ -41,13 +46,17 @@ returns-clause-stands c = λ past taken stands same follows.
     let release = c.look_at_all.new.release in
     let all = brought c past taken stands same follows in
     let ranges = c.bearers-bearers.ensures.valid in
-    let charges = subst (λ b. book.StandsFor b past.charged taken) (sym (ap (λ (s : CountersState). s.book) c.counters.view_is)) stands.charges in
+    let charges = subst (λ b. book.StandsFor b past.charged taken)
+    (sym (ap (λ (s : CountersState). s.book) c.counters.view_is)) stands.charges in
     learnt_stands old _ past taken after release stands follows ranges all refl
-    (subst (λ postings. book.StandsFor c.post.new.self (past.charged ++ map happening_of postings) taken) c.deref-2.ensures.value
+    (subst (λ postings. book.StandsFor c.post.new.self
+    (past.charged ++ map happening_of postings) taken) c.deref-2.ensures.value
     (c.in_ok-post.ensures.stands past.charged taken charges
     (subst (λ postings. MayAllFollow past.charged (map happening_of postings)) (sym c.deref-2.ensures.value)
     (postings_follow old past taken after release stands follows ranges all))))
     (c.keep_waiting.ensures
-    ∙ ap (λ bearers. filter (λ (row : HeldRow). waits bearers row.life) c.counters.inside.held.items) c.bearers-bearers.ensures.value
-    ∙ ap (λ (rows : List HeldRow). filter (λ (row : HeldRow). waits after.bearers row.life) rows) (ap (λ (s : CountersState). s.held) c.counters.view_is))
+    ∙ ap (λ bearers. filter (λ
+    (row : HeldRow). waits bearers row.life) c.counters.inside.held.items) c.bearers-bearers.ensures.value
+    ∙ ap (λ (rows : List HeldRow). filter (λ (row : HeldRow). waits after.bearers row.life) rows)
+    (ap (λ (s : CountersState). s.held) c.counters.view_is))
     (ap (λ (s : CountersState). s.last) c.counters.view_is)

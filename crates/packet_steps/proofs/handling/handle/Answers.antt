@@ -1,14 +1,35 @@
 use Rattle.std.proofs.Common.{List, ℕ, sym, ◌∙◌, ap}
 use Rattle.pc_base.specs.declared.packet.Packet.{Packet}
-use Rattle.packet_steps.specs.Verdicts.{judged}
-use Rattle.packet_steps.proofs.StandingLemmas.{late_by}
+use Rattle.pc_base.specs.declared.packet.Way.{Way}
 use Rattle.packet_steps.proofs.handling.handle.Goals as goal
 
-pub returns-clause-stands : goal.returns-clause-stands
-returns-clause-stands c = λ past taken stands same few.
+abbrev with : Packet → Way → List ℕ → Packet
+with packet way octets = record { number = packet.number; moment = packet.moment; way = way; octets = octets }
+
+pub returns-in-Up-clause-verdict : goal.returns-in-Up-clause-verdict
+returns-in-Up-clause-verdict c = λ past taken stands same few.
     let packet = c.args.packet.now in
-    let late = late_by c.args.counters.now past taken packet.moment stands c.requires in
-    let with : List ℕ → Packet = λ octets. record { number = packet.number; moment = packet.moment; way = packet.way; octets = octets } in
-    let read = sym c.as_slice-octets.ensures in
-    let plans = c.in_ok-plan.ensures past taken packet stands same (ap with (read ∙ sym c.in-Some.ensures.packet.0)) in
-    c.in_ok-carry_out.ensures.stands past (judged past packet).0 taken packet stands late few (ap with read) plans.does
+    c.owned.ensures.verdict past taken packet stands same few
+    (ap (with packet packet.way) (sym c.as_slice-octets.ensures ∙ sym c.in-Some.ensures.packet.0)
+    ∙ ap (λ way. with packet way c.in-Some.ip) c.in-Up.is)
+
+pub returns-in-Up-clause-stands : goal.returns-in-Up-clause-stands
+returns-in-Up-clause-stands c = λ past taken stands same few.
+    let packet = c.args.packet.now in
+    c.owned.ensures.stands past taken packet stands same few
+    (ap (with packet packet.way) (sym c.as_slice-octets.ensures ∙ sym c.in-Some.ensures.packet.0)
+    ∙ ap (λ way. with packet way c.in-Some.ip) c.in-Up.is)
+
+pub returns-in-Down-clause-verdict : goal.returns-in-Down-clause-verdict
+returns-in-Down-clause-verdict c = λ past taken stands same few.
+    let packet = c.args.packet.now in
+    c.owned-in-Down.ensures.verdict past taken packet stands same few
+    (ap (with packet packet.way) (sym c.as_slice-octets.ensures ∙ sym c.in-Some.ensures.packet.0)
+    ∙ ap (λ way. with packet way c.in-Some.ip) c.in-Down.is)
+
+pub returns-in-Down-clause-stands : goal.returns-in-Down-clause-stands
+returns-in-Down-clause-stands c = λ past taken stands same few.
+    let packet = c.args.packet.now in
+    c.owned-in-Down.ensures.stands past taken packet stands same few
+    (ap (with packet packet.way) (sym c.as_slice-octets.ensures ∙ sym c.in-Some.ensures.packet.0)
+    ∙ ap (λ way. with packet way c.in-Some.ip) c.in-Down.is)

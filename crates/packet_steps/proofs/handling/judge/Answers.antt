@@ -1,16 +1,24 @@
-use Rattle.std.proofs.Common.{List, ℕ, sym, ◌∙◌, ap, subst}
+use Rattle.std.proofs.Common.{◌∙◌, ap}
 use Rattle.pc_base.specs.declared.packet.Packet.{Packet}
-use Rattle.packet_steps.specs.Verdicts.{at_moment, judged_now, judged}
-use Rattle.packet_steps.specs.Plans.{Does}
-use Rattle.packet_steps.proofs.StandingLemmas.{late_by}
+use Rattle.pc_base.specs.declared.packet.Way.{Way}
 use Rattle.packet_steps.proofs.handling.judge.Goals as goal
 
-pub returns-clause-stands : goal.returns-clause-stands
-returns-clause-stands c = λ past taken packet stands same few is.
-    let late = late_by c.args.counters.now past taken c.args.moment stands c.requires in
-    let with : List ℕ → Packet = λ octets. record { number = c.args.number; moment = c.args.moment; way = c.args.way; octets = octets } in
-    let plans = c.in_ok-plan.ensures past taken packet stands same is in
-    c.in_ok-carry_out.ensures.stands past (judged past packet).0 taken packet stands late few
-    (is ∙ ap with (sym c.octets-octets.ensures.octets))
-    (subst (λ at. Does c.in_ok-plan.plan (at_moment past c.args.moment) packet (judged_now (at_moment past at) packet).0)
-    (sym (ap (λ (p : Packet). p.moment) is)) plans.does)
+pub returns-in-Up-clause-verdict : goal.returns-in-Up-clause-verdict
+returns-in-Up-clause-verdict c = λ past taken packet stands same few is.
+    let with : Way → Packet = λ way. record {
+      number = c.args.number;
+      moment = c.args.moment;
+      way = way;
+      octets = c.args.ip.now;
+    } in
+    c.lent.ensures.verdict past taken packet stands same few (is ∙ ap with c.in-Up.is)
+
+pub returns-in-Up-clause-stands : goal.returns-in-Up-clause-stands
+returns-in-Up-clause-stands c = λ past taken packet stands same few is.
+    let with : Way → Packet = λ way. record {
+      number = c.args.number;
+      moment = c.args.moment;
+      way = way;
+      octets = c.args.ip.now;
+    } in
+    c.lent.ensures.stands past taken packet stands same few (is ∙ ap with c.in-Up.is)

@@ -13,11 +13,13 @@ loop-bearer-preserved c =
     let seen = flat_map (marker_for c.args.after.now) (take place xs) in
     c.in_ok-push_marker.ensures
     ∙ ap (λ effects. effects ++ marker_between item.life item.enb c.enb_of.result) c.loop-bearer.invariant
-    ∙ ap (λ enb. seen ++ marker_between item.life item.enb enb) (c.enb_of.ensures ∙ ap (λ bearers. enb_of bearers item.life) c.bearers.ensures.value)
+    ∙ ap (λ enb. seen ++ marker_between item.life item.enb enb)
+    (c.enb_of.ensures ∙ ap (λ bearers. enb_of bearers item.life) c.bearers.ensures.value)
     ∙ sym (flat_map_more (marker_for c.args.after.now) xs place item c.loop-bearer-test.true c.bearer-item.is)
 
 pub returns : goal.returns
 returns c =
     c.loop-bearer.invariant
     ∙ ap (flat_map (marker_for c.args.after.now))
-    (take_all c.loop-bearer.bearer-index c.bearers-bearer-items.result.now c.loop-bearer-test.false ∙ c.bearers-bearer-items.ensures.value)
+    (take_all c.loop-bearer.bearer-index c.bearers-bearer-items.result.now c.loop-bearer-test.false
+    ∙ c.bearers-bearer-items.ensures.value)

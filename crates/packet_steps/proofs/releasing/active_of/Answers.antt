@@ -14,4 +14,5 @@ returns-clause-life c =
     (c.bearer_of.ensures ∙ ap (λ bearers. bearer_of bearers c.args.life) c.bearers.ensures.value)
 
 pub returns-clause-index : goal.returns-clause-index
-returns-clause-index c = found_in_range c.args.version.now c.bearer_of.result c.bearers.ensures.valid (returns-clause-there c)
+returns-clause-index c = found_in_range c.args.version.now c.bearer_of.result c.bearers.ensures.valid
+    (returns-clause-there c)

@@ -13,11 +13,13 @@ loop-row-preserved c = λ base so_far known same now.
     let place = c.loop-row.row-index in
     let row = c.row-item.result in
     let seen = fold released so_far (take place held) in
-    subst (Releases c.look_at.new.self base) (sym (fold_more released so_far held place row c.loop-row-test.true c.row-item.is))
+    subst (Releases c.look_at.new.self base)
+    (sym (fold_more released so_far held place row c.loop-row-test.true c.row-item.is))
     (c.in_ok-look_at.ensures base seen (c.loop-row.invariant base so_far known same now)
     (version_kept so_far (take place held) ∙ same) (moment_kept so_far (take place held) ∙ now))
 
 pub returns : goal.returns
 returns c = λ base so_far known same now.
-    subst (λ rows. Releases c.loop-row.release base (fold released so_far rows)) (take_all c.loop-row.row-index c.args.held.now c.loop-row-test.false)
+    subst (λ rows. Releases c.loop-row.release base (fold released so_far rows))
+    (take_all c.loop-row.row-index c.args.held.now c.loop-row-test.false)
     (c.loop-row.invariant base so_far known same now)

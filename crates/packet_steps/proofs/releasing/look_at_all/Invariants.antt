@@ -9,5 +9,6 @@ use Rattle.packet_steps.proofs.releasing.look_at_all.Given as goal
 
 -- what the packets that were looked at have brought
 abbrev pub invariant-loop-row : goal.invariant-loop-row
-invariant-loop-row l = (base : List Happening) (so_far : Past × List Effect) → Releases l.fn.release base so_far → so_far.0.version ≡ l.after
+invariant-loop-row l = (base : List Happening) (so_far : Past × List Effect) → Releases l.fn.release base so_far
+    → so_far.0.version ≡ l.after
     → moment_of so_far.0 ≡ l.at → Releases l.release base (fold released so_far (take l.row-index l.held))

@@ -21,8 +21,12 @@ pub returns : goal.returns
 returns c =
     c.loop-bearer.invariant
     ∙ ap (fold (with_begun c.args.before.now) c.rerated-meters.result)
-    (take_all c.loop-bearer.bearer-index c.bearers-bearer-items.result.now c.loop-bearer-test.false ∙ c.bearers-bearer-items.ensures.value)
+    (take_all c.loop-bearer.bearer-index c.bearers-bearer-items.result.now c.loop-bearer-test.false
+    ∙ c.bearers-bearer-items.ensures.value)
     ∙ ap (λ meters. fold (with_begun c.args.before.now) meters c.args.after.now.bearers)
     (c.rerated-meters.ensures
-    ∙ ap (λ rates. cond (nat_lt rates c.after.inside.rates) (with_shared c.args.self.now c.after.inside.up c.after.inside.down) c.args.self.now) (ap (λ (v : VersionState). v.rates) c.before-2.view_is)
-    ∙ ap (λ (v : VersionState). cond (nat_lt c.args.before.now.rates v.rates) (with_shared c.args.self.now v.up v.down) c.args.self.now) c.after.view_is)
+    ∙ ap (λ rates. cond (nat_lt rates c.after.inside.rates)
+    (with_shared c.args.self.now c.after.inside.up c.after.inside.down) c.args.self.now)
+    (ap (λ (v : VersionState). v.rates) c.before-2.view_is)
+    ∙ ap (λ (v : VersionState). cond (nat_lt c.args.before.now.rates v.rates)
+    (with_shared c.args.self.now v.up v.down) c.args.self.now) c.after.view_is)

@@ -19,8 +19,13 @@ returns c = λ base so_far known ranges there same now.
     passed_here old c.tell-2.new.self base so_far held c.args.bearer.now c.args.peer c.in-Some.bucket c.args.at octets own known ranges there now
     (c.in-Some.ensures so_far.0 known.meters there (omega (arith, now)))
     (c.tell-2.ensures.meters ∙ c.put.ensures)
-    (c.tell-2.ensures.postings ∙ pushed (Packet c.args.bearer.now.life false (length octets) c.args.at ∷ []) refl c.in_ok-push.was c.push.ensures.items)
+    (c.tell-2.ensures.postings
+    ∙ pushed (Packet c.args.bearer.now.life false
+    (length octets) c.args.at ∷ []) refl c.in_ok-push.was c.push.ensures.items)
     (effects
-    ∙ ap (λ (text : List ℕ). old.effects.items ++ effect.Fate held.packet.number (fate.Down c.held.inside.life c.args.peer.addr text) ∷ []) c.in_ok-gpdu.ensures
-    ∙ ap (λ life. old.effects.items ++ effect.Fate held.packet.number (fate.Down life c.args.peer.addr (gpdu c.args.peer octets)) ∷ []) (ap (λ (h : HeldRow). h.life) c.held.view_is)))
+    ∙ ap (λ (text : List ℕ). old.effects.items
+    ++ effect.Fate held.packet.number (fate.Down c.held.inside.life c.args.peer.addr text) ∷ []) c.in_ok-gpdu.ensures
+    ∙ ap (λ life. old.effects.items
+    ++ effect.Fate held.packet.number (fate.Down life c.args.peer.addr (gpdu c.args.peer octets)) ∷ [])
+    (ap (λ (h : HeldRow). h.life) c.held.view_is)))
     c.tell-2.ensures.effects

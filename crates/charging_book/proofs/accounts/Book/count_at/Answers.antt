@@ -1,27 +1,29 @@
-use Rattle.std.proofs.Common.{◌+◌, [], ◌∷◌, ◌++◌, set, nat_le, ap, sym, ◌∙◌}
+use Rattle.std.proofs.Common.{◌+◌, [], ◌∷◌, ◌++◌, set, get_or, nat_le, ap, sym, ◌∙◌}
 use Rattle.std.proofs.lemmas.Slice.{pushed}
 use Rattle.charging_book.specs.declared.records.Why.TheVariants.{Volume}
 use Rattle.charging_book.specs.Pieces.{volume}
 use Rattle.charging_book.specs.Counters.{with_packet, next_piece, row_from}
-use Rattle.charging_book.proofs.Standing.{is-at, stands-counted, stands-filled}
-use Rattle.charging_book.proofs.accounts.Book.count.Goals as goal
+use Rattle.charging_book.proofs.Standing.{IsAt, life_there, stands-counted, stands-filled}
+use Rattle.charging_book.proofs.accounts.Book.count_at.Goals as goal
 
 pub returns-in_ok-push-clause-stands : goal.returns-in_ok-push-clause-stands
-returns-in_ok-push-clause-stands c = λ happened taken stands.
+returns-in_ok-push-clause-stands c = λ life happened taken found stands.
     let old = c.args.self.now in
-    let place = c.place_of-place.result in
+    let place = c.args.place in
     let counters = c.index.result.now in
     let moments = c.index-2.result.now in
     let opens = ap (λ book. book.opens) c.self.view_is in
     let spans = ap (λ book. book.moments) c.self.view_is in
-    let at = is-at old c.self.inside.opens.items c.self.inside.spans.items place c.args.life counters moments opens
-    spans
-    (rw c.deref.ensures.value at c.place_of-place.ensures.within)
-    (rw c.deref.ensures.value at c.place_of-place.ensures.found)
-    c.index.ensures c.index-2.ensures in
-    stands-filled old _ happened taken c.args.life place
+    let at : IsAt old place life counters moments = record {
+      within = c.requires.within;
+      found = found;
+      counters_are = c.index.ensures ∙ ap (λ xs. get_or xs place counters) opens;
+      moments_are = c.index-2.ensures ∙ ap (λ xs. get_or xs place moments) spans;
+    } in
+    let is_open = life_there old place life c.requires.within found in
+    stands-filled old _ happened taken life place
     (record { up = c.args.up; octets = c.args.octets; at = c.args.at })
-    counters moments stands at c.requires.is_open
+    counters moments stands at is_open
     (ap (λ counted. nat_le volume (counted.up_octets + counted.down_octets)) (sym c.with-counted.ensures)
     ∙ sym c.is_full.ensures ∙ c.if-is_full.true)
     (ap (λ xs. set xs place c.next.result) opens
@@ -33,21 +35,23 @@ returns-in_ok-push-clause-stands c = λ happened taken stands.
     ∙ ap (λ span. row_from (with_packet counters c.args.up c.args.octets) span Volume) c.with-span.ensures))
 
 pub returns-else-is_full-clause-stands : goal.returns-else-is_full-clause-stands
-returns-else-is_full-clause-stands c = λ happened taken stands.
+returns-else-is_full-clause-stands c = λ life happened taken found stands.
     let old = c.args.self.now in
-    let place = c.place_of-place.result in
+    let place = c.args.place in
     let counters = c.index.result.now in
     let moments = c.index-2.result.now in
     let opens = ap (λ book. book.opens) c.self.view_is in
     let spans = ap (λ book. book.moments) c.self.view_is in
-    let at = is-at old c.self.inside.opens.items c.self.inside.spans.items place c.args.life counters moments opens
-    spans
-    (rw c.deref.ensures.value at c.place_of-place.ensures.within)
-    (rw c.deref.ensures.value at c.place_of-place.ensures.found)
-    c.index.ensures c.index-2.ensures in
-    stands-counted old _ happened taken c.args.life place
+    let at : IsAt old place life counters moments = record {
+      within = c.requires.within;
+      found = found;
+      counters_are = c.index.ensures ∙ ap (λ xs. get_or xs place counters) opens;
+      moments_are = c.index-2.ensures ∙ ap (λ xs. get_or xs place moments) spans;
+    } in
+    let is_open = life_there old place life c.requires.within found in
+    stands-counted old _ happened taken life place
     (record { up = c.args.up; octets = c.args.octets; at = c.args.at })
-    counters moments stands at c.requires.is_open
+    counters moments stands at is_open
     (ap (λ counted. nat_le volume (counted.up_octets + counted.down_octets)) (sym c.with-counted.ensures)
     ∙ sym c.is_full.ensures ∙ c.if-is_full.false)
     (ap (λ xs. set xs place c.with-counted.result) opens ∙ ap (set old.opens place) c.with-counted.ensures)
