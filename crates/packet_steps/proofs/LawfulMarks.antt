@@ -31,15 +31,17 @@ same_open before more p q same going = record {
   lawful = going.lawful;
   in_range = going.in_range;
   opens = λ life. let known = going.opens life in
-  (λ there. sym (same life) ∙ known.0 there, λ holds. known.1 (same life ∙ holds));
+      (λ there. sym (same life) ∙ known.0 there, λ holds. known.1 (same life ∙ holds));
 }
 
 pub all_may-append : (before xs ys : List Happening) → AllMay before xs → AllMay (before ++ xs) ys
     → AllMay before (xs ++ ys)
 all_may-append before [] ys first second = rw append-nil at second
-all_may-append before (x ∷ xs) ys first second =
-    (first.0, all_may-append (before ++ x ∷ []) xs ys first.1
-    (subst (λ (front : List Happening). AllMay front ys) (sym (append_assoc before (x ∷ []) xs)) second))
+all_may-append before (x ∷ xs) ys first second = (
+  first.0,
+  all_may-append (before ++ x ∷ []) xs ys first.1
+      (subst (λ (front : List Happening). AllMay front ys) (sym (append_assoc before (x ∷ []) xs)) second),
+)
 
 each-append : {X : Type 0} (P : X → Type 0) (xs ys : List X) → AllByRecursion P xs → AllByRecursion P ys
     → AllByRecursion P (xs ++ ys)
@@ -158,8 +160,10 @@ without_open before life p opens other =
     )
   where
     either_way : (a b : ℕ) → (a == b) ≡ (b == a)
-    either_way a b = elim (cases_eq a b) [ inl same ↦ eq-eqb a b same
-    ∙ sym (eq-eqb b a (sym same)) | inr apart ↦ ne_eqb a b apart ∙ sym (ne_eqb b a (λ same. apart (sym same))) ]
+    either_way a b = elim (cases_eq a b) [
+      | inl same ↦ eq-eqb a b same ∙ sym (eq-eqb b a (sym same))
+      | inr apart ↦ ne_eqb a b apart ∙ sym (ne_eqb b a (λ same. apart (sym same)))
+    ]
 
 apart_by : (a b c : Bool) → (a && not b && not c) ≡ (a && not (b || c))
 apart_by true true true = refl
@@ -213,10 +217,10 @@ with_open before life ebi qci p opens other =
     let is : lives_of (before ++ started life ebi qci ∷ []) ≡ lives_of before
     ++ life ∷ [] = lives-push before (started life ebi qci) in (
       λ there. elim (Contains-push_cases (lives_of before) life other
-      (subst (λ (xs : List ℕ). Contains xs other) is there)) [
-        | inl old ↦ ap (λ t. t || (life == other)) ((opens other).0 old)
-        | inr new ↦ ap (λ t. p other || t) (eq-eqb life other new) ∙ or_true (p other)
-      ],
+          (subst (λ (xs : List ℕ). Contains xs other) is there)) [
+            | inl old ↦ ap (λ t. t || (life == other)) ((opens other).0 old)
+            | inr new ↦ ap (λ t. p other || t) (eq-eqb life other new) ∙ or_true (p other)
+          ],
       λ holds. subst (λ (xs : List ℕ). Contains xs other) (sym is)
           (elim (either (p other) (life == other) holds) [
             | inl old ↦ Contains-append_left (lives_of before) (life ∷ []) other ((opens other).1 old)
@@ -332,6 +336,8 @@ all_follow before (now ∷ later) lawful range few =
     let long : length before ≤ 2 ^ 61 - 20 = omega (arith, few, length-append before (now ∷ later)) in
     let rest : length ((before ++ now ∷ []) ++ later)
     ≤ 2 ^ 61 - 20 = subst (λ (all : List Happening). length all ≤ 2 ^ 61 - 20)
-    (sym (append_assoc before (now ∷ []) later)) few in
-    (record { may = lawful.0; in_range = range.0; few = long }, all_follow
-    (before ++ now ∷ []) later lawful.1 range.1 rest)
+    (sym (append_assoc before (now ∷ []) later)) few in (
+      record { may = lawful.0; in_range = range.0; few = long },
+      all_follow
+          (before ++ now ∷ []) later lawful.1 range.1 rest,
+    )

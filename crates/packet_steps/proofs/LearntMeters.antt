@@ -27,8 +27,10 @@ begun_shared : (before : VersionState) (meters : Meters) (bearer : ActiveBearer)
     → (with_begun before meters bearer).shared ≡ meters.shared
 begun_shared before meters bearer =
     elim (begins_guaranteed before bearer) as
-    (λ b. (cond b (record meters { own = set meters.own bearer.index
-    (new_meter bearer.qos.mbr_up bearer.qos.mbr_down) }) meters).shared ≡ meters.shared) [
+    (λ b. (cond b (record meters {
+      own = set meters.own bearer.index
+          (new_meter bearer.qos.mbr_up bearer.qos.mbr_down);
+    }) meters).shared ≡ meters.shared) [
       | true ↦ refl
       | false ↦ refl
     ]
@@ -37,8 +39,10 @@ begun_sized : (before : VersionState) (meters : Meters) (bearer : ActiveBearer)
     → length (with_begun before meters bearer).own ≡ length meters.own
 begun_sized before meters bearer =
     elim (begins_guaranteed before bearer) as
-    (λ b. length (cond b (record meters { own = set meters.own bearer.index
-    (new_meter bearer.qos.mbr_up bearer.qos.mbr_down) }) meters).own ≡ length meters.own) [
+    (λ b. length (cond b (record meters {
+      own = set meters.own bearer.index
+          (new_meter bearer.qos.mbr_up bearer.qos.mbr_down);
+    }) meters).own ≡ length meters.own) [
       | true ↦ length-set meters.own bearer.index (new_meter bearer.qos.mbr_up bearer.qos.mbr_down)
       | false ↦ refl
     ]
@@ -47,8 +51,10 @@ begun_other : (before : VersionState) (meters : Meters) (bearer : ActiveBearer) 
     → own_meter (with_begun before meters bearer) index ≡ own_meter meters index
 begun_other before meters bearer index apart =
     elim (begins_guaranteed before bearer) as
-    (λ b. own_meter (cond b (record meters { own = set meters.own bearer.index
-    (new_meter bearer.qos.mbr_up bearer.qos.mbr_down) }) meters) index ≡ own_meter meters index) [
+    (λ b. own_meter (cond b (record meters {
+      own = set meters.own bearer.index
+          (new_meter bearer.qos.mbr_up bearer.qos.mbr_down);
+    }) meters) index ≡ own_meter meters index) [
       | true ↦ get_or-set_other meters.own bearer.index index (new_meter bearer.qos.mbr_up bearer.qos.mbr_down) (new_meter 0 0) apart
       | false ↦ refl
     ]
@@ -83,8 +89,10 @@ begun_own : (before : VersionState) (meters : Meters) (c : ActiveBearer) → c.i
     → own_meter (with_begun before meters c) c.index ≡ own_then before meters c
 begun_own before meters c within =
     elim (begins_guaranteed before c) as
-    (λ b. own_meter (cond b (record meters { own = set meters.own c.index
-    (new_meter c.qos.mbr_up c.qos.mbr_down) }) meters) c.index
+    (λ b. own_meter (cond b (record meters {
+      own = set meters.own c.index
+          (new_meter c.qos.mbr_up c.qos.mbr_down);
+    }) meters) c.index
     ≡ cond b (new_meter c.qos.mbr_up c.qos.mbr_down) (own_meter meters c.index)) [
       | true ↦ get_or-set_same meters.own c.index (new_meter c.qos.mbr_up c.qos.mbr_down) (new_meter 0 0) within
       | false ↦ refl
@@ -252,7 +260,7 @@ learnt_stand meters past after stands follows ranges rates =
     record {
       sized = all_sized past.version start after.bearers ∙ ap length start_own ∙ stands.sized;
       shared = λ up. subst (λ (m : Meter). Polices (bucket_of up m) (ambr up after)
-      (filter (is_of_rates after.rates up) past.forwarded) (moment_of past))
+          (filter (is_of_rates after.rates up) past.forwarded) (moment_of past))
           (sym (all_shared past.version start after.bearers))
           (shared_by meters past after up (nat_lt past.version.rates after.rates) stands follows rates refl);
       own = λ c up there guaranteed.
@@ -267,6 +275,6 @@ learnt_stand meters past after stands follows ranges rates =
     }
   where
     own_of : (risen : Bool) → (cond risen (record meters { shared = new_meter after.up after.down }) meters).own
-    ≡ meters.own
+        ≡ meters.own
     own_of true = refl
     own_of false = refl
