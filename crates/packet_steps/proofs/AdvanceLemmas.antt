@@ -50,10 +50,10 @@ reached_row before after so_far effects bearer octets there reached =
       version = reached.version;
       more = reached.more ++ now ∷ [];
       charged = ap (λ (all : List Happening). all ++ now ∷ []) reached.charged
-      ∙ append_assoc before reached.more (now ∷ []);
+          ∙ append_assoc before reached.more (now ∷ []);
       going = record {
         lawful = may_from-push before reached.more now going.lawful
-        ((going.opens bearer.life).1 (has_it after.bearers bearer there));
+            ((going.opens bearer.life).1 (has_it after.bearers bearer there));
         in_range = each-push IsInRange reached.more now going.in_range tt;
         opens = λ life. subst (λ (lives : List ℕ). Contains lives life ↔ IsTrue (has_life after.bearers life))
             (sym (ap lives_of (sym (append_assoc before reached.more (now ∷ [])))
@@ -64,7 +64,7 @@ reached_row before after so_far effects bearer octets there reached =
     }
   where
     each-push : {X : Type 0} (P : X → Type 0) (xs : List X) (x : X) → AllByRecursion P xs → P x
-    → AllByRecursion P (xs ++ x ∷ [])
+        → AllByRecursion P (xs ++ x ∷ [])
     each-push P [] x each here = (here, tt)
     each-push P (y ∷ ys) x each here = (each.0, each-push P ys x each.1 here)
 
@@ -139,7 +139,7 @@ pub release_starts : (counters : CountersState) (past : Past) (taken : ℕ) (aft
     → Releases release past.charged (marked past after, markers past.version after)
 release_starts counters past taken after release stands follows ranges meters postings effects = record {
   meters = subst (λ (m : Meters). MetersStand m (marked past after)) (sym meters)
-  (learnt_stand counters.meters past after stands.meters follows ranges stands.rates);
+      (learnt_stand counters.meters past after stands.meters follows ranges stands.rates);
   postings = ap (λ (more : List Happening). past.charged ++ more) postings;
   effects = effects;
 }
@@ -172,14 +172,14 @@ learnt_stands counters new past taken after release stands follows ranges brough
       meters = subst (λ (m : Meters). MetersStand m (learnt past after).0) (sym meters) brought.meters;
       charges = subst (λ (all : List Happening). book.StandsFor new.book all taken) brought.postings charges;
       held = held ∙ ap (filter (λ (row : HeldRow). waits after.bearers row.life)) stands.held
-      ∙ sym (held_all start past.held);
+          ∙ sym (held_all start past.held);
       last = last ∙ stands.last ∙ sym (last_kept start past.held);
       open_lives = λ life. subst
-      (λ (v : VersionState). Contains (lives_of (learnt past after).0.charged) life ↔ IsTrue
-      (has_life v.bearers life)) (sym reached.version)
+          (λ (v : VersionState). Contains (lives_of (learnt past after).0.charged) life ↔ IsTrue
+          (has_life v.bearers life)) (sym reached.version)
           (subst (λ (all : List Happening). Contains (lives_of all) life ↔ IsTrue (has_life after.bearers life))
           (sym reached.charged) (reached.going.opens life));
       rates = subst (λ (v : VersionState). All (λ (row : ForwardedRow). row.rates ≤ v.rates)
-      (learnt past after).0.forwarded) (sym reached.version) reached.rates;
+          (learnt past after).0.forwarded) (sym reached.version) reached.rates;
       ranges = subst IsVersion (sym reached.version) ranges;
     }

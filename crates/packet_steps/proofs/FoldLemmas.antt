@@ -27,7 +27,7 @@ module _ {X : Type 0} (f : Past → X)
     → f (with_row past (row_for past bearer false octets)) ≡ f past)
     (held_keeps : (past : Past) (row : HeldRow) → f (with_held past row) ≡ f past) where
   kept_to : (so_far : Past × List Effect) (row : HeldRow) (bearer : ActiveBearer) (enb : Option Peer)
-  → f (released_to so_far row bearer enb).0 ≡ f so_far.0
+      → f (released_to so_far row bearer enb).0 ≡ f so_far.0
   kept_to so_far row bearer None = held_keeps so_far.0 row
   kept_to so_far row bearer (Some peer) =
       elim (passes so_far.0 bearer false (length row.packet.octets)) as
@@ -37,14 +37,14 @@ module _ {X : Type 0} (f : Past → X)
       ]
 
   kept_by : (so_far : Past × List Effect) (row : HeldRow) (found : Option ActiveBearer)
-  → f (released_by so_far row found).0 ≡ f so_far.0
+      → f (released_by so_far row found).0 ≡ f so_far.0
   kept_by so_far row None = refl
   kept_by so_far row (Some bearer) = kept_to so_far row bearer bearer.enb
 
   pub kept_all : (so_far : Past × List Effect) (rows : List HeldRow) → f (fold released so_far rows).0 ≡ f so_far.0
   kept_all so_far [] = refl
   kept_all so_far (row ∷ rows) = kept_all (released so_far row) rows
-  ∙ kept_by so_far row (bearer_of so_far.0.version.bearers row.life)
+      ∙ kept_by so_far row (bearer_of so_far.0.version.bearers row.life)
 
 pub version_kept : (so_far : Past × List Effect) (rows : List HeldRow)
     → (fold released so_far rows).0.version ≡ so_far.0.version

@@ -80,7 +80,7 @@ polices meters past bearer up stands there = polices_by meters past bearer up st
 -- what a bucket was asked for, and how it answered
 pub record Asked (old new : BucketState) (at octets : ℕ) (answer : Bool) : Type 0 where
   pub tested : (passed : List Cost) → buckets.StandsFor old passed → last_of old ≤ at
-  → answer ≡ conforms (rate_of old) passed (cost_of octets at)
+      → answer ≡ conforms (rate_of old) passed (cost_of octets at)
   pub charged : (passed : List Cost) → buckets.StandsFor old passed → last_of old ≤ at
       → MatchBool answer (buckets.StandsFor new (passed ++ cost_of octets at ∷ [])) (buckets.StandsFor new passed)
   pub rate : rate_of new ≡ rate_of old
