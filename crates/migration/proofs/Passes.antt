@@ -48,15 +48,15 @@ module _ {H : Type 0} where
   not_leaving (Recall at until to) not = inr (omega arith)
   not_leaving (Leaving from to) not = absurd (true≢false not)
 
-module _ {H : Type 0} (hop_of : H → ℕ) where
+module _ {H : Type 0} (slot_of hop_of : H → ℕ) where
   gave_none : (places : List (Option (Place H))) (slice : ℕ) (before now : List (Order H)) → now ≡ before
-      → Gave hop_of places slice before now
-  gave_none places slice before now same = ([], same ∙ sym (append-nil before), All-nil (Lawful hop_of places slice))
+      → Gave slot_of hop_of places slice before now
+  gave_none places slice before now same = ([], same ∙ sym (append-nil before), All-nil (Lawful slot_of hop_of places slice))
 
   lawful_since : (places new : List (Option (Place H)))
       → ((slot : ℕ) → Falls (place_at places slot) (place_at new slot)) → (slice : ℕ) (order : Order H)
-      → Lawful hop_of new slice order → Lawful hop_of places slice order
-  lawful_since places new falls slice (Arrive half) lawful = (lawful.0, lawful.1 ∙ (falls lawful.0).2)
+      → Lawful slot_of hop_of new slice order → Lawful slot_of hop_of places slice order
+  lawful_since places new falls slice (Arrive half) lawful = lawful ∙ (falls (slot_of half)).2
   lawful_since places new falls slice (Leave slot until) lawful = (falls slot).1 slice until lawful
 
 module _ {H : Type 0} (slot_of hop_of : H → ℕ) where
@@ -84,9 +84,9 @@ module _ {H : Type 0} (slot_of hop_of : H → ℕ) where
         orders = λ slice. let a = first.orders slice in let b = second.orders slice in (
           a.0 ++ b.0,
           b.1 ∙ ap (λ l. l ++ b.0) a.1 ∙ append_assoc (sent_at d0 slice) a.0 b.0,
-          All-append (Lawful hop_of p0 slice) a.0 b.0 a.2
-              (All-weaker (Lawful hop_of p1 slice) (Lawful hop_of p0 slice)
-              (lawful_since hop_of p0 p1 first.falls slice) b.0 b.2),
+          All-append (Lawful slot_of hop_of p0 slice) a.0 b.0 a.2
+              (All-weaker (Lawful slot_of hop_of p1 slice) (Lawful slot_of hop_of p0 slice)
+              (lawful_since slot_of hop_of p0 p1 first.falls slice) b.0 b.2),
         );
       }
 
@@ -102,7 +102,7 @@ module _ {H : Type 0} (slot_of hop_of : H → ℕ) where
     kept = alike ∙ sym (append-nil aside);
     unawaited = All-nil (λ half. (stage_at (place_at new (slot_of half)) ≡ 0)
         ⊎ (2 ≤ stage_at (place_at places (slot_of half))));
-    orders = λ slice. gave_none hop_of places slice (sent_at desks slice) (sent_at now slice) (orders slice);
+    orders = λ slice. gave_none slot_of hop_of places slice (sent_at desks slice) (sent_at now slice) (orders slice);
   }
 
   -- none came home
@@ -131,7 +131,7 @@ module _ {H : Type 0} (slot_of hop_of : H → ℕ) where
     kept = sym (append-nil aside);
     unawaited = All-nil (λ half. (stage_at (place_at new (slot_of half)) ≡ 0)
         ⊎ (2 ≤ stage_at (place_at places (slot_of half))));
-    orders = λ other. gave_none hop_of places other (sent_at desks other) (sent_at now other)
+    orders = λ other. gave_none slot_of hop_of places other (sent_at desks other) (sent_at now other)
         (ap (λ l. get_or l other []) (changed_map slice took.before took.now desks now took.desk
         (λ (desk : Desk H). sent desk.orders) (ap sent took.orders)));
   }
@@ -152,14 +152,14 @@ module _ {H : Type 0} (slot_of hop_of : H → ℕ) where
             ⊎ (2 ≤ stage_at (place_at places (slot_of half)))) [] half
             (All-nil (λ half. (stage_at (place_at places (slot_of half)) ≡ 0)
             ⊎ (2 ≤ stage_at (place_at places (slot_of half))))) far;
-        orders = λ other. gave_none hop_of places other (sent_at desks other) (sent_at now other)
+        orders = λ other. gave_none slot_of hop_of places other (sent_at desks other) (sent_at now other)
             (ap (λ l. get_or l other []) (changed_map slice took.before took.now desks now took.desk
             (λ (desk : Desk H). sent desk.orders) (ap sent took.orders)));
       })
 
   given_gave : (places : List (Option (Place H))) (slice : ℕ) (order : Order H) (desks now : List (Desk H))
       → Given slice order desks now
-      → Lawful hop_of places slice order → (other : ℕ) → Gave hop_of places other (sent_at desks other)
+      → Lawful slot_of hop_of places slice order → (other : ℕ) → Gave slot_of hop_of places other (sent_at desks other)
       (sent_at now other)
   given_gave places slice order desks now given lawful other =
       let f : Desk H → List (Order H) = λ desk. sent desk.orders in
@@ -169,23 +169,23 @@ module _ {H : Type 0} (slot_of hop_of : H → ℕ) where
       let was : get_or (map f desks) slice [] ≡ f given.before =
       get_or-map f desks slice given.before [] given.desk.within ∙ ap f (sym given.desk.there) in
       elim (nat_eq other slice) as (λ b. nat_eq other slice ≡ b
-      → Gave hop_of places other (sent_at desks other) (sent_at now other)) [
-        | true ↦ λ e. subst (λ (n : ℕ). Gave hop_of places n (sent_at desks n) (sent_at now n))
+      → Gave slot_of hop_of places other (sent_at desks other) (sent_at now other)) [
+        | true ↦ λ e. subst (λ (n : ℕ). Gave slot_of hop_of places n (sent_at desks n) (sent_at now n))
             (sym (eqb-true other slice e)) (
               order ∷ [],
               ap (λ l. get_or l slice []) as_set ∙ get_or-set_same (map f desks) slice (f given.now) [] within
                   ∙ given.sent ∙ ap (λ l. l ++ order ∷ []) (sym was),
-              All-push (Lawful hop_of places slice) [] order (All-nil (Lawful hop_of places slice)) lawful,
+              All-push (Lawful slot_of hop_of places slice) [] order (All-nil (Lawful slot_of hop_of places slice)) lawful,
             )
-        | false ↦ λ e. gave_none hop_of places other (sent_at desks other) (sent_at now other)
+        | false ↦ λ e. gave_none slot_of hop_of places other (sent_at desks other) (sent_at now other)
             (ap (λ l. get_or l other []) as_set ∙ get_or-set_other (map f desks) slice other (f given.now) []
             (eqb-false other slice e))
       ] refl
 
   refused_gave : (places : List (Option (Place H))) (slice : ℕ) (desks now : List (Desk H)) → Refused slice desks now
-      → (other : ℕ) → Gave hop_of places other (sent_at desks other) (sent_at now other)
+      → (other : ℕ) → Gave slot_of hop_of places other (sent_at desks other) (sent_at now other)
   refused_gave places slice desks now refused other =
-      gave_none hop_of places other (sent_at desks other) (sent_at now other)
+      gave_none slot_of hop_of places other (sent_at desks other) (sent_at now other)
       (ap (λ l. get_or l other []) (changed_map slice refused.before refused.now desks now refused.desk
       (λ (desk : Desk H). sent desk.orders) refused.sent))
 
@@ -194,28 +194,30 @@ module _ {H : Type 0} (slot_of hop_of : H → ℕ) where
       (desks now : List (Desk H)) : Type 0 where
     pub lower : stage new ≤ stage old
     pub told : (slice until : ℕ) → IsRecall slice until new → IsRecall slice until old
-    pub gave : (slice : ℕ) → Gave hop_of places slice (sent_at desks slice) (sent_at now slice)
+    pub gave : (slice : ℕ) → Gave slot_of hop_of places slice (sent_at desks slice) (sent_at now slice)
 
   state_same : (places : List (Option (Place H))) (old new : State H) (desks now : List (Desk H)) → new ≡ old
       → now ≡ desks → StatePasses places old new desks now
   state_same places old new desks now same alike = record {
     lower = let a = ap stage same in omega arith;
     told = λ slice until. subst (IsRecall slice until) same;
-    gave = λ slice. gave_none hop_of places slice (sent_at desks slice) (sent_at now slice)
+    gave = λ slice. gave_none slot_of hop_of places slice (sent_at desks slice) (sent_at now slice)
         (ap (λ l. sent_at l slice) alike);
   }
 
   module _ {N : Type 0} (name : H → N) where
     serves_passes : (places : List (Option (Place H))) (slot hop : ℕ) (old new : State H)
         (desks now : List (Desk H)) → hop ≡ hop_at (place_at places slot)
+        → ((half told : H) (to : ℕ) → old ≡ Front half to → name told ≡ name half → slot_of told ≡ slot)
         → ((slice until : ℕ) → IsRecall slice until old → IsRecallAt slice until (place_at places slot))
         → Serves name hop_of slot hop old new desks now
         → StatePasses places old new desks now
-    serves_passes places slot hop (Front half to) new desks now hopped recall serves = elim serves.outcome [
+    serves_passes places slot hop (Front half to) new desks now hopped own recall serves = elim serves.outcome [
       | inl put ↦ record {
         lower = let a = ap stage put.0 in omega arith;
         told = λ slice until is. absurd (subst (IsRecall slice until) put.0 is);
-        gave = given_gave places to (Arrive serves.told) desks now put.1 (slot, serves.hopped ∙ hopped);
+        gave = given_gave places to (Arrive serves.told) desks now put.1 (serves.hopped ∙ hopped
+            ∙ ap (λ n. hop_at (place_at places n)) (sym (own half serves.told to refl serves.named)));
       }
       | inr kept ↦ record {
         lower = let a = ap stage kept.0 in omega arith;
@@ -223,9 +225,9 @@ module _ {H : Type 0} (slot_of hop_of : H → ℕ) where
         gave = refused_gave places to desks now kept.1;
       }
     ]
-    serves_passes places slot hop (Placed at) new desks now hopped recall serves =
+    serves_passes places slot hop (Placed at) new desks now hopped own recall serves =
         state_same places (Placed at) new desks now serves.0 serves.1
-    serves_passes places slot hop (Recall at until to) new desks now hopped recall serves = elim serves [
+    serves_passes places slot hop (Recall at until to) new desks now hopped own recall serves = elim serves [
       | inl put ↦ record {
         lower = let a = ap stage put.0 in omega arith;
         told = λ slice count is. absurd (subst (IsRecall slice count) put.0 is);
@@ -237,20 +239,24 @@ module _ {H : Type 0} (slot_of hop_of : H → ℕ) where
         gave = refused_gave places at desks now kept.1;
       }
     ]
-    serves_passes places slot hop (Leaving from to) new desks now hopped recall serves =
+    serves_passes places slot hop (Leaving from to) new desks now hopped own recall serves =
         state_same places (Leaving from to) new desks now serves.0 serves.1
 
     served_passes : (places : List (Option (Place H))) (slot : ℕ) (old place : Option (Place H)) (aside : List H)
         (desks now : List (Desk H))
-        → old ≡ place_at places slot → slot < length places → PlaceServed name hop_of slot old place desks now
+        → old ≡ place_at places slot → slot < length places
+        → ((before : Place H) (half told : H) (to : ℕ) → old ≡ Some before → before.state ≡ Front half to
+        → name told ≡ name half → slot_of told ≡ slot)
+        → PlaceServed name hop_of slot old place desks now
         → Passes slot_of hop_of places (set places slot place) aside aside desks now
-    served_passes places slot None place aside desks now is within served =
+    served_passes places slot None place aside desks now is within own served =
         passes_same places (set places slot place) aside aside desks now
         (ap (set places slot) (served.0 ∙ is) ∙ set-get_or places slot None) refl
         (λ slice. ap (λ l. sent_at l slice) served.1)
-    served_passes places slot (Some before) place aside desks now is within served =
+    served_passes places slot (Some before) place aside desks now is within own served =
         let after = served.0 in
         let step = serves_passes places slot before.hop before.state after.state desks now (ap hop_at is)
+        (λ half told to. own before half told to refl)
         (λ slice until. subst (IsRecallAt slice until) is) served.4 in record {
           falls = falls_set places slot place within (subst (λ (p : Option (Place H)). Falls p place) is (
             (let a = step.lower in let b = ap stage_at served.1 in omega arith),
@@ -267,9 +273,12 @@ module _ {H : Type 0} (slot_of hop_of : H → ℕ) where
     -- the order of a slot was offered
     pub passes_served : (places new : List (Option (Place H))) (slot : ℕ) (waits : Bool) (aside new_aside : List H)
         (desks now : List (Desk H))
-        → slot < length places → new_aside ≡ aside → ServedAt name hop_of slot waits places new desks now
+        → slot < length places → new_aside ≡ aside
+        → ((before : Place H) (half told : H) (to : ℕ) → place_at places slot ≡ Some before
+        → before.state ≡ Front half to → name told ≡ name half → slot_of told ≡ slot)
+        → ServedAt name hop_of slot waits places new desks now
         → Passes slot_of hop_of places new aside new_aside desks now
-    passes_served places new slot waits aside new_aside desks now within same served =
+    passes_served places new slot waits aside new_aside desks now within same own served =
         subst (λ (p : List (Option (Place H)) × List H). Passes slot_of hop_of places p.0 aside p.1 desks now)
         (λ i. (sym served.1 i, sym same i))
-        (served_passes places slot (place_at places slot) served.0 aside desks now refl within served.3)
+        (served_passes places slot (place_at places slot) served.0 aside desks now refl within own served.3)

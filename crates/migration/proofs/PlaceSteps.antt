@@ -14,10 +14,11 @@ use Rattle.worker_core.specs.Names.{arrivals, weight}
 use Rattle.worker_core.specs.Workers.{IsNewDesk}
 use Rattle.worker_core.proofs.Arrivals.{weight-push}
 use Rattle.migration.specs.declared.place.Place.{Place}
-use Rattle.migration.specs.declared.place.State.TheVariants.{Front, Leaving}
+use Rattle.migration.specs.declared.place.State.{State}
+use Rattle.migration.specs.declared.place.State.TheVariants.{Front, Placed, Recall, Leaving}
 use Rattle.migration.specs.Desks.{sent_weight, home_weight, lanes_of, homes_of, order_count, fulls_at, Taken, Empty}
-use Rattle.migration.specs.Places.{place_at, pending_at, is_admitted, is_waiting, is_waiting_at, waits_at, PlaceFits, at_end, to_end, hop_at, hops_of, name_at, names_of, front_at, front_weight, pending, weight_at, wait_weight}
-use Rattle.migration.specs.Steps.{Sends, PlaceServed, ServedAt, Moves, MovesAt, NewlyWaits, Welcomes, Admits, Grown}
+use Rattle.migration.specs.Places.{place_at, pending_at, is_admitted, is_waiting, is_waiting_at, waits_at, PlaceFits, at_end, to_end, hop_at, hops_of, name_at, names_of, front_at, front_weight, pending, weight_at, wait_weight, IsOwn, IsOwnAt}
+use Rattle.migration.specs.Steps.{Sends, Serves, Goes, PlaceServed, ServedAt, Moves, MovesAt, NewlyWaits, Welcomes, Admits, Grown}
 use Rattle.migration.specs.Sides.{slot_at, BySlot, IsSide, Rose}
 use Rattle.migration.specs.Words.{ServedNext}
 use Rattle.migration.proofs.Desks.{changed_sum, changed_len, homes_sum}
@@ -116,19 +117,64 @@ module _ {H N : Type 0} (name : H → N) (hop_of : H → ℕ) (desks now : List 
       )
 
 module _ {H N : Type 0} (name : H → N) (slot_of : N → ℕ) where
+  -- a half at the front stays one of its slot
+  serves_own : (hop_of : H → ℕ) (desks now : List (Desk H)) (own slot hop : ℕ) (old new : State H)
+      → IsOwn name slot_of own old → Serves name hop_of slot hop old new desks now → IsOwn name slot_of own new
+  serves_own hop_of desks now own slot hop (Front half to) new is serves = elim serves.outcome [
+    | inl put ↦ subst (IsOwn name slot_of own) (sym put.0) refl
+    | inr kept ↦ subst (IsOwn name slot_of own) (sym kept.0) (ap slot_of serves.named ∙ is)
+  ]
+  serves_own hop_of desks now own slot hop (Placed at) new is serves =
+      subst (IsOwn name slot_of own) (sym serves.0) refl
+  serves_own hop_of desks now own slot hop (Recall at until to) new is serves = elim serves [
+    | inl put ↦ subst (IsOwn name slot_of own) (sym put.0) refl
+    | inr kept ↦ subst (IsOwn name slot_of own) (sym kept.0) refl
+  ]
+  serves_own hop_of desks now own slot hop (Leaving from to) new is serves =
+      subst (IsOwn name slot_of own) (sym serves.0) refl
+
+  served_own : (hop_of : H → ℕ) (desks now : List (Desk H)) (slot : ℕ) (old new : Option (Place H))
+      → IsOwnAt name slot_of slot old → PlaceServed name hop_of slot old new desks now → IsOwnAt name slot_of slot new
+  served_own hop_of desks now slot None new is served = subst (IsOwnAt name slot_of slot) (sym served.0) refl
+  served_own hop_of desks now slot (Some before) new is served =
+      let after : Place H = served.0 in
+      subst (IsOwnAt name slot_of slot) (sym served.1)
+      (serves_own hop_of desks now slot slot before.hop before.state after.state is served.4)
+
+  goes_own : (desks now : List (Desk H)) (slot slice until : ℕ) (old new : State H) → IsOwn name slot_of slot old
+      → Goes slot slice until old new desks now → IsOwn name slot_of slot new
+  goes_own desks now slot slice until (Front half to) new is goes = subst (IsOwn name slot_of slot) (sym goes.0) is
+  goes_own desks now slot slice until (Placed at) new is goes = elim goes [
+    | inl put ↦ subst (IsOwn name slot_of slot) (sym put.0) refl
+    | inr kept ↦ subst (IsOwn name slot_of slot) (sym kept.0) refl
+  ]
+  goes_own desks now slot slice until (Recall at count to) new is goes =
+      subst (IsOwn name slot_of slot) (sym goes.0) refl
+  goes_own desks now slot slice until (Leaving from to) new is goes = subst (IsOwn name slot_of slot) (sym goes.0) refl
+
+  moved_own : (desks now : List (Desk H)) (slot slice until : ℕ) (old new : Option (Place H))
+      → IsOwnAt name slot_of slot old → Moves slot slice until old new desks now → IsOwnAt name slot_of slot new
+  moved_own desks now slot slice until old new is moves =
+      let before : Place H = moves.before in
+      let after : Place H = moves.now in
+      subst (IsOwnAt name slot_of slot) (sym moves.is)
+      (goes_own desks now slot slice until before.state after.state
+      (subst (IsOwnAt name slot_of slot) moves.was is) moves.goes)
+
   -- a place took a step
   pub stepped_side : (spare : ℕ) (places : List (Option (Place H))) (place : Option (Place H)) (slot : ℕ)
       (aside : List H) (desks now : List (Desk H))
       (waiting new_waiting serving new_serving : List ℕ) (admitted asked new_asked : ℕ)
       → IsSide name slot_of places aside desks waiting serving admitted asked → slot < length places
       → PlaceStep name spare (place_at places slot) place desks now → PlaceFits (length desks) new_asked place
+      → IsOwnAt name slot_of slot place
       → asked ≤ new_asked → new_asked ≤ 2 ^ 48 → 2 * asked + spare ≤ 2 * new_asked
       → ((w : ℕ → ℕ) → sum_by w new_waiting + sum_by w new_serving
       + cond (is_waiting_at (place_at places slot)) (w slot) 0
       ≡ sum_by w waiting + sum_by w serving + cond (is_waiting_at place) (w slot) 0)
       → IsSide name slot_of (set places slot place) aside now new_waiting new_serving admitted new_asked
   stepped_side spare places place slot aside desks now waiting new_waiting serving new_serving admitted asked
-      new_asked side within step fits later few enough waits =
+      new_asked side within step fits own later few enough waits =
       let was : slot_at slot_of slot (name_at name (place_at places slot)) ≡ slot =
       at_slot name slot_of places side.slots slot in
       let at : slot_at slot_of slot (name_at name place) ≡ slot = ap (slot_at slot_of slot) step.named ∙ was in
@@ -139,6 +185,7 @@ module _ {H N : Type 0} (name : H → N) (slot_of : N → ℕ) where
             let c : sum_by (home_weight name h) now ≡ sum_by (home_weight name h) desks =
             homes_sum (weight name h) desks now step.homes in omega arith;
         at = at;
+        own = own;
         waits = λ w. let a = waits w in let b = wait_weight_is name slot_of w slot (place_at places slot) was in
             let c = wait_weight_is name slot_of w slot place at in omega arith;
         long = step.long;
@@ -219,6 +266,7 @@ module _ {H N : Type 0} (name : H → N) (slot_of : N → ℕ) where
         let b : sum_by (home_weight name h) desks ≡ 0 = new_sum desks new (home_weight name h)
         (λ d is. ap (weight name h) is.1) in omega arith;
     slots = λ slot. refl;
+    fronts = λ slot. refl;
     queued = λ w. refl;
     fits = All-nil (PlaceFits (length desks) 0);
     few = let a : sum_by (order_count {H = H}) desks ≡ 0 =
@@ -240,12 +288,12 @@ module _ {H N : Type 0} (name : H → N) (slot_of : N → ℕ) where
       (half : H) (aside : List H) (desks now : List (Desk H))
       (waiting new_waiting serving : List ℕ) (admitted asked : ℕ)
       → IsSide name slot_of places aside desks waiting serving admitted asked → slot < length places
-      → Taken slice half desks now
+      → Taken slice half desks now → slot_of (name half) ≡ slot
       → (old : Option (Place H)) → old ≡ place_at places slot → Welcomes half old place None
       → new_waiting ≡ waiting ++ slot ∷ []
       → new_places ≡ set places slot place → IsSide name slot_of new_places aside now new_waiting serving admitted asked
   came_home places new_places place slot slice half aside desks now waiting new_waiting serving admitted asked side
-      within took old same welcomes more made =
+      within took own old same welcomes more made =
       let before = welcomes.0 in
       let after = welcomes.1 in
       let was : place_at places slot ≡ Some before = sym same ∙ welcomes.2 in
@@ -277,6 +325,7 @@ module _ {H N : Type 0} (name : H → N) (slot_of : N → ℕ) where
             let v = ap (weight name h) took.taken ∙ weight-push name h (taken b.home) half in
             omega arith;
         at = new_at;
+        own = subst (IsOwnAt name slot_of slot) (sym is) (subst (IsOwn name slot_of slot) (sym front) own);
         waits = λ w.
             let m = ap (sum_by w) more ∙ sum_by_push w waiting slot in
             let p = wait_weight_is name slot_of w slot (place_at places slot) old_at
@@ -380,6 +429,7 @@ module _ {H N : Type 0} (name : H → N) (slot_of : N → ℕ) where
             homes_sum (weight name h) desks now step.homes in
             omega arith;
         at = ap (λ x. slot_of (name x)) admits.admitted ∙ slot_is;
+        own = serves_own hop_of desks now slot slot hop (Front half slice) after.state slot_is admits.sends;
         waits = λ w.
             let a = noted w in
             let p = ap (wait_weight name slot_of w) free in
@@ -471,7 +521,8 @@ module _ {H N : Type 0} (name : H → N) (slot_of : N → ℕ) where
         subst (λ (l : List (Option (Place H))). IsSide name slot_of l aside now new_waiting serving admitted (asked
             + 1)) (sym moves.2)
             (stepped_side 2 places place slot aside desks now waiting new_waiting serving serving admitted asked
-            (asked + 1) side within step.0 step.1
+            (asked + 1) side within step.0 step.1 (moved_own desks now slot slice until (place_at places slot) place
+            (side.fronts slot) moves.3)
             (omega arith) (omega arith) (omega arith)
             (λ w. let a = noted w in let b = waits (w slot) in let c = ap
             (λ x. cond (is_waiting_at x) (w slot) 0) is in omega arith)),
@@ -503,7 +554,8 @@ module _ {H N : Type 0} (name : H → N) (slot_of : N → ℕ) where
         subst (λ (l : List (Option (Place H))). IsSide name slot_of l aside now new_waiting new_serving admitted
             asked) (sym served.1)
             (stepped_side 0 places place slot aside desks now waiting new_waiting serving new_serving admitted
-            asked asked side within step.0 step.2
+            asked asked side within step.0 step.2 (served_own hop_of desks now slot (place_at places slot) place
+            (side.fronts slot) served.3)
             (omega arith) side.asked_few (omega arith)
             (λ w.
             let a = noted w in

@@ -11,8 +11,9 @@ use Rattle.worker_core.specs.declared.pairing.Desk.{Desk}
 use Rattle.worker_core.specs.Names.{weight}
 use Rattle.worker_core.proofs.Arrivals.{sum_by-through}
 use Rattle.migration.specs.declared.place.Place.{Place}
+use Rattle.migration.specs.declared.place.State.TheVariants.{Front}
 use Rattle.migration.specs.Desks.{sent_weight, home_weight, order_count}
-use Rattle.migration.specs.Places.{place_at, pending_at, is_admitted, is_waiting_at, PlaceFits, name_at, names_of, front_at, weight_at, wait_weight}
+use Rattle.migration.specs.Places.{place_at, pending_at, is_admitted, is_waiting_at, PlaceFits, name_at, names_of, front_at, weight_at, wait_weight, IsOwn, IsOwnAt}
 use Rattle.migration.specs.Steps.{Grown, Welcomes, WelcomesAt}
 use Rattle.migration.specs.Sides.{slot_at, BySlot, IsSide}
 
@@ -65,6 +66,7 @@ module _ {H N : Type 0} (name : H → N) (slot_of : N → ℕ) where
         ≡ front_at name h (place_at places slot) + weight name h aside + sum_by (sent_weight name h) desks
         + weight_at h (name_at name place) + sum_by (home_weight name h) now
     pub at : slot_at slot_of slot (name_at name place) ≡ slot
+    pub own : IsOwnAt name slot_of slot place
     pub waits : (w : ℕ → ℕ) → sum_by w new_waiting + sum_by w new_serving
         + wait_weight name slot_of w (place_at places slot)
         ≡ sum_by w waiting + sum_by w serving + wait_weight name slot_of w place
@@ -111,6 +113,13 @@ module _ {H N : Type 0} (name : H → N) (slot_of : N → ℕ) where
               | false ↦ λ e. ap (λ x. slot_at slot_of k (name_at name x))
                   (get_or-set_other places slot k place None (eqb-false k slot e)) ∙ slots k
             ] refl);
+        fronts = λ k. elim (nat_eq k slot) as (λ b. nat_eq k slot ≡ b → IsOwnAt name slot_of k (place_at new k)) [
+          | true ↦ λ e. subst (λ (n : ℕ). IsOwnAt name slot_of n (place_at new n)) (sym (eqb-true k slot e))
+              (subst (IsOwnAt name slot_of slot) (sym (get_or-set_same places slot place None change.within))
+              change.own)
+          | false ↦ λ e. subst (IsOwnAt name slot_of k)
+              (sym (get_or-set_other places slot k place None (eqb-false k slot e))) (side.fronts k)
+        ] refl;
         queued = λ w.
             let a = side.queued w in
             let b = change.waits w in
@@ -143,6 +152,7 @@ module _ {H N : Type 0} (name : H → N) (slot_of : N → ℕ) where
       waits long count few = record {
         balanced = λ h. let a = side.balanced h in let b = balance h in omega arith;
         slots = side.slots;
+        fronts = side.fronts;
         queued = λ w. let a = side.queued w in let b = waits w in omega arith;
         fits = subst (λ (n : ℕ). All (PlaceFits n asked) places) (sym long) side.fits;
         few = let a = side.few in omega arith;
@@ -187,6 +197,7 @@ module _ {H N : Type 0} (name : H → N) (slot_of : N → ℕ) where
             omega arith;
         slots = by_slot new (λ k. ap (λ x. slot_at slot_of k (name_at name x)) (place_grown places more k)
             ∙ at_slot places side.slots k);
+        fronts = λ k. subst (IsOwnAt name slot_of k) (sym (place_grown places more k)) (side.fronts k);
         queued = λ w. let a = side.queued w in let c = grown_sum
             (wait_weight name slot_of w) places more refl in omega arith;
         fits = All-append (PlaceFits (length desks) asked) places (replicate more None) side.fits
@@ -222,6 +233,13 @@ module _ {H : Type 0} where
         one_more (x ∷ xs) n = ap (λ l. x ∷ l) (one_more xs n)
 
 module _ {H N : Type 0} (name : H → N) (slot_of : N → ℕ) where
+  -- a half at the front is of its slot, also under another state of the same name
+  pub own_front : (slot : ℕ) (place : Option (Place H)) (before : Place H) (half told : H) (to : ℕ)
+      → IsOwnAt name slot_of slot place → place ≡ Some before → before.state ≡ Front half to
+      → name told ≡ name half → slot_of (name told) ≡ slot
+  own_front slot place before half told to own is front named =
+      ap slot_of named ∙ subst (IsOwn name slot_of slot) front (subst (IsOwnAt name slot_of slot) is own)
+
   -- what a place of a side has fits
   pub place_fits : (places : List (Option (Place H))) (slot : ℕ) (aside : List H) (desks : List (Desk H))
       (waiting serving : List ℕ) (admitted asked : ℕ)

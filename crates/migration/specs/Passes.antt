@@ -46,15 +46,15 @@ module _ {H : Type 0} where
   abbrev pub sent_at : List (Desk H) → ℕ → List (Order H)
   sent_at desks slice = slice_index_or (map (λ (desk : Desk H). sent desk.orders) desks) slice []
 
-  -- an arriving half knows the hop of a slot, and one that is told to leave is told so at the count that was asked
-  abbrev pub Lawful : (H → ℕ) → List (Option (Place H)) → ℕ → Order H → Type 0
-  Lawful hop_of places slice (Arrive half) = (slot : ℕ) × (hop_of half ≡ hop_at (place_at places slot))
-  Lawful hop_of places slice (Leave slot until) = IsRecallAt slice until (place_at places slot)
+  -- an arriving half knows the hop of its slot, and one that is told to leave is told so at the count that was asked
+  abbrev pub Lawful : (H → ℕ) → (H → ℕ) → List (Option (Place H)) → ℕ → Order H → Type 0
+  Lawful slot_of hop_of places slice (Arrive half) = hop_of half ≡ hop_at (place_at places (slot_of half))
+  Lawful slot_of hop_of places slice (Leave slot until) = IsRecallAt slice until (place_at places slot)
 
   -- the orders that were sent since are lawful
-  abbrev pub Gave : (H → ℕ) → List (Option (Place H)) → ℕ → List (Order H) → List (Order H) → Type 0
-  Gave hop_of places slice before now = (more : List (Order H)) × (now ≡ before ++ more)
-      × All (Lawful hop_of places slice) more
+  abbrev pub Gave : (H → ℕ) → (H → ℕ) → List (Option (Place H)) → ℕ → List (Order H) → List (Order H) → Type 0
+  Gave slot_of hop_of places slice before now = (more : List (Order H)) × (now ≡ before ++ more)
+      × All (Lawful slot_of hop_of places slice) more
 
 -- each half that was newly kept aside had not been told to leave, and each order that was given is what its slot asked for
 pub record Passes {H : Type 0} (slot_of hop_of : H → ℕ) (places new_places : List (Option (Place H)))
@@ -64,4 +64,4 @@ pub record Passes {H : Type 0} (slot_of hop_of : H → ℕ) (places new_places :
   pub kept : new_aside ≡ aside ++ more
   pub unawaited : All (λ half. (stage_at (place_at new_places (slot_of half)) ≡ 0)
       ⊎ (2 ≤ stage_at (place_at places (slot_of half)))) more
-  pub orders : (slice : ℕ) → Gave hop_of places slice (sent_at old slice) (sent_at new slice)
+  pub orders : (slice : ℕ) → Gave slot_of hop_of places slice (sent_at old slice) (sent_at new slice)

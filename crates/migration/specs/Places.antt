@@ -1,5 +1,5 @@
 -- What a side knows of each slot. Places lie by slot.
-use Rattle.std.specs.Prelude.{ℕ, ◌+◌, ◌^◌, ◌≤◌, Bool, true, false, cond, List, map, slice_index_or, Option, Some, None}
+use Rattle.std.specs.Prelude.{◌≡◌, ℕ, ◌+◌, ◌^◌, ◌≤◌, Bool, true, false, cond, List, map, slice_index_or, Option, Some, None}
 use Rattle.migration.specs.declared.place.Place.{Place}
 use Rattle.migration.specs.declared.place.State.{State}
 use Rattle.migration.specs.declared.place.State.TheVariants.{Front, Placed, Recall, Leaving}
@@ -136,3 +136,21 @@ module _ {H N : Type 0} (name : H → N) (slot_of : N → ℕ) where
   abbrev pub wait_weight : (ℕ → ℕ) → Option (Place H) → ℕ
   wait_weight w None = 0
   wait_weight w (Some place) = cond (is_waiting place.state) (w (slot_of (name place.admitted.value))) 0
+
+  -- the slot of a half at the front, and this slot where none is there
+  abbrev pub front_slot : ℕ → State H → ℕ
+  front_slot slot (Front half _) = slot_of (name half)
+  front_slot slot (Placed _) = slot
+  front_slot slot (Recall _ _ _) = slot
+  front_slot slot (Leaving _ _) = slot
+
+  abbrev pub front_slot_at : ℕ → Option (Place H) → ℕ
+  front_slot_at slot None = slot
+  front_slot_at slot (Some place) = front_slot slot place.state
+
+  -- a half at the front is of this slot
+  abbrev pub IsOwn : ℕ → State H → Type 0
+  IsOwn slot state = front_slot slot state ≡ slot
+
+  abbrev pub IsOwnAt : ℕ → Option (Place H) → Type 0
+  IsOwnAt slot place = front_slot_at slot place ≡ slot

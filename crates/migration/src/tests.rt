@@ -188,3 +188,31 @@ fn sixty_five_halves_come_home_by_sixty_four(rt: HostRuntime) -> Result<(), Fail
     assert!(rt; side.settled(Slot(64)));
     Ok(())
 }
+
+#[test]
+fn arrivals_are_sent_by_slot(rt: HostRuntime) -> Result<(), Fail> {
+    let (mut side, mut workers) = side_of(rt.alloc(), 2)?;
+    for slot in [9, 4, 7] {
+        admit(&rt, &mut side, Pupil::new(Slot(slot), 0), SliceNo(0))?;
+    }
+    // They are told to leave in this order too, and come home in it. Slot 4 moves twice.
+    for slot in [9, 4, 7, 4] {
+        go(&rt, &mut side, Slot(slot), SliceNo(1), 0)?;
+    }
+    for _ in 0..9 {
+        assert_eq!(rt; workers[0].turn(&rt), Ok(Did::Worked));
+    }
+    side.pump(&rt);
+    for _ in 0..3 {
+        assert_eq!(rt; workers[1].turn(&rt), Ok(Did::Worked), "takes a half");
+    }
+    let Some(worker) = workers.pop() else {
+        return Err("a worker".into());
+    };
+    let halves = worker.into_end().held;
+    assert_eq!(rt; halves.len(), 3);
+    for (half, (slot, hop)) in halves.iter().zip([(4, 2), (7, 1), (9, 1)]) {
+        assert_eq!(rt; (half.slot, half.hop), (Slot(slot), hop));
+    }
+    Ok(())
+}

@@ -1,5 +1,5 @@
 use Rattle.std.proofs.Common.{rules, refl, arith}
-use Rattle.migration.proofs.SideSteps.{place_fits}
+use Rattle.migration.proofs.SideSteps.{own_front, place_fits}
 use Rattle.migration.proofs.PlaceSteps.{next_waits, waiting_within, waiting_few, served_side}
 use Rattle.migration.proofs.Servings.{roll_same}
 use Rattle.migration.proofs.Passes.{passes_served}
@@ -65,4 +65,7 @@ returns-clause-passed g c =
     (waiting_within g.H.Traveller.name g.H.Traveller.slot_of c.args.self.now.places.items c.in-Some.slot
     (next_waits g.H.Traveller.name g.H.Traveller.slot_of c.args.self.now.places.items c.in-Some.slot _ _ _
     c.args.self.now.serving.items c.pop.new.self.items _ _ c.args.self.now.laid (search rules)))
-    refl c.serve_at-waits.ensures.served
+    refl
+    (λ before half told to. own_front g.H.Traveller.name g.H.Traveller.slot_of c.in-Some.slot _ before half told to
+    (c.args.self.now.laid.fronts c.in-Some.slot))
+    c.serve_at-waits.ensures.served

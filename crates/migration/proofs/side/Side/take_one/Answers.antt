@@ -1,4 +1,4 @@
-use Rattle.std.proofs.Common.{rules, ◌∙◌, [], ◌∷◌, ◌++◌, refl, ap, subst, arith}
+use Rattle.std.proofs.Common.{rules, ◌∙◌, [], ◌∷◌, ◌++◌, refl, sym, ap, subst, arith}
 use Rattle.migration.proofs.Desks.{changed_lanes}
 use Rattle.migration.specs.Places.{place_at, names_of, hops_of}
 use Rattle.migration.proofs.PlaceSteps.{waiting_fewer, came_home, kept_aside, leaving_idle}
@@ -43,7 +43,7 @@ invariant_of-self-in-None g c =
     record {
       laid = came_home g.H.Traveller.name g.H.Traveller.slot_of c.args.self.now.places.items _ w.0
           c.slot-slot.result c.args.slice c.in-Some.half _ _ _ _ _ _ _ _ c.args.self.now.laid
-          w.1 c.in-Some.ensures.taken _ refl w.3 c.push_reserved-in-None.ensures.items w.2;
+          w.1 c.in-Some.ensures.taken (sym c.slot-slot.ensures) _ refl w.3 c.push_reserved-in-None.ensures.items w.2;
       aside_room = search rules;
       waiting_room = search rules;
       serving_room = search rules;
