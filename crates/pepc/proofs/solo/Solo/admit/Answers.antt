@@ -1,4 +1,4 @@
-use Rattle.std.proofs.Common.{◌≡◌, ◌++◌, ◌∷◌, [], List, ℕ, refl, ap, ◌∙◌, length}
+use Rattle.std.proofs.Common.{◌++◌, ◌∷◌, [], refl, ap, ◌∙◌, length}
 use Rattle.pepc.proofs.StoryLemmas.{stands_admitted}
 use Rattle.pepc.proofs.solo.Solo.admit.Goals as goal
 
