@@ -1,5 +1,5 @@
 -- How a run ends, and how it is cut.
-use Rattle.std.proofs.Common.{◌≡◌, ℕ, ◌+◌, ◌<◌, ◌≤◌, ◌^◌, Bool, true, false, List, [], ◌∷◌, ◌++◌, codes, Option, None, Some, Result, Ok, Err, IfErr, IsErrAnd, inl, inr, length, refl, sym, ap, subst, ◌∙◌, arith, append_assoc, append-nil, length-append}
+use Rattle.std.proofs.Common.{◌≡◌, ℕ, ◌+◌, ◌<◌, ◌≤◌, ◌^◌, Bool, true, false, List, [], ◌∷◌, ◌++◌, codes, Option, None, Some, Result, Ok, Err, IfErr, IsErrAnd, inl, length, refl, sym, ap, subst, ◌∙◌, arith, append_assoc, append-nil, length-append}
 use Rattle.std.specs.Io.KnownBytes.{Appends, prepend_known}
 use Rattle.std.proofs.KnownBytes.{Appends-trans, Appends-nil}
 use Rattle.pc_outside.specs.Fronts.{AppendsFront}
@@ -9,10 +9,10 @@ use Rattle.trace_lines.specs.Input.{bad, long, big, ended, stopped, after_lines,
 use Rattle.trace_lines.specs.Line.{Line}
 use Rattle.trace_lines.specs.Word.{word_of}
 use Rattle.trace_lines.specs.declared.bad.LineBad.{LineBad}
-use Rattle.demux.specs.Trace.{Meaning, book_of, note}
+use Rattle.demux.specs.Trace.{book_of, note}
 use Rattle.report_lines.specs.declared.entry.Entry.TheVariants as entry
 use Rattle.report_lines.specs.declared.entry.LineEntry.TheVariants as line_entry
-use Rattle.lawful_run.specs.AnsweredRun.{behind_lines, entries_from, entry_after}
+use Rattle.lawful_run.specs.AnsweredRun.{behind_lines, entries_from}
 use Rattle.lawful_run.specs.Run.{no_events}
 use Rattle.lawful_run.specs.Trace.{stop_noted}
 use Rattle.pepc.specs.declared.epoch.Size.{Size}
@@ -26,12 +26,11 @@ use Rattle.pepc.specs.declared.solo.Solo.{Solo}
 use Rattle.pepc.specs.Cut.{Counts, IsCut, lines_in}
 use Rattle.pepc.specs.Entries.{text_line}
 use Rattle.pepc.specs.Next.{Tells}
-use Rattle.pepc.specs.Progress.{Begins, Cuts, Ends, Fails, GoesOn, HasRead, IsClosed, Progress, Reached, SaysClosed, Stops, Takes, closed_events, closed_text, end_text, entries_text, next_story, next_text, open_entries, open_meant, stop_of}
-use Rattle.pepc.specs.Report.{slices}
-use Rattle.pepc.specs.Standing.{Stands, Story, meant_next, story_of}
+use Rattle.pepc.specs.Progress.{Begins, Cuts, Ends, Fails, GoesOn, HasRead, IsClosed, Progress, Reached, SaysClosed, Stops, Takes, closed_events, end_text, entries_text, next_story, next_text, open_entries, open_meant, stop_of}
+use Rattle.pepc.specs.Standing.{Stands, meant_next, story_of}
 use Rattle.pepc.specs.Told.{WhereTold}
 use Rattle.pepc.proofs.CutLemmas.{cut_closed, cut_nothing, cut_open, cut_whole, length-meant_from, short_open}
-use Rattle.pepc.proofs.ReadLemmas.{begins_so, stops_so, begins_more, none_left, told_next, fails_so, GivesLine, gives_line, gives_last}
+use Rattle.pepc.proofs.ReadLemmas.{begins_so, stops_so, begins_more, none_left, told_next, fails_so, GivesLine}
 use Rattle.pepc.proofs.RunLemmas.{ended_story, ended_text, open_meant-push, waits_more}
 use Rattle.pepc.proofs.TextLemmas.{entries_text-push}
 

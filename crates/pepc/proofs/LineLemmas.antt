@@ -1,5 +1,5 @@
 -- The story behind one line more, by the decision on it.
-use Rattle.std.proofs.Common.{◌≡◌, ℕ, ◌+◌, ◌<◌, ◌≤◌, ◌==◌, if◌then◌else◌, Bool, true, false, Result, Ok, Err, OnOk, IfSome, List, [], ◌∷◌, ◌++◌, length, refl, sym, ap, subst, ◌∙◌, arith, length-append}
+use Rattle.std.proofs.Common.{◌≡◌, ℕ, ◌+◌, ◌≤◌, ◌==◌, if◌then◌else◌, Bool, true, false, List, [], ◌∷◌, ◌++◌, length, refl, sym, ap, subst, ◌∙◌, length-append}
 use Rattle.trace_lines.specs.Line.{Line}
 use Rattle.demux.specs.declared.decision.Decision.{Decision}
 use Rattle.demux.specs.declared.decision.Decision.TheVariants as decision
@@ -8,13 +8,10 @@ use Rattle.demux.specs.Resolved.{book_after, book_behind, decided}
 use Rattle.demux.specs.Texts.{move_note}
 use Rattle.demux.specs.Trace.{Meaning, book_of, decisions, destination_after, meant, move, note}
 use Rattle.demux.proofs.TraceLemmas.{book_of-push, destination_after-push}
-use Rattle.lawful_run.specs.AnsweredRun.{brings}
 use Rattle.lawful_run.specs.Order.{Histories}
 use Rattle.lawful_run.specs.Trace.{settled_by}
-use Rattle.gate_model.specs.declared.event.Event.{Event}
 use Rattle.split_record.specs.Standing as subscribers
 use Rattle.pepc.specs.declared.solo.Solo.{Solo}
-use Rattle.pepc.specs.Places.{HasAt}
 use Rattle.pepc.specs.Report.{slices}
 use Rattle.pepc.specs.Standing.{BringsNothing, SlotStands, Stands, Story, entry_line, events_of, meant_next, story_of, with_meaning}
 use Rattle.pepc.proofs.PlaceLemmas.{has_at_map}

@@ -1,10 +1,10 @@
 -- What is next in an input, by what reading a line found and what the line means.
-use Rattle.std.proofs.Common.{◌≡◌, ℕ, ◌+◌, Bool, true, false, List, [], ◌∷◌, ◌++◌, Option, None, Some, Ok, Err, ◌⊎◌, inl, inr, refl, ap, ◌∙◌, arith}
+use Rattle.std.proofs.Common.{◌≡◌, ℕ, ◌+◌, Bool, true, false, List, [], ◌∷◌, ◌++◌, Option, None, Some, Ok, Err, ◌⊎◌, inl, inr, ap, ◌∙◌, arith}
 use Rattle.pc_outside.specs.Line.{HoldsLine}
 use Rattle.pc_outside.specs.LineReads.{Reads}
 use Rattle.pc_outside.specs.declared.reading.LineRead.TheVariants as read
 use Rattle.pc_outside.specs.Limits.{newline}
-use Rattle.trace_lines.specs.Input.{Input, bad, ended, stopped, after_lines, line_then, input_within}
+use Rattle.trace_lines.specs.Input.{bad, ended, stopped, after_lines, line_then, input_within}
 use Rattle.trace_lines.specs.Line.{Line}
 use Rattle.trace_lines.specs.Meaning.{line_meaning}
 use Rattle.trace_lines.specs.declared.bad.LineBad.{LineBad}

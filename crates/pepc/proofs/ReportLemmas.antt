@@ -1,8 +1,7 @@
 -- What a run that ends, or is cut, wrote.
-use Rattle.std.proofs.Common.{◌≡◌, ℕ, ◌+◌, ◌≤◌, false, List, [], ◌∷◌, ◌++◌, length, flat_map, Option, None, Some, ◌⊎◌, inl, inr, refl, sym, ap, subst, ◌∙◌, arith, append_assoc, append-nil}
+use Rattle.std.proofs.Common.{◌≡◌, ℕ, ◌+◌, ◌≤◌, false, List, [], ◌++◌, length, flat_map, Option, None, Some, inl, inr, refl, sym, ap, subst, ◌∙◌, arith, append_assoc, append-nil}
 use Rattle.std.specs.Io.KnownBytes.{Appends}
 use Rattle.std.proofs.KnownBytes.{Appends-trans, Appends-nil}
-use Rattle.pc_outside.specs.Faults.{Rises}
 use Rattle.pc_outside.specs.Fronts.{AppendsFront}
 use Rattle.trace_lines.specs.Epochs.{epochs_behind, epochs_of}
 use Rattle.trace_lines.specs.Input.{Input, Stop, bad, long, big, ended, stopped, input_of}
@@ -10,7 +9,7 @@ use Rattle.trace_lines.specs.Line.{Line}
 use Rattle.demux.specs.Trace.{book_of}
 use Rattle.lawful_run.specs.AnsweredRun.{answered_run}
 use Rattle.lawful_run.specs.Job.{solo}
-use Rattle.lawful_run.specs.Report.{Report, epoch_entries, report_text, texts_of}
+use Rattle.lawful_run.specs.Report.{epoch_entries, report_text, texts_of}
 use Rattle.lawful_run.specs.Trace.{answered_report, epochs_from, epochs_told, meant_epochs, slots_of}
 use Rattle.lawful_run.proofs.CutEpochs.{cut_means}
 use Rattle.lawful_run.proofs.EveryTrace.{answered_is_run, answered_run_at_once}

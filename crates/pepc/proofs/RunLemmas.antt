@@ -1,40 +1,28 @@
 -- How a run goes on, ends and is cut.
-use Rattle.std.proofs.Common.{◌≡◌, ℕ, ◌+◌, ◌<◌, ◌≤◌, ◌^◌, Bool, true, false, List, [], ◌∷◌, ◌++◌, Option, None, Some, Result, Ok, Err, OnOk, IfErr, IsErrAnd, inl, inr, length, refl, sym, ap, subst, ◌∙◌, arith, append_assoc, append-nil, length-append}
-use Rattle.std.specs.Io.KnownBytes.{Appends, prepend_known}
-use Rattle.std.proofs.KnownBytes.{Appends-trans, Appends-nil}
-use Rattle.pc_outside.specs.Fronts.{AppendsFront}
-use Rattle.pc_outside.specs.Held.{Held, IsUnfinished}
+use Rattle.std.proofs.Common.{◌≡◌, ℕ, ◌+◌, ◌<◌, ◌≤◌, Bool, true, false, List, [], ◌∷◌, ◌++◌, Option, length, refl, sym, ap, subst, ◌∙◌, arith, append_assoc, append-nil, length-append}
+use Rattle.std.specs.Io.KnownBytes.{Appends}
+use Rattle.std.proofs.KnownBytes.{Appends-trans}
 use Rattle.trace_lines.specs.Epochs.{ends_epoch}
-use Rattle.trace_lines.specs.Input.{bad, long, big, ended, stopped, after_lines, input_within}
 use Rattle.trace_lines.specs.Line.{Line}
-use Rattle.trace_lines.specs.Word.{word_of}
-use Rattle.trace_lines.specs.declared.bad.LineBad.{LineBad}
-use Rattle.demux.specs.Trace.{Meaning, book_of, note}
+use Rattle.demux.specs.Trace.{book_of}
 use Rattle.report_lines.specs.declared.entry.Entry.TheVariants as entry
-use Rattle.report_lines.specs.declared.entry.LineEntry.TheVariants as line_entry
 use Rattle.lawful_run.specs.AnsweredRun.{behind_epochs, behind_lines, entries_from, entry_after}
-use Rattle.lawful_run.specs.Order.{Histories}
 use Rattle.lawful_run.specs.Run.{no_events}
-use Rattle.lawful_run.specs.Trace.{meant_epochs, meant_from, stop_noted}
+use Rattle.lawful_run.specs.Trace.{meant_epochs}
 use Rattle.lawful_run.proofs.CutEpochs.{meant_from-append}
 use Rattle.lawful_run.proofs.Growing.{behind_epochs-push}
 use Rattle.pepc.specs.declared.epoch.Size.{Size}
-use Rattle.pepc.specs.declared.reading.Next.{Next}
 use Rattle.pepc.specs.declared.reading.Next.TheVariants as next
-use Rattle.pepc.specs.declared.run.Ending.TheVariants.{Ended, ReadFault, BadLine, LineLong, TooLong}
-use Rattle.pepc.specs.declared.run.Unwritten.{Unwritten}
-use Rattle.pepc.specs.declared.run.Unwritten.TheVariants as unwritten
 use Rattle.pepc.specs.declared.solo.Solo.{Solo}
-use Rattle.pepc.specs.Cut.{Counts, IsCut, lines_in}
+use Rattle.pepc.specs.Cut.{IsCut, lines_in}
 use Rattle.pepc.specs.Entries.{text_line}
 use Rattle.pepc.specs.Gathering.{closing_text}
 use Rattle.pepc.specs.Next.{Tells}
-use Rattle.pepc.specs.Progress.{Begins, Cuts, Ends, Fails, GoesOn, HasRead, IsClosed, Progress, Reached, SaysClosed, Stops, Takes, closed_events, closed_text, end_text, entries_text, next_story, next_text, open_entries, open_meant}
+use Rattle.pepc.specs.Progress.{GoesOn, IsClosed, Progress, SaysClosed, Takes, closed_events, closed_text, end_text, entries_text, next_story, next_text, open_entries, open_meant}
 use Rattle.pepc.specs.Report.{slices}
 use Rattle.pepc.specs.Standing.{Stands, Story, entry_line, events_of, meant_next, story_of, with_end}
-use Rattle.pepc.specs.Told.{WhereTold}
-use Rattle.pepc.proofs.CutLemmas.{cut_closed, cut_nothing, cut_open, cut_whole, length-meant_from, lines_in-push, meant_epochs-push}
-use Rattle.pepc.proofs.ReadLemmas.{told_more, begins_so, stops_so, begins_more, none_left, told_next, fails_so, GivesLine}
+use Rattle.pepc.proofs.CutLemmas.{cut_open, cut_whole, length-meant_from, lines_in-push, meant_epochs-push}
+use Rattle.pepc.proofs.ReadLemmas.{told_more}
 use Rattle.pepc.proofs.TextLemmas.{book_grows_all, closed_text-push, closing_wider, entries_text-push}
 
 -- the open epoch's lines mean one thing more

@@ -9,7 +9,7 @@ use Rattle.packet_steps.specs.Messages.{gpdu}
 use Rattle.packet_steps.specs.Past.{Past, row_for, with_held, with_row}
 use Rattle.packet_steps.specs.Plans.{verdict_of}
 use Rattle.packet_steps.specs.Policing.{passes}
-use Rattle.packet_steps.specs.Verdicts.{at_moment, bearer_for, is_packet, judged, judged_by_way, judged_down, judged_to, judged_up, judged_waiting, notice, tried}
+use Rattle.packet_steps.specs.Verdicts.{at_moment, bearer_for, is_packet, judged, judged_by_way, judged_down, judged_to, judged_up, notice, tried}
 use Rattle.bearer_state.specs.Version.{bearer_at}
 use Rattle.pc_base.specs.Addresses.{addr_of}
 use Rattle.pc_base.specs.declared.packet.Packet.{Packet}

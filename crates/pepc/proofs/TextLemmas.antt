@@ -1,38 +1,34 @@
 -- The texts of epochs, one behind another, and of the whole report.
-use Rattle.std.proofs.Common.{◌≡◌, ℕ, zero, suc, ◌+◌, ◌-◌, ◌≤◌, ◌<◌, nat_lt, Bool, true, false, if◌then◌else◌, Option, is_some, List, [], ◌∷◌, ◌++◌, length, map, flat_map, refl, sym, ap, subst, ◌∙◌, arith, append_assoc, append-nil, length-append}
+use Rattle.std.proofs.Common.{◌≡◌, ℕ, ◌+◌, ◌-◌, ◌≤◌, nat_lt, Bool, true, false, if◌then◌else◌, is_some, List, [], ◌∷◌, ◌++◌, length, map, flat_map, refl, sym, ap, ◌∙◌, arith, append_assoc, append-nil, length-append}
 use Rattle.std.proofs.lemmas.Grind.{flat_map-append}
 use Rattle.std.proofs.lemmas.List.{map-append}
-use Rattle.trace_lines.specs.Epochs.{epochs_of}
-use Rattle.trace_lines.specs.Input.{Input, Stop, bad, long, big, ended}
+use Rattle.trace_lines.specs.Input.{Stop, bad, long, big, ended}
 use Rattle.trace_lines.specs.Line.{Line}
 use Rattle.address_book.specs.Book.{admitted, slot_in}
 use Rattle.demux.specs.Asked.{Asked, note as asked_note, admission, of}
 use Rattle.demux.specs.Line.{asked}
-use Rattle.demux.specs.Resolved.{book_after, booked, with_imsi}
+use Rattle.demux.specs.Resolved.{booked}
 use Rattle.demux.specs.Trace.{Meaning, book_of, note}
 use Rattle.demux.proofs.TraceLemmas.{book_of-push}
 use Rattle.gate_model.specs.declared.event.Event.{Event}
-use Rattle.report_lines.specs.Records.{Effected}
-use Rattle.report_lines.specs.declared.entry.ChargeEntry.{ChargeEntry}
 use Rattle.report_lines.specs.declared.entry.Entry.{Entry}
 use Rattle.report_lines.specs.declared.entry.Entry.TheVariants as entry
-use Rattle.report_lines.specs.declared.entry.LineEntry.{LineEntry}
 use Rattle.lawful_run.specs.AnsweredRun.{answered_epoch, answered_from, answered_run, behind_epochs, behind_lines, brought, entries_from, entry_after, events_after}
 use Rattle.lawful_run.specs.Order.{Histories}
 use Rattle.lawful_run.specs.Outcomes.{effects, opens, rows}
 use Rattle.lawful_run.specs.Report.{EpochReport, epoch_entries, report_text, texts_of}
 use Rattle.lawful_run.specs.Run.{by_slot, no_events}
-use Rattle.lawful_run.specs.Trace.{epochs_from, epochs_told, meant_epochs, meant_from, open_epoch, own_epoch, stop_noted}
+use Rattle.lawful_run.specs.Trace.{epochs_from, epochs_told, meant_epochs, own_epoch, stop_noted}
 use Rattle.lawful_run.proofs.CutEpochs.{cut_means}
 use Rattle.lawful_run.proofs.EveryTrace.{with_brought}
-use Rattle.lawful_run.proofs.Growing.{answered_from-push, behind_epochs-push, brought-push, entries_from-push, epoch_slots, events_after-push, by_slot-more}
+use Rattle.lawful_run.proofs.Growing.{answered_from-push, behind_epochs-push, brought-push, entries_from-push, epoch_slots, by_slot-more}
 use Rattle.pepc.specs.Cut.{IsCut, lines_in}
 use Rattle.pepc.specs.Entries.{text_line}
 use Rattle.pepc.specs.Gathering.{charges_text, closing_text, effects_text}
 use Rattle.pepc.specs.Progress.{SaysClosed, closed_events, closed_text, entries_text, open_entries, open_meant, rest_text}
 use Rattle.pepc.specs.Report.{slices}
 use Rattle.pepc.specs.Standing.{story_of}
-use Rattle.pepc.proofs.CutLemmas.{count_meant, epochs_are, length-meant_from}
+use Rattle.pepc.proofs.CutLemmas.{count_meant, epochs_are}
 use Rattle.pepc.proofs.GatherLemmas.{no_rows}
 
 -- entries, one behind another

@@ -1,6 +1,6 @@
 -- Lines cut into epochs, and how large the open one is.
-use Rattle.std.specs.Prelude.{◌≡◌, ℕ, Bool, true, false, All, List, [], ◌∷◌, ◌++◌, length, flat_map}
-use Rattle.trace_lines.specs.Epochs.{ends_epoch, epochs_behind, epochs_of, octets_in}
+use Rattle.std.specs.Prelude.{◌≡◌, true, false, All, List, [], ◌++◌, length, flat_map}
+use Rattle.trace_lines.specs.Epochs.{epochs_behind, epochs_of, octets_in}
 use Rattle.trace_lines.specs.Line.{Line}
 use Rattle.lawful_run.specs.Trace.{is_whole}
 use Rattle.pepc.specs.declared.epoch.Size.{Size}

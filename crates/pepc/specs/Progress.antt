@@ -1,7 +1,6 @@
 -- How far a run has come.
 use Rattle.std.specs.Prelude.{◌≡◌, ℕ, ◌+◌, ◌≤◌, ◌^◌, Bool, true, false, List, [], ◌∷◌, ◌++◌, length, map, Option, flat_map}
 use Rattle.std.specs.Io.KnownBytes.{Appends}
-use Rattle.trace_lines.specs.Epochs.{epochs_of}
 use Rattle.trace_lines.specs.Input.{Input, Stop, bad, long, big, ended, after_lines, input_of, input_within}
 use Rattle.trace_lines.specs.Line.{Line}
 use Rattle.demux.specs.Trace.{Meaning, book_of}

@@ -1,7 +1,16 @@
 //! Sources and sinks that fail.
+ghost use Rattle.std.specs.Prelude.{◌≡◌, IfOk, map};
+ghost use Rattle.std.specs.String.{string_bytes};
+ghost use Rattle.trace_lines.specs.Input.{ended, input_of};
+ghost use Rattle.pepc.specs.Report.{IsDone};
+ghost use Rattle.pepc.specs.Words.{IsSolo};
+
 use super::run;
 use super::texts::{WHOLE_REPORT, WHOLE_TRACE, spelled};
+use crate::run::run_plain;
 use crate::status::Status;
+use pc_outside::{SureSink, SureSource};
+use std::alloc::{AllocError, Global};
 use std::test::Fail;
 
 #[test]
@@ -95,5 +104,26 @@ fn each_write_of_the_whole_report_fails(rt: HostRuntime) -> Result<(), Fail> {
         assert!(rt; least < report.len(), "{failing}");
     }
     assert!(rt; false, "each write failed");
+    Ok(())
+}
+
+// Over a source and a sink whose counts never rise a trace that stops at its end has the whole report,
+// or memory ran out. The contract of `run_plain` says so; no run is needed for it.
+fn run_sure(alloc: Global, words: &[String], octets: Vec<u8>) -> Result<Status, AllocError>
+    ensures { IsSolo (map string_bytes words.now) → (input_of octets.items).stop ≡ ended
+        → IfOk result IsDone }
+{
+    let mut source = SureSource::new(octets)?;
+    let mut sink = SureSink::new(alloc, 0)?;
+    Ok(run_plain(alloc, words, &mut source, &mut sink))
+}
+
+#[test]
+fn sure_ends(rt: HostRuntime) -> Result<(), Fail> {
+    let alloc = rt.alloc();
+    let mut words = Vec::new(alloc);
+    words.push(String::from_str(alloc, "solo")?)?;
+    let status = run_sure(alloc, words.as_slice(), spelled(alloc, WHOLE_TRACE)?)?;
+    assert_eq!(rt; status, Status::Ok);
     Ok(())
 }

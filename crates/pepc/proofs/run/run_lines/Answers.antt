@@ -1,4 +1,4 @@
-use Rattle.std.proofs.Common.{◌≡◌, [], ◌∷◌, ◌++◌, List, Err, refl, sym, ap, ◌∙◌, arith}
+use Rattle.std.proofs.Common.{◌≡◌, [], ◌∷◌, ◌++◌, Err, refl, sym, ap, ◌∙◌, arith}
 use Rattle.pc_outside.specs.Held.{Held}
 use Rattle.pepc.specs.declared.reading.Next.TheVariants as next
 use Rattle.pepc.proofs.EndLemmas.{begins, cut_by, cut_here, ends_bad, ends_fault, ends_last, if_err, none_held, sized_so}

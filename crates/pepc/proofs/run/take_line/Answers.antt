@@ -1,8 +1,7 @@
-use Rattle.std.proofs.Common.{◌≡◌, ◌++◌, ◌∷◌, [], if◌then◌else◌, true, false, List, refl, sym, ap, subst, ◌∙◌}
+use Rattle.std.proofs.Common.{◌≡◌, ◌++◌, ◌∷◌, [], if◌then◌else◌, true, false, refl, sym, subst, ◌∙◌}
 use Rattle.std.specs.Io.KnownBytes.{Appends}
 use Rattle.pc_outside.specs.Fronts.{AppendsFront}
 use Rattle.trace_lines.specs.Epochs.{ends_epoch}
-use Rattle.trace_lines.specs.Line.{Line}
 use Rattle.pepc.specs.Cut.{Counts}
 use Rattle.pepc.specs.Progress.{end_text, next_story, next_text}
 use Rattle.pepc.proofs.Answered.{on_ok_all}

@@ -1,11 +1,9 @@
-use Rattle.std.proofs.Common.{◌≡◌, ◌<◌, ◌≤◌, ◌+◌, ◌++◌, ◌∷◌, [], List, ℕ, IfSome, refl, sym, ap, subst, ◌∙◌, arith, length, map, drop}
+use Rattle.std.proofs.Common.{◌<◌, ◌≤◌, ◌+◌, ◌++◌, ◌∷◌, [], List, ℕ, IfSome, refl, sym, ap, subst, ◌∙◌, arith, length}
 use Rattle.gate_model.specs.declared.event.Event.TheVariants as event
-use Rattle.demux.specs.Trace.{command as commanded, packet as carried}
-use Rattle.gate_model.specs.SlotPast.{past_of, records_after}
-use Rattle.split_record.specs.Standing.{last_of, packet_of}
-use Rattle.pepc.specs.Standing.{SlotStands, Stands, Story, events_of}
-use Rattle.pepc.proofs.ShortLemmas.{is_short}
-use Rattle.pepc.proofs.StoryLemmas.{command_holds, command_other, gathers_command, gathers_packet, held_at, later, packet_holds, packet_other, stands_next, told_command, told_note, told_packet}
+use Rattle.demux.specs.Trace.{command as commanded}
+use Rattle.gate_model.specs.SlotPast.{records_after}
+use Rattle.pepc.specs.Standing.{events_of}
+use Rattle.pepc.proofs.StoryLemmas.{command_holds, command_other, gathers_command, held_at, stands_next, told_command}
 use Rattle.pepc.proofs.solo.Solo.answer.Goals as goal
 
 pub command-requires : goal.command-requires

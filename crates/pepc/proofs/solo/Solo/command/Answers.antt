@@ -1,4 +1,4 @@
-use Rattle.std.proofs.Common.{◌≡◌, ◌++◌, ◌∷◌, [], List, ℕ, OnOk, refl, sym, ap, subst, ◌∙◌, length}
+use Rattle.std.proofs.Common.{◌≡◌, ◌++◌, ◌∷◌, [], OnOk, sym, ap, subst, ◌∙◌}
 use Rattle.demux.specs.Resolved.{book_with, slot_of}
 use Rattle.demux.specs.Trace.{command as commanded}
 use Rattle.pepc.specs.Standing.{Stands, entry_line, with_book, with_meaning}

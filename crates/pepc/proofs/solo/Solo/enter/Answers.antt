@@ -1,7 +1,6 @@
-use Rattle.std.proofs.Common.{◌≡◌, ◌≤◌, ◌+◌, ◌==◌, ◌++◌, ◌∷◌, [], if◌then◌else◌, List, ℕ, OnOk, refl, sym, ap, subst, ◌∙◌, arith, length}
-use Rattle.demux.specs.declared.decision.Decision.{Decision}
+use Rattle.std.proofs.Common.{◌==◌, ◌++◌, if◌then◌else◌, OnOk, refl, sym, ap, subst, ◌∙◌, arith}
 use Rattle.demux.specs.declared.decision.Decision.TheVariants as decision
-use Rattle.demux.specs.Resolved.{HasMoment, book_behind, book_with, slot_of}
+use Rattle.demux.specs.Resolved.{HasMoment, book_behind, book_with}
 use Rattle.demux.specs.Trace.{book_of, destination_after, note as noted}
 use Rattle.pepc.specs.Report.{slices}
 use Rattle.pepc.specs.Standing.{Stands, story_of, with_meaning}
