@@ -1,0 +1,3 @@
+pub mod PlusLemmas
+pub mod CountLemmas
+pub mod AddLemmas

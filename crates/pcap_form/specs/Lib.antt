@@ -1,0 +1,9 @@
+pub mod Numbers
+pub mod Head
+pub mod Packet
+pub mod Record
+pub mod Capture
+pub mod Trace
+pub mod Export
+pub mod Lent
+pub mod Law

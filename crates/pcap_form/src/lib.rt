@@ -1,0 +1,31 @@
+//! Classic pcap captures and the lines of a trace, both ways: which header and which records octets
+//! are, what a record's captured octets say as a line, and the record that a line gives. Left out
+//! are pcapng, other link types, VLAN tags and IPv6. Records are read and written one by one by the
+//! crates above; `specs/Capture` says what a whole capture is.
+//!
+//! ```
+//! let head = CaptureHead { little: false, nanos: false, ethernet: false };
+//! let packet = [0x45, 0, 0, 0x14, 0, 0, 0, 0, 64, 253, 0, 0, 203, 0, 113, 9, 10, 45, 0, 2];
+//! assert_eq!(lent_kind(&head, &packet), Some(LentKind::Sgi(&packet)));
+//! ```
+#![tactic(auto)]
+
+mod export;
+mod head;
+mod import;
+mod laws;
+mod lent;
+mod numbers;
+mod record;
+#[cfg(test)]
+mod tests;
+mod text;
+
+pub use export::{HEADER, MESSAGE_MAX, export_one, push_record};
+pub use head::{CaptureHead, HEAD_LEN, read_head};
+pub use import::{GATEWAY_ADDR, S1U_PORT, S11_PORT, import_one, lent_kind};
+pub use laws::{kept_lines_come_back, traces_come_back};
+pub use lent::LentKind;
+pub use record::{RECORD_LEN, RecordHead, SNAPSHOT_MAX, moment_of, read_record_head};
+pub use std::alloc::AllocError as NoMemory;
+pub use text::push_line;

@@ -1,0 +1,6 @@
+pub mod Steps
+pub mod KindLemmas
+pub mod WritingLemmas
+pub mod TextLemmas
+pub mod OrderLemmas
+pub mod ReadLemmas

@@ -1,0 +1,7 @@
+pub mod Draws
+pub mod Generated
+pub mod Order
+pub mod Packets
+pub mod Plan
+pub mod Said
+pub mod Written
