@@ -6,11 +6,7 @@ use crate::EntryCounts;
 use std::alloc::AllocError;
 
 /// Appends the summary of a trace of so many lines, whose report counts this.
-pub fn push_summary(
-    text: &mut Vec<u8>,
-    lines: u64,
-    counts: &EntryCounts,
-) -> Result<(), AllocError>
+pub fn push_summary(text: &mut Vec<u8>, lines: u64, counts: &EntryCounts) -> Result<(), AllocError>
     ensures { OnOk result (text.new.items ≡ text.old.items ++ summary_text lines counts.now) }
 {
     push_count(text, b"lines=", lines)?;

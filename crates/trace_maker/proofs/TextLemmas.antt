@@ -71,11 +71,16 @@ parts a b c d fits_a fits_b fits_c fits_d =
     let cd = decimal c ++ (46 ∷ decimal d) in
     let bcd = decimal b ++ (46 ∷ cd) in
     let in_all : length (decimal a ++ (46 ∷ bcd)) ≤ 15 =
-    omega (arith, length-decimal-le 3 a (omega arith) (omega arith) (omega arith),
-    length-decimal-le 3 b (omega arith) (omega arith) (omega arith),
-    length-decimal-le 3 c (omega arith) (omega arith) (omega arith),
-    length-decimal-le 3 d (omega arith) (omega arith) (omega arith),
-    length-append (decimal a) (46 ∷ bcd), length-append (decimal b) (46 ∷ cd), length-append (decimal c) (46 ∷ decimal d))
+    omega (
+      arith,
+      length-decimal-le 3 a (omega arith) (omega arith) (omega arith),
+      length-decimal-le 3 b (omega arith) (omega arith) (omega arith),
+      length-decimal-le 3 c (omega arith) (omega arith) (omega arith),
+      length-decimal-le 3 d (omega arith) (omega arith) (omega arith),
+      length-append (decimal a) (46 ∷ bcd),
+      length-append (decimal b) (46 ∷ cd),
+      length-append (decimal c) (46 ∷ decimal d),
+    )
     in in_all
 
 address : (n : ℕ) → n < 2 ^ 32 → IsText 15 (dotted n)
