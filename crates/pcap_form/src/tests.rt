@@ -63,15 +63,16 @@ fn capture_both_ways(rt: HostRuntime) -> Result<(), Fail> {
     )?;
     let mut out = Vec::new(alloc);
     push_record(&mut out, &line)?;
-    assert_eq!(rt; &out[..44], BEFORE_GPDU.as_slice());
-    assert_eq!(rt; &out[44..], GPDU.as_slice());
+    assert_eq!(rt; out.as_slice().get(..44), Some(BEFORE_GPDU.as_slice()));
+    assert_eq!(rt; out.as_slice().get(44..), Some(GPDU.as_slice()));
+    let record = out.as_slice().get(16..).ok_or("a record")?;
 
     let Some(captured) = export_one(alloc, &line)? else {
         return Err("a record".into());
     };
-    assert_eq!(rt; captured.as_slice(), &out[16..]);
+    assert_eq!(rt; captured.as_slice(), record);
     assert_eq!(rt;
-        import_one(alloc, &RAW, &out[16..])?,
+        import_one(alloc, &RAW, record)?,
         Some(LineKind::S1u(owned(alloc, &GPDU)?))
     );
     assert_eq!(rt; read_head(&HEADER), Some(RAW));

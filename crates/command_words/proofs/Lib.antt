@@ -1,0 +1,10 @@
+pub mod Emptiness
+pub mod Looks
+pub mod Rows
+pub mod Forms
+pub mod Turns
+pub mod Options
+pub mod Behind
+pub mod Parsed
+pub mod Lookups
+pub mod Ranges

@@ -1,0 +1,59 @@
+-- The job that words ask for.
+use Rattle.std.specs.Prelude.{ℕ, ◌≤◌, List, [], ◌∷◌, find, Option, Some, None, option_and_then, option_map, codes}
+use Rattle.std.specs.Option.{option_map_or}
+use Rattle.std.specs.Str.{bytes_eq}
+use Rattle.text_fields.specs.Number.{number_in}
+use Rattle.command_words.specs.Options.{Form, Given, given_once, has_flag, value_of, with_value, without_value}
+use Rattle.command_words.specs.Words.{Text}
+use Rattle.command_words.specs.declared.jobs.Job.{Job}
+use Rattle.command_words.specs.declared.jobs.Job.TheVariants as job
+
+-- A command: its name, its options, and the job that they make of it.
+pub record Command : Type 0 where
+  pub name : Text
+  pub forms : List Form
+  pub job : List Given → Option Job
+
+-- the number of an option, from `least` to `last`; what it is where the option isn't given
+abbrev pub number_of : Text → ℕ → ℕ → ℕ → List Given → Option ℕ
+number_of name least last default given = option_map_or (number_in least last) (value_of name given) (Some default)
+
+-- each number of `make`, and whether it sums up
+abbrev pub make_job : List Given → Option Job
+make_job given =
+    option_and_then (λ seed. option_and_then (λ subs. option_map (λ lines.
+    job.Make seed subs lines (has_flag (codes "summary") given))
+    (number_of (codes "lines") 0 100000 1000 given))
+    (number_of (codes "subs") 1 65533 10 given))
+    (number_of (codes "seed") 0 18446744073709551615 1 given)
+
+-- a command without options
+abbrev pub bare : Text → Job → Command
+bare name is = record { name = name; forms = []; job = λ given. Some is }
+
+abbrev pub make_forms : List Form
+make_forms = with_value (codes "seed") ∷ with_value (codes "subs") ∷ with_value (codes "lines") ∷ without_value (codes "summary") ∷ []
+
+abbrev pub make_command : Command
+make_command = record { name = codes "make"; forms = make_forms; job = make_job }
+
+-- The commands of the program.
+abbrev pub commands : List Command
+commands = bare (codes "solo") job.Solo
+    ∷ make_command
+    ∷ []
+
+-- the command of the first word, with the options that the others give
+abbrev pub asked_of : List Command → List Text → Option (Command × List Given)
+asked_of of [] = None
+asked_of of (name ∷ rest) = option_and_then (λ (command : Command). option_map (λ given. (command, given)) (given_once command.forms rest))
+    (find (λ (command : Command). bytes_eq command.name name) of)
+
+-- The job that words ask for, without the program's name; nothing where they are none of the program's.
+abbrev pub job_of : List Text → Option Job
+job_of words = option_and_then (λ asking. asking.0.job asking.1) (asked_of commands words)
+
+-- the numbers of a job are in the ranges of its options
+abbrev pub IsInRange : Job → Type 0
+IsInRange job.Solo = Unit {0}
+IsInRange (job.Make seed subs lines summary) = (1 ≤ subs) × (subs ≤ 65533) × (lines ≤ 100000)

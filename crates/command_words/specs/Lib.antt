@@ -1,0 +1,4 @@
+pub mod Words
+pub mod Options
+pub mod Job
+pub mod Program

@@ -1,0 +1,16 @@
+//! What the program may be asked to do.
+
+/// A job of the program, with each option's number or what stands for it.
+#[derive(Clone, Copy, Debug, PartialEq, Eq)]
+pub enum Job {
+    /// `solo`: replay a trace on one thread.
+    Solo,
+    /// `make`: write a generated trace of so many further lines for so many subscribers (1 to 65,533;
+    /// at most 100,000 lines), or the counts of its report.
+    Make {
+        seed: u64,
+        subs: u32,
+        lines: u32,
+        summary: bool,
+    },
+}

@@ -1,0 +1,12 @@
+//! The words of the command line, read with clap. What they mean is a table over lists of words
+//! (specs); how a job is done is left to the program.
+#![tactic(auto)]
+
+mod jobs;
+mod program;
+#[cfg(test)]
+mod tests;
+mod words;
+
+pub use crate::jobs::Job;
+pub use crate::words::job;

@@ -1,0 +1,58 @@
+//! The program's commands and their options, as clap takes them.
+ghost use Rattle.std.specs.Prelude.{◌≡◌, IfOk, false};
+ghost use Rattle.clap.specs.Words.{app_of, rule_of, shape_of};
+ghost use Rattle.clap.specs.declared.builder.command.Command.TheViews.{out-Command as fields_of};
+ghost use Rattle.command_words.specs.Job.{make_command};
+ghost use Rattle.command_words.specs.Options.{with_value, without_value};
+ghost use Rattle.command_words.specs.Program.{command_shape, no_commands, option_rule, program_app};
+
+use clap::{Arg, ArgAction, Command};
+use std::alloc::{AllocError, Global};
+
+// An option with one value.
+fn with_value<'a>(alloc: Global, name: &'a str) -> Arg<'a>
+    ensures rule { rule_of result ≡ option_rule (with_value name.entry.now) }
+    ensures local { result.global ≡ false }
+{
+    Arg::new(alloc, name).long(name).action(ArgAction::Set)
+}
+
+// An option without a value.
+fn without_value<'a>(alloc: Global, name: &'a str) -> Arg<'a>
+    ensures rule { rule_of result ≡ option_rule (without_value name.entry.now) }
+    ensures local { result.global ≡ false }
+{
+    Arg::new(alloc, name).long(name).action(ArgAction::SetTrue)
+}
+
+fn make<'a>(alloc: Global) -> Result<Command<'a>, AllocError>
+    ensures shape { IfOk result (λ command. shape_of command ≡ command_shape make_command) }
+    ensures local { IfOk result (λ command. (fields_of command).has_globals ≡ false) }
+{
+    Command::new(alloc, "make")
+        .arg(with_value(alloc, "seed"))?
+        .arg(with_value(alloc, "subs"))?
+        .arg(with_value(alloc, "lines"))?
+        .arg(without_value(alloc, "summary"))
+}
+
+// The program without its commands: one is wanted, and there are no help texts.
+fn no_commands<'a>(alloc: Global) -> Command<'a>
+    ensures { app_of result ≡ no_commands }
+{
+    Command::new(alloc, "pepc")
+        .no_binary_name(true)
+        .disable_help_flag(true)
+        .disable_help_subcommand(true)
+        .disable_version_flag(true)
+        .subcommand_required(true)
+}
+
+/// The program with its commands.
+pub fn program<'a>(alloc: Global) -> Result<Command<'a>, AllocError>
+    ensures { IfOk result (λ program. app_of program ≡ program_app) }
+{
+    no_commands(alloc)
+        .subcommand(Command::new(alloc, "solo"))?
+        .subcommand(make(alloc)?)
+}

@@ -1,0 +1,113 @@
+//! From words to a job.
+ghost use Rattle.std.specs.Prelude.{◌≡◌, ◌^◌, ◌<◌, ℕ, Some, List, IfOk, IfSome, bytes_eq, find, map};
+ghost use Rattle.std.specs.List.{list_any};
+ghost use Rattle.std.specs.Option.{option_map, option_map_or};
+ghost use Rattle.std.specs.String.{string_bytes};
+ghost use Rattle.clap.specs.Words.{first_value, found_of, subcommand_rows_of};
+ghost use Rattle.text_fields.specs.Number.{number_in};
+ghost use Rattle.command_words.specs.Job.{Command, IsInRange, asked_of, commands, job_of, make_forms, make_job};
+ghost use Rattle.command_words.specs.Options.{Given};
+ghost use Rattle.command_words.specs.Program.{Gives, found_asked};
+ghost use Rattle.command_words.specs.Words.{Text, is_stray, word_of};
+
+use crate::jobs::Job;
+use crate::program::program;
+use clap::ArgMatches;
+use clap::error::ErrorKind;
+use std::alloc::{AllocError, Global};
+use text_fields::read_number;
+
+// Whether the word is none that a command has: it begins with a hyphen, and not as `--name` does.
+fn is_stray(word: &[u8]) -> bool
+    ensures { result ≡ is_stray (word_of word.now) }
+{
+    match word {
+        [b'-', b'-', _, ..] => false,
+        [b'-', ..] => true,
+        _ => false,
+    }
+}
+
+fn has_stray(words: &[String]) -> bool
+    ensures { result ≡ list_any (λ word. is_stray (word_of (string_bytes word))) words.now }
+{
+    words.iter().any(|word| is_stray(word.as_bytes()))
+}
+
+// The number of an option, or what stands for it; None where its text is no number from `least` to
+// `last`.
+fn number(matches: &ArgMatches<'_>, name: &str, least: u64, last: u64, default: u64) -> Option<u64>
+    ensures { result ≡ option_map_or (number_in least last) (first_value (found_of matches.now) name.now) (Some default) }
+{
+    match matches.get_str(name) {
+        Some(text) => read_number(text.as_bytes(), least, last),
+        None => Some(default),
+    }
+}
+
+// The same of a number with 32 bits.
+fn small_number(
+    matches: &ArgMatches<'_>,
+    name: &str,
+    least: u64,
+    last: u64,
+    default: u64,
+) -> Option<u32>
+    requires last { last < 2 ^ 32 }
+    requires default { default < 2 ^ 32 }
+    ensures { result ≡ option_map_or (number_in least last) (first_value (found_of matches.now) name.now) (Some default) }
+{
+    let number = number(matches, name, least, last, default)?;
+    Some(number as u32)
+}
+
+fn make_job(matches: &ArgMatches<'_>) -> Option<Job>
+    ensures { (given : List Given) → Gives matches.now make_forms given → result ≡ make_job given }
+{
+    let seed = number(matches, "seed", 0, u64::MAX, 1)?;
+    let subs = small_number(matches, "subs", 1, 65_533, 10)?;
+    let lines = small_number(matches, "lines", 0, 100_000, 1_000)?;
+    Some(Job::Make {
+        seed,
+        subs,
+        lines,
+        summary: matches.get_flag("summary"),
+    })
+}
+
+fn job_named(name: &str, matches: &ArgMatches<'_>) -> Option<Job>
+    ensures { (command : Command) (given : List Given) → find (λ (c : Command). bytes_eq c.name name.now) commands ≡ Some command
+        → Gives matches.now command.forms given → result ≡ command.job given }
+{
+    match name {
+        "solo" => Some(Job::Solo),
+        "make" => make_job(matches),
+        _ => None,
+    }
+}
+
+fn asked(matches: &ArgMatches<'_>) -> Option<Job>
+    ensures { (words : List Text) → subcommand_rows_of matches.now ≡ option_map found_asked (asked_of commands words)
+        → result ≡ job_of words }
+{
+    let (name, inner) = matches.subcommand()?;
+    job_named(name, inner)
+}
+
+/// The job that the words ask for, without the program's name; None where they are none of its.
+pub fn job(alloc: Global, words: &[String]) -> Result<Option<Job>, AllocError>
+    ensures job { IfOk result (λ asked. asked ≡ job_of (map string_bytes words.now)) }
+    ensures ranges { IfOk result (λ asked. IfSome asked IsInRange) }
+{
+    // clap would take a lone `--` for the end of the options.
+    if has_stray(words) {
+        return Ok(None);
+    }
+    match program(alloc)?.try_get_matches_from(words) {
+        Ok(matches) => Ok(asked(&matches)),
+        Err(error) => match error.kind() {
+            ErrorKind::OutOfMemory => Err(AllocError),
+            _ => Ok(None),
+        },
+    }
+}
