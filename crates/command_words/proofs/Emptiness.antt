@@ -1,5 +1,5 @@
 -- Lists of kinds of errors that are empty, and values where a test passes.
-use Rattle.std.proofs.Common.{◌≡◌, ◌&&◌, Bool, true, false, cond, refl, List, [], ◌∷◌, Option, Some, None, option_map, ap, ◌∙◌}
+use Rattle.std.proofs.Common.{◌≡◌, ◌&&◌, Bool, true, false, cond, refl, [], ◌∷◌, Option, Some, None, option_map}
 use Rattle.clap.specs.Kinds.{Kinds, or_else}
 
 abbrev pub none : Kinds → Bool
@@ -25,7 +25,8 @@ pub guard-three : {X : Type 0} (a b c : Bool) (o : Option X) → guard a (guard 
 guard-three true b c o = refl
 guard-three false b c o = refl
 
-pub map-guard : {X Y : Type 0} (f : X → Y) (b : Bool) (o : Option X) → option_map f (guard b o) ≡ guard b (option_map f o)
+pub map-guard : {X Y : Type 0} (f : X → Y) (b : Bool) (o : Option X)
+    → option_map f (guard b o) ≡ guard b (option_map f o)
 map-guard f true o = refl
 map-guard f false o = refl
 

@@ -32,7 +32,8 @@ abbrev pub bare : Text → Job → Command
 bare name is = record { name = name; forms = []; job = λ given. Some is }
 
 abbrev pub make_forms : List Form
-make_forms = with_value (codes "seed") ∷ with_value (codes "subs") ∷ with_value (codes "lines") ∷ without_value (codes "summary") ∷ []
+make_forms = with_value (codes "seed") ∷ with_value (codes "subs") ∷ with_value (codes "lines") ∷ without_value
+    (codes "summary") ∷ []
 
 abbrev pub make_command : Command
 make_command = record { name = codes "make"; forms = make_forms; job = make_job }
@@ -41,12 +42,15 @@ make_command = record { name = codes "make"; forms = make_forms; job = make_job 
 abbrev pub commands : List Command
 commands = bare (codes "solo") job.Solo
     ∷ make_command
+    ∷ bare (codes "import") job.Import
+    ∷ bare (codes "export") job.Export
     ∷ []
 
 -- the command of the first word, with the options that the others give
 abbrev pub asked_of : List Command → List Text → Option (Command × List Given)
 asked_of of [] = None
-asked_of of (name ∷ rest) = option_and_then (λ (command : Command). option_map (λ given. (command, given)) (given_once command.forms rest))
+asked_of of (name ∷ rest) = option_and_then (λ (command : Command). option_map (λ given. (command, given))
+    (given_once command.forms rest))
     (find (λ (command : Command). bytes_eq command.name name) of)
 
 -- The job that words ask for, without the program's name; nothing where they are none of the program's.
@@ -57,3 +61,5 @@ job_of words = option_and_then (λ asking. asking.0.job asking.1) (asked_of comm
 abbrev pub IsInRange : Job → Type 0
 IsInRange job.Solo = Unit {0}
 IsInRange (job.Make seed subs lines summary) = (1 ≤ subs) × (subs ≤ 65533) × (lines ≤ 100000)
+IsInRange job.Import = Unit {0}
+IsInRange job.Export = Unit {0}

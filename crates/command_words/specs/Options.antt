@@ -1,5 +1,5 @@
 -- The options that words give to a command.
-use Rattle.std.specs.Prelude.{ℕ, ◌&&◌, ◌||◌, not, Bool, true, false, List, [], ◌∷◌, ◌++◌, map, find, Option, Some, None, option_map, option_and_then, if◌then◌else◌}
+use Rattle.std.specs.Prelude.{◌&&◌, ◌||◌, not, Bool, true, false, List, [], ◌∷◌, ◌++◌, map, find, Option, Some, None, option_map, option_and_then, if◌then◌else◌}
 use Rattle.std.specs.List.{list_any}
 use Rattle.std.specs.Option.{option_map_or}
 use Rattle.std.specs.Str.{bytes_eq}
@@ -43,7 +43,8 @@ with_option taken given rest = if taken then option_map (λ more. given ∷ more
 -- `--name=value`.
 abbrev pub options : List Form → List Word → Option (List Given)
 options forms [] = Some []
-options forms (named name ∷ plain text ∷ rest) = with_option (takes_value forms name) (value name text) (options forms rest)
+options forms (named name ∷ plain text ∷ rest) = with_option (takes_value forms name) (value name text)
+    (options forms rest)
 options forms (named name ∷ rest) = with_option (takes_none forms name) (flag name) (options forms rest)
 options forms (paired name text ∷ rest) = with_option (takes_value forms name) (value name text) (options forms rest)
 options forms (plain text ∷ rest) = None
@@ -60,7 +61,8 @@ are_new before (given ∷ rest) = not (is_given (name_of given) before) && are_n
 
 -- the same, each at most once
 abbrev pub given_once : List Form → List Text → Option (List Given)
-given_once forms words = option_and_then (λ given. if are_new [] given then Some given else None) (options forms (map word_of words))
+given_once forms words = option_and_then (λ given. if are_new [] given then Some given else None)
+    (options forms (map word_of words))
 
 -- whether a flag is given, and the text of a value
 abbrev pub has_flag : Text → List Given → Bool

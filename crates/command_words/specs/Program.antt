@@ -1,5 +1,5 @@
 -- What clap reads of the program, and what it finds where words give options.
-use Rattle.std.specs.Prelude.{◌≡◌, Bool, true, false, List, [], ◌∷◌, map, fold, Option, Some, None, codes, if◌then◌else◌}
+use Rattle.std.specs.Prelude.{◌≡◌, Bool, true, false, List, [], ◌∷◌, map, fold, Some, None, codes, if◌then◌else◌}
 use Rattle.std.specs.List.{list_all}
 use Rattle.clap.specs.Words.{App, Row, Rule, Shape, found_of, new_rule, rows_of}
 use Rattle.clap.specs.Simple.{filled, new_shape}
@@ -14,7 +14,11 @@ use Rattle.command_words.specs.Words.{Text}
 
 -- an option, as the code makes it and as clap builds it
 abbrev pub option_rule : Form → Rule
-option_rule form = record (new_rule form.name) { long = Some form.name; action = Some (if form.has_value then Set else SetTrue) }
+option_rule form = record (new_rule form.name) {
+  long = Some form.name;
+  action =
+      Some (if form.has_value then Set else SetTrue);
+}
 
 abbrev pub built_rule : Form → Rule
 built_rule form = filled (option_rule form)
@@ -42,7 +46,14 @@ program_app = record { top = program_shape; subs = map command_shape commands }
 
 -- what is found for an option that is given
 abbrev pub row_with : Text → Text → Row
-row_with name text = record { id = name; values = text ∷ []; count = None; source = Some CommandLine; reading = AsWritten }
+row_with name text = record {
+  id = name;
+  values = text ∷ [];
+  count = None;
+  source = Some CommandLine;
+  reading =
+      AsWritten;
+}
 
 abbrev pub given_row : Given → Row
 given_row (flag name) = row_with name (codes "true")

@@ -13,4 +13,8 @@ pub enum Job {
         lines: u32,
         summary: bool,
     },
+    /// `import`: make a trace of a capture.
+    Import,
+    /// `export`: make a capture of a trace.
+    Export,
 }

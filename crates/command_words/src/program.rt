@@ -54,5 +54,7 @@ pub fn program<'a>(alloc: Global) -> Result<Command<'a>, AllocError>
 {
     no_commands(alloc)
         .subcommand(Command::new(alloc, "solo"))?
-        .subcommand(make(alloc)?)
+        .subcommand(make(alloc)?)?
+        .subcommand(Command::new(alloc, "import"))?
+        .subcommand(Command::new(alloc, "export"))
 }

@@ -23,6 +23,8 @@ fn made(seed: u64, subs: u32, lines: u32, summary: bool) -> Option<Job> {
 fn options_in_any_order(rt: HostRuntime) -> Result<(), Fail> {
     let alloc = rt.alloc();
     assert!(rt; job_of(alloc, &["solo"])? == Some(Job::Solo));
+    assert!(rt; job_of(alloc, &["import"])? == Some(Job::Import));
+    assert!(rt; job_of(alloc, &["export"])? == Some(Job::Export));
     assert!(rt; job_of(alloc, &["make"])? == made(1, 10, 1_000, false));
     let words = [
         "make",

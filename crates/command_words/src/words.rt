@@ -37,7 +37,8 @@ fn has_stray(words: &[String]) -> bool
 // The number of an option, or what stands for it; None where its text is no number from `least` to
 // `last`.
 fn number(matches: &ArgMatches<'_>, name: &str, least: u64, last: u64, default: u64) -> Option<u64>
-    ensures { result ≡ option_map_or (number_in least last) (first_value (found_of matches.now) name.now) (Some default) }
+    ensures { result ≡ option_map_or (number_in least last) (first_value (found_of matches.now) name.now)
+        (Some default) }
 {
     match matches.get_str(name) {
         Some(text) => read_number(text.as_bytes(), least, last),
@@ -55,7 +56,8 @@ fn small_number(
 ) -> Option<u32>
     requires last { last < 2 ^ 32 }
     requires default { default < 2 ^ 32 }
-    ensures { result ≡ option_map_or (number_in least last) (first_value (found_of matches.now) name.now) (Some default) }
+    ensures { result ≡ option_map_or (number_in least last) (first_value (found_of matches.now) name.now)
+        (Some default) }
 {
     let number = number(matches, name, least, last, default)?;
     Some(number as u32)
@@ -76,18 +78,22 @@ fn make_job(matches: &ArgMatches<'_>) -> Option<Job>
 }
 
 fn job_named(name: &str, matches: &ArgMatches<'_>) -> Option<Job>
-    ensures { (command : Command) (given : List Given) → find (λ (c : Command). bytes_eq c.name name.now) commands ≡ Some command
+    ensures { (command : Command) (given : List Given)
+        → find (λ (c : Command). bytes_eq c.name name.now) commands ≡ Some command
         → Gives matches.now command.forms given → result ≡ command.job given }
 {
     match name {
         "solo" => Some(Job::Solo),
         "make" => make_job(matches),
+        "import" => Some(Job::Import),
+        "export" => Some(Job::Export),
         _ => None,
     }
 }
 
 fn asked(matches: &ArgMatches<'_>) -> Option<Job>
-    ensures { (words : List Text) → subcommand_rows_of matches.now ≡ option_map found_asked (asked_of commands words)
+    ensures { (words : List Text)
+        → subcommand_rows_of matches.now ≡ option_map found_asked (asked_of commands words)
         → result ≡ job_of words }
 {
     let (name, inner) = matches.subcommand()?;

@@ -1,9 +1,15 @@
-use Rattle.std.proofs.Common.{◌≡◌, ◌∙◌, ap, ap₂}
+use Rattle.std.proofs.Common.{◌∙◌, ap, ap₂}
 use Rattle.std.proofs.lemmas.Result.{IfOk-weaker}
 use Rattle.clap.specs.Simple.{App, with_subcommand}
 use Rattle.command_words.proofs.program.program.Goals as goal
 
 pub returns : goal.returns
 returns c =
-    let one = c.in_ok-subcommand.ensures.shape c.new.ensures.local ∙ ap₂ with_subcommand c.no_commands.ensures (ap (λ (app : App). app.top) c.new.ensures.app) in
-    IfOk-weaker c.subcommand-2.result _ _ (λ program adds. adds.shape c.in_ok-make.ensures.local ∙ ap₂ with_subcommand one c.in_ok-make.ensures.shape) c.subcommand-2.ensures
+    let one = c.in_ok-subcommand.ensures.shape c.new.ensures.local
+    ∙ ap₂ with_subcommand c.no_commands.ensures (ap (λ (app : App). app.top) c.new.ensures.app) in
+    let two = c.in_ok-subcommand-2.ensures.shape c.in_ok-make.ensures.local
+    ∙ ap₂ with_subcommand one c.in_ok-make.ensures.shape in
+    let three = c.in_ok-subcommand-3.ensures.shape c.new-2.ensures.local
+    ∙ ap₂ with_subcommand two (ap (λ (app : App). app.top) c.new-2.ensures.app) in
+    IfOk-weaker c.subcommand-4.result _ _ (λ program adds. adds.shape c.new-3.ensures.local
+    ∙ ap₂ with_subcommand three (ap (λ (app : App). app.top) c.new-3.ensures.app)) c.subcommand-4.ensures
