@@ -1,0 +1,5 @@
+pub mod Causes
+pub mod Changes
+pub mod Knowing
+pub mod Runs
+pub mod SlotSums

@@ -1,0 +1,23 @@
+-- Counts that rise.
+use Rattle.std.specs.Prelude.{◌≡◌, ℕ, ◌-◌, ◌^◌, ◌<◌, ◌≤◌, ◌⊎◌, if◌then◌else◌, Bool, List, map, slice_index, Result, Ok, Err}
+use Rattle.lane_core.specs.Ends.{raised}
+
+-- a count of what was learnt, after one more call that learnt something or not
+abbrev pub learnt_count : Bool → ℕ → ℕ
+learnt_count learnt n = if learnt then raised n else n
+
+abbrev pub learns_after : {E : Type 0} → Result Bool E → ℕ → ℕ
+learns_after (Ok learnt) n = learnt_count learnt n
+learns_after (Err _) n = n
+
+-- a count rose, or stands at the last u64
+abbrev pub Rises : ℕ → ℕ → Type 0
+Rises old new = (old < new) ⊎ (2 ^ 64 - 1 ≤ new)
+
+-- a count is as it was, or rose
+abbrev pub Lasts : ℕ → ℕ → Type 0
+Lasts old new = (new ≡ old) ⊎ Rises old new
+
+-- the count of the half at an index, or 0 where none is
+abbrev pub count_at : {H : Type 0} → (H → ℕ) → List H → ℕ → ℕ
+count_at count held k = slice_index (map count held) k

@@ -1,0 +1,59 @@
+-- What a clause says of a worker, of its end and of its desk.
+use Rattle.std.specs.Prelude.{◌≡◌, ℕ, List, [], Option}
+use Rattle.lane_core.specs.declared.ends.Sender.{Sender}
+use Rattle.lane_core.specs.declared.ends.Receiver.{Receiver}
+use Rattle.lane_core.specs.Ends.{Lane, sender_lane, receiver_lane, sent, taken, full_answers, empty_answers}
+use Rattle.worker_core.specs.Workers.{Lanes}
+use Rattle.flow_core.specs.declared.order.FlowOrder.{FlowOrder}
+use Rattle.flow_core.specs.declared.pairing.FlowDesk.{FlowDesk}
+use Rattle.flow_core.specs.declared.flow.Flow.{Ghosts}
+use Rattle.flow_core.specs.declared.worker.FlowWorker.{FlowWorker}
+use Rattle.flow_core.specs.declared.worker.FlowEnd.{FlowEnd}
+use Rattle.flow_core.specs.Turns.{View}
+
+module _ {H I : Type 0} where
+  abbrev pub desk_lanes : FlowDesk H I → Lanes
+  desk_lanes desk = (sender_lane desk.orders, receiver_lane desk.home)
+
+  -- nothing was sent or taken at it yet
+  abbrev pub IsNewDesk : FlowDesk H I → Type 0
+  IsNewDesk desk = (sent desk.orders ≡ []) × (taken desk.home ≡ [])
+
+module _ {H N I : Type 0} {g : Ghosts H N I} where
+  abbrev pub orders_of : FlowWorker H N I g → Receiver (FlowOrder H I)
+  orders_of worker = worker.orders
+
+  abbrev pub home_of : FlowWorker H N I g → Sender H
+  home_of worker = worker.home
+
+  -- the halves that it holds, in the order in which they came
+  abbrev pub held_of : FlowWorker H N I g → List H
+  held_of worker = worker.held.items
+
+  abbrev pub waiting_of : FlowWorker H N I g → Option H
+  waiting_of worker = worker.waiting
+
+  abbrev pub kept_of : FlowWorker H N I g → Option I
+  kept_of worker = worker.kept
+
+  abbrev pub place_of : FlowWorker H N I g → ℕ
+  place_of worker = worker.place
+
+  abbrev pub worker_lanes : FlowWorker H N I g → Lanes
+  worker_lanes worker = (receiver_lane worker.orders, sender_lane worker.home)
+
+  abbrev pub end_lanes : FlowEnd H N I g → Lanes
+  end_lanes end = (receiver_lane end.orders, sender_lane end.home)
+
+  -- what it has
+  abbrev pub view_of : FlowWorker H N I g → View H I
+  view_of worker = record {
+    took = taken worker.orders;
+    gone = sent worker.home;
+    held = worker.held.items;
+    waiting = worker.waiting;
+    kept = worker.kept;
+    cursor = worker.cursor;
+    fulls = full_answers worker.home;
+    empties = empty_answers worker.orders;
+  }

@@ -1,0 +1,73 @@
+//! What stands on a slice's lane, and what a worker asks of a half there.
+ghost use Rattle.std.specs.Prelude.{◌≡◌, ◌≤◌, [], ◌∷◌, ◌++◌, ℕ, Bool, true, false, List, Ok, OnOk, OnErr};
+ghost use Rattle.lane_core.specs.Ends.{raised};
+ghost use Rattle.flow_core.specs.Counts.{learns_after};
+
+use lane_core::{Carried, NoMemory};
+use pc_base::{SliceNo, Slot};
+use std::sync::Wait;
+
+/// What a slice's lane carries: halves, and items for them. Each tells its slot.
+pub trait FlowKind: Carried {
+    type Item: Carried;
+
+    ghost slot_of_half: { Self → ℕ };
+
+    ghost slot_of_item: { Self.Item → ℕ };
+
+    fn slot(&self) -> Slot
+        ensures { result ≡ slot_of_half self.now };
+
+    fn slot_of(item: &Self::Item) -> Slot
+        ensures { result ≡ slot_of_item item.now };
+}
+
+/// A half of a subscriber to which items come. Its name stays, whoever holds it, and tells its slot.
+pub trait Flow: FlowKind {
+    type Name;
+
+    ghost name: { Self → Self.Name };
+
+    ghost slot_at: { Self.Name → ℕ };
+
+    ghost item_slot: { Self.Item → ℕ };
+
+    /// The items that it handled, in order.
+    ghost handled: { Self → List Self.Item };
+
+    /// Whether it may handle an item now.
+    ghost takes: { Self → Self.Item → Bool };
+
+    /// How often it was asked to learn, and how often it learnt something.
+    ghost asks: { Self → ℕ };
+
+    ghost learns: { Self → ℕ };
+
+    /// Learns at most so many batches of what its items wait for, and tells whether it learnt any.
+    fn learn<R: Wait>(&mut self, rt: &R, most: u32) -> Result<bool, NoMemory>
+        requires { 1 ≤ most }
+        ensures name { name self.new ≡ name self.old }
+        ensures handled { handled self.new ≡ handled self.old }
+        ensures asks { asks self.new ≡ raised (asks self.old) }
+        ensures learns { learns self.new ≡ learns_after result (learns self.old) }
+        ensures takes { result ≡ Ok false → (item : Self.Item) → takes self.new item ≡ takes self.old item };
+
+    /// Whether it may handle an item.
+    fn may(&self, item: &Self::Item) -> bool
+        ensures { result ≡ takes self.now item.now };
+
+    /// Handles an item at a slice. For want of memory the item isn't handled.
+    fn item(&mut self, place: SliceNo, item: &Self::Item) -> Result<(), NoMemory>
+        requires { takes self.old item.now ≡ true }
+        ensures name { name self.new ≡ name self.old }
+        ensures ok { OnOk result (handled self.new ≡ handled self.old ++ item.now ∷ []) }
+        ensures err { OnErr result (handled self.new ≡ handled self.old) }
+        ensures counts { (asks self.new ≡ asks self.old) × (learns self.new ≡ learns self.old) };
+
+    /// The name's slot is the half's, an item has one slot, and any half may go home after any others.
+    ghost half_slots: { (half : Self) → slot_at (name half) ≡ Self.slot_of_half half };
+
+    ghost item_slots: { (item : Self.Item) → item_slot item ≡ Self.slot_of_item item };
+
+    ghost free: { (before : List Self) (half : Self) → Self.follows before half };
+}
