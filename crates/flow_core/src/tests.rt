@@ -110,7 +110,7 @@ impl Flow for Pupil {
 const PLACE: SliceNo = SliceNo(3);
 
 // A half of slot 7, and who teaches it.
-fn pupil(alloc: Global, short: bool) -> Result<(Pupil, Sender<Lesson>), Fail>
+fn make_pupil(alloc: Global, short: bool) -> Result<(Pupil, Sender<Lesson>), Fail>
     ensures slot { IfOk result (λ made. made.0.slot ≡ 7) }
     ensures new { IfOk result (λ made. sent made.1 ≡ []) }
 {
@@ -129,7 +129,7 @@ fn pupil(alloc: Global, short: bool) -> Result<(Pupil, Sender<Lesson>), Fail>
 }
 
 // An item of slot 7 that waits for one lesson.
-fn task() -> Task
+fn make_task() -> Task
     ensures { result.slot ≡ 7 }
 {
     Task {
@@ -143,11 +143,11 @@ fn task() -> Task
 fn item_waits_for_its_lesson(rt: HostRuntime) -> Result<(), Fail> {
     let (mut desk, mut worker) = flow_pair(rt.alloc(), PLACE, 4)?;
     assert_eq!(rt; worker.turn(&rt), Ok(Did::Idle), "nothing came");
-    let (half, mut teacher) = pupil(rt.alloc(), false)?;
+    let (half, mut teacher) = make_pupil(rt.alloc(), false)?;
     let Ok(()) = desk.orders.offer(&rt, FlowOrder::Arrive(half)) else {
         return Err("room".into());
     };
-    let Ok(()) = desk.orders.offer(&rt, FlowOrder::Item(task())) else {
+    let Ok(()) = desk.orders.offer(&rt, FlowOrder::Item(make_task())) else {
         return Err("room".into());
     };
     let Ok(()) = desk.orders.offer(&rt, FlowOrder::Leave(Slot(7))) else {
@@ -167,7 +167,7 @@ fn item_waits_for_its_lesson(rt: HostRuntime) -> Result<(), Fail> {
     let Some(home) = desk.home.take(&rt) else {
         return Err("the half is home".into());
     };
-    assert_eq!(rt; home.handled.as_slice(), [task()].as_slice());
+    assert_eq!(rt; home.handled.as_slice(), [make_task()].as_slice());
     assert_eq!(rt; home.places.as_slice(), [3].as_slice());
     assert_eq!(rt; (home.asks, home.learns, home.known), (5, 1, 1));
     assert_eq!(rt; worker.turn(&rt), Ok(Did::Idle), "nothing is left");
@@ -177,16 +177,16 @@ fn item_waits_for_its_lesson(rt: HostRuntime) -> Result<(), Fail> {
 #[test]
 fn wanting_memory_keeps_the_item(rt: HostRuntime) -> Result<(), Fail> {
     let (mut desk, mut worker) = flow_pair(rt.alloc(), PLACE, 2)?;
-    let (half, mut teacher) = pupil(rt.alloc(), true)?;
+    let (half, mut teacher) = make_pupil(rt.alloc(), true)?;
     let Ok(()) = desk.orders.offer(&rt, FlowOrder::Arrive(half)) else {
         return Err("room".into());
     };
-    let Ok(()) = desk.orders.offer(&rt, FlowOrder::Item(task())) else {
+    let Ok(()) = desk.orders.offer(&rt, FlowOrder::Item(make_task())) else {
         return Err("room".into());
     };
     assert_eq!(rt; teacher.offer(&rt, Lesson), Ok(()));
     assert_eq!(rt; worker.turn(&rt), Err(NoMemory));
     let end = worker.into_end();
-    assert_eq!(rt; (end.held.len(), end.kept), (1, Some(task())));
+    assert_eq!(rt; (end.held.len(), end.kept), (1, Some(make_task())));
     Ok(())
 }
