@@ -5,7 +5,7 @@ mod plain;
 mod rows;
 mod texts;
 
-use crate::run::run_plain;
+use crate::plain::run_plain;
 use crate::status::{Status, fault_text};
 use pc_outside::{MemSink, MemSource, Source};
 use std::alloc::{AllocError, Global};
@@ -14,8 +14,16 @@ use std::test::Fail;
 // More than any report here has.
 const ROOM: usize = 6_000_000;
 
-// The status of a run on these octets, given and taken in pieces, and what it wrote. The calls of
-// these numbers fail.
+fn words_of(alloc: Global, words: &[&str]) -> Result<Vec<String>, AllocError> {
+    let mut texts = Vec::new(alloc);
+    for word in words {
+        texts.push(String::from_str(alloc, word)?)?;
+    }
+    Ok(texts)
+}
+
+// The status of a run of `solo` on these octets, given and taken in pieces, and what it wrote. The
+// calls of these numbers fail.
 fn run(
     alloc: Global,
     octets: Vec<u8>,
@@ -23,8 +31,7 @@ fn run(
     reads: &[u64],
     writes: &[u64],
 ) -> Result<(Status, Vec<u8>), AllocError> {
-    let mut words = Vec::new(alloc);
-    words.push(String::from_str(alloc, "solo")?)?;
+    let words = words_of(alloc, ["solo"].as_slice())?;
     let mut source = MemSource::new(octets, piece.max(1), Vec::from_slice(alloc, reads)?)?;
     let mut sink = MemSink::new(alloc, ROOM, piece.max(1), Vec::from_slice(alloc, writes)?)?;
     let status = run_plain(alloc, words.as_slice(), &mut source, &mut sink);
@@ -34,7 +41,7 @@ fn run(
 #[test]
 fn other_words(rt: HostRuntime) -> Result<(), Fail> {
     let alloc = rt.alloc();
-    let rows: [&[&str]; 7] = [
+    let rows: [&[&str]; 9] = [
         &[],
         &["drive"],
         &["Solo"],
@@ -42,12 +49,11 @@ fn other_words(rt: HostRuntime) -> Result<(), Fail> {
         &["solo", "--places"],
         &["--help"],
         &[""],
+        &["make", "--subs", "65534"],
+        &["make", "--summary=1"],
     ];
     for row in rows {
-        let mut words = Vec::new(alloc);
-        for word in row {
-            words.push(String::from_str(alloc, word)?)?;
-        }
+        let words = words_of(alloc, row)?;
         let octets = Vec::from_slice(alloc, b"0 FENCE\n".as_slice())?;
         let mut source = MemSource::new(octets, 3, Vec::new(alloc))?;
         let mut sink = MemSink::new(alloc, ROOM, 3, Vec::new(alloc))?;
@@ -58,6 +64,30 @@ fn other_words(rt: HostRuntime) -> Result<(), Fail> {
         let mut first = [0; 3];
         assert!(rt; source.read(&mut first).is_ok());
         assert_eq!(rt; first, *b"0 F");
+    }
+    Ok(())
+}
+
+#[test]
+fn made_summary(rt: HostRuntime) -> Result<(), Fail> {
+    let alloc = rt.alloc();
+    let rows: [(&[&str], &str); 2] = [
+        (
+            &["make", "--subs", "1", "--lines", "0", "--summary"],
+            "lines=1 N=0 C=1 P=0 F=0 R=0 O=1 up=0 down=0\n",
+        ),
+        (
+            &["make", "--lines=0", "--subs=1"],
+            "0 ATTACH 001010000000000 198.51.100.1 00000001 100000 100000\n",
+        ),
+    ];
+    for (row, text) in rows {
+        let words = words_of(alloc, row)?;
+        let mut source = MemSource::new(Vec::new(alloc), 1, Vec::new(alloc))?;
+        let mut sink = MemSink::new(alloc, ROOM, ROOM, Vec::new(alloc))?;
+        let status = run_plain(alloc, words.as_slice(), &mut source, &mut sink);
+        assert_eq!(rt; status, Status::Ok);
+        assert!(rt; sink.written() == text.as_bytes());
     }
     Ok(())
 }

@@ -7,7 +7,7 @@ ghost use Rattle.pepc.specs.Words.{IsSolo};
 
 use super::run;
 use super::texts::{WHOLE_REPORT, WHOLE_TRACE, spelled};
-use crate::run::run_plain;
+use crate::plain::run_plain;
 use crate::status::Status;
 use pc_outside::{SureSink, SureSource};
 use std::alloc::{AllocError, Global};
