@@ -15,3 +15,6 @@ pub mod RunLemmas
 pub mod EndLemmas
 pub mod ReportLemmas
 pub mod OneReport
+pub mod ExportLemmas
+pub mod ExportReports
+pub mod ImportReports

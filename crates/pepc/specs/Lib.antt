@@ -9,3 +9,6 @@ pub mod Standing
 pub mod Cut
 pub mod Next
 pub mod Progress
+pub mod Export
+pub mod ExportProgress
+pub mod Import

@@ -4,7 +4,9 @@
 
 mod entry_text;
 mod epoch;
+mod export;
 mod gathered;
+mod import;
 mod laws;
 mod reading;
 mod run;

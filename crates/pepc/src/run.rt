@@ -59,7 +59,7 @@ impl From<AllocError> for Unwritten {
 }
 
 // Writes what is there of the report, and empties it.
-fn write_report<K: Sink>(sink: &mut K, report: &mut Vec<u8>) -> Result<(), Unwritten>
+pub(crate) fn write_report<K: Sink>(sink: &mut K, report: &mut Vec<u8>) -> Result<(), Unwritten>
     ensures moved { OnOk result (Appends (K.written sink.old) (K.written sink.new)
         report.old.items) }
     ensures emptied { OnOk result (report.new.items ≡ []) }
@@ -241,7 +241,7 @@ fn run_lines<S: Source, K: Sink>(
     }
 }
 
-fn status_at(ending: Ending) -> Status
+pub(crate) fn status_at(ending: Ending) -> Status
     ensures { result ≡ status_at ending }
 {
     match ending {
@@ -253,7 +253,7 @@ fn status_at(ending: Ending) -> Status
     }
 }
 
-fn status_without(why: Unwritten) -> Status
+pub(crate) fn status_without(why: Unwritten) -> Status
     ensures { result ≡ status_without why }
 {
     match why {

@@ -21,6 +21,8 @@ pub enum Status {
     LineLong,
     /// The input has 2^40 octets or more; the report of the lines before was written.
     TooLong,
+    /// The octets are no capture from some place on; the trace of the records before was written.
+    BadCapture,
 }
 
 impl Status {
@@ -37,6 +39,7 @@ impl Status {
             Status::BadLine => 6,
             Status::LineLong => 7,
             Status::TooLong => 8,
+            Status::BadCapture => 10,
         }
     }
 }
@@ -54,5 +57,6 @@ pub fn fault_text(status: Status) -> &'static str
         Status::BadLine => "pepc: bad line",
         Status::LineLong => "pepc: line too long",
         Status::TooLong => "pepc: input too long",
+        Status::BadCapture => "pepc: bad capture",
     }
 }
