@@ -1,5 +1,5 @@
 //! A run of `export`: line after line is read, and the capture of those that are kept written.
-ghost use Rattle.std.specs.Prelude.{◌≡◌, ◌≤◌, ◌^◌, ◌++◌, [], ℕ, List, Option, Ok, Err, OnOk, IfOk, IfErr};
+ghost use Rattle.std.specs.Prelude.{◌≡◌, ◌≤◌, ◌^◌, ◌++◌, [], ℕ, List, Option, false, Ok, Err, OnOk, IfOk, IfErr};
 ghost use Rattle.pc_outside.specs.Faults.{Rises};
 ghost use Rattle.pc_outside.specs.Fronts.{AppendsFront};
 ghost use Rattle.pcap_form.specs.Export.{header, record_of};

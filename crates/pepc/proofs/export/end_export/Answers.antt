@@ -8,7 +8,7 @@ pub returns-in-Ok-clause-exports : goal.returns-in-Ok-clause-exports
 returns-in-Ok-clause-exports g c = λ before now start left old ends.
     rw c.status_at.ensures
     (ends_whole c.args.ending (Rises before now) start left old (g.K.Sink.written c.args.sink.now)
-    (g.K.Sink.written c.write_report.new.sink) c.args.waiting.now.items c.write_report.new.waiting.items ends
+    (g.K.Sink.written c.write_report.new.sink) c.args.waiting.now.items c.write_report.new.report.items ends
     c.in-Ok.ensures.moved)
 
 pub returns-in-Err-clause-exports : goal.returns-in-Err-clause-exports
