@@ -1,5 +1,6 @@
 //! Runs of whole traces.
 mod faults;
+mod made;
 mod memory;
 mod plain;
 mod rows;
@@ -64,30 +65,6 @@ fn other_words(rt: HostRuntime) -> Result<(), Fail> {
         let mut first = [0; 3];
         assert!(rt; source.read(&mut first).is_ok());
         assert_eq!(rt; first, *b"0 F");
-    }
-    Ok(())
-}
-
-#[test]
-fn made_summary(rt: HostRuntime) -> Result<(), Fail> {
-    let alloc = rt.alloc();
-    let rows: [(&[&str], &str); 2] = [
-        (
-            &["make", "--subs", "1", "--lines", "0", "--summary"],
-            "lines=1 N=0 C=1 P=0 F=0 R=0 O=1 up=0 down=0\n",
-        ),
-        (
-            &["make", "--lines=0", "--subs=1"],
-            "0 ATTACH 001010000000000 198.51.100.1 00000001 100000 100000\n",
-        ),
-    ];
-    for (row, text) in rows {
-        let words = words_of(alloc, row)?;
-        let mut source = MemSource::new(Vec::new(alloc), 1, Vec::new(alloc))?;
-        let mut sink = MemSink::new(alloc, ROOM, ROOM, Vec::new(alloc))?;
-        let status = run_plain(alloc, words.as_slice(), &mut source, &mut sink);
-        assert_eq!(rt; status, Status::Ok);
-        assert!(rt; sink.written() == text.as_bytes());
     }
     Ok(())
 }
