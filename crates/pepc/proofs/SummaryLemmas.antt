@@ -32,8 +32,8 @@ texts_whole : (entries : List Entry) → IsWholeLines (texts_of false entries)
 texts_whole [] = inl refl
 texts_whole (told ∷ entries) =
     elim (texts_whole entries) as (λ w. IsWholeLines (text_line told ++ texts_of false entries)) [
-      inl none ↦ inr (_, ap (λ t. text_line told ++ t) none ∙ append-nil (text_line told))
-    | inr lines ↦ inr (
+      | inl none ↦ inr (_, ap (λ t. text_line told ++ t) none ∙ append-nil (text_line told))
+      | inr lines ↦ inr (
         text_line told ++ lines.0,
         ap (λ t. text_line told ++ t) lines.1 ∙ sym (append_assoc (text_line told) lines.0 (10 ∷ [])),
       )
@@ -119,9 +119,11 @@ counting_goes_on gateway after_it size next_size counts new waiting later all le
     text : List ℕ
     text = next_text waiting so_far.done so_far.least (closed_events so_far.so_far.closed)
         (open_meant so_far.so_far.closed so_far.so_far.open_) line
+
     story : Story
     story = next_story so_far.done so_far.least (closed_events so_far.so_far.closed)
         (open_meant so_far.so_far.closed so_far.so_far.open_) line
+
     by_test : (test : Bool) → ends_epoch so_far.so_far.open_ line ≡ test
         → CountsLine test after_it next_size counts new text later story (so_far.so_far.open_ ++ line ∷ [])
         → Counting after_it next_size new later all rest
