@@ -40,18 +40,23 @@ fn run(
 }
 
 #[test]
-fn other_words(rt: HostRuntime) -> Result<(), Fail> {
+fn usage(rt: HostRuntime) -> Result<(), Fail> {
     let alloc = rt.alloc();
-    let rows: [&[&str]; 9] = [
+    let rows: [&[&str]; 14] = [
         &[],
-        &["drive"],
+        &["drive", "--slices", "2", "--turns", "4"],
         &["Solo"],
         &["solo", "solo"],
         &["solo", "--places"],
         &["--help"],
         &[""],
+        &["make", "--subs", "0"],
         &["make", "--subs", "65534"],
+        &["make", "--lines=100001"],
+        &["make", "--seed", "18446744073709551616"],
         &["make", "--summary=1"],
+        &["make", "--", "--seed", "1"],
+        &["import", "--places"],
     ];
     for row in rows {
         let words = words_of(alloc, row)?;
@@ -80,6 +85,7 @@ fn statuses(rt: HostRuntime) {
         (Status::BadLine, 6, "pepc: bad line"),
         (Status::LineLong, 7, "pepc: line too long"),
         (Status::TooLong, 8, "pepc: input too long"),
+        (Status::BadCapture, 10, "pepc: bad capture"),
     ];
     for (status, code, text) in rows {
         assert_eq!(rt; status.code(), code);
