@@ -15,6 +15,9 @@ pub mod RunLemmas
 pub mod EndLemmas
 pub mod ReportLemmas
 pub mod OneReport
+pub mod SummaryLemmas
+pub mod MakeLemmas
+pub mod JobLemmas
 pub mod ExportLemmas
 pub mod ExportReports
 pub mod ImportReports

@@ -1,14 +1,16 @@
 pub mod Told
 pub mod Status
-pub mod Words
 pub mod Places
 pub mod Report
 pub mod Entries
 pub mod Gathering
 pub mod Standing
+pub mod Counting
 pub mod Cut
+pub mod Make
 pub mod Next
 pub mod Progress
+pub mod Jobs
 pub mod Export
 pub mod ExportProgress
 pub mod Import

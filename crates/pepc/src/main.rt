@@ -8,16 +8,18 @@ mod export;
 mod gathered;
 mod import;
 mod laws;
+mod make;
+mod plain;
 mod reading;
 mod run;
 mod solo;
 mod status;
+mod summary;
 #[cfg(test)]
 mod tests;
-mod words;
 
 pub use crate::laws::one_report;
-pub use crate::run::run_plain;
+pub use crate::plain::run_plain;
 pub use crate::status::{Status, fault_text};
 use pc_outside::{StdSink, StdSource};
 use std::env::Env;

@@ -1,12 +1,10 @@
 //! A run of `solo`: line after line is read and answered, and the report written epoch by epoch.
 ghost use Rattle.std.specs.Prelude.{◌≡◌, ◌+◌, ◌<◌, ◌≤◌, ◌^◌, ◌∷◌, ◌++◌, ◌↔◌, [], ℕ, List, Option, Some, length, map, Ok, Err, OnOk, OnErr, IfOk, IfErr, true, false};
 ghost use Rattle.std.specs.Io.KnownBytes.{Appends};
-ghost use Rattle.std.specs.String.{string_bytes};
 ghost use Rattle.pc_outside.specs.Faults.{Rises};
 ghost use Rattle.pc_outside.specs.Fronts.{AppendsFront};
 ghost use Rattle.pc_outside.specs.Limits.{line_max};
 ghost use Rattle.trace_lines.specs.Epochs.{ends_epoch, octets_in};
-ghost use Rattle.trace_lines.specs.Input.{ended, input_of};
 ghost use Rattle.trace_lines.specs.Line.{Line};
 ghost use Rattle.trace_lines.specs.Text.{line_text};
 ghost use Rattle.demux.specs.Trace.{Meaning};
@@ -16,15 +14,12 @@ ghost use Rattle.pepc.specs.Cut.{Counts};
 ghost use Rattle.pepc.specs.Progress.{Ends, Cuts, Takes, end_text, next_story, next_text, rest_text, status_at, status_without};
 ghost use Rattle.pepc.specs.Report.{IsDone, Reports, Runs};
 ghost use Rattle.pepc.specs.Standing.{HasRoom, IsLate, NoneBeyond, Stands, Story, story_of, with_end};
-ghost use Rattle.pepc.specs.Told.{WhereTold};
-ghost use Rattle.pepc.specs.Words.{IsSolo};
 
 use crate::entry_text::push_refusal;
 use crate::epoch::Size;
 use crate::reading::{Next, next_line};
 use crate::solo::Solo;
 use crate::status::Status;
-use crate::words::is_solo;
 use pc_base::Moment;
 use pc_outside::{LineBuf, Sink, Source, write_whole};
 use std::alloc::{AllocError, Global};
@@ -263,7 +258,7 @@ pub(crate) fn status_without(why: Unwritten) -> Status
 }
 
 // Appends what stands behind the lines of the last epoch, and the open counters.
-fn push_rest(solo: &mut Solo, report: &mut Vec<u8>) -> Result<(), AllocError>
+pub(crate) fn push_rest(solo: &mut Solo, report: &mut Vec<u8>) -> Result<(), AllocError>
     ensures { (story : Story) → Stands solo.old story
         → OnOk result (report.new.items ≡ report.old.items ++ rest_text story) }
 {
@@ -299,8 +294,8 @@ fn end_run<K: Sink>(
     }
 }
 
-// Does the command `solo`.
-fn solo<S: Source, K: Sink>(alloc: Global, source: &mut S, sink: &mut K) -> Status
+/// Does the command `solo`: reads a trace and writes its report, epoch by epoch.
+pub fn solo<S: Source, K: Sink>(alloc: Global, source: &mut S, sink: &mut K) -> Status
     ensures runs { Runs result (Rises (S.faults source.old) (S.faults source.new))
         (S.left source.old) (S.left source.new)
         (K.written sink.old) (K.written sink.new) }
@@ -323,45 +318,4 @@ fn solo<S: Source, K: Sink>(alloc: Global, source: &mut S, sink: &mut K) -> Stat
         Ok(ending) => end_run(ending, &mut gateway, sink, &mut report),
         Err(why) => status_without(why),
     }
-}
-
-/// Does what the words say, without the program's name: `solo` reads a trace from the source and
-/// writes its report to the sink, epoch by epoch. Other words are Usage.
-pub fn run_plain<S: Source, K: Sink>(
-    alloc: Global,
-    words: &[String],
-    source: &mut S,
-    sink: &mut K,
-) -> Status
-    // The words decide whether anything is done.
-    ensures usage { (result ≡ Status.Usage) ↔ ¬ IsSolo (map string_bytes words.now) }
-
-    // Other words touch nothing.
-    ensures untouched { result ≡ Status.Usage → (source.new ≡ source.old) × (sink.new ≡ sink.old) }
-
-    // What is written is that of the status, where source and sink tell their octets.
-    ensures report { (text : List ℕ) × Appends (K.written sink.old) (K.written sink.new) text
-        × WhereTold (S.left source.old) (S.left source.new)
-        (λ octets left. Reports result
-        (Rises (S.faults source.old) (S.faults source.new)) octets left text) }
-
-    // Where the words are a command, the input stops at its end and no count of faults rose, the
-    // whole report is written, unless memory ran out.
-    ensures complete { (octets : List ℕ) → IsSolo (map string_bytes words.now)
-        → S.left source.old ≡ Some octets
-        → (input_of octets).stop ≡ ended → ¬ Rises (S.faults source.old) (S.faults source.new)
-        → ¬ Rises (K.faults sink.old) (K.faults sink.new) → IsDone result }
-
-    // Faults are those of the source and the sink.
-    ensures source_later { S.faults source.old ≤ S.faults source.new }
-    ensures sink_later { K.faults sink.old ≤ K.faults sink.new }
-    ensures read_fault { result ≡ Status.ReadFault
-        → Rises (S.faults source.old) (S.faults source.new) }
-    ensures write_fault { result ≡ Status.WriteFault
-        → Rises (K.faults sink.old) (K.faults sink.new) }
-{
-    if !is_solo(words) {
-        return Status::Usage;
-    }
-    solo(alloc, source, sink)
 }

@@ -1,11 +1,12 @@
 //! Runs of whole traces.
 mod faults;
+mod made;
 mod memory;
 mod plain;
 mod rows;
 mod texts;
 
-use crate::run::run_plain;
+use crate::plain::run_plain;
 use crate::status::{Status, fault_text};
 use pc_outside::{MemSink, MemSource, Source};
 use std::alloc::{AllocError, Global};
@@ -14,8 +15,16 @@ use std::test::Fail;
 // More than any report here has.
 const ROOM: usize = 6_000_000;
 
-// The status of a run on these octets, given and taken in pieces, and what it wrote. The calls of
-// these numbers fail.
+fn words_of(alloc: Global, words: &[&str]) -> Result<Vec<String>, AllocError> {
+    let mut texts = Vec::new(alloc);
+    for word in words {
+        texts.push(String::from_str(alloc, word)?)?;
+    }
+    Ok(texts)
+}
+
+// The status of a run of `solo` on these octets, given and taken in pieces, and what it wrote. The
+// calls of these numbers fail.
 fn run(
     alloc: Global,
     octets: Vec<u8>,
@@ -23,8 +32,7 @@ fn run(
     reads: &[u64],
     writes: &[u64],
 ) -> Result<(Status, Vec<u8>), AllocError> {
-    let mut words = Vec::new(alloc);
-    words.push(String::from_str(alloc, "solo")?)?;
+    let words = words_of(alloc, ["solo"].as_slice())?;
     let mut source = MemSource::new(octets, piece.max(1), Vec::from_slice(alloc, reads)?)?;
     let mut sink = MemSink::new(alloc, ROOM, piece.max(1), Vec::from_slice(alloc, writes)?)?;
     let status = run_plain(alloc, words.as_slice(), &mut source, &mut sink);
@@ -34,7 +42,7 @@ fn run(
 #[test]
 fn other_words(rt: HostRuntime) -> Result<(), Fail> {
     let alloc = rt.alloc();
-    let rows: [&[&str]; 7] = [
+    let rows: [&[&str]; 9] = [
         &[],
         &["drive"],
         &["Solo"],
@@ -42,12 +50,11 @@ fn other_words(rt: HostRuntime) -> Result<(), Fail> {
         &["solo", "--places"],
         &["--help"],
         &[""],
+        &["make", "--subs", "65534"],
+        &["make", "--summary=1"],
     ];
     for row in rows {
-        let mut words = Vec::new(alloc);
-        for word in row {
-            words.push(String::from_str(alloc, word)?)?;
-        }
+        let words = words_of(alloc, row)?;
         let octets = Vec::from_slice(alloc, b"0 FENCE\n".as_slice())?;
         let mut source = MemSource::new(octets, 3, Vec::new(alloc))?;
         let mut sink = MemSink::new(alloc, ROOM, 3, Vec::new(alloc))?;

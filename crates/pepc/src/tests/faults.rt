@@ -1,14 +1,15 @@
 //! Sources and sinks that fail.
-ghost use Rattle.std.specs.Prelude.{◌≡◌, IfOk, map};
+ghost use Rattle.std.specs.Prelude.{◌≡◌, IfOk, Some, map};
 ghost use Rattle.std.specs.String.{string_bytes};
 ghost use Rattle.trace_lines.specs.Input.{ended, input_of};
 ghost use Rattle.pepc.specs.Report.{IsDone};
-ghost use Rattle.pepc.specs.Words.{IsSolo};
+ghost use Rattle.command_words.specs.Job.{job_of};
 
 use super::run;
 use super::texts::{WHOLE_REPORT, WHOLE_TRACE, spelled};
-use crate::run::run_plain;
+use crate::plain::run_plain;
 use crate::status::Status;
+use command_words::Job;
 use pc_outside::{SureSink, SureSource};
 use std::alloc::{AllocError, Global};
 use std::test::Fail;
@@ -110,7 +111,7 @@ fn each_write_of_the_whole_report_fails(rt: HostRuntime) -> Result<(), Fail> {
 // Over a source and a sink whose counts never rise a trace that stops at its end has the whole report,
 // or memory ran out. The contract of `run_plain` says so; no run is needed for it.
 fn run_sure(alloc: Global, words: &[String], octets: Vec<u8>) -> Result<Status, AllocError>
-    ensures { IsSolo (map string_bytes words.now) → (input_of octets.items).stop ≡ ended
+    ensures { job_of (map string_bytes words.now) ≡ Some Job.Solo → (input_of octets.items).stop ≡ ended
         → IfOk result IsDone }
 {
     let mut source = SureSource::new(octets)?;

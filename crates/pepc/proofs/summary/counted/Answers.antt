@@ -1,0 +1,43 @@
+use Rattle.std.proofs.Common.{◌≡◌, ◌+◌, [], ◌∷◌, length, sym, subst}
+use Rattle.trace_maker.specs.Generated.{made}
+use Rattle.trace_maker.specs.Order.{AreInOrder}
+use Rattle.pepc.specs.Counting.{Counting, CountsMore}
+use Rattle.pepc.proofs.EndLemmas.{sized_so}
+use Rattle.pepc.proofs.SummaryLemmas.{at_none, at_some, counting_begins, counting_ends, counting_goes_on}
+use Rattle.pepc.proofs.summary.counted.Goals as goal
+
+pub loop-report-init : goal.loop-report-init
+loop-report-init c =
+    subst (Counting c.new-gateway.result c.new-size.result c.new-counts.result c.new-report.result.items
+    (made c.args.seed c.args.subs c.args.lines)) (sym c.new-maker.ensures)
+    (counting_begins c.new-gateway.result c.new-size.result c.new-counts.result c.new-report.result.items c.args.seed
+    c.args.subs c.args.lines c.requires.some c.requires.slots c.requires.most c.new-gateway.ensures
+    c.new-size.ensures c.new-report.ensures.items c.new-counts.ensures)
+
+pub spend_line-requires-clause-sized : goal.spend_line-requires-clause-sized
+spend_line-requires-clause-sized c = sized_so c.loop-report.invariant.so_far
+
+pub loop-report-preserved : goal.loop-report-preserved
+loop-report-preserved c =
+    let so_far = c.loop-report.invariant in
+    let is_next : c.loop-report.maker ≡ c.in-Some.line ∷ c.made_line.new.maker =
+    at_some ((c.loop-report.maker ≡ []) × (c.made_line.new.maker ≡ []))
+    (λ line. c.loop-report.maker ≡ line ∷ c.made_line.new.maker) c.in_ok-line.field-0 c.in-Some.line c.in-Some.is
+    c.in_ok-line.ensures.made in
+    let in_order = subst (AreInOrder (length so_far.done + 1) so_far.least) is_next so_far.in_order in
+    counting_goes_on c.loop-report.gateway c.spend_line.new.gateway c.loop-report.size c.spend_line.new.size
+    c.loop-report.counts c.spend_line.new.counts c.loop-report.report.items c.spend_line.new.report.items
+    (made c.args.seed c.args.subs c.args.lines) c.loop-report.maker c.made_line.new.maker c.in-Some.line so_far is_next
+    (c.in_ok-spend_line.ensures.taken so_far.done so_far.so_far.open_ so_far.least _ _ so_far.so_far.stands in_order.1
+    so_far.so_far.sized)
+
+pub returns : goal.returns
+returns c =
+    let none : c.loop-report.maker ≡ [] =
+    (at_none ((c.loop-report.maker ≡ []) × (c.made_line.new.maker ≡ []))
+    (λ line. c.loop-report.maker ≡ line ∷ c.made_line.new.maker) c.in_ok-line.field-0 c.in_default.not-Some
+    c.in_ok-line.ensures.made).0 in
+    counting_ends c.loop-report.gateway c.loop-report.size c.loop-report.counts c.add.new.self
+    c.loop-report.report.items c.push_rest.new.report.items c.args.seed c.args.subs c.args.lines c.loop-report.maker
+    c.requires.some c.requires.slots c.requires.most c.loop-report.invariant none c.in_ok-push_rest.ensures
+    (subst (CountsMore c.loop-report.counts c.add.new.self) c.as_slice.ensures.value c.add.ensures)

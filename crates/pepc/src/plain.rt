@@ -1,0 +1,83 @@
+//! All commands of the program, on one thread.
+ghost use Rattle.std.specs.Prelude.{◌≡◌, ◌≤◌, ◌⊎◌, None, Some, map};
+ghost use Rattle.std.specs.String.{string_bytes};
+ghost use Rattle.command_words.specs.Job.{IsInRange, job_of};
+ghost use Rattle.pc_outside.specs.Faults.{Rises};
+ghost use Rattle.pepc.specs.Jobs.{Completes, Does};
+
+use crate::export::export;
+use crate::import::import;
+use crate::make::make;
+use crate::run::solo;
+use crate::status::Status;
+use command_words::{Job, job};
+use pc_outside::{Sink, Source};
+use std::alloc::{AllocError, Global};
+
+// Does a job.
+fn do_job<S: Source, K: Sink>(
+    alloc: Global,
+    asked: Job,
+    source: &mut S,
+    sink: &mut K,
+) -> Status
+    requires { IsInRange asked }
+
+    ensures does { Does (Some asked) result (Rises (S.faults source.old) (S.faults source.new)) (S.left source.old) (S.left source.new)
+        (K.written sink.old) (K.written sink.new) }
+    ensures no_usage { result ≡ Status.Usage → ⊥ }
+
+    ensures source_later { S.faults source.old ≤ S.faults source.new }
+    ensures sink_later { K.faults sink.old ≤ K.faults sink.new }
+    ensures read_fault { result ≡ Status.ReadFault → Rises (S.faults source.old) (S.faults source.new) }
+    ensures write_fault { result ≡ Status.WriteFault → Rises (K.faults sink.old) (K.faults sink.new) }
+{
+    match asked {
+        Job::Solo => solo(alloc, source, sink),
+        Job::Make {
+            seed,
+            subs,
+            lines,
+            summary,
+        } => make(alloc, seed, subs, lines, summary, sink),
+        Job::Import => import(alloc, source, sink),
+        Job::Export => export(alloc, source, sink),
+    }
+}
+
+/// Does what the words say, without the program's name. `solo` reads a trace from the source and writes
+/// its report to the sink, epoch by epoch; `make` writes a generated trace, or the summary of its report;
+/// `import` makes a trace of a capture, and `export` a capture of a trace. Other words are Usage.
+pub fn run_plain<S: Source, K: Sink>(
+    alloc: Global,
+    words: &[String],
+    source: &mut S,
+    sink: &mut K,
+) -> Status
+    // The words decide whether anything is done. Memory may run out before they are read.
+    ensures usage { result ≡ Status.Usage → job_of (map string_bytes words.now) ≡ None }
+    ensures no_job { job_of (map string_bytes words.now) ≡ None → (result ≡ Status.Usage) ⊎ (result ≡ Status.NoMemory) }
+
+    // Words that ask for no job touch nothing.
+    ensures untouched { job_of (map string_bytes words.now) ≡ None → (source.new ≡ source.old) × (sink.new ≡ sink.old) }
+
+    // What is written is that of the job and the status, where source and sink tell their octets.
+    ensures report { Does (job_of (map string_bytes words.now)) result (Rises (S.faults source.old) (S.faults source.new))
+        (S.left source.old) (S.left source.new) (K.written sink.old) (K.written sink.new) }
+
+    // Where no count of faults rose, the job is done, unless memory ran out.
+    ensures complete { ¬ Rises (S.faults source.old) (S.faults source.new) → ¬ Rises (K.faults sink.old) (K.faults sink.new)
+        → Completes (job_of (map string_bytes words.now)) result (S.left source.old) }
+
+    // Faults are those of the source and the sink.
+    ensures source_later { S.faults source.old ≤ S.faults source.new }
+    ensures sink_later { K.faults sink.old ≤ K.faults sink.new }
+    ensures read_fault { result ≡ Status.ReadFault → Rises (S.faults source.old) (S.faults source.new) }
+    ensures write_fault { result ≡ Status.WriteFault → Rises (K.faults sink.old) (K.faults sink.new) }
+{
+    match job(alloc, words) {
+        Ok(Some(asked)) => do_job(alloc, asked, source, sink),
+        Ok(None) => Status::Usage,
+        Err(AllocError) => Status::NoMemory,
+    }
+}
