@@ -1,4 +1,5 @@
 //! Runs of whole traces.
+mod captures;
 mod faults;
 mod made;
 mod memory;
@@ -80,6 +81,7 @@ fn statuses(rt: HostRuntime) {
         (Status::BadLine, 6, "pepc: bad line"),
         (Status::LineLong, 7, "pepc: line too long"),
         (Status::TooLong, 8, "pepc: input too long"),
+        (Status::BadCapture, 10, "pepc: bad capture"),
     ];
     for (status, code, text) in rows {
         assert_eq!(rt; status.code(), code);
