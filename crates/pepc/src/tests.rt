@@ -1,4 +1,5 @@
 //! Runs of whole traces.
+mod captures;
 mod faults;
 mod made;
 mod memory;
