@@ -6,7 +6,8 @@ use pc_outside::{MemSink, MemSource};
 use std::alloc::{AllocError, Global};
 use std::test::Fail;
 
-const HEADER: &[u8] = b"\xa1\xb2\xc3\xd4\x00\x02\x00\x04\x00\x00\x00\x00\x00\x00\x00\x00\x00\x04\x00\x00\x00\x00\x00\x65";
+const HEADER: &[u8] =
+    b"\xa1\xb2\xc3\xd4\x00\x02\x00\x04\x00\x00\x00\x00\x00\x00\x00\x00\x00\x04\x00\x00\x00\x00\x00\x65";
 
 // A record of the moment 5: IPv4 and UDP for port 2152 of the gateway, with a G-PDU.
 const MESSAGE: &[u8] = b"\
@@ -28,7 +29,8 @@ const PACKET: &[u8] = b"\
 const PACKET_LINE: &[u8] = b"0 SGI 4500001c0000000040110000cb0071090a2d000213c4271000080000\n";
 
 // The header of a pcapng file, and the head of a record of 262,145 octets.
-const OTHER: &[u8] = b"\x0a\x0d\x0d\x0a\x00\x00\x00\x00\x00\x00\x00\x00\x00\x00\x00\x00\x00\x00\x00\x00\x00\x00\x00\x00";
+const OTHER: &[u8] =
+    b"\x0a\x0d\x0d\x0a\x00\x00\x00\x00\x00\x00\x00\x00\x00\x00\x00\x00\x00\x00\x00\x00\x00\x00\x00\x00";
 
 const OVER: &[u8] = b"\x00\x00\x00\x00\x00\x00\x00\x09\x00\x04\x00\x01\x00\x04\x00\x01";
 
@@ -69,7 +71,11 @@ fn capture_both_ways(rt: HostRuntime) -> Result<(), Fail> {
     for (word, parts, wanted) in rows {
         let (status, written) = turned(alloc, word, parts, &[], &[])?;
         assert_eq!(rt; status, Status::Ok, "{word}");
-        assert_eq!(rt; written.as_slice(), joined(alloc, wanted)?.as_slice(), "{word}");
+        assert_eq!(rt;
+            written.as_slice(),
+            joined(alloc, wanted)?.as_slice(),
+            "{word}"
+        );
     }
     Ok(())
 }
@@ -86,7 +92,11 @@ fn bad_capture(rt: HostRuntime) -> Result<(), Fail> {
     for (number, (parts, wanted)) in rows.iter().enumerate() {
         let (status, written) = turned(alloc, "import", parts, &[], &[])?;
         assert_eq!(rt; status, Status::BadCapture, "{number}");
-        assert_eq!(rt; written.as_slice(), joined(alloc, wanted)?.as_slice(), "{number}");
+        assert_eq!(rt;
+            written.as_slice(),
+            joined(alloc, wanted)?.as_slice(),
+            "{number}"
+        );
     }
     Ok(())
 }
@@ -96,16 +106,55 @@ fn captures_that_fail(rt: HostRuntime) -> Result<(), Fail> {
     let alloc = rt.alloc();
     let rows: [(&str, &[&[u8]], &[u64], &[u64], Status, &[&[u8]]); 5] = [
         // Behind the record, and within the line.
-        ("import", &[HEADER, MESSAGE], &[2], &[], Status::ReadFault, &[FROM_ZERO]),
-        ("export", &[PACKET_LINE], &[1], &[], Status::ReadFault, &[HEADER]),
-        ("import", &[HEADER, MESSAGE], &[], &[1], Status::WriteFault, &[&FROM_ZERO[..50]]),
-        ("export", &[PACKET_LINE], &[], &[1], Status::WriteFault, &[HEADER, &PACKET[..26]]),
-        ("export", &[MESSAGE_LINE, b"x\n"], &[], &[], Status::BadLine, &[HEADER, MESSAGE]),
+        (
+            "import",
+            &[HEADER, MESSAGE],
+            &[2],
+            &[],
+            Status::ReadFault,
+            &[FROM_ZERO],
+        ),
+        (
+            "export",
+            &[PACKET_LINE],
+            &[1],
+            &[],
+            Status::ReadFault,
+            &[HEADER],
+        ),
+        (
+            "import",
+            &[HEADER, MESSAGE],
+            &[],
+            &[1],
+            Status::WriteFault,
+            &[&FROM_ZERO[..50]],
+        ),
+        (
+            "export",
+            &[PACKET_LINE],
+            &[],
+            &[1],
+            Status::WriteFault,
+            &[HEADER, &PACKET[..26]],
+        ),
+        (
+            "export",
+            &[MESSAGE_LINE, b"x\n"],
+            &[],
+            &[],
+            Status::BadLine,
+            &[HEADER, MESSAGE],
+        ),
     ];
     for (word, parts, reads, writes, want, wanted) in rows {
         let (status, written) = turned(alloc, word, parts, reads, writes)?;
         assert_eq!(rt; status, want, "{word}");
-        assert_eq!(rt; written.as_slice(), joined(alloc, wanted)?.as_slice(), "{word}");
+        assert_eq!(rt;
+            written.as_slice(),
+            joined(alloc, wanted)?.as_slice(),
+            "{word}"
+        );
     }
     Ok(())
 }
