@@ -57,8 +57,8 @@ returns-in-TooLong-clause-ended g c =
 
 pub returns-in-Last-clause-ended : goal.returns-in-Last-clause-ended
 returns-in-Last-clause-ended g c =
-    ends_last _ _ _ _ _ _ _ _ _ c.next_line.new.buf.room _ _ _ c.loop-line.invariant.progress.0 c.in-Last.line _
-    c.loop-line.invariant.progress.1 c.in-Last.ensures.tells c.in_ok-spend_line-in-Last.ensures.passed
+    ends_last _ _ _ _ _ _ _ _ _ c.next_line.new.buf.room _ _ _ c.loop-line.invariant.progress.0 c.in-Last.line
+    c.in-Last._len c.loop-line.invariant.progress.1 c.in-Last.ensures.tells c.in_ok-spend_line-in-Last.ensures.passed
 
 pub loop-line-preserved : goal.loop-line-preserved
 loop-line-preserved g c =
@@ -67,7 +67,7 @@ loop-line-preserved g c =
       progress = (
         p.0 ++ c.in-Line.line ∷ [],
         rw c.in_ok-least-in-Line.ensures.moment
-            (goes_on _ _ _ _ _ _ _ _ _ c.next_line.new.buf.room _ _ p.0 c.in-Line.line _ p.1
+            (goes_on _ _ _ _ _ _ _ _ _ c.next_line.new.buf.room _ _ p.0 c.in-Line.line c.in-Line._len p.1
             c.in-Line.ensures.tells c.in-Line.ensures.room c.in_ok-least-in-Line.ensures.passed),
       );
       source_later = omega (arith, c.loop-line.invariant.source_later, c.in-Line.ensures.later);
@@ -78,8 +78,9 @@ pub returns-in_err-least-in-Line-clause-cut : goal.returns-in_err-least-in-Line-
 returns-in_err-least-in-Line-clause-cut g c =
     let p = c.loop-line.invariant.progress in
     if_err (λ why. why ≡ c.in_err-least-in-Line.field-0.0) _ c.from_residual-in_err-least-in-Line.result
-    (λ why is. cut_at why _ _ _ _ _ _ _ _ _ c.next_line.new.buf.room _ _ p.0 (next.Line c.in-Line.line _) c.in-Line.line
-    (gives_line c.in-Line.line _ _ _ _ c.next_line.new.buf.room) p.1 c.in-Line.ensures.tells
+    (λ why is. cut_at why _ _ _ _ _ _ _ _ _ c.next_line.new.buf.room _ _ p.0
+    (next.Line c.in-Line.line c.in-Line._len) c.in-Line.line
+    (gives_line c.in-Line.line c.in-Line._len _ _ _ c.next_line.new.buf.room) p.1 c.in-Line.ensures.tells
     (λ w. c.spend_line.ensures.cut (c.in_err-least-in-Line.was ∙ ap Err (sym is ∙ w)))
     (λ w. ap g.K.Sink.written (c.spend_line.ensures.kept (c.in_err-least-in-Line.was ∙ ap Err (sym is ∙ w)))))
     c.from_residual-in_err-least-in-Line.ensures.1
@@ -88,8 +89,9 @@ pub returns-in_err-spend_line-in-Last-clause-cut : goal.returns-in_err-spend_lin
 returns-in_err-spend_line-in-Last-clause-cut g c =
     let p = c.loop-line.invariant.progress in
     if_err (λ why. why ≡ c.in_err-spend_line-in-Last.field-0.0) _ c.from_residual-in_err-spend_line-in-Last.result
-    (λ why is. cut_at why _ _ _ _ _ _ _ _ _ c.next_line.new.buf.room _ _ p.0 (next.Last c.in-Last.line _) c.in-Last.line
-    (gives_last c.in-Last.line _ _ _ _ c.next_line.new.buf.room) p.1 c.in-Last.ensures.tells
+    (λ why is. cut_at why _ _ _ _ _ _ _ _ _ c.next_line.new.buf.room _ _ p.0
+    (next.Last c.in-Last.line c.in-Last._len) c.in-Last.line
+    (gives_last c.in-Last.line c.in-Last._len _ _ _ c.next_line.new.buf.room) p.1 c.in-Last.ensures.tells
     (λ w. c.spend_line-in-Last.ensures.cut (c.in_err-spend_line-in-Last.was ∙ ap Err (sym is ∙ w)))
     (λ w. ap g.K.Sink.written
     (c.spend_line-in-Last.ensures.kept (c.in_err-spend_line-in-Last.was ∙ ap Err (sym is ∙ w)))))
