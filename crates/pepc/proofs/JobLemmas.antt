@@ -18,15 +18,18 @@ no_front : (summary : Bool) (lines : List Line) → IsMakeFront summary lines []
 no_front false lines = record { front = []; rest = lines; parts = refl; written = refl }
 no_front true lines = refl
 
-nothing_made : (seed subs lines : ℕ) (summary : Bool) (old : Option (List ℕ)) → Makes seed subs lines summary status.NoMemory old old
+nothing_made : (seed subs lines : ℕ) (summary : Bool) (old : Option (List ℕ))
+    → Makes seed subs lines summary status.NoMemory old old
 nothing_made seed subs lines summary old =
     record { text = []; written = Appends-nil old; is = no_front summary (made seed subs lines) }
 
 -- memory ran out before anything was read
-pub nothing_done : (asked : Option Job) (source_failed : Type 0) (start old : Option (List ℕ)) → Does asked status.NoMemory source_failed start start old old
+pub nothing_done : (asked : Option Job) (source_failed : Type 0) (start old : Option (List ℕ))
+    → Does asked status.NoMemory source_failed start start old old
 nothing_done None source_failed start old = (refl, refl)
 nothing_done (Some job.Solo) source_failed start old = nothing_runs source_failed start old
-nothing_done (Some (job.Make seed subs lines summary)) source_failed start old = (refl, nothing_made seed subs lines summary old)
+nothing_done (Some (job.Make seed subs lines summary)) source_failed start old =
+    (refl, nothing_made seed subs lines summary old)
 nothing_done (Some job.Import) source_failed start old = nothing_imported source_failed start old
 nothing_done (Some job.Export) source_failed start old = nothing_exported source_failed start old
 
@@ -37,28 +40,34 @@ nothing_completes (Some (job.Make seed subs lines summary)) start = inr refl
 nothing_completes (Some job.Import) start = λ octets is stop. inr refl
 nothing_completes (Some job.Export) start = λ octets is stop. inr refl
 
-make_complete : (ending : Status) (sink_failed : Type 0) (summary : Bool) (lines : List Line) (text : List ℕ) → (sink_failed → ⊥)
-    → (ending ≡ status.WriteFault → sink_failed) → Made ending summary lines text → IsDone ending
-make_complete status.Ok sink_failed summary lines text no_sink write_fault is = inl refl
-make_complete status.Usage sink_failed summary lines text no_sink write_fault is = absurd is
-make_complete status.ReadFault sink_failed summary lines text no_sink write_fault is = absurd is
-make_complete status.WriteFault sink_failed summary lines text no_sink write_fault is = absurd (no_sink (write_fault refl))
-make_complete status.NoMemory sink_failed summary lines text no_sink write_fault is = inr refl
-make_complete status.BadLine sink_failed summary lines text no_sink write_fault is = absurd is
-make_complete status.LineLong sink_failed summary lines text no_sink write_fault is = absurd is
-make_complete status.TooLong sink_failed summary lines text no_sink write_fault is = absurd is
-make_complete status.BadCapture sink_failed summary lines text no_sink write_fault is = absurd is
+make_complete : (ending : Status) (sink_failed : Type 0) (summary : Bool) (lines : List Line) (text : List ℕ)
+    → (sink_failed → ⊥) → (ending ≡ status.WriteFault → sink_failed) → Made ending summary lines text
+    → IsDone ending
+make_complete status.Ok sink_failed summary lines text no_sink write is = inl refl
+make_complete status.Usage sink_failed summary lines text no_sink write is = absurd is
+make_complete status.ReadFault sink_failed summary lines text no_sink write is = absurd is
+make_complete status.WriteFault sink_failed summary lines text no_sink write is = absurd (no_sink (write refl))
+make_complete status.NoMemory sink_failed summary lines text no_sink write is = inr refl
+make_complete status.BadLine sink_failed summary lines text no_sink write is = absurd is
+make_complete status.LineLong sink_failed summary lines text no_sink write is = absurd is
+make_complete status.TooLong sink_failed summary lines text no_sink write is = absurd is
+make_complete status.BadCapture sink_failed summary lines text no_sink write is = absurd is
 
 -- a job that ends with this status, where nothing failed
-pub job_completes : (asked : Job) (ending : Status) (source_failed sink_failed : Type 0) (start left old new : Option (List ℕ))
-    → (source_failed → ⊥) → (sink_failed → ⊥) → (ending ≡ status.ReadFault → source_failed) → (ending ≡ status.WriteFault → sink_failed)
-    → (ending ≡ status.Usage → ⊥) → Does (Some asked) ending source_failed start left old new → Completes (Some asked) ending start
-job_completes job.Solo ending source_failed sink_failed start left old new no_fault no_sink read_fault write_fault no_usage does =
+pub job_completes : (asked : Job) (ending : Status) (source_failed sink_failed : Type 0)
+    (start left old new : Option (List ℕ)) → (source_failed → ⊥) → (sink_failed → ⊥)
+    → (ending ≡ status.ReadFault → source_failed) → (ending ≡ status.WriteFault → sink_failed)
+    → (ending ≡ status.Usage → ⊥) → Does (Some asked) ending source_failed start left old new
+    → Completes (Some asked) ending start
+job_completes job.Solo ending source_failed sink_failed start left old new no_source no_sink read write usage does =
     λ octets is stop.
-    complete ending source_failed sink_failed octets start left old new is stop no_fault no_sink read_fault write_fault no_usage does
-job_completes (job.Make seed subs lines summary) ending source_failed sink_failed start left old new no_fault no_sink read_fault write_fault no_usage does =
-    make_complete ending sink_failed summary (made seed subs lines) does.1.text no_sink write_fault does.1.is
-job_completes job.Import ending source_failed sink_failed start left old new no_fault no_sink read_fault write_fault no_usage does =
-    λ octets is stop. import_complete ending source_failed sink_failed octets start left old new is stop no_fault no_sink read_fault write_fault does
-job_completes job.Export ending source_failed sink_failed start left old new no_fault no_sink read_fault write_fault no_usage does =
-    λ octets is stop. export_complete ending source_failed sink_failed octets start left old new is stop no_fault no_sink read_fault write_fault does
+    complete ending source_failed sink_failed octets start left old new is stop no_source no_sink read write usage does
+job_completes (job.Make seed subs lines summary) ending source_failed sink_failed start left old new no_source no_sink
+    read write usage does =
+    make_complete ending sink_failed summary (made seed subs lines) does.1.text no_sink write does.1.is
+job_completes job.Import ending source_failed sink_failed start left old new no_source no_sink read write usage does =
+    λ octets is stop.
+    import_complete ending source_failed sink_failed octets start left old new is stop no_source no_sink read write does
+job_completes job.Export ending source_failed sink_failed start left old new no_source no_sink read write usage does =
+    λ octets is stop.
+    export_complete ending source_failed sink_failed octets start left old new is stop no_source no_sink read write does

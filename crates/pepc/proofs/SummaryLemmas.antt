@@ -27,13 +27,23 @@ use Rattle.pepc.proofs.EndLemmas.{begins}
 use Rattle.pepc.proofs.ReportLemmas.{ends_whole}
 use Rattle.pepc.proofs.RunLemmas.{goes_on}
 
+-- what is said of an option that is known
+pub at_some : {A : Type 0} (P : Type 0) (Q : A → Type 0) (o : Option A) (value : A) → o ≡ Some value
+    → MatchOption o P Q → Q value
+at_some {A} P Q o value is said = subst (λ (o : Option A). MatchOption o P Q) is said
+
+pub at_none : {A : Type 0} (P : Type 0) (Q : A → Type 0) (o : Option A) → ((value : A) → o ≡ Some value → ⊥)
+    → MatchOption o P Q → P
+at_none P Q None none said = said
+at_none P Q (Some value) none said = absurd (none value refl)
+
 -- the texts of entries are whole lines
 texts_whole : (entries : List Entry) → IsWholeLines (texts_of false entries)
 texts_whole [] = inl refl
 texts_whole (told ∷ entries) =
     elim (texts_whole entries) as (λ w. IsWholeLines (text_line told ++ texts_of false entries)) [
-      inl none ↦ inr (_, ap (λ t. text_line told ++ t) none ∙ append-nil (text_line told))
-    | inr lines ↦ inr (
+      | inl none ↦ inr (_, ap (λ t. text_line told ++ t) none ∙ append-nil (text_line told))
+      | inr lines ↦ inr (
         text_line told ++ lines.0,
         ap (λ t. text_line told ++ t) lines.1 ∙ sym (append_assoc (text_line told) lines.0 (10 ∷ [])),
       )
@@ -119,9 +129,11 @@ counting_goes_on gateway after_it size next_size counts new waiting later all le
     text : List ℕ
     text = next_text waiting so_far.done so_far.least (closed_events so_far.so_far.closed)
         (open_meant so_far.so_far.closed so_far.so_far.open_) line
+
     story : Story
     story = next_story so_far.done so_far.least (closed_events so_far.so_far.closed)
         (open_meant so_far.so_far.closed so_far.so_far.open_) line
+
     by_test : (test : Bool) → ends_epoch so_far.so_far.open_ line ≡ test
         → CountsLine test after_it next_size counts new text later story (so_far.so_far.open_ ++ line ∷ [])
         → Counting after_it next_size new later all rest
@@ -139,6 +151,18 @@ counting_goes_on gateway after_it size next_size counts new waiting later all le
         (record { stands = it.stands; sized = it.sized; written = refl; emptied = it.emptied }))
         (counts_next counts new so_far.sent (text ++ end_text story) (whole_so_far so_far.so_far) so_far.counted
         it.counted)
+
+-- the line that is found is the next one · and stands in order
+pub next_is : {left rest : List Line} {found : Option Line} {line : Line} → found ≡ Some line
+    → MatchOption found ((left ≡ []) × (rest ≡ [])) (λ line. left ≡ line ∷ rest) → left ≡ line ∷ rest
+next_is {left} {rest} {found} {line} is made =
+    at_some ((left ≡ []) × (rest ≡ [])) (λ line. left ≡ line ∷ rest) found line is made
+
+pub next_in_order : {gateway : Solo} {size : Size} {counts : EntryCounts} {waiting : List ℕ}
+    {all left rest : List Line} {line : Line} → (so_far : Counting gateway size counts waiting all left)
+    → left ≡ line ∷ rest → AreInOrder (length so_far.done + 1) so_far.least (line ∷ rest)
+next_in_order {gateway} {size} {counts} {waiting} {all} {left} {rest} {line} so_far is =
+    subst (AreInOrder (length so_far.done + 1) so_far.least) is so_far.in_order
 
 -- no line is left
 ends : (gateway : Solo) (size : Size) (counts : EntryCounts) (waiting : List ℕ) (seed subs lines : ℕ)
@@ -181,13 +205,3 @@ counting_ends gateway size counts new waiting report seed subs lines left some s
       counted = counts_next counts new so_far.sent report (whole_so_far so_far.so_far) so_far.counted grows
           ∙ ap (λ t. all_held (counts_of t)) runs.written;
     }
-
--- what is said of an option that is known
-pub at_some : {A : Type 0} (P : Type 0) (Q : A → Type 0) (o : Option A) (value : A) → o ≡ Some value
-    → MatchOption o P Q → Q value
-at_some {A} P Q o value is said = subst (λ (o : Option A). MatchOption o P Q) is said
-
-pub at_none : {A : Type 0} (P : Type 0) (Q : A → Type 0) (o : Option A) → ((value : A) → o ≡ Some value → ⊥)
-    → MatchOption o P Q → P
-at_none P Q None none said = said
-at_none P Q (Some value) none said = absurd (none value refl)

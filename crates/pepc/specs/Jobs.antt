@@ -12,7 +12,8 @@ use Rattle.pepc.specs.Report.{IsDone, Runs}
 
 -- What a run with this status did. The source told these octets before and after it, and so did the sink. Without a job
 -- nothing is done.
-abbrev pub Does : Option Job → Status → Type 0 → Option (List ℕ) → Option (List ℕ) → Option (List ℕ) → Option (List ℕ) → Type 0
+abbrev pub Does : Option Job → Status → Type 0 → Option (List ℕ) → Option (List ℕ) → Option (List ℕ)
+    → Option (List ℕ) → Type 0
 Does None ending source_failed start left old new = (left ≡ start) × (new ≡ old)
 Does (Some job.Solo) ending source_failed start left old new = Runs ending source_failed start left old new
 Does (Some (job.Make seed subs lines summary)) ending source_failed start left old new =
@@ -23,7 +24,10 @@ Does (Some job.Export) ending source_failed start left old new = Exports ending 
 -- Where nothing failed and the octets end as they should, a job is done, unless memory ran out.
 abbrev pub Completes : Option Job → Status → Option (List ℕ) → Type 0
 Completes None ending start = Unit {0}
-Completes (Some job.Solo) ending start = (octets : List ℕ) → start ≡ Some octets → (input_of octets).stop ≡ ended → IsDone ending
+Completes (Some job.Solo) ending start =
+    (octets : List ℕ) → start ≡ Some octets → (input_of octets).stop ≡ ended → IsDone ending
 Completes (Some (job.Make seed subs lines summary)) ending start = IsDone ending
-Completes (Some job.Import) ending start = (octets : List ℕ) → start ≡ Some octets → capture.stop_of octets ≡ capture.ended → IsDone ending
-Completes (Some job.Export) ending start = (octets : List ℕ) → start ≡ Some octets → (input_of octets).stop ≡ ended → IsDone ending
+Completes (Some job.Import) ending start =
+    (octets : List ℕ) → start ≡ Some octets → capture.stop_of octets ≡ capture.ended → IsDone ending
+Completes (Some job.Export) ending start =
+    (octets : List ℕ) → start ≡ Some octets → (input_of octets).stop ≡ ended → IsDone ending

@@ -59,13 +59,7 @@ fn write_trace<K: Sink>(alloc: Global, seed: u64, subs: u32, lines: u32, sink: &
 }
 
 #[tactic(auto, using(crate::proofs::MakeLemmas::is_summary, crate::proofs::MakeLemmas::summary_whole, crate::proofs::MakeLemmas::summary_cut, crate::proofs::MakeLemmas::no_summary))]
-fn write_summary<K: Sink>(
-    alloc: Global,
-    seed: u64,
-    subs: u32,
-    lines: u32,
-    sink: &mut K,
-) -> Status
+fn write_summary<K: Sink>(alloc: Global, seed: u64, subs: u32, lines: u32, sink: &mut K) -> Status
     requires some { 1 ≤ subs }
     requires slots { subs ≤ 65533 }
     requires most { lines ≤ 100000 }

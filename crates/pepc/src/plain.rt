@@ -15,16 +15,11 @@ use pc_outside::{Sink, Source};
 use std::alloc::{AllocError, Global};
 
 // Does a job.
-fn do_job<S: Source, K: Sink>(
-    alloc: Global,
-    asked: Job,
-    source: &mut S,
-    sink: &mut K,
-) -> Status
+fn do_job<S: Source, K: Sink>(alloc: Global, asked: Job, source: &mut S, sink: &mut K) -> Status
     requires { IsInRange asked }
 
-    ensures does { Does (Some asked) result (Rises (S.faults source.old) (S.faults source.new)) (S.left source.old) (S.left source.new)
-        (K.written sink.old) (K.written sink.new) }
+    ensures does { Does (Some asked) result (Rises (S.faults source.old) (S.faults source.new)) (S.left source.old)
+        (S.left source.new) (K.written sink.old) (K.written sink.new) }
     ensures no_usage { result ≡ Status.Usage → ⊥ }
 
     ensures source_later { S.faults source.old ≤ S.faults source.new }
@@ -62,11 +57,13 @@ pub fn run_plain<S: Source, K: Sink>(
     ensures untouched { job_of (map string_bytes words.now) ≡ None → (source.new ≡ source.old) × (sink.new ≡ sink.old) }
 
     // What is written is that of the job and the status, where source and sink tell their octets.
-    ensures report { Does (job_of (map string_bytes words.now)) result (Rises (S.faults source.old) (S.faults source.new))
-        (S.left source.old) (S.left source.new) (K.written sink.old) (K.written sink.new) }
+    ensures report { Does (job_of (map string_bytes words.now)) result
+        (Rises (S.faults source.old) (S.faults source.new)) (S.left source.old) (S.left source.new)
+        (K.written sink.old) (K.written sink.new) }
 
     // Where no count of faults rose, the job is done, unless memory ran out.
-    ensures complete { ¬ Rises (S.faults source.old) (S.faults source.new) → ¬ Rises (K.faults sink.old) (K.faults sink.new)
+    ensures complete { ¬ Rises (S.faults source.old) (S.faults source.new)
+        → ¬ Rises (K.faults sink.old) (K.faults sink.new)
         → Completes (job_of (map string_bytes words.now)) result (S.left source.old) }
 
     // Faults are those of the source and the sink.

@@ -22,12 +22,7 @@ use trace_lines::{TraceLine, push_text};
 use trace_maker::{Maker, made_line};
 
 /// Counts the report of the trace of this seed, so many subscribers and so many lines.
-pub fn counted(
-    alloc: Global,
-    seed: u64,
-    subs: u32,
-    lines: u32,
-) -> Result<EntryCounts, AllocError>
+pub fn counted(alloc: Global, seed: u64, subs: u32, lines: u32) -> Result<EntryCounts, AllocError>
     requires some { 1 ≤ subs }
     requires slots { subs ≤ 65533 }
     requires most { lines ≤ 100000 }
@@ -68,7 +63,8 @@ fn spend_line(
 ) -> Result<(), AllocError>
     requires room { HasRoom gateway.old }
     requires late { IsLate gateway.old line }
-    requires sized { (before : List Line) × Counts size.old before × (length before < 2 ^ 50) × (octets_in before < 2 ^ 50) }
+    requires sized { (before : List Line) × Counts size.old before × (length before < 2 ^ 50)
+        × (octets_in before < 2 ^ 50) }
     requires short { length (line_text line) < 2 ^ 50 }
 
     ensures taken { (done open_ : List Line) (latest : ℕ) (before : Histories) (made : List Meaning)
@@ -92,7 +88,8 @@ fn count_line(
 ) -> Result<(), AllocError>
     requires room { HasRoom gateway.old }
     requires late { IsLate gateway.old line.now }
-    requires sized { (before : List Line) × Counts size.old before × (length before < 2 ^ 50) × (octets_in before < 2 ^ 50) }
+    requires sized { (before : List Line) × Counts size.old before × (length before < 2 ^ 50)
+        × (octets_in before < 2 ^ 50) }
     requires short { length (line_text line.now) < 2 ^ 50 }
 
     ensures taken { (done open_ : List Line) (latest : ℕ) (before : Histories) (made : List Meaning)

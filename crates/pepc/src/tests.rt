@@ -41,18 +41,23 @@ fn run(
 }
 
 #[test]
-fn other_words(rt: HostRuntime) -> Result<(), Fail> {
+fn usage(rt: HostRuntime) -> Result<(), Fail> {
     let alloc = rt.alloc();
-    let rows: [&[&str]; 9] = [
+    let rows: [&[&str]; 14] = [
         &[],
-        &["drive"],
+        &["drive", "--slices", "2", "--turns", "4"],
         &["Solo"],
         &["solo", "solo"],
         &["solo", "--places"],
         &["--help"],
         &[""],
+        &["make", "--subs", "0"],
         &["make", "--subs", "65534"],
+        &["make", "--lines=100001"],
+        &["make", "--seed", "18446744073709551616"],
         &["make", "--summary=1"],
+        &["make", "--", "--seed", "1"],
+        &["import", "--places"],
     ];
     for row in rows {
         let words = words_of(alloc, row)?;

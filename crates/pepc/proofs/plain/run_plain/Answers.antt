@@ -8,15 +8,19 @@ use Rattle.pepc.proofs.plain.run_plain.Goals as goal
 
 pub returns-in-Err-clause-report : goal.returns-in-Err-clause-report
 returns-in-Err-clause-report g c =
-    nothing_done (job_of (map string_bytes c.args.words.now)) (Rises (g.S.Source.faults c.args.source.now) (g.S.Source.faults c.args.source.now))
+    let faults = g.S.Source.faults c.args.source.now in
+    nothing_done (job_of (map string_bytes c.args.words.now)) (Rises faults faults)
     (g.S.Source.left c.args.source.now) (g.K.Sink.written c.args.sink.now)
 
 pub returns-in-Err-clause-complete : goal.returns-in-Err-clause-complete
-returns-in-Err-clause-complete g c = λ no_fault no_sink. nothing_completes (job_of (map string_bytes c.args.words.now)) (g.S.Source.left c.args.source.now)
+returns-in-Err-clause-complete g c = λ no_source no_sink.
+    nothing_completes (job_of (map string_bytes c.args.words.now)) (g.S.Source.left c.args.source.now)
 
 pub returns-in-Ok-Some-clause-complete : goal.returns-in-Ok-Some-clause-complete
 returns-in-Ok-Some-clause-complete g c =
-    let is : Some c.in-Ok-Some.asked ≡ job_of (map string_bytes c.args.words.now) = sym c.in-Ok-Some.field-0-is ∙ c.in-Ok-Some.ensures.job in
-    λ no_fault no_sink. subst (λ asked. Completes asked c.do_job.result (g.S.Source.left c.args.source.now)) is
-    (job_completes c.in-Ok-Some.asked c.do_job.result _ _ _ _ _ _ no_fault no_sink c.do_job.ensures.read_fault c.do_job.ensures.write_fault
-    c.do_job.ensures.no_usage c.do_job.ensures.does)
+    let is : Some c.in-Ok-Some.asked ≡ job_of (map string_bytes c.args.words.now) =
+    sym c.in-Ok-Some.field-0-is ∙ c.in-Ok-Some.ensures.job in
+    λ no_source no_sink.
+    subst (λ asked. Completes asked c.do_job.result (g.S.Source.left c.args.source.now)) is
+    (job_completes c.in-Ok-Some.asked c.do_job.result _ _ _ _ _ _ no_source no_sink c.do_job.ensures.read_fault
+    c.do_job.ensures.write_fault c.do_job.ensures.no_usage c.do_job.ensures.does)

@@ -1,9 +1,8 @@
-use Rattle.std.proofs.Common.{◌≡◌, ◌+◌, [], ◌∷◌, length, sym, subst}
+use Rattle.std.proofs.Common.{◌≡◌, ◌+◌, ◌<◌, ◌^◌, [], ◌∷◌, length, sym, subst, arith}
 use Rattle.trace_maker.specs.Generated.{made}
-use Rattle.trace_maker.specs.Order.{AreInOrder}
 use Rattle.pepc.specs.Counting.{Counting, CountsMore}
 use Rattle.pepc.proofs.EndLemmas.{sized_so}
-use Rattle.pepc.proofs.SummaryLemmas.{at_none, at_some, counting_begins, counting_ends, counting_goes_on}
+use Rattle.pepc.proofs.SummaryLemmas.{at_none, counting_begins, counting_ends, counting_goes_on, next_in_order, next_is}
 use Rattle.pepc.proofs.summary.counted.Goals as goal
 
 pub loop-report-init : goal.loop-report-init
@@ -14,17 +13,31 @@ loop-report-init c =
     c.args.subs c.args.lines c.requires.some c.requires.slots c.requires.most c.new-gateway.ensures
     c.new-size.ensures c.new-report.ensures.items c.new-counts.ensures)
 
+pub spend_line-requires-clause-room : goal.spend_line-requires-clause-room
+spend_line-requires-clause-room c =
+    let so_far = c.loop-report.invariant in
+    (_, so_far.so_far.stands, omega (arith, so_far.few))
+
+pub spend_line-requires-clause-late : goal.spend_line-requires-clause-late
+spend_line-requires-clause-late c =
+    let so_far = c.loop-report.invariant in
+    let in_order = next_in_order so_far (next_is c.in-Some.is c.in_ok-line.ensures.made) in
+    (so_far.done, so_far.least, _, _, so_far.so_far.stands, in_order.1)
+
 pub spend_line-requires-clause-sized : goal.spend_line-requires-clause-sized
 spend_line-requires-clause-sized c = sized_so c.loop-report.invariant.so_far
+
+pub spend_line-requires-clause-short : goal.spend_line-requires-clause-short
+spend_line-requires-clause-short c =
+    let in_order = next_in_order c.loop-report.invariant (next_is c.in-Some.is c.in_ok-line.ensures.made) in
+    omega (arith, in_order.2.short)
 
 pub loop-report-preserved : goal.loop-report-preserved
 loop-report-preserved c =
     let so_far = c.loop-report.invariant in
     let is_next : c.loop-report.maker ≡ c.in-Some.line ∷ c.made_line.new.maker =
-    at_some ((c.loop-report.maker ≡ []) × (c.made_line.new.maker ≡ []))
-    (λ line. c.loop-report.maker ≡ line ∷ c.made_line.new.maker) c.in_ok-line.field-0 c.in-Some.line c.in-Some.is
-    c.in_ok-line.ensures.made in
-    let in_order = subst (AreInOrder (length so_far.done + 1) so_far.least) is_next so_far.in_order in
+    next_is c.in-Some.is c.in_ok-line.ensures.made in
+    let in_order = next_in_order so_far is_next in
     counting_goes_on c.loop-report.gateway c.spend_line.new.gateway c.loop-report.size c.spend_line.new.size
     c.loop-report.counts c.spend_line.new.counts c.loop-report.report.items c.spend_line.new.report.items
     (made c.args.seed c.args.subs c.args.lines) c.loop-report.maker c.made_line.new.maker c.in-Some.line so_far is_next
