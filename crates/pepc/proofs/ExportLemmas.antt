@@ -1,5 +1,5 @@
 -- An export goes on, ends, or is cut.
-use Rattle.std.proofs.Common.{◌≡◌, ℕ, ◌+◌, ◌<◌, ◌≤◌, ◌^◌, ◌⊎◌, inl, inr, List, [], ◌∷◌, ◌++◌, length, flat_map, Option, None, Some, refl, sym, ap, ◌∙◌, subst, arith, append_assoc, append-nil, length-append}
+use Rattle.std.proofs.Common.{◌≡◌, ℕ, ◌+◌, ◌<◌, ◌≤◌, ◌^◌, inl, inr, List, [], ◌∷◌, ◌++◌, length, flat_map, Option, None, Some, refl, sym, ap, ◌∙◌, subst, arith, append_assoc, append-nil, length-append}
 use Rattle.std.specs.Io.KnownBytes.{Appends, prepend_known}
 use Rattle.std.proofs.KnownBytes.{Appends-nil, Appends-trans}
 use Rattle.std.proofs.lemmas.Grind.{flat_map-append}
@@ -15,11 +15,11 @@ use Rattle.pepc.specs.declared.run.Ending.{Ending}
 use Rattle.pepc.specs.declared.run.Ending.TheVariants.{Ended, ReadFault, BadLine, LineLong, TooLong}
 use Rattle.pepc.specs.declared.run.Unwritten.{Unwritten}
 use Rattle.pepc.specs.declared.run.Unwritten.TheVariants as unwritten
-use Rattle.pepc.specs.ExportProgress.{CutAt, ExportCuts, ExportEnds, ExportProgress, IsFirst, IsSent, Passes, Stays}
+use Rattle.pepc.specs.ExportProgress.{ExportCuts, ExportEnds, ExportProgress, IsFirst, Passes}
 use Rattle.pepc.specs.Next.{Tells}
 use Rattle.pepc.specs.Progress.{Begins, Fails, HasRead, Reached, Stops}
 use Rattle.pepc.specs.Told.{WhereTold}
-use Rattle.pepc.proofs.ReadLemmas.{begins_so, begins_more, fails_so, gives_last, gives_line, GivesLine, none_left, stops_so, told_more, told_next}
+use Rattle.pepc.proofs.ReadLemmas.{begins_so, begins_more, fails_so, GivesLine, none_left, stops_so, told_more, told_next}
 
 -- the capture of one line more
 pub export-push : (done : List Line) (line : Line) → export_of (done ++ line ∷ []) ≡ export_of done ++ record_of line

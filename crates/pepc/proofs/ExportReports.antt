@@ -1,5 +1,5 @@
 -- What an export wrote, by its status.
-use Rattle.std.proofs.Common.{◌≡◌, ℕ, ◌⊎◌, inl, inr, ◌+◌, List, [], ◌∷◌, ◌++◌, length, flat_map, Option, None, Some, refl, sym, ap, ◌∙◌, subst, append_assoc, append-nil}
+use Rattle.std.proofs.Common.{◌≡◌, ℕ, inl, inr, ◌+◌, List, [], ◌++◌, length, flat_map, Option, None, Some, refl, sym, ap, ◌∙◌, subst, append_assoc, append-nil}
 use Rattle.std.specs.Io.KnownBytes.{Appends}
 use Rattle.std.proofs.KnownBytes.{Appends-nil, Appends-trans}
 use Rattle.std.proofs.lemmas.Grind.{flat_map-append}
@@ -14,7 +14,7 @@ use Rattle.pepc.specs.declared.run.Unwritten.TheVariants as unwritten
 use Rattle.pepc.specs.declared.status.Status.{Status}
 use Rattle.pepc.specs.declared.status.Status.TheVariants as status
 use Rattle.pepc.specs.Export.{ExportReports, Exports, IsCutExport, input_export}
-use Rattle.pepc.specs.ExportProgress.{CutAt, ExportCuts, ExportEnds, IsSent}
+use Rattle.pepc.specs.ExportProgress.{CutAt, ExportCuts, ExportEnds}
 use Rattle.pepc.specs.Progress.{Begins, Reached, Stops, status_at, status_without}
 use Rattle.pepc.specs.Report.{IsBad, IsDone, IsLong}
 use Rattle.pepc.specs.Told.{WhereTold}

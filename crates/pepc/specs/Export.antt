@@ -1,7 +1,7 @@
 -- What a run of `export` wrote, by its status.
 use Rattle.std.specs.Prelude.{◌≡◌, ℕ, ◌⊎◌, List, [], ◌++◌, Option}
 use Rattle.std.specs.Io.KnownBytes.{Appends}
-use Rattle.trace_lines.specs.Input.{bad, long, big, ended, input_of}
+use Rattle.trace_lines.specs.Input.{big, ended, input_of}
 use Rattle.trace_lines.specs.Line.{Line}
 use Rattle.pcap_form.specs.Export.{export_of}
 use Rattle.pepc.specs.declared.status.Status.{Status}
