@@ -48,10 +48,12 @@ pub lasts_learnt : (learnt : Bool) (old new : ℕ) → new ≡ learnt_count lear
 lasts_learnt true old new e = lasts_raised old new e
 lasts_learnt false old new e = inl e
 
-pub lasts_at : {H : Type 0} (count : H → ℕ) (old new : List H) → map count new ≡ map count old → (k : ℕ) → Lasts (count_at count old k) (count_at count new k)
+pub lasts_at : {H : Type 0} (count : H → ℕ) (old new : List H) → map count new ≡ map count old → (k : ℕ)
+    → Lasts (count_at count old k) (count_at count new k)
 lasts_at count old new same k = inl (ap (λ l. get_or l k 0) same)
 
-module _ {H N : Type 0} (name : H → N) (at : ℕ) (before after : H) (old new : List H) (change : ChangedAt name at before after old new) where
+module _ {H N : Type 0} (name : H → N) (at : ℕ) (before after : H) (old new : List H)
+    (change : ChangedAt name at before after old new) where
   pub changed-map : {A : Type 0} (f : H → A) → f after ≡ f before → map f new ≡ map f old
   changed-map f same = ap (map f) change.changed ∙ map-set_same f old at after before (same ∙ ap f change.there)
 
@@ -76,7 +78,8 @@ module _ {H N : Type 0} (name : H → N) (at : ℕ) (before after : H) (old new 
   count_before f = get_or-map f old at before 0 change.within ∙ ap f (sym change.there)
 
   count_other : (f : H → ℕ) (other : ℕ) → other ≢ at → count_at f new other ≡ count_at f old other
-  count_other f other apart = ap (λ l. get_or l other 0) (as_set f) ∙ get_or-set_other (map f old) at other (f after) 0 apart
+  count_other f other apart = ap (λ l. get_or l other 0) (as_set f) ∙ get_or-set_other (map f old) at other
+      (f after) 0 apart
 
   -- a count that lasts at the changed half lasts at each
   pub changed_lasts : (f : H → ℕ) → Lasts (f before) (f after) → (k : ℕ) → Lasts (count_at f old k) (count_at f new k)
@@ -87,11 +90,14 @@ module _ {H N : Type 0} (name : H → N) (at : ℕ) (before after : H) (old new 
   ] refl
 
   pub changed_rises : (f : H → ℕ) → Rises (f before) (f after) → Rises (count_at f old at) (count_at f new at)
-  changed_rises f rises = subst (λ (p : ℕ × ℕ). Rises p.0 p.1) (λ i. (sym (count_before f) i, sym (count_now f) i)) rises
+  changed_rises f rises = subst (λ (p : ℕ × ℕ). Rises p.0 p.1)
+      (λ i. (sym (count_before f) i, sym (count_now f) i)) rises
 
 -- a value of the half at an index, where all values are the same
-pub read_same : {H A : Type 0} (f : H → A) (k : ℕ) (old new : List H) (none : H) → map f new ≡ map f old → k < length new
+pub read_same : {H A : Type 0} (f : H → A) (k : ℕ) (old new : List H) (none : H) → map f new ≡ map f old
+    → k < length new
     → f (get_or new k none) ≡ f (get_or old k none)
 read_same f k old new none same within =
     let long : length new ≡ length old = sym (length-map new f) ∙ ap length same ∙ length-map old f in
-    sym (get_or-map f new k none (f none) within) ∙ ap (λ l. get_or l k (f none)) same ∙ get_or-map f old k none (f none) (omega arith)
+    sym (get_or-map f new k none (f none) within) ∙ ap (λ l. get_or l k (f none)) same ∙ get_or-map f old k none
+    (f none) (omega arith)

@@ -43,7 +43,8 @@ module _ {H : Type 0} (slot : H → ℕ) (s : ℕ) where
   none_found (x ∷ xs) none =
       let one : H → ℕ = λ _. 1 in
       let a = sum_by-cons (on one) x xs in
-      elim (nat_eq (slot x) s) as (λ t. nat_eq (slot x) s ≡ t → (t || list_any (λ half. nat_eq (slot half) s) xs) ≡ false → count (x ∷ xs) ≡ 0) [
+      elim (nat_eq (slot x) s) as (λ t. nat_eq (slot x) s ≡ t
+      → (t || list_any (λ half. nat_eq (slot half) s) xs) ≡ false → count (x ∷ xs) ≡ 0) [
         | true ↦ λ e no. absurd (true≢false no)
         | false ↦ λ e no. let c : on one x ≡ 0 = ap (λ t. cond t 1 0) e in let h = none_found xs no in omega arith
       ] refl none
@@ -71,7 +72,8 @@ module _ {H : Type 0} (slot : H → ℕ) (s : ℕ) where
         let b : on g (get_or xs k x) ≡ g x = ap (on g) (sym there) ∙ own g x is in
         let c = without g is few in omega arith
 
-    pub set_other : (g : H → ℕ) (y : H) → slot x ≢ s → slot y ≢ s → slot_sum slot s g (set xs k y) ≡ slot_sum slot s g xs
+    pub set_other : (g : H → ℕ) (y : H) → slot x ≢ s → slot y ≢ s
+        → slot_sum slot s g (set xs k y) ≡ slot_sum slot s g xs
     set_other g y apart away =
         let a = sum_by-set (on g) xs k y x within in
         let b : on g (get_or xs k x) ≡ 0 = ap (on g) (sym there) ∙ foreign g x apart in
@@ -85,22 +87,27 @@ module _ {H : Type 0} (slot : H → ℕ) (s : ℕ) where
         let d = alone g is few in omega arith
 
 module _ {H I : Type 0} (slot : H → ℕ) (handled : H → List I) (s : ℕ) where
-  pub lists-append : (xs ys : List H) → lists_of slot handled s (xs ++ ys) ≡ lists_of slot handled s xs ++ lists_of slot handled s ys
+  pub lists-append : (xs ys : List H)
+      → lists_of slot handled s (xs ++ ys) ≡ lists_of slot handled s xs ++ lists_of slot handled s ys
   lists-append [] ys = refl
-  lists-append (x ∷ xs) ys = elim (nat_eq (slot x) s) as (λ b. cond b (handled x ∷ lists_of slot handled s (xs ++ ys)) (lists_of slot handled s (xs ++ ys))
+  lists-append (x ∷ xs) ys = elim (nat_eq (slot x) s) as
+      (λ b. cond b (handled x ∷ lists_of slot handled s (xs ++ ys)) (lists_of slot handled s (xs ++ ys))
       ≡ cond b (handled x ∷ lists_of slot handled s xs) (lists_of slot handled s xs) ++ lists_of slot handled s ys) [
         | true ↦ ap (λ l. handled x ∷ l) (lists-append xs ys)
         | false ↦ lists-append xs ys
       ]
 
   -- what the lists weigh is what their halves do
-  pub lists-sum : (h : List I → ℕ) (xs : List H) → sum_by h (lists_of slot handled s xs) ≡ slot_sum slot s (λ half. h (handled half)) xs
+  pub lists-sum : (h : List I → ℕ) (xs : List H)
+      → sum_by h (lists_of slot handled s xs) ≡ slot_sum slot s (λ half. h (handled half)) xs
   lists-sum h [] = refl
   lists-sum h (x ∷ xs) =
       let g : H → ℕ = λ half. h (handled half) in
       let b = sum_by-cons (on slot s g) x xs in
       let later = lists-sum h xs in
-      elim (nat_eq (slot x) s) as (λ t. nat_eq (slot x) s ≡ t → sum_by h (cond t (handled x ∷ lists_of slot handled s xs) (lists_of slot handled s xs)) ≡ sum_by (on slot s g) (x ∷ xs)) [
+      elim (nat_eq (slot x) s) as (λ t. nat_eq (slot x) s ≡ t
+      → sum_by h (cond t (handled x ∷ lists_of slot handled s xs) (lists_of slot handled s xs))
+      ≡ sum_by (on slot s g) (x ∷ xs)) [
         | true ↦ λ e. let c : on slot s g x ≡ h (handled x) = ap (λ t. cond t (h (handled x)) 0) e in
             let d = sum_by-cons h (handled x) (lists_of slot handled s xs) in omega arith
         | false ↦ λ e. let c : on slot s g x ≡ 0 = ap (λ t. cond t (h (handled x)) 0) e in omega arith
@@ -109,16 +116,18 @@ module _ {H I : Type 0} (slot : H → ℕ) (handled : H → List I) (s : ℕ) wh
 -- where a search finds none, none passes
 from_none : {X : Type 0} (p : X → Bool) (i : ℕ) (xs : List X) → position_from p i xs ≡ None → list_any p xs ≡ false
 from_none p i [] e = refl
-from_none p i (x ∷ xs) e = elim (p x) as (λ b. cond b (Some i) (position_from p (i + 1) xs) ≡ None → (b || list_any p xs) ≡ false) [
-  | true ↦ λ e. absurd (none-some i (sym e))
-  | false ↦ λ e. from_none p (i + 1) xs e
-] e
+from_none p i (x ∷ xs) e = elim (p x) as (λ b. cond b (Some i) (position_from p (i + 1) xs) ≡ None
+    → (b || list_any p xs) ≡ false) [
+      | true ↦ λ e. absurd (none-some i (sym e))
+      | false ↦ λ e. from_none p (i + 1) xs e
+    ] e
 
 pub none_positioned : {X : Type 0} (p : X → Bool) (xs : List X) → position p xs ≡ None → list_any p xs ≡ false
 none_positioned p xs e = from_none p 0 xs (sym (position_from-zero p xs) ∙ e)
 
 -- the first that a search finds
-pub found_positioned : {H : Type 0} (slot : H → ℕ) (s : ℕ) (xs : List H) (k : ℕ) → position (λ half. nat_eq (slot half) s) xs ≡ Some k
+pub found_positioned : {H : Type 0} (slot : H → ℕ) (s : ℕ) (xs : List H) (k : ℕ)
+    → position (λ half. nat_eq (slot half) s) xs ≡ Some k
     → (k < length xs) × ((none : H) → slot (get_or xs k none) ≡ s)
 found_positioned slot s [] k e = absurd (none-some k e)
 found_positioned {H} slot s (x ∷ xs) k e =
@@ -127,12 +136,14 @@ found_positioned {H} slot s (x ∷ xs) k e =
       λ none. eqb-true (slot (get_or (x ∷ xs) k none)) s (position-Some test (x ∷ xs) k none e).1,
     )
 
-pub if_found : {H : Type 0} (slot : H → ℕ) (s : ℕ) (xs : List H) (o : Option ℕ) → o ≡ position (λ half. nat_eq (slot half) s) xs
+pub if_found : {H : Type 0} (slot : H → ℕ) (s : ℕ) (xs : List H) (o : Option ℕ)
+    → o ≡ position (λ half. nat_eq (slot half) s) xs
     → IfSome o (λ k. (k < length xs) × ((none : H) → slot (get_or xs k none) ≡ s))
 if_found slot s xs None e = tt
 if_found slot s xs (Some k) e = found_positioned slot s xs k (sym e)
 
-pub if_none : {H : Type 0} (slot : H → ℕ) (s : ℕ) (xs : List H) (o : Option ℕ) → o ≡ position (λ half. nat_eq (slot half) s) xs
+pub if_none : {H : Type 0} (slot : H → ℕ) (s : ℕ) (xs : List H) (o : Option ℕ)
+    → o ≡ position (λ half. nat_eq (slot half) s) xs
     → IsNone o → list_any (λ half. nat_eq (slot half) s) xs ≡ false
 if_none slot s xs None e none = none_positioned (λ half. nat_eq (slot half) s) xs (sym e)
 if_none slot s xs (Some k) e none = absurd (true≢false none)

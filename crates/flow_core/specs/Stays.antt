@@ -17,7 +17,8 @@ NamesKept {H} {I} {N} name came held left =
     (h : N → ℕ) → weight name h (halves_in came) ≡ weight name h held + weight name h left
 
 module _ {H I : Type 0} (slot : H → ℕ) (item_slot : I → ℕ) (handled : H → List I) where
-  -- of each slot one half is held just where one stands there, and it handled what came for it, in order, but for a kept item: so numbers of what was handled add up
+  -- of each slot one half is held just where one stands there, and it handled what came for it, in order, but for a
+  -- kept item: so numbers of what was handled add up
   abbrev pub Holds : List (FlowOrder H I) → List H → Option I → Type 0
   Holds came held kept = (s : ℕ) (h : List I → ℕ)
       → slot_sum slot s (λ half. h (with_kept item_slot s kept (handled half))) held

@@ -31,11 +31,13 @@ module _ {H I : Type 0} (handled : H → List I) (takes : H → I → Bool) (ask
     pub counted : learns after ≡ learns_after result (learns before)
     pub same : result ≡ Ok false → (x : I) → takes after x ≡ takes before x
 
-  -- what became of an item that was handed to its half: it was handled; or the half doesn't take it though it was asked, and learnt something or not
+  -- what became of an item that was handed to its half: it was handled; or the half doesn't take it though it was
+  -- asked, and learnt something or not
   abbrev pub Handed : Tried → I → H → H → Type 0
   Handed Handled x before after = (handled after ≡ handled before ++ x ∷ []) × Lasts (learns before) (learns after)
   Handed (Waits learnt) x before after =
-      (handled after ≡ handled before) × (asks after ≡ raised (asks before)) × (learns after ≡ learnt_count learnt (learns before)) × (takes after x ≡ false)
+      (handled after ≡ handled before) × (asks after ≡ raised (asks before))
+      × (learns after ≡ learnt_count learnt (learns before)) × (takes after x ≡ false)
 
 -- nothing but the halves that are held changed, and perhaps the kept item and the cursor
 pub record SameAbout {H I : Type 0} (old new : View H I) : Type 0 where
@@ -61,25 +63,33 @@ module _ {H I : Type 0} where
   WasSent Absent old new = new ≡ old
   WasSent Home old new = WentHome old new
   WasSent Refused old new = (half : H) × (old.waiting ≡ Some half) × (new.fulls ≡ raised old.fulls)
-      × (new.took ≡ old.took) × (new.gone ≡ old.gone) × (new.held ≡ old.held) × (new.waiting ≡ old.waiting) × (new.kept ≡ old.kept)
+      × (new.took ≡ old.took) × (new.gone ≡ old.gone) × (new.held ≡ old.held) × (new.waiting ≡ old.waiting)
+      × (new.kept ≡ old.kept)
 
   -- an order was taken, or none was there
   abbrev pub TookOrder : Took → View H I → View H I → Type 0
   TookOrder Nothing old new = (new.took ≡ old.took) × (new.gone ≡ old.gone) × (new.waiting ≡ old.waiting)
       × (new.held ≡ old.held) × (new.kept ≡ old.kept) × (new.cursor ≡ old.cursor) × (new.empties ≡ raised old.empties)
-  TookOrder Arrived old new = (half : H) × (new.took ≡ old.took ++ Arrive half ∷ []) × (new.gone ≡ old.gone) × (new.waiting ≡ old.waiting) × (new.kept ≡ old.kept)
-  TookOrder Left old new = (slot : ℕ) × (new.took ≡ old.took ++ Leave slot ∷ []) × (new.gone ≡ old.gone) × (new.kept ≡ old.kept)
-  TookOrder Kept old new = (x : I) × (new.took ≡ old.took ++ Item x ∷ []) × (new.gone ≡ old.gone) × (new.waiting ≡ old.waiting)
+  TookOrder Arrived old new = (half : H) × (new.took ≡ old.took ++ Arrive half ∷ []) × (new.gone ≡ old.gone)
+      × (new.waiting ≡ old.waiting) × (new.kept ≡ old.kept)
+  TookOrder Left old new = (slot : ℕ) × (new.took ≡ old.took ++ Leave slot ∷ []) × (new.gone ≡ old.gone)
+      × (new.kept ≡ old.kept)
+  TookOrder Kept old new = (x : I) × (new.took ≡ old.took ++ Item x ∷ []) × (new.gone ≡ old.gone)
+      × (new.waiting ≡ old.waiting)
       × (new.held ≡ old.held) × (new.kept ≡ Some x) × (new.cursor ≡ old.cursor)
 
--- what went on for a while: markers and handled items don't become fewer, and where no marker came the halves stayed where they were
+-- what went on for a while: markers and handled items don't become fewer, and where no marker came the halves stayed
+-- where they were
 pub record Along {H I : Type 0} (learns : H → ℕ) (old new : View H I) : Type 0 where
   pub marked : count_by is_marker old.took ≤ count_by is_marker new.took
-  pub handles : count_by is_item old.took + length (option_to_list new.kept) ≤ count_by is_item new.took + length (option_to_list old.kept)
+  pub handles : count_by is_item old.took + length (option_to_list new.kept)
+      ≤ count_by is_item new.took + length (option_to_list old.kept)
   pub aligned : count_by is_marker new.took ≡ count_by is_marker old.took
-      → (length new.held ≡ length old.held) × ((k : ℕ) → Lasts (count_at learns old.held k) (count_at learns new.held k))
+      → (length new.held ≡ length old.held)
+      × ((k : ℕ) → Lasts (count_at learns old.held k) (count_at learns new.held k))
 
-module _ {H I N : Type 0} (name : H → N) (slot : H → ℕ) (item_slot : I → ℕ) (handled : H → List I) (takes : H → I → Bool) (asks learns : H → ℕ) where
+module _ {H I N : Type 0} (name : H → N) (slot : H → ℕ) (item_slot : I → ℕ) (handled : H → List I) (takes : H → I
+    → Bool) (asks learns : H → ℕ) where
   -- the kept item was handed to its half
   pub record TriedKept (tried : Tried) (old new : View H I) : Type 0 where
     pub at : ℕ

@@ -7,7 +7,9 @@ use Rattle.flow_core.specs.declared.order.FlowOrder.TheVariants.{Arrive, Item, L
 use Rattle.flow_core.specs.Orders.{is_marker, is_item}
 use Rattle.flow_core.specs.Counts.{Rises, count_at}
 
--- what a worker has: the orders that it took and the halves that it sent home; those that it holds, in the order in which they came; the half that waits to go home, and the kept item; where its next turn begins; and how often its lane home was full and its lane of orders empty
+-- what a worker has: the orders that it took and the halves that it sent home; those that it holds, in the order in
+-- which they came; the half that waits to go home, and the kept item; where its next turn begins; and how often its
+-- lane home was full and its lane of orders empty
 pub record View (H I : Type 0) : Type 0 where
   pub took : List (FlowOrder H I)
   pub gone : List H
@@ -37,11 +39,13 @@ module _ {H I : Type 0} where
 
   -- an item was handled: more are taken that aren't kept
   abbrev pub HandledItem : View H I → View H I → Type 0
-  HandledItem old new = count_by is_item old.took + length (option_to_list new.kept) < count_by is_item new.took + length (option_to_list old.kept)
+  HandledItem old new = count_by is_item old.took + length (option_to_list new.kept)
+      < count_by is_item new.took + length (option_to_list old.kept)
 
   -- a half that was held learnt something
   abbrev pub Learnt : (H → ℕ) → View H I → View H I → Type 0
-  Learnt learns old new = (k : ℕ) × (k < length old.held) × Rises (count_at learns old.held k) (count_at learns new.held k)
+  Learnt learns old new = (k : ℕ) × (k < length old.held)
+      × Rises (count_at learns old.held k) (count_at learns new.held k)
 
   -- why a turn worked
   abbrev pub HasWorked : (H → ℕ) → View H I → View H I → Type 0
@@ -53,7 +57,8 @@ module _ {H I : Type 0} where
       ⊎ ((x : I) × (old.kept ≡ None) × (new.took ≡ old.took ++ Item x ∷ []) × (new.kept ≡ Some x))
 
 -- no half came, went, learnt or handled anything, and an item at most was taken, which is kept
-pub record Rested {H I N : Type 0} (name : H → N) (handled : H → List I) (learns : H → ℕ) (old new : View H I) : Type 0 where
+pub record Rested {H I N : Type 0} (name : H → N) (handled : H → List I) (learns : H → ℕ)
+    (old new : View H I) : Type 0 where
   pub gone : new.gone ≡ old.gone
   pub waiting : new.waiting ≡ old.waiting
   pub names : map name new.held ≡ map name old.held
@@ -68,7 +73,8 @@ module _ {H I : Type 0} (asks : H → ℕ) where
 
   -- the half at the cursor was asked, if any is held, and the cursor went on by one
   abbrev pub CursorAsked : View H I → View H I → Type 0
-  CursorAsked old new = 0 < length old.held → Asked old.cursor old new × (new.cursor ≡ wrapped (old.cursor + 1) (length old.held))
+  CursorAsked old new = 0 < length old.held → Asked old.cursor old new
+      × (new.cursor ≡ wrapped (old.cursor + 1) (length old.held))
 
   -- the half of the kept item doesn't take it, though it was asked to learn
   pub record KeptWaits (slot : H → ℕ) (item_slot : I → ℕ) (takes : H → I → Bool) (old new : View H I) : Type 0 where
@@ -80,7 +86,8 @@ module _ {H I : Type 0} (asks : H → ℕ) where
     pub refused : (none : H) → takes (slice_index_or new.held at none) item ≡ false
     pub asked : Asked at old new
 
-  -- why a turn was idle: the lane home was full; or the lane of orders was empty, or the kept item waits, and then the half at the cursor was asked too
+  -- why a turn was idle: the lane home was full; or the lane of orders was empty, or the kept item waits, and then the
+  -- half at the cursor was asked too
   abbrev pub HasIdled : (H → ℕ) → (I → ℕ) → (H → I → Bool) → View H I → View H I → Type 0
   HasIdled slot item_slot takes old new =
       ((half : H) × (old.waiting ≡ Some half) × (new.fulls ≡ raised old.fulls))

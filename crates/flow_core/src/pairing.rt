@@ -27,7 +27,8 @@ pub fn flow_pair<H: Flow>(
 ) -> Result<(FlowDesk<H>, FlowWorker<H>), NoMemory>
     requires { (1 ≤ lane_room) × (lane_room ≤ 16384) }
     ensures lanes { IfOk result (λ made. desk_lanes made.0 ≡ worker_lanes made.1) }
-    ensures rooms { IfOk result (λ made. ((sender_lane made.0.orders).room ≡ lane_room) × ((receiver_lane made.0.home).room ≡ 64)) }
+    ensures rooms { IfOk result (λ made. ((sender_lane made.0.orders).room ≡ lane_room)
+        × ((receiver_lane made.0.home).room ≡ 64)) }
     ensures place { IfOk result (λ made. place_of made.1 ≡ place) }
     ensures empty { IfOk result (λ made. held_of made.1 ≡ []) }
     ensures new { IfOk result (λ made. IsNewDesk made.0) }

@@ -42,7 +42,8 @@ impl Seen {
 
     // Where the half of a slot stands.
     pub fn find<H: FlowKind>(&self, held: &[H], slot: Slot) -> Option<usize>
-        ensures found { IfSome result (λ k. (k < length held.now) × ((none : H) → H.slot_of_half (slice_index_or held.now k none) ≡ slot)) }
+        ensures found { IfSome result (λ k. (k < length held.now)
+            × ((none : H) → H.slot_of_half (slice_index_or held.now k none) ≡ slot)) }
         ensures none { IsNone result → list_any (λ half. H.slot_of_half half == slot) held.now ≡ false }
     {
         match self.guess(held, slot) {
@@ -53,7 +54,8 @@ impl Seen {
 
     // The index that was noted, if it is right.
     fn guess<H: FlowKind>(&self, held: &[H], slot: Slot) -> Option<usize>
-        ensures { IfSome result (λ k. (k < length held.now) × ((none : H) → H.slot_of_half (slice_index_or held.now k none) ≡ slot)) }
+        ensures { IfSome result (λ k. (k < length held.now)
+            × ((none : H) → H.slot_of_half (slice_index_or held.now k none) ≡ slot)) }
     {
         let at = *self.at.get(slot.0 as usize)?;
         if at < held.len() && held[at].slot() == slot {

@@ -89,9 +89,11 @@ pub fn hand_at<H: Flow, R: Wait>(
 ) -> Result<Tried, NoMemory>
     requires { at < vec_len held.old }
     ensures len { vec_len held.new ≡ vec_len held.old }
-    ensures changed { IfOk result (λ tried. (before : H) × (after : H) × ChangedAt H.name at before after held.old.items held.new.items
+    ensures changed { IfOk result (λ tried. (before : H) × (after : H)
+        × ChangedAt H.name at before after held.old.items held.new.items
         × Handed H.handled H.takes H.asks H.learns tried item.now before after) }
-    ensures err { OnErr result ((before : H) × (after : H) × ChangedAt H.name at before after held.old.items held.new.items
+    ensures err { OnErr result ((before : H) × (after : H)
+        × ChangedAt H.name at before after held.old.items held.new.items
         × (H.handled after ≡ H.handled before)) }
 {
     hand(rt, &mut held[at], place, item)

@@ -37,7 +37,8 @@ pub struct FlowWorker<H: Flow> {
     home: Sender<H>,
     pub ghost names: { NamesKept H.name (taken orders) held.items (sent home ++ option_to_list waiting) },
     pub ghost holds: { Holds (λ half. H.slot_at (H.name half)) H.item_slot H.handled (taken orders) held.items kept },
-    pub ghost sends: { Sends (λ half. H.slot_at (H.name half)) H.item_slot H.handled (taken orders) (sent home ++ option_to_list waiting) },
+    pub ghost sends: { Sends (λ half. H.slot_at (H.name half)) H.item_slot H.handled (taken orders)
+        (sent home ++ option_to_list waiting) },
     pub ghost stands: { KeptStands (λ half. H.slot_at (H.name half)) H.item_slot H.handled (taken orders) kept },
     ghost within: { 0 < cursor → cursor < vec_len held },
 }
@@ -53,7 +54,8 @@ pub struct FlowEnd<H: Flow> {
     pub home: Sender<H>,
     pub ghost names: { NamesKept H.name (taken orders) held.items (sent home ++ option_to_list waiting) },
     pub ghost holds: { Holds (λ half. H.slot_at (H.name half)) H.item_slot H.handled (taken orders) held.items kept },
-    pub ghost sends: { Sends (λ half. H.slot_at (H.name half)) H.item_slot H.handled (taken orders) (sent home ++ option_to_list waiting) },
+    pub ghost sends: { Sends (λ half. H.slot_at (H.name half)) H.item_slot H.handled (taken orders)
+        (sent home ++ option_to_list waiting) },
     pub ghost stands: { KeptStands (λ half. H.slot_at (H.name half)) H.item_slot H.handled (taken orders) kept },
 }
 
@@ -143,9 +145,11 @@ impl<H: Flow> FlowWorker<H> {
         ensures left { result ≡ Ok Served.Left → TookMarker (view_of self.old) (view_of self.new) }
         ensures waiting { IfOk result (λ served. served ≢ Served.Left → waiting_of self.new ≡ waiting_of self.old) }
         ensures worked { result ≡ Ok (Served.Stopped true)
-            → HasServed H.name (λ half. H.slot_at (H.name half)) H.item_slot H.handled H.takes H.asks H.learns (view_of self.old) (view_of self.new) }
+            → HasServed H.name (λ half. H.slot_at (H.name half)) H.item_slot H.handled H.takes H.asks H.learns
+            (view_of self.old) (view_of self.new) }
         ensures idle { result ≡ Ok (Served.Stopped false)
-            → NotServed H.name (λ half. H.slot_at (H.name half)) H.item_slot H.handled H.takes H.asks H.learns (view_of self.old) (view_of self.new) }
+            → NotServed H.name (λ half. H.slot_at (H.name half)) H.item_slot H.handled H.takes H.asks H.learns
+            (view_of self.old) (view_of self.new) }
     {
         let mut worked = false;
         for _ in 0..ORDERS {
@@ -167,7 +171,8 @@ impl<H: Flow> FlowWorker<H> {
         requires none { waiting_of self.old ≡ None }
         ensures lanes { worker_lanes self.new ≡ worker_lanes self.old }
         ensures place { place_of self.new ≡ place_of self.old }
-        ensures done { IfOk result (λ step. Ordered H.name (λ half. H.slot_at (H.name half)) H.item_slot H.handled H.takes H.asks H.learns step
+        ensures done { IfOk result
+            (λ step. Ordered H.name (λ half. H.slot_at (H.name half)) H.item_slot H.handled H.takes H.asks H.learns step
             (view_of self.old) (view_of self.new)) }
     {
         if self.kept.is_some() {
@@ -187,7 +192,8 @@ impl<H: Flow> FlowWorker<H> {
         ensures lanes { worker_lanes self.new ≡ worker_lanes self.old }
         ensures place { place_of self.new ≡ place_of self.old }
         ensures done { IfOk result (λ step. (tried : Tried) × (step ≡ step_of tried)
-            × TriedKept H.name (λ half. H.slot_at (H.name half)) H.item_slot H.handled H.takes H.asks H.learns tried (view_of self.old) (view_of self.new)) }
+            × TriedKept H.name (λ half. H.slot_at (H.name half)) H.item_slot H.handled H.takes H.asks H.learns tried
+            (view_of self.old) (view_of self.new)) }
     {
         match self.try_kept(rt)? {
             Tried::Handled => Ok(Step::Done),
@@ -235,7 +241,9 @@ impl<H: Flow> FlowWorker<H> {
         requires kept { kept_of self.old ≢ None }
         ensures lanes { worker_lanes self.new ≡ worker_lanes self.old }
         ensures place { place_of self.new ≡ place_of self.old }
-        ensures tried { IfOk result (λ tried. TriedKept H.name (λ half. H.slot_at (H.name half)) H.item_slot H.handled H.takes H.asks H.learns tried
+        ensures tried { IfOk result
+            (λ tried. TriedKept H.name
+            (λ half. H.slot_at (H.name half)) H.item_slot H.handled H.takes H.asks H.learns tried
             (view_of self.old) (view_of self.new)) }
     {
         let Some(item) = self.kept.take() else {
@@ -261,7 +269,9 @@ impl<H: Flow> FlowWorker<H> {
     fn learn_next<R: Wait>(&mut self, rt: &R) -> Result<bool, NoMemory>
         ensures lanes { worker_lanes self.new ≡ worker_lanes self.old }
         ensures place { place_of self.new ≡ place_of self.old }
-        ensures learnt { IfOk result (λ learnt. LearntNext H.name (λ half. H.slot_at (H.name half)) H.item_slot H.handled H.takes H.asks H.learns learnt
+        ensures learnt { IfOk result
+            (λ learnt. LearntNext H.name
+            (λ half. H.slot_at (H.name half)) H.item_slot H.handled H.takes H.asks H.learns learnt
             (view_of self.old) (view_of self.new)) }
     {
         if self.held.is_empty() {

@@ -10,7 +10,8 @@ use Rattle.flow_core.proofs.worker.FlowWorker.do_order.Goals as goal
 pub returns-then-is_some-clause-done : goal.returns-then-is_some-clause-done
 returns-then-is_some-clause-done g c =
     IfOk-weaker c.do_kept.result _ _ (λ step did.
-    ordered_kept g.H.Flow.name g.H.Flow.slot_at g.H.Flow.item_slot g.H.Flow.handled g.H.Flow.takes g.H.Flow.asks g.H.Flow.learns did.0 step
+    ordered_kept g.H.Flow.name g.H.Flow.slot_at g.H.Flow.item_slot g.H.Flow.handled g.H.Flow.takes g.H.Flow.asks
+    g.H.Flow.learns did.0 step
     (view_of c.args.self.now) (view_of c.do_kept.new.self) did.1 did.2) c.do_kept.ensures.done
 
 pub returns-in-Kept-clause-done : goal.returns-in-Kept-clause-done
@@ -18,5 +19,7 @@ returns-in-Kept-clause-done g c =
     let free : c.args.self.now.kept ≡ None = search rules in
     let took : TookOrder Kept (view_of c.args.self.now) (view_of c.take_order.new.self) = search rules in
     IfOk-weaker c.do_kept-in-Kept.result _ _ (λ step did.
-    ordered_taken g.H.Flow.name g.H.Flow.slot_at g.H.Flow.item_slot g.H.Flow.handled g.H.Flow.takes g.H.Flow.asks g.H.Flow.learns did.0 step
-    (view_of c.args.self.now) (view_of c.take_order.new.self) (view_of c.do_kept-in-Kept.new.self) free took did.1 did.2) c.do_kept-in-Kept.ensures.done
+    ordered_taken g.H.Flow.name g.H.Flow.slot_at g.H.Flow.item_slot g.H.Flow.handled g.H.Flow.takes g.H.Flow.asks
+    g.H.Flow.learns did.0 step
+    (view_of c.args.self.now) (view_of c.take_order.new.self)
+    (view_of c.do_kept-in-Kept.new.self) free took did.1 did.2) c.do_kept-in-Kept.ensures.done

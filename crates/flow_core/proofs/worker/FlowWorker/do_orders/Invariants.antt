@@ -12,6 +12,8 @@ invariant-loop g l =
     × (l.self.waiting ≡ None)
     × (sent l.self.home ≡ sent l.fn.self.home)
     × Along g.H.Flow.learns (view_of l.fn.self) (view_of l.self)
-    × (l.worked ≡ true → HasServed g.H.Flow.name (λ half. g.H.Flow.slot_at (g.H.Flow.name half)) g.H.Flow.item_slot g.H.Flow.handled g.H.Flow.takes g.H.Flow.asks
+    × (l.worked ≡ true
+    → HasServed g.H.Flow.name
+    (λ half. g.H.Flow.slot_at (g.H.Flow.name half)) g.H.Flow.item_slot g.H.Flow.handled g.H.Flow.takes g.H.Flow.asks
     g.H.Flow.learns (view_of l.fn.self) (view_of l.self))
     × (l.worked ≡ false → (view_of l.self ≡ view_of l.fn.self) × (l.counter ≡ 0))

@@ -8,14 +8,18 @@ pub invariant_of-self : goal.invariant_of-self
 invariant_of-self g c =
     let w = c.args.self.now in
     let change = c.learn_at.ensures.changed in
-    let knows = knows_same g.H.Flow.name g.H.Flow.slot_at g.H.Flow.item_slot g.H.Flow.handled (taken w.orders) w.held.items c.learn_at.new.held.items
-    w.kept (sent w.home ++ option_to_list w.waiting) w.cursor change.0 change.1 change.2 change.3.lists (w.names, w.holds, w.sends, w.stands) in
+    let knows = knows_same g.H.Flow.name g.H.Flow.slot_at g.H.Flow.item_slot g.H.Flow.handled
+    (taken w.orders) w.held.items c.learn_at.new.held.items
+    w.kept (sent w.home ++ option_to_list w.waiting) w.cursor change.0 change.1 change.2 change.3.lists
+    (w.names, w.holds, w.sends, w.stands) in
     record { names = knows.0; holds = knows.1; sends = knows.2; stands = knows.3; within = search rules }
 
 pub invariant_of-self-2 : goal.invariant_of-self-2
 invariant_of-self-2 g c =
     let w = c.args.self.now in
     let change = c.learn_at.ensures.changed in
-    let knows = knows_same g.H.Flow.name g.H.Flow.slot_at g.H.Flow.item_slot g.H.Flow.handled (taken w.orders) w.held.items c.learn_at.new.held.items
-    w.kept (sent w.home ++ option_to_list w.waiting) w.cursor change.0 change.1 change.2 change.3.lists (w.names, w.holds, w.sends, w.stands) in
+    let knows = knows_same g.H.Flow.name g.H.Flow.slot_at g.H.Flow.item_slot g.H.Flow.handled
+    (taken w.orders) w.held.items c.learn_at.new.held.items
+    w.kept (sent w.home ++ option_to_list w.waiting) w.cursor change.0 change.1 change.2 change.3.lists
+    (w.names, w.holds, w.sends, w.stands) in
     record { names = knows.0; holds = knows.1; sends = knows.2; stands = knows.3; within = search rules }

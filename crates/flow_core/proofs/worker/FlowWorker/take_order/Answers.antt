@@ -11,15 +11,19 @@ use Rattle.flow_core.proofs.worker.FlowWorker.take_order.Goals as goal
 pub invariant_of-self : goal.invariant_of-self
 invariant_of-self g c =
     let w = c.args.self.now in
-    let knows = knows_lists g.H.Flow.name g.H.Flow.slot_at g.H.Flow.item_slot g.H.Flow.handled (taken w.orders) (taken w.orders) w.held.items c.reserve.new.self.items
-    w.kept (sent w.home ++ option_to_list w.waiting) refl c.reserve.ensures.items (w.names, w.holds, w.sends, w.stands) in
+    let knows = knows_lists g.H.Flow.name g.H.Flow.slot_at g.H.Flow.item_slot g.H.Flow.handled (taken w.orders)
+    (taken w.orders) w.held.items c.reserve.new.self.items
+    w.kept (sent w.home ++ option_to_list w.waiting) refl c.reserve.ensures.items
+    (w.names, w.holds, w.sends, w.stands) in
     record { names = knows.0; holds = knows.1; sends = knows.2; stands = knows.3; within = search rules }
 
 pub invariant_of-self-in_default : goal.invariant_of-self-in_default
 invariant_of-self-in_default g c =
     let w = c.args.self.now in
-    let knows = knows_lists g.H.Flow.name g.H.Flow.slot_at g.H.Flow.item_slot g.H.Flow.handled (taken w.orders) (taken c.take.new.self) w.held.items c.reserve.new.self.items
-    w.kept (sent w.home ++ option_to_list w.waiting) c.in_default.ensures.next.0 c.reserve.ensures.items (w.names, w.holds, w.sends, w.stands) in
+    let knows = knows_lists g.H.Flow.name g.H.Flow.slot_at g.H.Flow.item_slot g.H.Flow.handled (taken w.orders)
+    (taken c.take.new.self) w.held.items c.reserve.new.self.items
+    w.kept (sent w.home ++ option_to_list w.waiting) c.in_default.ensures.next.0 c.reserve.ensures.items
+    (w.names, w.holds, w.sends, w.stands) in
     record { names = knows.0; holds = knows.1; sends = knows.2; stands = knows.3; within = search rules }
 
 pub invariant_of-self-in-Arrive : goal.invariant_of-self-in-Arrive
@@ -28,11 +32,16 @@ invariant_of-self-in-Arrive g c =
     let laws = g.met.H.Flow g.world.𝓛 g.world.𝓜 g.world.𝓡 ((λ s x. x), (λ x. x), (λ x. x), λ x. x) in
     let came : taken c.take.new.self ≡ taken w.orders ++ Arrive c.in-Arrive.half ∷ [] =
     c.in-Some.ensures.next.0 ∙ ap (λ o. taken w.orders ++ o ∷ []) c.in-Arrive.is in
-    let law = law_last g.H.FlowKind.slot_of_half (λ half. g.H.Flow.slot_at (g.H.Flow.name half)) g.H.FlowKind.slot_of_item g.H.Flow.item_slot laws.half_slots laws.item_slots
+    let law = law_last g.H.FlowKind.slot_of_half
+    (λ half. g.H.Flow.slot_at (g.H.Flow.name half)) g.H.FlowKind.slot_of_item g.H.Flow.item_slot laws.half_slots
+    laws.item_slots
     (taken w.orders) (taken c.take.new.self) (Arrive c.in-Arrive.half) came c.take.ensures.lawful in
-    let knows = knows_arrive g.H.Flow.name g.H.Flow.slot_at g.H.Flow.item_slot g.H.Flow.handled (taken w.orders) (taken c.take.new.self) w.held.items
-    c.push_reserved.new.self.items w.kept (sent w.home ++ option_to_list w.waiting) c.in-Arrive.half c.requires.free law came
-    (c.push_reserved.ensures.items ∙ ap (λ l. l ++ c.in-Arrive.half ∷ []) c.reserve.ensures.items) (w.names, w.holds, w.sends, w.stands) in
+    let knows = knows_arrive g.H.Flow.name g.H.Flow.slot_at g.H.Flow.item_slot g.H.Flow.handled (taken w.orders)
+    (taken c.take.new.self) w.held.items
+    c.push_reserved.new.self.items w.kept
+    (sent w.home ++ option_to_list w.waiting) c.in-Arrive.half c.requires.free law came
+    (c.push_reserved.ensures.items ∙ ap (λ l. l ++ c.in-Arrive.half ∷ []) c.reserve.ensures.items)
+    (w.names, w.holds, w.sends, w.stands) in
     record { names = knows.0; holds = knows.1; sends = knows.2; stands = knows.3; within = search rules }
 
 pub invariant_of-self-in-Item : goal.invariant_of-self-in-Item
@@ -41,11 +50,16 @@ invariant_of-self-in-Item g c =
     let laws = g.met.H.Flow g.world.𝓛 g.world.𝓜 g.world.𝓡 ((λ s x. x), (λ x. x), (λ x. x), λ x. x) in
     let came : taken c.take.new.self ≡ taken w.orders ++ Item c.in-Item.item ∷ [] =
     c.in-Some.ensures.next.0 ∙ ap (λ o. taken w.orders ++ o ∷ []) c.in-Item.is in
-    let law = law_last g.H.FlowKind.slot_of_half (λ half. g.H.Flow.slot_at (g.H.Flow.name half)) g.H.FlowKind.slot_of_item g.H.Flow.item_slot laws.half_slots laws.item_slots
+    let law = law_last g.H.FlowKind.slot_of_half
+    (λ half. g.H.Flow.slot_at (g.H.Flow.name half)) g.H.FlowKind.slot_of_item g.H.Flow.item_slot laws.half_slots
+    laws.item_slots
     (taken w.orders) (taken c.take.new.self) (Item c.in-Item.item) came c.take.ensures.lawful in
-    let before = knows_item g.H.Flow.name g.H.Flow.slot_at g.H.Flow.item_slot g.H.Flow.handled (taken w.orders) (taken c.take.new.self) w.held.items
-    w.kept (sent w.home ++ option_to_list w.waiting) c.in-Item.item c.requires.free law came (w.names, w.holds, w.sends, w.stands) in
-    let knows = knows_lists g.H.Flow.name g.H.Flow.slot_at g.H.Flow.item_slot g.H.Flow.handled (taken c.take.new.self) (taken c.take.new.self) w.held.items c.reserve.new.self.items
+    let before = knows_item g.H.Flow.name g.H.Flow.slot_at g.H.Flow.item_slot g.H.Flow.handled (taken w.orders)
+    (taken c.take.new.self) w.held.items
+    w.kept (sent w.home ++ option_to_list w.waiting) c.in-Item.item c.requires.free law came
+    (w.names, w.holds, w.sends, w.stands) in
+    let knows = knows_lists g.H.Flow.name g.H.Flow.slot_at g.H.Flow.item_slot g.H.Flow.handled (taken c.take.new.self)
+    (taken c.take.new.self) w.held.items c.reserve.new.self.items
     (Some c.in-Item.item) (sent w.home ++ option_to_list w.waiting) refl c.reserve.ensures.items before in
     record { names = knows.0; holds = knows.1; sends = knows.2; stands = knows.3; within = search rules }
 
@@ -55,12 +69,17 @@ unreachable-requires g c =
     let laws = g.met.H.Flow g.world.𝓛 g.world.𝓜 g.world.𝓡 ((λ s x. x), (λ x. x), (λ x. x), λ x. x) in
     let came : taken c.take.new.self ≡ taken w.orders ++ Leave c.in-Leave.slot ∷ [] =
     c.in-Some.ensures.next.0 ∙ ap (λ o. taken w.orders ++ o ∷ []) c.in-Leave.is in
-    let law = law_last g.H.FlowKind.slot_of_half (λ half. g.H.Flow.slot_at (g.H.Flow.name half)) g.H.FlowKind.slot_of_item g.H.Flow.item_slot laws.half_slots laws.item_slots
+    let law = law_last g.H.FlowKind.slot_of_half
+    (λ half. g.H.Flow.slot_at (g.H.Flow.name half)) g.H.FlowKind.slot_of_item g.H.Flow.item_slot laws.half_slots
+    laws.item_slots
     (taken w.orders) (taken c.take.new.self) (Leave c.in-Leave.slot) came c.take.ensures.lawful in
-    leaving_found g.H.Flow.name g.H.Flow.slot_at g.H.Flow.item_slot g.H.Flow.handled (taken w.orders) w.held.items w.kept (sent w.home ++ option_to_list w.waiting)
+    leaving_found g.H.Flow.name g.H.Flow.slot_at g.H.Flow.item_slot g.H.Flow.handled
+    (taken w.orders) w.held.items w.kept (sent w.home ++ option_to_list w.waiting)
     c.in-Leave.slot law (w.names, w.holds, w.sends, w.stands)
-    (none_among g.H.FlowKind.slot_of_half (λ half. g.H.Flow.slot_at (g.H.Flow.name half)) laws.half_slots c.in-Leave.slot c.in-Leave.slot
-    w.held.items c.deref.result.now (c.deref.ensures.value ∙ c.reserve.ensures.items) refl (c.in_default-find.ensures.none refl))
+    (none_among g.H.FlowKind.slot_of_half
+    (λ half. g.H.Flow.slot_at (g.H.Flow.name half)) laws.half_slots c.in-Leave.slot c.in-Leave.slot
+    w.held.items c.deref.result.now (c.deref.ensures.value ∙ c.reserve.ensures.items) refl
+    (c.in_default-find.ensures.none refl))
 
 pub invariant_of-self-in-Leave : goal.invariant_of-self-in-Leave
 invariant_of-self-in-Leave g c =
@@ -71,11 +90,17 @@ invariant_of-self-in-Leave g c =
     let half = c.remove.result in
     let at = c.in-Some-find.at in
     let seen = c.deref.ensures.value ∙ c.reserve.ensures.items in
-    let within : at < length w.held.items = let a = c.in-Some-find.ensures.found.0 in let b = ap length seen in omega arith in
-    let there : half ≡ get_or w.held.items at half = c.remove.ensures.value ∙ ap (λ l. get_or l at half) c.reserve.ensures.items in
-    let slot = found_slot g.H.FlowKind.slot_of_half (λ half. g.H.Flow.slot_at (g.H.Flow.name half)) laws.half_slots c.in-Leave.slot c.in-Leave.slot
+    let within : at
+    < length w.held.items = let a = c.in-Some-find.ensures.found.0 in let b = ap length seen in omega arith in
+    let there : half
+    ≡ get_or w.held.items at half = c.remove.ensures.value ∙ ap (λ l. get_or l at half) c.reserve.ensures.items in
+    let slot = found_slot g.H.FlowKind.slot_of_half
+    (λ half. g.H.Flow.slot_at (g.H.Flow.name half)) laws.half_slots c.in-Leave.slot c.in-Leave.slot
     w.held.items c.deref.result.now at half there seen refl c.in-Some-find.ensures.found.1 in
-    let fewer : c.remove.new.self.items ≡ remove w.held.items at = c.remove.ensures.items ∙ ap (λ l. remove l at) c.reserve.ensures.items in
-    let knows = knows_leave g.H.Flow.name g.H.Flow.slot_at g.H.Flow.item_slot g.H.Flow.handled (taken w.orders) (taken c.take.new.self) w.held.items c.remove.new.self.items
-    w.kept (sent w.home) w.waiting at half c.in-Leave.slot c.requires.free c.requires.none within there slot came fewer (w.names, w.holds, w.sends, w.stands) in
+    let fewer : c.remove.new.self.items
+    ≡ remove w.held.items at = c.remove.ensures.items ∙ ap (λ l. remove l at) c.reserve.ensures.items in
+    let knows = knows_leave g.H.Flow.name g.H.Flow.slot_at g.H.Flow.item_slot g.H.Flow.handled (taken w.orders)
+    (taken c.take.new.self) w.held.items c.remove.new.self.items
+    w.kept (sent w.home) w.waiting at half c.in-Leave.slot c.requires.free c.requires.none within there slot came fewer
+    (w.names, w.holds, w.sends, w.stands) in
     record { names = knows.0; holds = knows.1; sends = knows.2; stands = knows.3; within = search rules }

@@ -12,24 +12,35 @@ unreachable-requires-in_default-find g c =
     let w = c.args.self.now in
     let laws = g.met.H.Flow g.world.𝓛 g.world.𝓜 g.world.𝓡 ((λ s x. x), (λ x. x), (λ x. x), λ x. x) in
     kept_found g.H.Flow.name g.H.Flow.slot_at g.H.Flow.item_slot g.H.Flow.handled (taken w.orders) w.held.items w.kept
-    (sent w.home ++ option_to_list w.waiting) c.in-Some.item (sym c.take.ensures.value ∙ c.in-Some.is) (w.names, w.holds, w.sends, w.stands)
-    (none_among g.H.FlowKind.slot_of_half (λ half. g.H.Flow.slot_at (g.H.Flow.name half)) laws.half_slots (g.H.Flow.item_slot c.in-Some.item) c.slot_of.result
-    w.held.items c.deref.result.now c.deref.ensures.value (c.slot_of.ensures ∙ sym (laws.item_slots c.in-Some.item)) (c.in_default-find.ensures.none refl))
+    (sent w.home ++ option_to_list w.waiting) c.in-Some.item (sym c.take.ensures.value ∙ c.in-Some.is)
+    (w.names, w.holds, w.sends, w.stands)
+    (none_among g.H.FlowKind.slot_of_half (λ half. g.H.Flow.slot_at (g.H.Flow.name half)) laws.half_slots
+    (g.H.Flow.item_slot c.in-Some.item) c.slot_of.result
+    w.held.items c.deref.result.now c.deref.ensures.value (c.slot_of.ensures ∙ sym (laws.item_slots c.in-Some.item))
+    (c.in_default-find.ensures.none refl))
 
 pub invariant_of-self : goal.invariant_of-self
 invariant_of-self g c =
     let w = c.args.self.now in
     let laws = g.met.H.Flow g.world.𝓛 g.world.𝓜 g.world.𝓡 ((λ s x. x), (λ x. x), (λ x. x), λ x. x) in
     let change = c.in-Ok-Handled.ensures.changed in
-    let handed = subst (λ (t : Tried). Handed g.H.Flow.handled g.H.Flow.takes g.H.Flow.asks g.H.Flow.learns t c.in-Some.item change.0 change.1)
+    let handed = subst
+    (λ (t : Tried). Handed g.H.Flow.handled g.H.Flow.takes g.H.Flow.asks g.H.Flow.learns t c.in-Some.item change.0
+    change.1)
     c.in-Ok-Handled.field-0-is change.3 in
-    let slot = found_slot g.H.FlowKind.slot_of_half (λ half. g.H.Flow.slot_at (g.H.Flow.name half)) laws.half_slots (g.H.Flow.item_slot c.in-Some.item) c.slot_of.result
-    w.held.items c.deref.result.now c.in-Some-find.at change.0 change.2.there c.deref.ensures.value (c.slot_of.ensures ∙ sym (laws.item_slots c.in-Some.item))
+    let slot = found_slot g.H.FlowKind.slot_of_half (λ half. g.H.Flow.slot_at (g.H.Flow.name half)) laws.half_slots
+    (g.H.Flow.item_slot c.in-Some.item) c.slot_of.result
+    w.held.items c.deref.result.now c.in-Some-find.at change.0 change.2.there c.deref.ensures.value
+    (c.slot_of.ensures ∙ sym (laws.item_slots c.in-Some.item))
     c.in-Some-find.ensures.found.1 in
-    let knows = knows_handled g.H.Flow.name g.H.Flow.slot_at g.H.Flow.item_slot g.H.Flow.handled (taken w.orders) w.held.items c.hand_at.new.held.items w.kept
-    (sent w.home ++ option_to_list w.waiting) c.in-Some-find.at change.0 change.1 c.in-Some.item (sym c.take.ensures.value ∙ c.in-Some.is) change.2 slot handed.0
+    let knows = knows_handled g.H.Flow.name g.H.Flow.slot_at g.H.Flow.item_slot g.H.Flow.handled
+    (taken w.orders) w.held.items c.hand_at.new.held.items w.kept
+    (sent w.home ++ option_to_list w.waiting) c.in-Some-find.at change.0 change.1 c.in-Some.item
+    (sym c.take.ensures.value ∙ c.in-Some.is) change.2 slot handed.0
     (w.names, w.holds, w.sends, w.stands) in
-    let after = subst (λ (o : Option g.row.H-Item.Denot). Knows g.H.Flow.name g.H.Flow.slot_at g.H.Flow.item_slot g.H.Flow.handled (taken w.orders) c.hand_at.new.held.items o
+    let after = subst
+    (λ (o : Option g.row.H-Item.Denot). Knows g.H.Flow.name g.H.Flow.slot_at g.H.Flow.item_slot g.H.Flow.handled
+    (taken w.orders) c.hand_at.new.held.items o
     (sent w.home ++ option_to_list w.waiting)) (sym c.take.ensures.after) knows in
     record { names = after.0; holds = after.1; sends = after.2; stands = after.3; within = search rules }
 
@@ -37,11 +48,17 @@ pub invariant_of-self-in-Ok-Waits : goal.invariant_of-self-in-Ok-Waits
 invariant_of-self-in-Ok-Waits g c =
     let w = c.args.self.now in
     let change = c.in-Ok-Waits.ensures.changed in
-    let handed = subst (λ (t : Tried). Handed g.H.Flow.handled g.H.Flow.takes g.H.Flow.asks g.H.Flow.learns t c.in-Some.item change.0 change.1)
+    let handed = subst
+    (λ (t : Tried). Handed g.H.Flow.handled g.H.Flow.takes g.H.Flow.asks g.H.Flow.learns t c.in-Some.item change.0
+    change.1)
     c.in-Ok-Waits.field-0-is change.3 in
-    let was = subst (λ (o : Option g.row.H-Item.Denot). Knows g.H.Flow.name g.H.Flow.slot_at g.H.Flow.item_slot g.H.Flow.handled (taken w.orders) w.held.items o
-    (sent w.home ++ option_to_list w.waiting)) (sym c.take.ensures.value ∙ c.in-Some.is) (w.names, w.holds, w.sends, w.stands) in
-    let knows = knows_same g.H.Flow.name g.H.Flow.slot_at g.H.Flow.item_slot g.H.Flow.handled (taken w.orders) w.held.items c.hand_at.new.held.items (Some c.in-Some.item)
+    let was = subst
+    (λ (o : Option g.row.H-Item.Denot). Knows g.H.Flow.name g.H.Flow.slot_at g.H.Flow.item_slot g.H.Flow.handled
+    (taken w.orders) w.held.items o
+    (sent w.home ++ option_to_list w.waiting)) (sym c.take.ensures.value ∙ c.in-Some.is)
+    (w.names, w.holds, w.sends, w.stands) in
+    let knows = knows_same g.H.Flow.name g.H.Flow.slot_at g.H.Flow.item_slot g.H.Flow.handled
+    (taken w.orders) w.held.items c.hand_at.new.held.items (Some c.in-Some.item)
     (sent w.home ++ option_to_list w.waiting) c.in-Some-find.at change.0 change.1 change.2 handed.0 was in
     record { names = knows.0; holds = knows.1; sends = knows.2; stands = knows.3; within = search rules }
 
@@ -49,8 +66,12 @@ pub invariant_of-self-in-Err : goal.invariant_of-self-in-Err
 invariant_of-self-in-Err g c =
     let w = c.args.self.now in
     let change = c.in-Err.ensures.err in
-    let was = subst (λ (o : Option g.row.H-Item.Denot). Knows g.H.Flow.name g.H.Flow.slot_at g.H.Flow.item_slot g.H.Flow.handled (taken w.orders) w.held.items o
-    (sent w.home ++ option_to_list w.waiting)) (sym c.take.ensures.value ∙ c.in-Some.is) (w.names, w.holds, w.sends, w.stands) in
-    let knows = knows_same g.H.Flow.name g.H.Flow.slot_at g.H.Flow.item_slot g.H.Flow.handled (taken w.orders) w.held.items c.hand_at.new.held.items (Some c.in-Some.item)
+    let was = subst
+    (λ (o : Option g.row.H-Item.Denot). Knows g.H.Flow.name g.H.Flow.slot_at g.H.Flow.item_slot g.H.Flow.handled
+    (taken w.orders) w.held.items o
+    (sent w.home ++ option_to_list w.waiting)) (sym c.take.ensures.value ∙ c.in-Some.is)
+    (w.names, w.holds, w.sends, w.stands) in
+    let knows = knows_same g.H.Flow.name g.H.Flow.slot_at g.H.Flow.item_slot g.H.Flow.handled
+    (taken w.orders) w.held.items c.hand_at.new.held.items (Some c.in-Some.item)
     (sent w.home ++ option_to_list w.waiting) c.in-Some-find.at change.0 change.1 change.2 change.3 was in
     record { names = knows.0; holds = knows.1; sends = knows.2; stands = knows.3; within = search rules }

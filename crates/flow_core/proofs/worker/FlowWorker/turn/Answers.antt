@@ -17,40 +17,54 @@ returns g c =
     let was = c.send_waiting-sent.ensures.sent in
     let next = c.in_ok-learnt.ensures.learnt in
     let along = c.in_ok-worked.ensures.along in
-    let later = along_next g.H.Flow.name g.H.Flow.slot_at g.H.Flow.item_slot g.H.Flow.handled g.H.Flow.takes g.H.Flow.asks g.H.Flow.learns c.in_ok-learnt.learnt after last next in
-    let gone = next_gone g.H.Flow.name g.H.Flow.slot_at g.H.Flow.item_slot g.H.Flow.handled g.H.Flow.takes g.H.Flow.asks g.H.Flow.learns c.in_ok-learnt.learnt after last next
+    let later = along_next g.H.Flow.name g.H.Flow.slot_at g.H.Flow.item_slot g.H.Flow.handled g.H.Flow.takes
+    g.H.Flow.asks g.H.Flow.learns c.in_ok-learnt.learnt after last next in
+    let gone = next_gone g.H.Flow.name g.H.Flow.slot_at g.H.Flow.item_slot g.H.Flow.handled g.H.Flow.takes g.H.Flow.asks
+    g.H.Flow.learns c.in_ok-learnt.learnt after last next
     ∙ c.in_ok-worked.ensures.gone in
     let waiting = c.in_ok-worked.ensures.waiting (λ q. stopped_left c.in-Stopped.worked (sym c.in-Stopped.is ∙ q)) in
     record {
       lanes = c.learn_next.ensures.lanes ∙ c.do_orders.ensures.lanes ∙ c.send_waiting-sent.ensures.lanes;
       place = c.learn_next.ensures.place ∙ c.do_orders.ensures.place ∙ c.send_waiting-sent.ensures.place;
       worked = λ e. elim (c.answer.ensures.worked (did_is c.answer.result Worked e)) [
-        | inl home ↦ worked_home g.H.Flow.name g.H.Flow.slot_at g.H.Flow.item_slot g.H.Flow.handled g.H.Flow.takes g.H.Flow.asks g.H.Flow.learns sent first mid last home was gone
+        | inl home ↦ worked_home g.H.Flow.name g.H.Flow.slot_at g.H.Flow.item_slot g.H.Flow.handled g.H.Flow.takes
+            g.H.Flow.asks g.H.Flow.learns sent first mid last home was gone
         | inr more ↦ elim more [
-          | inl worked ↦ worked_after g.H.Flow.name g.H.Flow.slot_at g.H.Flow.item_slot g.H.Flow.handled g.H.Flow.takes g.H.Flow.asks g.H.Flow.learns sent first mid last
+          | inl worked ↦ worked_after g.H.Flow.name g.H.Flow.slot_at g.H.Flow.item_slot g.H.Flow.handled g.H.Flow.takes
+              g.H.Flow.asks g.H.Flow.learns sent first mid last
               c.in_default.not-Refused was gone
               (served_then g.H.Flow.learns mid after last along
-              (c.do_orders.ensures.worked (c.in_ok-worked.was ∙ ap Ok (c.in-Stopped.is ∙ ap served.Stopped worked))) later)
-          | inr learnt ↦ worked_after g.H.Flow.name g.H.Flow.slot_at g.H.Flow.item_slot g.H.Flow.handled g.H.Flow.takes g.H.Flow.asks g.H.Flow.learns sent first mid last
+              (c.do_orders.ensures.worked (c.in_ok-worked.was ∙ ap Ok (c.in-Stopped.is ∙ ap served.Stopped worked)))
+              later)
+          | inr learnt ↦ worked_after g.H.Flow.name g.H.Flow.slot_at g.H.Flow.item_slot g.H.Flow.handled g.H.Flow.takes
+              g.H.Flow.asks g.H.Flow.learns sent first mid last
               c.in_default.not-Refused was gone
               (then_served g.H.Flow.learns mid after last along
-              (inr (inr (next_learnt g.H.Flow.name g.H.Flow.slot_at g.H.Flow.item_slot g.H.Flow.handled g.H.Flow.takes g.H.Flow.asks g.H.Flow.learns c.in_ok-learnt.learnt after last learnt next)))
+              (inr (inr
+              (next_learnt g.H.Flow.name g.H.Flow.slot_at g.H.Flow.item_slot g.H.Flow.handled g.H.Flow.takes
+              g.H.Flow.asks g.H.Flow.learns c.in_ok-learnt.learnt after last learnt next)))
               later)
         ]
       ];
       idle = λ e.
           let none = c.answer.ensures.idle (did_is c.answer.result Idle e) in
           let same = sent_absent sent first mid none.0 c.in_default.not-Refused was in
-          let idle = c.do_orders.ensures.idle (c.in_ok-worked.was ∙ ap Ok (c.in-Stopped.is ∙ ap served.Stopped none.1)) in
-          subst (λ (v : View g.row.H.Denot g.row.H-Item.Denot). Rested g.H.Flow.name g.H.Flow.handled g.H.Flow.learns v last) same
-          (idle_rested g.H.Flow.name g.H.Flow.slot_at g.H.Flow.item_slot g.H.Flow.handled g.H.Flow.takes g.H.Flow.asks g.H.Flow.learns c.in_ok-learnt.learnt mid after last none.2
+          let idle = c.do_orders.ensures.idle
+          (c.in_ok-worked.was ∙ ap Ok (c.in-Stopped.is ∙ ap served.Stopped none.1)) in
+          subst (λ (v : View g.row.H.Denot g.row.H-Item.Denot). Rested g.H.Flow.name g.H.Flow.handled g.H.Flow.learns v
+          last) same
+          (idle_rested g.H.Flow.name g.H.Flow.slot_at g.H.Flow.item_slot g.H.Flow.handled g.H.Flow.takes g.H.Flow.asks
+          g.H.Flow.learns c.in_ok-learnt.learnt mid after last none.2
           c.in_ok-worked.ensures.gone waiting idle next);
       idle_why = λ e.
           let none = c.answer.ensures.idle (did_is c.answer.result Idle e) in
           let same = sent_absent sent first mid none.0 c.in_default.not-Refused was in
-          let idle = c.do_orders.ensures.idle (c.in_ok-worked.was ∙ ap Ok (c.in-Stopped.is ∙ ap served.Stopped none.1)) in
-          subst (λ (v : View g.row.H.Denot g.row.H-Item.Denot). HasIdled g.H.Flow.asks (λ half. g.H.Flow.slot_at (g.H.Flow.name half)) g.H.Flow.item_slot g.H.Flow.takes v last) same
-          (idle_why g.H.Flow.name g.H.Flow.slot_at g.H.Flow.item_slot g.H.Flow.handled g.H.Flow.takes g.H.Flow.asks g.H.Flow.learns c.in_ok-learnt.learnt mid after last none.2
+          let idle = c.do_orders.ensures.idle
+          (c.in_ok-worked.was ∙ ap Ok (c.in-Stopped.is ∙ ap served.Stopped none.1)) in
+          subst (λ (v : View g.row.H.Denot g.row.H-Item.Denot). HasIdled g.H.Flow.asks
+          (λ half. g.H.Flow.slot_at (g.H.Flow.name half)) g.H.Flow.item_slot g.H.Flow.takes v last) same
+          (idle_why g.H.Flow.name g.H.Flow.slot_at g.H.Flow.item_slot g.H.Flow.handled g.H.Flow.takes g.H.Flow.asks
+          g.H.Flow.learns c.in_ok-learnt.learnt mid after last none.2
           c.in_ok-worked.ensures.gone waiting idle next);
       held_never = λ e. c.answer.ensures.held_never (did_is c.answer.result Held e);
     }
