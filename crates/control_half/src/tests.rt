@@ -1,4 +1,5 @@
 //! Halves that are turned by hand.
+ghost use Rattle.std.specs.Prelude.{◌≤◌};
 
 use crate::{CommandItem, ControlHalf};
 use bearer_state::{Session, Version};
@@ -34,7 +35,9 @@ fn new_bench(alloc: Global) -> Result<Bench, Fail> {
     })
 }
 
-fn attach(number: u64, hop: u64, floor: u64) -> Result<CommandItem, Fail> {
+fn attach(number: u64, hop: u64, floor: u64) -> Result<CommandItem, Fail>
+    requires { number ≤ 100 }
+{
     let kind = CommandKind::Attach {
         enb: ENB,
         up: Kbps(1000),
@@ -49,6 +52,17 @@ fn attach(number: u64, hop: u64, floor: u64) -> Result<CommandItem, Fail> {
             command,
         }),
         None => Err("a command is in its ranges".into()),
+    }
+}
+
+/// Sends a command to the half.
+fn give<R: Wait>(rt: &R, bench: &mut Bench, item: CommandItem) -> Result<(), Fail> {
+    if bench.commands.offers() >= 100 {
+        return Err("fewer commands".into());
+    }
+    match bench.commands.offer(rt, item) {
+        Ok(()) => Ok(()),
+        Err(_) => Err("the lane has room".into()),
     }
 }
 
@@ -73,8 +87,8 @@ fn numbers(batch: &Batch<Version>) -> Option<(u64, u64)> {
 #[test]
 fn commands_are_answered_and_published(rt: HostRuntime) -> Result<(), Fail> {
     let mut bench = new_bench(rt.alloc())?;
-    let _ = bench.commands.offer(&rt, attach(0, 0, 0)?);
-    let _ = bench.commands.offer(&rt, attach(1, 0, 0)?);
+    give(&rt, &mut bench, attach(0, 0, 0)?)?;
+    give(&rt, &mut bench, attach(1, 0, 0)?)?;
     assert_eq!(rt; turned(&rt, &mut bench.half)?, Did::Worked);
     assert_eq!(rt; bench.half.control.number, 2);
     let outcomes = match bench.half.control.notes.as_slice() {
@@ -93,9 +107,9 @@ fn commands_are_answered_and_published(rt: HostRuntime) -> Result<(), Fail> {
 #[test]
 fn floors_and_hops_are_waited_for(rt: HostRuntime) -> Result<(), Fail> {
     let mut bench = new_bench(rt.alloc())?;
-    let _ = bench.commands.offer(&rt, attach(0, 0, 0)?);
-    let _ = bench.commands.offer(&rt, attach(1, 0, 3)?);
-    let _ = bench.commands.offer(&rt, attach(2, 1, 3)?);
+    give(&rt, &mut bench, attach(0, 0, 0)?)?;
+    give(&rt, &mut bench, attach(1, 0, 3)?)?;
+    give(&rt, &mut bench, attach(2, 1, 3)?)?;
     assert_eq!(rt; turned(&rt, &mut bench.half)?, Did::Worked);
     assert_eq!(rt; bench.half.control.number, 1);
     assert_eq!(rt; turned(&rt, &mut bench.half)?, Did::Worked);
