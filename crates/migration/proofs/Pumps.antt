@@ -1,7 +1,7 @@
 -- That halves come home before orders are offered, and that these are offered by slot.
-use Rattle.std.proofs.Common.{◌≡◌, ℕ, zero, suc, ◌+◌, ◌-◌, ◌<◌, ◌≤◌, inl, inr, Bool, true, false, true≢false, cond, List, [], ◌∷◌, ◌++◌, reverse, length, map, set, get_or, refl, sym, ap, ◌∙◌, subst, arith, append-nil, append_assoc}
+use Rattle.std.proofs.Common.{◌≡◌, ℕ, zero, suc, ◌+◌, ◌-◌, ◌<◌, ◌≤◌, inl, inr, Bool, true, false, true≢false, cond, List, [], ◌∷◌, ◌++◌, reverse, length, set, get_or, refl, sym, ap, ◌∙◌, subst, arith, append-nil, append_assoc}
 use Rattle.std.specs.Prelude.{nat_eq, nat_lt, Option, None}
-use Rattle.std.specs.List.{sum_by, All, Contains}
+use Rattle.std.specs.List.{sum_by, Contains}
 use Rattle.std.specs.List.Sorted.{IsNonDecreasing, IsStrictlyIncreasing}
 use Rattle.std.proofs.lemmas.List.{get_or-set_same, get_or-set_other, reverse-append, reverse-reverse}
 use Rattle.std.proofs.lemmas.List.Elements.{All-from_get_or}
@@ -12,9 +12,9 @@ use borrow.Author.Tests.{eqb-true, eqb-false, ltb-true, ltb-false}
 use Rattle.worker_core.specs.declared.pairing.Desk.{Desk}
 use Rattle.migration.specs.declared.place.Place.{Place}
 use Rattle.migration.specs.Desks.{Taken, Empty}
-use Rattle.migration.specs.Places.{place_at, is_waiting, is_waiting_at, name_at, wait_weight}
+use Rattle.migration.specs.Places.{place_at, is_waiting, is_waiting_at, wait_weight}
 use Rattle.migration.specs.Steps.{ServedAt, Welcomes}
-use Rattle.migration.specs.Sides.{slot_at, IsSide}
+use Rattle.migration.specs.Sides.{IsSide}
 use Rattle.migration.specs.Words.{ServedNext}
 use Rattle.migration.specs.Pumps.{orders_of, CameHome, TakesHome, LinedUp, ServesEach}
 use Rattle.migration.proofs.Desks.{changed_map}
