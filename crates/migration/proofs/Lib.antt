@@ -2,6 +2,7 @@ pub mod Desks
 pub mod Homes
 pub mod Passes
 pub mod PlaceSteps
+pub mod Pumps
 pub mod Servings
 pub mod SideSteps
 pub mod StateSteps

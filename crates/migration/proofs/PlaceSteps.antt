@@ -540,7 +540,7 @@ module _ {H N : Type 0} (name : H → N) (slot_of : N → ℕ) where
       → IsSide name slot_of new_places aside now new_waiting new_serving admitted asked
       × (names_of name new_places ≡ names_of name places) × (hops_of new_places ≡ hops_of places)
       × (lanes_of now ≡ lanes_of desks) × (homes_of now ≡ homes_of desks)
-      × ServedNext serving new_serving places new_places desks now
+      × ServedNext name hop_of serving new_serving places new_places desks now
   served_side hop_of places new_places slot waits aside desks now waiting new_waiting serving new_serving admitted
       asked side next served noted =
       let place = served.0 in
@@ -568,7 +568,9 @@ module _ {H N : Type 0} (name : H → N) (slot_of : N → ℕ) where
         step.0.homes,
         record {
           slot = slot;
+          waits = waits;
           next = next;
+          served = served;
           others = λ other apart. ap (λ l. place_at l other) served.1
               ∙ get_or-set_other places slot other place None apart;
           again = λ slice still. rose_raised (fulls_at desks slice) (fulls_at now slice)

@@ -106,12 +106,13 @@ rose_since first before now earlier again = elim earlier [
   | inr rose ↦ rose_later first before now rose (inr again)
 ]
 
-module _ {H : Type 0} where
+module _ {H N : Type 0} (name : H → N) (hop_of : H → ℕ) where
   pub serving_more : (serving new_serving : List ℕ) (places new_places : List (Option (Place H)))
       (first desks now : List (Desk H))
       → ((slice : ℕ) → (fulls_at desks slice ≡ fulls_at first slice)
       ⊎ Rose (fulls_at first slice) (fulls_at desks slice))
-      → Serving serving places first desks → ServedNext serving new_serving places new_places desks now
+      → Serving serving places first desks
+      → ServedNext name hop_of serving new_serving places new_places desks now
       → Serving new_serving new_places first now
   serving_more serving new_serving places new_places first desks now earlier so_far served slot slice waits =
       elim (nat_eq slot served.slot) as (λ b. nat_eq slot served.slot ≡ b → (0 < sum_by (on slot) new_serving)
@@ -134,6 +135,7 @@ module _ {H : Type 0} where
             ]
       ] refl
 
+module _ {H : Type 0} where
   pub later_more : (first desks now : List (Desk H)) (slice : ℕ)
       → (fulls_at desks slice ≡ fulls_at first slice) ⊎ Rose (fulls_at first slice) (fulls_at desks slice)
       → (fulls_at now slice ≡ fulls_at desks slice) ⊎ Rose (fulls_at desks slice) (fulls_at now slice)

@@ -7,6 +7,7 @@ use Rattle.migration.specs.declared.place.Place.{Place}
 use Rattle.migration.specs.declared.side.Side.{Side}
 use Rattle.migration.specs.Desks.{lanes_of, fulls_at, empties_at, home_count}
 use Rattle.migration.specs.Places.{place_at, names_of, hops_of, waits_at}
+use Rattle.migration.specs.Steps.{ServedAt}
 use Rattle.migration.specs.Sides.{Rose, HomeEnded}
 
 -- what no call but admit and go changes: the names and the hops by slot, the lanes, and both counts
@@ -70,10 +71,12 @@ pub record TookFrom {H : Type 0} (slice admitted : ℕ) (aside new_aside : List 
   pub fulls : (other : ℕ) → fulls_at new other ≡ fulls_at old other
 
 -- the order of the slot that is served next was offered
-pub record ServedNext {H : Type 0} (serving new_serving : List ℕ) (places new_places : List (Option (Place H)))
-    (old new : List (Desk H)) : Type 0 where
+pub record ServedNext {H N : Type 0} (name : H → N) (hop_of : H → ℕ) (serving new_serving : List ℕ)
+    (places new_places : List (Option (Place H))) (old new : List (Desk H)) : Type 0 where
   pub slot : ℕ
+  pub waits : Bool
   pub next : serving ≡ new_serving ++ slot ∷ []
+  pub served : ServedAt name hop_of slot waits places new_places old new
   pub others : (other : ℕ) → other ≢ slot → place_at new_places other ≡ place_at places other
   pub again : (slice : ℕ) → waits_at (place_at new_places slot) ≡ Some slice
       → Rose (fulls_at old slice) (fulls_at new slice)

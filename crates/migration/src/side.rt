@@ -1,5 +1,5 @@
 //! A side: the desks of its workers, and the state of each slot.
-ghost use Rattle.std.specs.Prelude.{◌≡◌, ◌≤◌, ◌<◌, ◌+◌, ◌*◌, ◌^◌, ◌⊎◌, ℕ, All, true, false, [], length, vec_len, vec_capacity, IsTrue, IsFalse, OnOk, OnErr, IfErr};
+ghost use Rattle.std.specs.Prelude.{◌≡◌, ◌≤◌, ◌<◌, ◌+◌, ◌*◌, ◌^◌, ◌⊎◌, ℕ, All, true, false, [], length, reverse, vec_len, vec_capacity, IsTrue, IsFalse, OnOk, OnErr, IfErr};
 ghost use Rattle.worker_core.specs.Workers.{IsNewDesk};
 ghost use Rattle.migration.specs.Places.{names_of};
 ghost use Rattle.migration.specs.Sides.{Balanced, BySlot, IsSide};
@@ -53,6 +53,7 @@ impl<H: Traveller> Side<H> {
     ghost use Rattle.migration.specs.Steps.{Grown, Admits, MovesAt};
     ghost use Rattle.migration.specs.Sides.{AllMetFull, HomeEnded};
     ghost use Rattle.migration.specs.Passes.{Passes};
+    ghost use Rattle.migration.specs.Pumps.{TakesHome, LinedUp, ServesEach, PumpsBySlot};
     ghost use Rattle.migration.specs.Words.{desks_of, places_of, aside_of, waiting_of, serving_of, admitted_of, asked_of, roll_of, TookOne, TookFrom, ServedNext};
 
     /// A side with these desks, one for each slice in order, and no slot.
@@ -128,12 +129,14 @@ impl<H: Traveller> Side<H> {
         steps::note(&mut self.waiting, slot, newly);
     }
 
-    /// Takes home what came, at most 64 halves of each slice, and then gives each order that waits,
-    /// by slot.
+    /// Takes home what came, at most 64 halves of each slice, and then offers each order that waits
+    /// once, by slot. What finds no place waits on.
     pub fn pump<R: Wait>(&mut self, rt: &R)
         ensures roll { roll_of H.name self.new ≡ roll_of H.name self.old }
         ensures passed { Passes (λ half. H.slot_of (H.name half)) H.hop_of (places_of self.old)
             (places_of self.new) (aside_of self.old) (aside_of self.new)
+            (desks_of self.old) (desks_of self.new) }
+        ensures by_slot { PumpsBySlot H.name H.hop_of (places_of self.old) (places_of self.new)
             (desks_of self.old) (desks_of self.new) }
         ensures full { AllMetFull (places_of self.new) (desks_of self.old) (desks_of self.new) }
         ensures home { (slice : ℕ) → slice < length (desks_of self.old)
@@ -220,6 +223,7 @@ impl<H: Traveller> Side<H> {
         ensures passed { Passes (λ half. H.slot_of (H.name half)) H.hop_of (places_of self.old)
             (places_of self.new) (aside_of self.old) (aside_of self.new)
             (desks_of self.old) (desks_of self.new) }
+        ensures takes { TakesHome (places_of self.old) (places_of self.new) (desks_of self.old) (desks_of self.new) }
         ensures home { (slice : ℕ) → slice < length (desks_of self.old)
             → HomeEnded (length (aside_of self.new)) (admitted_of self.new) slice (desks_of self.old)
             (desks_of self.new) }
@@ -237,6 +241,7 @@ impl<H: Traveller> Side<H> {
         ensures passed { Passes (λ half. H.slot_of (H.name half)) H.hop_of (places_of self.old)
             (places_of self.new) (aside_of self.old) (aside_of self.new)
             (desks_of self.old) (desks_of self.new) }
+        ensures takes { TakesHome (places_of self.old) (places_of self.new) (desks_of self.old) (desks_of self.new) }
         ensures len { vec_len self.new.desks ≡ vec_len self.old.desks }
         ensures took { TookFrom slice (admitted_of self.new) (aside_of self.old) (aside_of self.new)
             (desks_of self.old) (desks_of self.new) }
@@ -255,6 +260,7 @@ impl<H: Traveller> Side<H> {
         ensures passed { Passes (λ half. H.slot_of (H.name half)) H.hop_of (places_of self.old)
             (places_of self.new) (aside_of self.old) (aside_of self.new)
             (desks_of self.old) (desks_of self.new) }
+        ensures takes { TakesHome (places_of self.old) (places_of self.new) (desks_of self.old) (desks_of self.new) }
         ensures len { vec_len self.new.desks ≡ vec_len self.old.desks }
         ensures took { TookOne result slice (admitted_of self.new) (aside_of self.old) (aside_of self.new)
             (desks_of self.old) (desks_of self.new) }
@@ -285,6 +291,8 @@ impl<H: Traveller> Side<H> {
             (places_of self.new) (aside_of self.old) (aside_of self.new)
             (desks_of self.old) (desks_of self.new) }
         ensures none { waiting_of self.new ≡ [] }
+        ensures lined { LinedUp (places_of self.new) (reverse (serving_of self.new)) }
+        ensures places { places_of self.new ≡ places_of self.old }
         ensures desks { desks_of self.new ≡ desks_of self.old }
         ensures aside { aside_of self.new ≡ aside_of self.old }
     {
@@ -301,6 +309,8 @@ impl<H: Traveller> Side<H> {
         ensures homes { homes_of (desks_of self.new) ≡ homes_of (desks_of self.old) }
         ensures aside { aside_of self.new ≡ aside_of self.old }
         ensures full { AllMetFull (places_of self.new) (desks_of self.old) (desks_of self.new) }
+        ensures each { ServesEach H.name H.hop_of (reverse (serving_of self.old)) (places_of self.old)
+            (places_of self.new) (desks_of self.old) (desks_of self.new) }
     {
         for _ in 0..self.serving.len() {
             self.serve_next(rt);
@@ -316,9 +326,8 @@ impl<H: Traveller> Side<H> {
             (desks_of self.old) (desks_of self.new) }
         ensures homes { homes_of (desks_of self.new) ≡ homes_of (desks_of self.old) }
         ensures aside { aside_of self.new ≡ aside_of self.old }
-        ensures served { ServedNext (serving_of self.old) (serving_of self.new) (places_of self.old)
-            (places_of self.new)
-            (desks_of self.old) (desks_of self.new) }
+        ensures served { ServedNext H.name H.hop_of (serving_of self.old) (serving_of self.new)
+            (places_of self.old) (places_of self.new) (desks_of self.old) (desks_of self.new) }
     {
         let Some(slot) = self.serving.pop() else {
             unreachable!()

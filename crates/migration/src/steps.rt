@@ -1,6 +1,7 @@
 //! Steps at one slot: an order is offered, and a half comes home.
-ghost use Rattle.std.specs.Prelude.{◌≡◌, ◌≤◌, ◌<◌, ◌+◌, ◌^◌, cond, true, [], ℕ, Some, List, length, vec_len, vec_capacity, slice_set, OnOk, IfErr, MatchOption};
+ghost use Rattle.std.specs.Prelude.{◌≡◌, ◌≤◌, ◌<◌, ◌+◌, ◌^◌, cond, true, [], ℕ, Some, List, length, reverse, vec_len, vec_capacity, slice_set, OnOk, IfErr, MatchOption};
 ghost use Rattle.std.specs.List.{sum_by};
+ghost use Rattle.std.specs.List.Sorted.{IsNonDecreasing};
 ghost use Rattle.migration.specs.Desks.{Given, Refused, Taken, Empty, order_count};
 ghost use Rattle.migration.specs.Places.{place_at, PlaceFits, slices_fit, is_admitted, is_placed, is_waiting, is_waiting_at};
 ghost use Rattle.migration.specs.Steps.{Sends, Recalls, Serves, PlaceServed, ServedAt, Goes, Moves, MovesAt, NewlyWaits, Homes, Welcomes, WelcomesAt, Grown};
@@ -344,10 +345,12 @@ pub fn line_up(from: &mut Vec<Slot>, to: &mut Vec<Slot>)
     requires { vec_len from.old + vec_len to.old ≤ vec_capacity to.old }
     ensures empty { from.new.items ≡ [] }
     ensures all { (w : ℕ → ℕ) → sum_by w to.new.items ≡ sum_by w from.old.items + sum_by w to.old.items }
+    ensures rising { IsNonDecreasing (reverse to.new.items) }
     ensures room { (vec_capacity to.new ≡ vec_capacity to.old) × (vec_capacity from.new ≡ vec_capacity from.old) }
 {
     pour(from, to);
-    to.sort_unstable_by(|a, b| b.cmp(a));
+    to.sort_unstable_by_key(|slot| slot.0);
+    to.reverse();
 }
 
 fn pour(from: &mut Vec<Slot>, to: &mut Vec<Slot>)

@@ -3,6 +3,7 @@ use Rattle.migration.proofs.PlaceSteps.{waiting_few}
 use Rattle.migration.proofs.SideSteps.{same_places}
 use Rattle.std.specs.List.{sum_by}
 use Rattle.migration.proofs.Passes.{passes_same}
+use Rattle.migration.proofs.Pumps.{lined_up}
 use Rattle.migration.proofs.side.Side.line_up.Goals as goal
 
 pub line_up-requires : goal.line_up-requires
@@ -24,3 +25,7 @@ invariant_of-self g c = record {
 pub returns-clause-passed : goal.returns-clause-passed
 returns-clause-passed g c = passes_same (λ half. g.H.Traveller.slot_of (g.H.Traveller.name half))
     g.H.Traveller.hop_of _ _ _ _ _ _ refl refl (λ slice. refl)
+
+pub returns-clause-lined : goal.returns-clause-lined
+returns-clause-lined g c = lined_up g.H.Traveller.name g.H.Traveller.slot_of _ _ _ _ _ c.line_up.new.to.items _ _
+    c.args.self.now.laid c.line_up.ensures.all c.line_up.ensures.rising

@@ -1,8 +1,9 @@
-use Rattle.std.proofs.Common.{◌∙◌, ap}
+use Rattle.std.proofs.Common.{◌∙◌, reverse, ap}
 use Rattle.migration.specs.Desks.{fulls_at, homes_of}
 use Rattle.migration.specs.Words.{Roll}
 use Rattle.migration.proofs.Servings.{met_full_since, ended_since}
 use Rattle.migration.proofs.Passes.{passes_then}
+use Rattle.migration.proofs.Pumps.{takes_same}
 use Rattle.migration.proofs.side.Side.pump.Goals as goal
 
 pub returns-clause-full : goal.returns-clause-full
@@ -23,3 +24,13 @@ returns-clause-passed g c =
     c.take_all.ensures.passed
     (passes_then (λ half. g.H.Traveller.slot_of (g.H.Traveller.name half)) g.H.Traveller.hop_of _ _ _ _ _ _ _ _ _
     c.line_up.ensures.passed c.serve_all.ensures.passed)
+
+pub returns-clause-by_slot : goal.returns-clause-by_slot
+returns-clause-by_slot g c = record {
+  home_places = c.line_up.new.self.places.items;
+  home_desks = c.line_up.new.self.desks.items;
+  slots = reverse c.line_up.new.self.serving.items;
+  home = takes_same _ _ _ _ _ _ c.take_all.ensures.takes c.line_up.ensures.places c.line_up.ensures.desks;
+  lined = c.line_up.ensures.lined;
+  served = c.serve_all.ensures.each;
+}

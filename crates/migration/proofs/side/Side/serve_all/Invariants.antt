@@ -3,6 +3,7 @@ use Rattle.migration.specs.Desks.{homes_of, fulls_at}
 use Rattle.migration.specs.Sides.{Rose}
 use Rattle.migration.specs.Words.{roll_of}
 use Rattle.migration.proofs.Servings.{Serving}
+use Rattle.migration.proofs.Pumps.{Served}
 use Rattle.migration.specs.Passes.{Passes}
 use Rattle.migration.proofs.side.Side.serve_all.Given as goal
 
@@ -18,3 +19,5 @@ invariant-loop g l =
     × Passes (λ half. g.H.Traveller.slot_of (g.H.Traveller.name half)) g.H.Traveller.hop_of l.fn.self.places.items
     l.self.places.items l.fn.self.aside.items l.self.aside.items
     l.fn.self.desks.items l.self.desks.items
+    × Served g.H.Traveller.name g.H.Traveller.hop_of l.fn.self.serving.items l.self.serving.items
+    l.fn.self.places.items l.self.places.items l.fn.self.desks.items l.self.desks.items

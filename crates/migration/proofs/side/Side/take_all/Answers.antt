@@ -2,6 +2,7 @@ use Rattle.std.proofs.Common.{◌∙◌, refl, sym, ap, arith}
 use Rattle.migration.specs.Words.{Roll}
 use Rattle.migration.proofs.Homes.{below_none, below_more}
 use Rattle.migration.proofs.Passes.{passes_same, passes_then}
+use Rattle.migration.proofs.Pumps.{takes_none, takes_then}
 use Rattle.migration.proofs.side.Side.take_all.Goals as goal
 
 pub loop-slice-init : goal.loop-slice-init
@@ -11,6 +12,7 @@ loop-slice-init g c = (
   below_none _ _ _,
   passes_same (λ half. g.H.Traveller.slot_of (g.H.Traveller.name half)) g.H.Traveller.hop_of _ _ _ _ _ _ refl refl
       (λ slice. refl),
+  takes_none _ _ _ _ refl refl,
 )
 
 pub loop-slice-preserved : goal.loop-slice-preserved
@@ -22,6 +24,7 @@ loop-slice-preserved g c =
           c.take_from.ensures.took c.take_from.new.self.laid.aside_few,
       passes_then (λ half. g.H.Traveller.slot_of (g.H.Traveller.name half)) g.H.Traveller.hop_of _ _ _ _ _ _ _ _ _
           c.loop-slice.invariant.3 c.take_from.ensures.passed,
+      takes_then _ _ _ _ _ _ c.loop-slice.invariant.4 c.take_from.ensures.takes,
     )
 
 pub returns-clause-home : goal.returns-clause-home
@@ -33,3 +36,6 @@ returns-clause-fulls g c = c.loop-slice.invariant.2.fulls
 
 pub returns-clause-passed : goal.returns-clause-passed
 returns-clause-passed g c = c.loop-slice.invariant.3
+
+pub returns-clause-takes : goal.returns-clause-takes
+returns-clause-takes g c = c.loop-slice.invariant.4

@@ -1,6 +1,7 @@
 use Rattle.std.proofs.Common.{rules, ◌∙◌, refl}
 use Rattle.migration.proofs.Homes.{taking_none, taking_more, taking_ends, taking_all}
 use Rattle.migration.proofs.Passes.{passes_same, passes_then}
+use Rattle.migration.proofs.Pumps.{takes_none, takes_then}
 use Rattle.migration.proofs.side.Side.take_from.Goals as goal
 
 pub loop-init : goal.loop-init
@@ -10,6 +11,7 @@ loop-init g c = (
   taking_none c.args.slice _ _,
   passes_same (λ half. g.H.Traveller.slot_of (g.H.Traveller.name half)) g.H.Traveller.hop_of _ _ _ _ _ _ refl refl
       (λ slice. refl),
+  takes_none _ _ _ _ refl refl,
 )
 
 pub loop-preserved : goal.loop-preserved
@@ -19,6 +21,7 @@ loop-preserved g c = (
   taking_more c.args.slice _ _ c.take_one.result _ _ _ _ _ _ c.loop.invariant.2 (search rules) c.take_one.ensures.took,
   passes_then (λ half. g.H.Traveller.slot_of (g.H.Traveller.name half)) g.H.Traveller.hop_of _ _ _ _ _ _ _ _ _
       c.loop.invariant.3 c.take_one.ensures.passed,
+  takes_then _ _ _ _ _ _ c.loop.invariant.4 c.take_one.ensures.takes,
 )
 
 pub returns-then-not-take_one-clause-took : goal.returns-then-not-take_one-clause-took
@@ -36,3 +39,10 @@ returns-then-not-take_one-clause-passed g c =
 
 pub returns-clause-passed : goal.returns-clause-passed
 returns-clause-passed g c = c.loop.invariant.3
+
+pub returns-then-not-take_one-clause-takes : goal.returns-then-not-take_one-clause-takes
+returns-then-not-take_one-clause-takes g c =
+    takes_then _ _ _ _ _ _ c.loop.invariant.4 c.take_one.ensures.takes
+
+pub returns-clause-takes : goal.returns-clause-takes
+returns-clause-takes g c = c.loop.invariant.4

@@ -2,6 +2,7 @@ use Rattle.std.proofs.Common.{◌≡◌, vec_len}
 use Rattle.migration.specs.Words.{roll_of}
 use Rattle.migration.proofs.Homes.{Taking}
 use Rattle.migration.specs.Passes.{Passes}
+use Rattle.migration.specs.Pumps.{TakesHome}
 use Rattle.migration.proofs.side.Side.take_from.Given as goal
 
 abbrev pub invariant-loop : goal.invariant-loop
@@ -12,3 +13,4 @@ invariant-loop g l =
     × Passes (λ half. g.H.Traveller.slot_of (g.H.Traveller.name half)) g.H.Traveller.hop_of l.fn.self.places.items
     l.self.places.items l.fn.self.aside.items l.self.aside.items
     l.fn.self.desks.items l.self.desks.items
+    × TakesHome l.fn.self.places.items l.self.places.items l.fn.self.desks.items l.self.desks.items

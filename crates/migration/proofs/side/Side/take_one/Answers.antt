@@ -5,6 +5,7 @@ use Rattle.migration.proofs.PlaceSteps.{waiting_fewer, came_home, kept_aside, le
 use Rattle.migration.proofs.Homes.{took_half, took_none}
 use Rattle.migration.proofs.Servings.{roll_same, names_set, hops_set, welcomed_name}
 use Rattle.migration.proofs.Passes.{passes_same, passes_empty, passes_home, passes_aside}
+use Rattle.migration.proofs.Pumps.{takes_none, takes_empty, takes_aside, takes_half}
 use Rattle.migration.specs.Passes.{Unawaited}
 use Rattle.migration.proofs.side.Side.take_one.Goals as goal
 
@@ -96,3 +97,18 @@ returns-in-None-clause-passed g c =
     let w = c.in-None.ensures in
     passes_home (λ half. g.H.Traveller.slot_of (g.H.Traveller.name half)) g.H.Traveller.hop_of c.args.slice
     c.slot-slot.result c.in-Some.half w.0 _ _ _ _ _ c.in-Some.ensures.taken w.1 w.2 w.3
+
+pub returns-then-len-self-clause-takes : goal.returns-then-len-self-clause-takes
+returns-then-len-self-clause-takes g c = takes_none _ _ _ _ refl refl
+
+pub returns-in_default-clause-takes : goal.returns-in_default-clause-takes
+returns-in_default-clause-takes g c = takes_empty c.args.slice _ _ _ c.in_default.ensures.taken
+
+pub returns-in-Some-welcome-clause-takes : goal.returns-in-Some-welcome-clause-takes
+returns-in-Some-welcome-clause-takes g c =
+    takes_aside c.args.slice c.in-Some.half _ _ _ _ c.in-Some.ensures.taken c.in-Some-welcome.ensures.1
+
+pub returns-in-None-clause-takes : goal.returns-in-None-clause-takes
+returns-in-None-clause-takes g c =
+    let w = c.in-None.ensures in
+    takes_half c.args.slice c.slot-slot.result c.in-Some.half w.0 _ _ _ _ c.in-Some.ensures.taken w.1 w.2 w.3
