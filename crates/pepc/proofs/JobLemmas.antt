@@ -1,5 +1,5 @@
 -- Jobs that are done, and jobs that memory is missing for.
-use Rattle.std.proofs.Common.{◌≡◌, ℕ, Bool, true, false, List, [], Option, None, Some, ◌⊎◌, inl, inr, refl}
+use Rattle.std.proofs.Common.{◌≡◌, ℕ, Bool, true, false, List, [], Option, None, Some, inl, inr, refl}
 use Rattle.std.proofs.KnownBytes.{Appends-nil}
 use Rattle.command_words.specs.declared.jobs.Job.{Job}
 use Rattle.command_words.specs.declared.jobs.Job.TheVariants as job

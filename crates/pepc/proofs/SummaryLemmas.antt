@@ -1,9 +1,9 @@
 -- The report of a made trace is counted epoch by epoch.
 use Rattle.std.proofs.Common.{◌≡◌, ℕ, ◌+◌, ◌-◌, ◌^◌, ◌<◌, ◌≤◌, Bool, true, false, List, [], ◌∷◌, ◌++◌, Option, None, Some, MatchOption, inl, inr, length, refl, sym, ap, subst, ◌∙◌, arith, append_assoc, append-nil, length-append}
-use Rattle.entry_counts.specs.Counts.{Counts as EntryCounts, all_held, counts_of, nothing, plus}
+use Rattle.entry_counts.specs.Counts.{Counts as EntryCounts, all_held, counts_of, nothing}
 use Rattle.entry_counts.proofs.CountLemmas.{counts_of-append}
 use Rattle.trace_lines.specs.Epochs.{ends_epoch}
-use Rattle.trace_lines.specs.Input.{ended, input_of}
+use Rattle.trace_lines.specs.Input.{ended}
 use Rattle.trace_lines.specs.Line.{Line}
 use Rattle.trace_maker.specs.Generated.{made, text_of}
 use Rattle.trace_maker.specs.Order.{AreInOrder}

@@ -1,4 +1,4 @@
-use Rattle.std.proofs.Common.{◌≡◌, ◌+◌, ◌<◌, ◌^◌, [], ◌∷◌, length, sym, subst, arith}
+use Rattle.std.proofs.Common.{◌≡◌, [], ◌∷◌, sym, subst, arith}
 use Rattle.trace_maker.specs.Generated.{made}
 use Rattle.pepc.specs.Counting.{Counting, CountsMore}
 use Rattle.pepc.proofs.EndLemmas.{sized_so}
