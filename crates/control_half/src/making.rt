@@ -1,0 +1,109 @@
+//! How a half is made, and what is left of it.
+ghost use Rattle.std.specs.Prelude.{◌≡◌, ◌≤◌, ◌^◌, [], ◌++◌};
+ghost use Rattle.lane_core.specs.Ends.{sender_lane, receiver_lane, sent, taken};
+ghost use Rattle.control_half.specs.Applied.{before_head, KeepsNext, in_due, HasRoomFor, JoinsBatch};
+ghost use Rattle.control_half.specs.Controlled.{HasApplied};
+ghost use Rattle.control_half.specs.Published.{in_batches, in_kept};
+
+use crate::CommandItem;
+use crate::controller::Controller;
+use crate::half::ControlHalf;
+use bearer_state::{Session, Version};
+use control_steps::counts_rise_by_one;
+use lane_core::{Receiver, Sender};
+use std::snapshot::Snapshot;
+use update_batch::Batch;
+
+/// What is left of a half that is turned no more.
+#[derive(Drop)]
+pub struct ControlEnd {
+    pub started: Snapshot<Session>,
+    pub first: u64,
+    pub control: Controller,
+    pub head: Option<CommandItem>,
+    pub due: Option<u64>,
+    pub batch: Option<Batch<Version>>,
+    pub commands: Receiver<CommandItem>,
+    pub versions: Sender<Batch<Version>>,
+    pub ghost in_order: { KeepsNext head (taken commands) },
+    pub ghost applies: { HasApplied first started.value (before_head head (taken commands))
+        control.session control.number control.notes.items
+        (in_batches (sent versions) ++ (in_kept batch ++ in_due due control.session control.number)) },
+    pub ghost joins: { JoinsBatch due batch },
+    pub ghost roomy: { HasRoomFor started.value first },
+}
+
+impl ControlHalf {
+    ghost use Rattle.control_half.specs.Half.{name_of, end_name};
+
+    /// The half of a subscriber with this session, after so many commands, and with its ends of two new
+    /// lanes. At most 2^50 commands come on one.
+    pub fn new(
+        session: Session,
+        number: u64,
+        hop: u64,
+        commands: Receiver<CommandItem>,
+        versions: Sender<Batch<Version>>,
+    ) -> ControlHalf
+        requires room { (session.rates ≤ 2 ^ 60) × (session.lives ≤ 2 ^ 60) × (number ≤ 2 ^ 60) }
+        requires new { (taken commands ≡ []) × (sent versions ≡ []) }
+
+        ensures name { name_of result ≡ record {
+          session = session;
+          number = number;
+          commands = receiver_lane commands;
+          versions = sender_lane versions;
+        } }
+        ensures hop { result.hop ≡ hop }
+        ensures done { result.control.number ≡ number }
+    {
+        counts_rise_by_one();
+        let started = Snapshot::of(&session);
+        let notes = Vec::new(session.bearers.allocator());
+        ControlHalf {
+            slot: session.slot,
+            started,
+            first: number,
+            control: Controller {
+                session,
+                number,
+                notes,
+            },
+            hop,
+            head: None,
+            due: None,
+            batch: None,
+            commands,
+            versions,
+            turns: 0,
+            works: 0,
+        }
+    }
+
+    /// Takes the half apart.
+    pub fn into_end(self) -> ControlEnd
+        ensures { end_name result ≡ name_of self }
+    {
+        let ControlHalf {
+            started,
+            first,
+            control,
+            head,
+            due,
+            batch,
+            commands,
+            versions,
+            ..
+        } = self;
+        ControlEnd {
+            started,
+            first,
+            control,
+            head,
+            due,
+            batch,
+            commands,
+            versions,
+        }
+    }
+}
