@@ -1,11 +1,11 @@
 -- What is kept of the counts, the notes and the floors as a version is learnt, and as an item is handled.
-use Rattle.std.proofs.Common.{rules, ◌≡◌, ℕ, ◌+◌, ◌-◌, ◌≤◌, ◌<◌, ◌⊎◌, inl, inr, ⊎_elim, true, length, arith, List, [], ◌∷◌, ◌++◌, map, take, All, refl, ap, sym, ◌∙◌, subst, length-append, take_all}
+use Rattle.std.proofs.Common.{rules, ◌≡◌, ℕ, ◌+◌, ◌-◌, ◌≤◌, ◌⊎◌, inl, inr, ⊎_elim, true, length, arith, List, [], ◌∷◌, ◌++◌, take, refl, ap, sym, ◌∙◌, subst, length-append, take_all}
 use Rattle.std.proofs.lemmas.List.{map-append, take-append-le}
 use Rattle.std.proofs.lemmas.List.Elements.{All-push, All-weaker}
 use Rattle.control_half.specs.Published.{Published}
 use Rattle.counter_half.specs.declared.items.FlowItem.{FlowItem}
 use Rattle.counter_half.specs.declared.items.PacketDone.{PacketDone}
-use Rattle.counter_half.specs.Handled.{Handled, counts_in, note_of, noted, AreMet, Note, HasHandled}
+use Rattle.counter_half.specs.Handled.{Handled, counts_in, note_of, noted, AreMet, HasHandled}
 use Rattle.counter_half.specs.Interleaved.{rises}
 use Rattle.counter_half.proofs.Interleavings.{rises_none, rises_more, rises_last, rises_whole, rises_first}
 
@@ -79,7 +79,7 @@ module _ (commands packets : ℕ) (learnt : List Published) (handled : List Hand
                 let here : packets + length before ≡ done = ap (λ (l : List Handled). packets + length l) last.0 ∙ sym has.done_is in
                 let whole : h.1 - commands ≡ length learnt = ap (λ (g : Handled). g.1 - commands) last.1 ∙ omega (arith, has.met_is) in
                 subst (λ (n : ℕ). AreMet n (take (h.1 - commands) learnt)) (sym here)
-                (subst (λ (k : ℕ). AreMet done (take k learnt)) (sym whole) (subst (AreMet done) (sym (take_all learnt)) has.learnt_floors)))
+                (subst (λ (k : ℕ). AreMet done (take k learnt)) (sym whole) (subst (AreMet done) (sym (take_all (length learnt) learnt (omega arith))) has.learnt_floors)))
             (λ (there : (rest : List Handled) × (handled ≡ before ++ h ∷ rest)). has.floors_before before h there.0 there.1)
             (last_or_before handled one before h after is);
       }

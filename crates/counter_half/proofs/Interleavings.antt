@@ -1,5 +1,5 @@
 -- The order grows at its end: by a command, and by a packet that meets all commands.
-use Rattle.std.proofs.Common.{◌≡◌, ℕ, ◌+◌, ◌-◌, ◌≤◌, ◌&&◌, nat_le, Bool, true, false, length, arith, List, [], ◌∷◌, ◌++◌, map, take, drop, refl, ap, sym, ◌∙◌, subst, append_assoc, append-nil, true≢false, length-drop, take_all, drop_of_length-le}
+use Rattle.std.proofs.Common.{◌≡◌, ℕ, ◌+◌, ◌-◌, ◌≤◌, ◌&&◌, nat_le, Bool, true, false, length, arith, List, [], ◌∷◌, ◌++◌, map, take, drop, refl, ap, sym, ◌∙◌, append_assoc, true≢false, length-drop, take_all, drop_of_length-le}
 use Rattle.std.proofs.lemmas.Bool.{leb-true, le-leb, and_from}
 use Rattle.std.proofs.lemmas.List.{map-append, take-append-le, drop-append-le}
 use Rattle.pc_base.specs.declared.packet.Packet.{Packet}
@@ -65,8 +65,9 @@ pub one_packet : (done most : ℕ) (commands : List CommandKind) (packet : Packe
     → interleaved done commands (mets ++ record { commands = most; packet = packet } ∷ []) ≡ interleaved done commands mets ++ event.Packet packet ∷ []
 one_packet done most commands packet [] is rising =
     let whole : most - done ≡ length commands = omega (arith, is) in
-    rw whole
-    (λ i. map event.Command (take_all commands i) ++ event.Packet packet ∷ map event.Command (drop_of_length-le (length commands) commands (omega arith) i))
+    let front : take (most - done) commands ≡ commands = take_all (most - done) commands (omega (arith, whole)) in
+    let rest : drop (most - done) commands ≡ [] = drop_of_length-le commands {i = most - done} (omega (arith, whole)) in
+    λ i. map event.Command (front i) ++ event.Packet packet ∷ map event.Command (rest i)
 one_packet done most commands packet (first ∷ mets) is rising =
     let begin = rises_first done most first.commands (counts_of mets) rising in
     let end = rises_whole first.commands most (counts_of mets) begin.1 in

@@ -1,5 +1,5 @@
 -- A version more is learnt: the half tells what the one-thread gateway does with one command more.
-use Rattle.std.proofs.Common.{◌≡◌, ℕ, ◌+◌, ◌<◌, ◌^◌, true, length, arith, List, [], ◌∷◌, ◌++◌, map, flat_map, refl, ap, sym, ◌∙◌, subst, append_assoc, append-nil, length-append}
+use Rattle.std.proofs.Common.{◌≡◌, ℕ, ◌+◌, ◌<◌, ◌^◌, true, length, arith, List, [], ◌∷◌, ◌++◌, map, ap, sym, ◌∙◌, subst, append_assoc, length-append}
 use Rattle.std.proofs.Math.Logic.{∥∥₁_elim, ∥∥₁_map}
 use Rattle.std.proofs.Props.{props}
 use Rattle.std.proofs.lemmas.List.{map-append, length-map}
@@ -18,23 +18,22 @@ use Rattle.gate_model.specs.declared.event.Event.{Event}
 use Rattle.gate_model.specs.declared.event.Event.TheVariants as event
 use Rattle.gate_model.specs.Events.{as_command, commands_of}
 use Rattle.gate_model.specs.Few.{FewCommandsFollow}
-use Rattle.gate_model.specs.SlotPast.{SlotPast, past_of, next_version, effects_after, commanded}
+use Rattle.gate_model.specs.SlotPast.{SlotPast, past_of, next_version, effects_after}
 use Rattle.gate_model.specs.Versions.{controlled_by, SessionsAreOfCommands, VersionsAreOfCommands, CommandsAreLearnt}
 use Rattle.gate_model.proofs.Sound.{version-learnt}
 use Rattle.lawful_run.specs.Outcomes.{verdicts, effects, effect_entry}
 use Rattle.lawful_run.proofs.Growing.{effects-append}
-use Rattle.report_lines.specs.Records.{Effected}
-use Rattle.split_record.specs.Standing as record
-use Rattle.split_record.proofs.CountLemmas.{past_counts, all_counted}
+use Rattle.split_record.specs.Standing as subscriber
+use Rattle.split_record.proofs.CountLemmas.{past_counts}
 use Rattle.control_half.specs.Published.{Published}
 use Rattle.counter_half.specs.declared.items.PacketDone.{PacketDone}
 use Rattle.counter_half.specs.declared.items.VersionDone.{VersionDone}
 use Rattle.counter_half.specs.Handled.{Handled, met_in, HasHandled}
-use Rattle.counter_half.specs.Interleaved.{interleaved, rises}
+use Rattle.counter_half.specs.Interleaved.{rises}
 use Rattle.counter_half.specs.Told.{versions_in, versions_behind, events_made, told, Tells, IsLawful, TellsLawfully, moments_in}
 use Rattle.counter_half.proofs.Interleavings.{one_command}
 use Rattle.counter_half.proofs.Made.{commands_made, made_count, counts_met, met_count, versions_count, verdicts_command}
-use Rattle.counter_half.proofs.Versions.{EndsIn, ends_in}
+use Rattle.counter_half.proofs.Versions.{ends_in}
 
 -- what counters learn of a version
 pub record Learns (old new : counters.CountersState) (version after : VersionState) (effects : List Effect) : Type 0 where
@@ -45,10 +44,10 @@ pub record Learns (old new : counters.CountersState) (version after : VersionSta
   pub moment : counters.last_of new ≡ counters.last_of old
 
 module _ (sessions : SessionsAreOfCommands) (versions : VersionsAreOfCommands) (learnt_laws : CommandsAreLearnt) (follow : FewCommandsFollow)
-    (start : record.SubscriberState) (learnt : List Published) (handled : List Handled) (met done : ℕ) (notes : List PacketDone)
+    (start : subscriber.SubscriberState) (learnt : List Published) (handled : List Handled) (met done : ℕ) (notes : List PacketDone)
     (has : HasHandled start.version.number start.packets learnt handled met done notes) where
   -- one command more, of those whose versions were learnt
-  module _ (slot : ℕ) (before : List Event) (taken : ℕ) (stood : record.StandsFor start slot before taken) (front : List CommandKind) (last : CommandKind)
+  module _ (slot : ℕ) (before : List Event) (taken : ℕ) (stood : subscriber.StandsFor start slot before taken) (front : List CommandKind) (last : CommandKind)
       (counted : met ≡ start.version.number + length front) where
     abbrev made : List Event
     made = events_made start front handled
@@ -127,7 +126,7 @@ module _ (sessions : SessionsAreOfCommands) (versions : VersionsAreOfCommands) (
       let e = ends_in start.version.number start.session commands (versions_in learnt) after of_learnt in
       let counted : met ≡ start.version.number + length e.front =
       has.met_is ∙ ap (λ (n : ℕ). start.version.number + n)
-          (sym (length-map (λ (q : Published). q.version) learnt) ∙ ap (λ (l : List VersionState). length l) e.versions_are
+          (sym (length-map learnt (λ (q : Published). q.version)) ∙ ap (λ (l : List VersionState). length l) e.versions_are
               ∙ versions_count start.version.number start.session e.front) in
       let few : length before + length (e.front ++ e.last ∷ []) + length handled < 2 ^ 40 = subst (λ (l : List CommandKind). length before + length l + length handled < 2 ^ 40) e.are lawful.few in
       let earlier : IsLawful start slot before taken e.front learnt handled = record {

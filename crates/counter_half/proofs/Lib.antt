@@ -4,3 +4,6 @@ pub mod Versions
 pub mod Made
 pub mod LearnStep
 pub mod MeetStep
+pub mod Begins
+pub mod Few
+pub mod Steps

@@ -1,22 +1,19 @@
 -- The events that a half made, and what the one-thread gateway says of them.
-use Rattle.std.proofs.Common.{◌≡◌, ℕ, ◌+◌, ◌-◌, ◌≤◌, ◌<◌, ◌^◌, true, length, arith, List, [], ◌∷◌, ◌++◌, map, take, drop, Option, Some, None, unwrap_or, filter_map, refl, ap, sym, ◌∙◌, subst, append_assoc, append-nil, length-append, take-append-drop}
+use Rattle.std.proofs.Common.{◌≡◌, ℕ, ◌+◌, ◌-◌, ◌≤◌, length, arith, List, [], ◌∷◌, ◌++◌, map, take, drop, Option, Some, None, unwrap_or, refl, ap, sym, ◌∙◌, append_assoc, append-nil, length-append, take-append-drop}
 use Rattle.std.proofs.lemmas.List.{length-map}
 use Rattle.std.proofs.lemmas.List.Elements.{filter_map-append}
-use Rattle.std.proofs.lemmas.List.Sums.{fold-append}
 use Rattle.pc_base.specs.declared.packet.Packet.{Packet}
-use Rattle.bearer_state.specs.Session.{SessionState, new_session}
-use Rattle.bearer_state.specs.Version.{VersionState, version_of}
+use Rattle.bearer_state.specs.Session.{SessionState}
 use Rattle.control_steps.specs.declared.command.CommandKind.{CommandKind}
 use Rattle.control_steps.specs.Table.{controlled}
 use Rattle.gate_model.specs.declared.event.Event.{Event}
 use Rattle.gate_model.specs.declared.event.Event.TheVariants as event
-use Rattle.gate_model.specs.Events.{as_command, commands_of, packets_of}
-use Rattle.gate_model.specs.SlotPast.{past_of, session_after, version_after, verdict_after}
-use Rattle.gate_model.specs.Versions.{controlled_by, SessionsAreOfCommands, VersionsAreOfCommands}
+use Rattle.gate_model.specs.Events.{as_command, commands_of}
+use Rattle.gate_model.specs.SlotPast.{verdict_after}
 use Rattle.lawful_run.specs.Outcomes.{verdicts}
-use Rattle.split_record.specs.Standing as record
+use Rattle.split_record.specs.Standing as subscriber
 use Rattle.counter_half.specs.Handled.{Handled, met_in, counts_in}
-use Rattle.counter_half.specs.Interleaved.{Met, interleaved, rises}
+use Rattle.counter_half.specs.Interleaved.{Met, interleaved}
 use Rattle.counter_half.specs.Told.{versions_behind, AreLate, last_moment}
 use Rattle.counter_half.proofs.Interleavings.{counts_of}
 
@@ -35,14 +32,14 @@ commands_made done commands (first ∷ mets) =
 
 -- and they are as many as the commands and the packets
 pub made_count : (done : ℕ) (commands : List CommandKind) (mets : List Met) → length (interleaved done commands mets) ≡ length commands + length mets
-made_count done commands [] = length-map event.Command commands ∙ omega arith
+made_count done commands [] = length-map commands event.Command ∙ omega arith
 made_count done commands (first ∷ mets) =
     let k = first.commands - done in
     let later = interleaved first.commands (drop k commands) mets in
     let front = map event.Command (take k commands) in
     let both : length (take k commands) + length (drop k commands) ≡ length commands =
     sym (length-append (take k commands) (drop k commands)) ∙ ap (λ (l : List CommandKind). length l) (take-append-drop k commands) in
-    omega (arith, length-append front (event.Packet first.packet ∷ later), length-map event.Command (take k commands), both,
+    omega (arith, length-append front (event.Packet first.packet ∷ later), length-map (take k commands) event.Command, both,
         made_count first.commands (drop k commands) mets)
 
 pub counts_met : (handled : List Handled) → counts_of (met_in handled) ≡ counts_in handled

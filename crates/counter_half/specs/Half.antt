@@ -1,5 +1,5 @@
 -- What a clause says of a counter half.
-use Rattle.std.specs.Prelude.{◌≡◌, ℕ, ◌-◌, ◌<◌, ◌≤◌, ◌^◌, ◌&&◌, nat_le, nat_lt, Bool, true, false, Option, Some, None, List, length}
+use Rattle.std.specs.Prelude.{ℕ, ◌-◌, ◌<◌, ◌≤◌, ◌^◌, ◌&&◌, nat_le, nat_lt, Bool, Option, Some, None, List, length}
 use Rattle.lane_core.specs.Ends.{receiver_lane, taken}
 use Rattle.pc_base.specs.declared.numbered.Numbered.{Ghosts}
 use Rattle.bearer_state.specs.Version.{VersionState}

@@ -1,6 +1,5 @@
 -- What a half has learnt and handled since its subscriber was split.
 use Rattle.std.specs.Prelude.{◌≡◌, ℕ, ◌+◌, ◌-◌, ◌≤◌, Bool, true, List, ◌∷◌, ◌++◌, length, map, take, All}
-use Rattle.pc_base.specs.declared.packet.Packet.{Packet}
 use Rattle.control_half.specs.Published.{Published}
 use Rattle.counter_half.specs.declared.items.FlowItem.{FlowItem}
 use Rattle.counter_half.specs.declared.items.PacketDone.{PacketDone}

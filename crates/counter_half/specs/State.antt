@@ -1,6 +1,5 @@
 -- What a clause says of what a half knows.
-use Rattle.std.specs.Prelude.{ℕ, List}
-use Rattle.lane_core.specs.Ends.{receiver_lane}
+use Rattle.std.specs.Prelude.{List}
 use Rattle.control_half.specs.Published.{Published}
 use Rattle.counter_half.specs.declared.flow_state.FlowState.{FlowState}
 use Rattle.counter_half.specs.Learnt.{learnt_in}

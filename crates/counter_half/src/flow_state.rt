@@ -17,13 +17,13 @@ pub struct FlowState {
     /// What the subscriber was when it was split.
     pub(crate) started: Start,
     /// The version learnt last.
-    pub(crate) version: Version,
-    pub(crate) counters: Counters,
+    pub version: Version,
+    pub counters: Counters,
     /// How many commands of the subscriber were learnt, and how many of its packets handled.
-    pub(crate) met: u64,
-    pub(crate) done: u64,
-    pub(crate) notes: Vec<PacketDone>,
-    pub(crate) effects: Vec<VersionDone>,
+    pub met: u64,
+    pub done: u64,
+    pub notes: Vec<PacketDone>,
+    pub effects: Vec<VersionDone>,
     pub(crate) learnt: Log<Version, u64>,
     pub(crate) handled: Log<FlowItem, u64>,
     pub ghost handles: { HasHandled started.version.number started.packets (learnt_in learnt.items)
