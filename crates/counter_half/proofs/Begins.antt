@@ -1,5 +1,4 @@
 -- Before anything is learnt or handled.
-use mathlib.Core.Logic.{∣◌∣₁}
 use Rattle.std.proofs.Common.{◌≡◌, ◌+◌, ◌≤◌, ◌^◌, arith, List, [], ◌++◌, map, refl, ap, sym, ◌∙◌, subst, append-nil}
 use Rattle.control_steps.specs.declared.command.CommandKind.{CommandKind}
 use Rattle.packet_steps.specs.Standing as counters

@@ -122,7 +122,7 @@ module _ (sessions : SessionsAreOfCommands) (versions : VersionsAreOfCommands) (
       → TellsLawfully start (learnt ++ p ∷ []) handled after new notes (dones ++ now ∷ [])
   learn_tells version after old new dones p now tells is learns_it number = λ slot before taken commands lawful.
       let of_learnt : versions_in learnt ++ after ∷ [] ≡ versions_behind start.version.number start.session commands =
-      (λ i. versions_in learnt ++ is (~ i) ∷ []) ∙ sym (map-append (λ (q : Published). q.version) learnt (p ∷ [])) ∙ lawful.versions in
+      ap (λ (v : VersionState). versions_in learnt ++ v ∷ []) (sym is) ∙ sym (map-append (λ (q : Published). q.version) learnt (p ∷ [])) ∙ lawful.versions in
       let e = ends_in start.version.number start.session commands (versions_in learnt) after of_learnt in
       let counted : met ≡ start.version.number + length e.front =
       has.met_is ∙ ap (λ (n : ℕ). start.version.number + n)

@@ -7,3 +7,4 @@ pub mod MeetStep
 pub mod Begins
 pub mod Few
 pub mod Steps
+pub mod Looking

@@ -1,5 +1,5 @@
 -- One step of the half, in terms of its lists.
-use Rattle.std.proofs.Common.{◌≡◌, ℕ, ◌+◌, ◌≤◌, List, [], ◌∷◌, ◌++◌, ap, sym, ◌∙◌, subst}
+use Rattle.std.proofs.Common.{◌≡◌, ℕ, ◌+◌, ◌≤◌, List, [], ◌∷◌, ◌++◌, Some, slice_get, ap, sym, ◌∙◌, subst}
 use Rattle.std.proofs.lemmas.List.{map-append}
 use Rattle.bearer_state.specs.Version.{VersionState}
 use Rattle.packet_steps.specs.Standing as counters
@@ -66,3 +66,8 @@ tells_same start learnt handled version old new notes notes' dones dones' same n
     subst (λ (k : counters.CountersState). TellsLawfully start learnt handled version k notes' dones') (sym same)
     (subst (λ (n : List PacketDone). TellsLawfully start learnt handled version old n dones') (sym noted)
     (subst (λ (d : List VersionDone). TellsLawfully start learnt handled version old notes d) (sym same_done) tells))
+
+-- the first of a list that has a first one
+pub first_is : (xs rest : List VersionState) (first found : VersionState) → Some found ≡ slice_get xs 0 → xs ≡ first ∷ rest → found ≡ first
+first_is xs rest first found is front =
+    let same : Some found ≡ Some first = is ∙ ap (λ (l : List VersionState). slice_get l 0) front in cc

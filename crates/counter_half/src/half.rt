@@ -2,7 +2,7 @@
 ghost use Rattle.std.specs.Prelude.{◌≡◌, ◌+◌, ◌*◌, ◌≤◌, ◌^◌, ◌++◌, length};
 ghost use Rattle.lane_core.specs.Ends.{taken};
 ghost use Rattle.control_half.specs.Published.{in_batches, in_kept};
-ghost use Rattle.counter_half.specs.Kept.{WasTaken};
+ghost use Rattle.counter_half.specs.Kept.{kept_count};
 ghost use Rattle.counter_half.specs.Learnt.{learnt_in};
 
 use crate::flow_state::FlowState;
@@ -23,6 +23,6 @@ pub struct FlowHalf {
     pub(crate) learns: u64,
     ghost of_slot: { slot ≡ state.started.session.slot },
     pub ghost in_order: { in_batches (taken versions) ≡ learnt_in state.learnt.items ++ in_kept batch },
-    ghost came: { WasTaken batch (taken versions) },
+    ghost came: { kept_count batch ≤ length (taken versions) },
     pub ghost few: { (state.started.version.number ≤ 2 ^ 60) × (state.started.packets ≤ 2 ^ 60) },
 }

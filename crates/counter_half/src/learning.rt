@@ -97,12 +97,23 @@ impl FlowHalf {
         ensures none { IsFalse result → (empty_answers self.new.versions ≡ raised (empty_answers self.old.versions))
             ⊎ Waits self.new.state.done self.new.batch }
     {
-        if self.batch.is_none() {
-            self.batch = self.versions.take(rt);
-        }
+        self.look(rt);
         match &self.batch {
             Some(batch) => batch.floor() <= self.state.done,
             None => false,
+        }
+    }
+
+    /// Takes a batch, where none is kept.
+    fn look<R: Wait>(&mut self, rt: &R)
+        ensures name { name_of self.new ≡ name_of self.old }
+        ensures state { self.new.state ≡ self.old.state }
+        ensures counts { (self.new.asks ≡ self.old.asks) × (self.new.learns ≡ self.old.learns) }
+        ensures learnt { batches_learnt self.new ≡ batches_learnt self.old }
+        ensures none { self.new.batch ≡ None → empty_answers self.new.versions ≡ raised (empty_answers self.old.versions) }
+    {
+        if self.batch.is_none() {
+            self.batch = self.versions.take(rt);
         }
     }
 
