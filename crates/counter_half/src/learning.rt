@@ -3,7 +3,7 @@ ghost use Rattle.std.specs.Prelude.{◌≡◌, ◌+◌, ◌<◌, ◌≤◌, ◌�
 ghost use Rattle.lane_core.specs.Ends.{taken, empty_answers, raised};
 ghost use Rattle.flow_core.specs.Counts.{learns_after};
 ghost use Rattle.control_half.specs.Turns.{size as left_in};
-ghost use Rattle.pc_base.specs.declared.packet.Place.TheVariants as place;
+ghost use Rattle.pc_base.specs.declared.packet.Place.TheVariants as places;
 ghost use Rattle.counter_half.specs.declared.items.PacketDone.{PacketDone};
 
 use crate::half::FlowHalf;
@@ -56,7 +56,7 @@ impl FlowHalf {
         ensures name { name_of self.new ≡ name_of self.old }
         ensures ok { OnOk result (handled_by self.new ≡ handled_by self.old ++ item.now ∷ []) }
         ensures place { OnOk result (map (λ (d : PacketDone). d.place) self.new.state.notes.items
-            ≡ map (λ (d : PacketDone). d.place) self.old.state.notes.items ++ place.At place ∷ []) }
+            ≡ map (λ (d : PacketDone). d.place) self.old.state.notes.items ++ places.At place ∷ []) }
         ensures err { OnErr result (handled_by self.new ≡ handled_by self.old) }
         ensures met { self.new.state.met ≡ self.old.state.met }
         ensures counts { (self.new.asks ≡ self.old.asks) × (self.new.learns ≡ self.old.learns) }
@@ -79,11 +79,29 @@ impl FlowHalf {
             ⊎ Waits self.new.state.done self.new.batch) }
     {
         for learnt in 0..most {
-            if !self.has_batch(rt) {
+            let more = self.learn_next(rt)?;
+            if !more {
                 return Ok(learnt > 0);
             }
-            self.learn_batch()?;
         }
+        Ok(true)
+    }
+
+    /// Learns a batch, if one is there whose floor is met.
+    fn learn_next<R: Wait>(&mut self, rt: &R) -> Result<bool, NoMemory>
+        ensures name { name_of self.new ≡ name_of self.old }
+        ensures handled { self.new.state.handled.items ≡ self.old.state.handled.items }
+        ensures done { self.new.state.done ≡ self.old.state.done }
+        ensures counts { (self.new.asks ≡ self.old.asks) × (self.new.learns ≡ self.old.learns) }
+        ensures learnt { IfOk result (λ learnt. learnt ≡ true → batches_learnt self.new ≡ batches_learnt self.old + 1) }
+        ensures same { IfOk result (λ learnt. learnt ≡ false → (self.new.state.met ≡ self.old.state.met) × (batches_learnt self.new ≡ batches_learnt self.old)) }
+        ensures none { IfOk result (λ learnt. learnt ≡ false → (empty_answers self.new.versions ≡ raised (empty_answers self.old.versions))
+            ⊎ Waits self.new.state.done self.new.batch) }
+    {
+        if !self.has_batch(rt) {
+            return Ok(false);
+        }
+        self.learn_batch()?;
         Ok(true)
     }
 

@@ -230,10 +230,10 @@ fn packets_go_by_the_last_version(rt: HostRuntime) -> Result<(), Fail> {
     handed(&mut bench.half, &item(alloc, 1, 0, 1)?)?;
     assert!(rt; bench.half.state.counters.last() == Some(Moment(2)));
     let notes = notes_text(alloc, &bench.half)?;
-    let expected = format!(in alloc; "10 0 2 @1 down 0 {TUNNELLED}\n11 1 3 @1 down 0 {SWITCHED}\n")?;
+    let expected = format!(in alloc; "10 0 2 @1 down 0 {}\n11 1 3 @1 down 0 {}\n", TUNNELLED, SWITCHED)?;
     assert_eq!(rt; notes.as_str(), expected.as_str());
     let effects = effects_text(alloc, &bench.half)?;
-    let expected = format!(in alloc; "2 marker 0 {MARKER}\n")?;
+    let expected = format!(in alloc; "2 marker 0 {}\n", MARKER)?;
     assert_eq!(rt; effects.as_str(), expected.as_str());
     Ok(())
 }
@@ -254,7 +254,7 @@ fn floors_are_waited_for(rt: HostRuntime) -> Result<(), Fail> {
     let notes = notes_text(alloc, &bench.half)?;
     assert_eq!(rt; notes.as_str(), "10 0 1 @1 held 0\n");
     let effects = effects_text(alloc, &bench.half)?;
-    let expected = format!(in alloc; "1 packet 0 down 0 {TUNNELLED}\n")?;
+    let expected = format!(in alloc; "1 packet 0 down 0 {}\n", TUNNELLED)?;
     assert_eq!(rt; effects.as_str(), expected.as_str());
     let rest = bench.half.into_rest();
     assert!(rt; rest.batch.is_none());

@@ -3,8 +3,8 @@ use Rattle.control_half.specs.Turns.{size}
 use Rattle.counter_half.specs.Half.{name_of, IsReady}
 use Rattle.counter_half.proofs.half.FlowHalf.learn_batch.Given as goal
 
-abbrev pub invariant-loop-self : goal.invariant-loop-self
-invariant-loop-self l = record {
+abbrev pub invariant-loop : goal.invariant-loop
+invariant-loop l = record {
   name : name_of l.self ≡ name_of l.fn.self;
   handled : l.self.state.handled.items ≡ l.fn.self.state.handled.items;
   done : l.self.state.done ≡ l.fn.self.state.done;
@@ -14,5 +14,5 @@ invariant-loop-self l = record {
   ready : IsReady l.self.state.done l.self.batch;
 }
 
-abbrev pub decreases-loop-self : goal.decreases-loop-self
-decreases-loop-self l = size l.self.batch
+abbrev pub decreases-loop : goal.decreases-loop
+decreases-loop l = size l.self.batch

@@ -1,9 +1,30 @@
-use Rattle.std.proofs.Common.{[], ap, sym, ◌∙◌}
-use Rattle.counter_half.specs.Named.{started}
-use Rattle.counter_half.proofs.Begins.{starts_few, tells_none}
-use Rattle.counter_half.proofs.Facts.{handled_none}
+use Rattle.std.proofs.Common.{◌++◌, [], arith, ap, sym, ◌∙◌, subst}
+use Rattle.split_record.specs.Standing.{SubscriberState, HasRoom}
+use Rattle.control_half.specs.Published.{in_batches}
+use Rattle.counter_half.specs.Learnt.{learnt_in}
+use Rattle.counter_half.proofs.Begins.{starts_few, begins_has, begins_tells}
 use Rattle.counter_half.proofs.half.FlowHalf.new.Goals as goal
 
-pub invariant_of-result-clause-few : goal.invariant_of-result-clause-few
-invariant_of-result-clause-few c =
-    starts_few (started c.args.session.now c.args.version c.args.counters c.args.packets) c.requires.room
+pub invariant_of-result : goal.invariant_of-result
+invariant_of-result c =
+    let start = c.of-started.result in
+    let is = sym c.of-started.ensures in
+    record {
+      handles = begins_has start c.new-3.result.items c.new-4.result.items c.new.result.items c.new-2.result.items
+          c.new-3.ensures c.new-4.ensures c.new.ensures.items c.new-2.ensures.items c.args.version.number c.args.packets
+          (ap (λ (s : SubscriberState). s.version.number) is) (ap (λ (s : SubscriberState). s.packets) is);
+      tells = begins_tells start c.new-3.result.items c.new-4.result.items c.new.result.items c.new-2.result.items
+          c.new-3.ensures c.new-4.ensures c.new.ensures.items c.new-2.ensures.items c.args.version c.args.counters
+          (ap (λ (s : SubscriberState). s.version) is) (ap (λ (s : SubscriberState). s.counters) is);
+    }
+
+pub invariant_of-result-2 : goal.invariant_of-result-2
+invariant_of-result-2 c =
+    let start = c.of-started.result in
+    let is = sym c.of-started.ensures in
+    record {
+      of_slot = ap (λ (s : SubscriberState). s.session.slot) is;
+      in_order = ap in_batches c.requires.new ∙ ap (λ l. learnt_in l ++ []) (sym c.new-3.ensures);
+      came = omega arith;
+      few = starts_few start (subst (λ (s : SubscriberState). HasRoom s) is c.requires.room);
+    }
