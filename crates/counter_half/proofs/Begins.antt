@@ -1,5 +1,5 @@
 -- Before anything is learnt or handled.
-use Rattle.std.proofs.Common.{◌≡◌, ◌+◌, ◌≤◌, ◌^◌, arith, List, [], ◌++◌, map, refl, ap, sym, ◌∙◌, subst, append-nil}
+use Rattle.std.proofs.Common.{◌≡◌, ℕ, ◌≤◌, ◌^◌, arith, List, [], ◌++◌, map, refl, ap, sym, ◌∙◌, subst, append-nil}
 use Rattle.control_steps.specs.declared.command.CommandKind.{CommandKind}
 use Rattle.packet_steps.specs.Standing as counters
 use Rattle.gate_model.specs.declared.event.Event.{Event}
@@ -38,24 +38,33 @@ pub starts_few : (start : subscriber.SubscriberState) → subscriber.HasRoom sta
 starts_few start room =
     let few = counts_are_few start room in (omega (arith, few), omega (arith, few))
 
-module _ (start : subscriber.SubscriberState) (learnt : List (VersionState × ℕ)) (handled : List Handled) (notes : List PacketDone) (dones : List VersionDone)
+module _ (start : subscriber.SubscriberState) (learnt : List (VersionState × ℕ)) (handled : List Handled)
+    (notes : List PacketDone) (dones : List VersionDone)
     (no_learnt : learnt ≡ []) (no_handled : handled ≡ []) (no_notes : notes ≡ []) (no_dones : dones ≡ []) where
   pub begins_has : (met done : ℕ) → met ≡ start.version.number → done ≡ start.packets
       → HasHandled start.version.number start.packets (learnt_in learnt) handled met done notes
   begins_has met done met_is done_is =
-      subst (λ (n : ℕ). HasHandled start.version.number start.packets (learnt_in learnt) handled n done notes) (sym met_is)
-      (subst (λ (n : ℕ). HasHandled start.version.number start.packets (learnt_in learnt) handled start.version.number n notes) (sym done_is)
-      (subst (λ (l : List (VersionState × ℕ)). HasHandled start.version.number start.packets (learnt_in l) handled start.version.number start.packets notes) (sym no_learnt)
-      (subst (λ (h : List Handled). HasHandled start.version.number start.packets [] h start.version.number start.packets notes) (sym no_handled)
-      (subst (λ (n : List PacketDone). HasHandled start.version.number start.packets [] [] start.version.number start.packets n) (sym no_notes)
+      subst (λ (n : ℕ). HasHandled start.version.number start.packets (learnt_in learnt) handled n done notes)
+      (sym met_is)
+      (subst (λ (n : ℕ). HasHandled start.version.number start.packets
+      (learnt_in learnt) handled start.version.number n notes) (sym done_is)
+      (subst (λ (l : List (VersionState × ℕ)). HasHandled start.version.number start.packets
+      (learnt_in l) handled start.version.number start.packets notes) (sym no_learnt)
+      (subst (λ (h : List Handled). HasHandled start.version.number start.packets [] h start.version.number
+      start.packets notes) (sym no_handled)
+      (subst (λ (n : List PacketDone). HasHandled start.version.number start.packets [] [] start.version.number
+      start.packets n) (sym no_notes)
       (handled_none start.version.number start.packets)))))
 
-  pub begins_tells : (version : VersionState) (stood : counters.CountersState) → version ≡ start.version → stood ≡ start.counters
+  pub begins_tells : (version : VersionState) (stood : counters.CountersState) → version ≡ start.version
+      → stood ≡ start.counters
       → TellsLawfully start (learnt_in learnt) handled version stood notes dones
   begins_tells version stood version_is stood_is =
       subst (λ (v : VersionState). TellsLawfully start (learnt_in learnt) handled v stood notes dones) (sym version_is)
-      (subst (λ (k : counters.CountersState). TellsLawfully start (learnt_in learnt) handled start.version k notes dones) (sym stood_is)
-      (subst (λ (l : List (VersionState × ℕ)). TellsLawfully start (learnt_in l) handled start.version start.counters notes dones) (sym no_learnt)
+      (subst (λ (k : counters.CountersState). TellsLawfully start
+      (learnt_in learnt) handled start.version k notes dones) (sym stood_is)
+      (subst (λ (l : List (VersionState × ℕ)). TellsLawfully start
+      (learnt_in l) handled start.version start.counters notes dones) (sym no_learnt)
       (subst (λ (h : List Handled). TellsLawfully start [] h start.version start.counters notes dones) (sym no_handled)
       (subst (λ (n : List PacketDone). TellsLawfully start [] [] start.version start.counters n dones) (sym no_notes)
       (subst (λ (d : List VersionDone). TellsLawfully start [] [] start.version start.counters [] d) (sym no_dones)

@@ -40,7 +40,8 @@ AreMet packets versions = All (λ (p : Published). p.floor ≤ packets) versions
 
 -- So many commands and packets came before the split. Since then versions were learnt and items handled: the counts are
 -- theirs, each item is noted, and none was handled or learnt before its floor was met.
-pub record HasHandled (commands packets : ℕ) (learnt : List Published) (handled : List Handled) (met done : ℕ) (notes : List PacketDone) : Type 0 where
+pub record HasHandled (commands packets : ℕ) (learnt : List Published) (handled : List Handled) (met done : ℕ)
+    (notes : List PacketDone) : Type 0 where
   pub met_is : met ≡ commands + length learnt
   pub done_is : done ≡ packets + length handled
   pub notes_are : map noted notes ≡ map note_of handled

@@ -23,7 +23,8 @@ versions_in learnt = map (λ (p : Published). p.version) learnt
 abbrev pub versions_behind : ℕ → SessionState → List CommandKind → List VersionState
 versions_behind number session [] = []
 versions_behind number session (command ∷ commands) =
-    let next = (controlled session command).0 in version_of next (number + 1) ∷ versions_behind (number + 1) next commands
+    let next = (controlled session command).0 in version_of next (number + 1) ∷ versions_behind
+    (number + 1) next commands
 
 -- moments that don't fall, none before one
 abbrev pub AreLate : ℕ → List ℕ → Type 0
@@ -47,7 +48,8 @@ abbrev pub told : ℕ → VersionDone → List Effected
 told slot done = map (effect_entry slot done.command) done.effects
 
 -- Behind the events before the split, and these: the version, the counters, and what was noted.
-pub record Tells (start : subscriber.SubscriberState) (slot : ℕ) (before now : List Event) (taken : ℕ) (moments : List ℕ) (version : VersionState)
+pub record Tells (start : subscriber.SubscriberState) (slot : ℕ) (before now : List Event) (taken : ℕ)
+    (moments : List ℕ) (version : VersionState)
     (stood : counters.CountersState) (notes : List PacketDone) (learnt : List VersionDone) : Type 0 where
   pub version_is : version ≡ version_after slot (before ++ now)
   pub stands : ∥ counters.StandsFor stood (past_of slot (before ++ now)).packets taken ∥₁
@@ -56,14 +58,17 @@ pub record Tells (start : subscriber.SubscriberState) (slot : ℕ) (before now :
   pub effects_are : flat_map (told slot) learnt ≡ effects slot before now
 
 -- what was learnt are the versions of some commands behind those of the split, and moments don't fall
-pub record IsLawful (start : subscriber.SubscriberState) (slot : ℕ) (before : List Event) (taken : ℕ) (commands : List CommandKind)
+pub record IsLawful (start : subscriber.SubscriberState) (slot : ℕ) (before : List Event) (taken : ℕ)
+    (commands : List CommandKind)
     (learnt : List Published) (handled : List Handled) : Type 0 where
   pub stood : subscriber.StandsFor start slot before taken
   pub versions : versions_in learnt ≡ versions_behind (subscriber.commands_met start) start.session commands
   pub late : AreLate (unwrap_or (subscriber.last_of start) 0) (moments_in handled)
   pub few : length before + length commands + length handled < 2 ^ 40
 
-abbrev pub TellsLawfully : subscriber.SubscriberState → List Published → List Handled → VersionState → counters.CountersState → List PacketDone → List VersionDone → Type 0
-TellsLawfully start learnt handled version stood notes done = (slot : ℕ) (before : List Event) (taken : ℕ) (commands : List CommandKind)
+abbrev pub TellsLawfully : subscriber.SubscriberState → List Published → List Handled → VersionState
+    → counters.CountersState → List PacketDone → List VersionDone → Type 0
+TellsLawfully start learnt handled version stood notes done = (slot : ℕ) (before : List Event) (taken : ℕ)
+    (commands : List CommandKind)
     → IsLawful start slot before taken commands learnt handled
     → Tells start slot before (events_made start commands handled) taken (moments_in handled) version stood notes done

@@ -28,5 +28,6 @@ pub struct FlowState {
     pub(crate) handled: Log<FlowItem, u64>,
     pub ghost handles: { HasHandled started.version.number started.packets (learnt_in learnt.items)
         handled.items met done notes.items },
-    pub ghost tells: { TellsLawfully started (learnt_in learnt.items) handled.items version counters notes.items effects.items },
+    pub ghost tells: { TellsLawfully started
+        (learnt_in learnt.items) handled.items version counters notes.items effects.items },
 }

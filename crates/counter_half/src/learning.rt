@@ -30,8 +30,10 @@ impl FlowHalf {
 
         ensures learnt { IfOk result (λ learnt. learnt ≡ true → batches_learnt self.old < batches_learnt self.new) }
         ensures most { OnOk result (batches_learnt self.new ≤ batches_learnt self.old + most) }
-        ensures same { IfOk result (λ learnt. learnt ≡ false → (self.new.state.met ≡ self.old.state.met) × (batches_learnt self.new ≡ batches_learnt self.old)) }
-        ensures none { IfOk result (λ learnt. learnt ≡ false → (empty_answers self.new.versions ≡ raised (empty_answers self.old.versions))
+        ensures same { IfOk result (λ learnt. learnt ≡ false
+            → (self.new.state.met ≡ self.old.state.met) × (batches_learnt self.new ≡ batches_learnt self.old)) }
+        ensures none { IfOk result (λ learnt. learnt ≡ false
+            → (empty_answers self.new.versions ≡ raised (empty_answers self.old.versions))
             ⊎ Waits self.new.state.done self.new.batch) }
     {
         self.asks = self.asks.saturating_add(1);
@@ -74,8 +76,10 @@ impl FlowHalf {
         ensures counts { (self.new.asks ≡ self.old.asks) × (self.new.learns ≡ self.old.learns) }
         ensures learnt { IfOk result (λ learnt. learnt ≡ true → batches_learnt self.old < batches_learnt self.new) }
         ensures most { OnOk result (batches_learnt self.new ≤ batches_learnt self.old + most) }
-        ensures same { IfOk result (λ learnt. learnt ≡ false → (self.new.state.met ≡ self.old.state.met) × (batches_learnt self.new ≡ batches_learnt self.old)) }
-        ensures none { IfOk result (λ learnt. learnt ≡ false → (empty_answers self.new.versions ≡ raised (empty_answers self.old.versions))
+        ensures same { IfOk result (λ learnt. learnt ≡ false
+            → (self.new.state.met ≡ self.old.state.met) × (batches_learnt self.new ≡ batches_learnt self.old)) }
+        ensures none { IfOk result (λ learnt. learnt ≡ false
+            → (empty_answers self.new.versions ≡ raised (empty_answers self.old.versions))
             ⊎ Waits self.new.state.done self.new.batch) }
     {
         for learnt in 0..most {
@@ -94,8 +98,10 @@ impl FlowHalf {
         ensures done { self.new.state.done ≡ self.old.state.done }
         ensures counts { (self.new.asks ≡ self.old.asks) × (self.new.learns ≡ self.old.learns) }
         ensures learnt { IfOk result (λ learnt. learnt ≡ true → batches_learnt self.new ≡ batches_learnt self.old + 1) }
-        ensures same { IfOk result (λ learnt. learnt ≡ false → (self.new.state.met ≡ self.old.state.met) × (batches_learnt self.new ≡ batches_learnt self.old)) }
-        ensures none { IfOk result (λ learnt. learnt ≡ false → (empty_answers self.new.versions ≡ raised (empty_answers self.old.versions))
+        ensures same { IfOk result (λ learnt. learnt ≡ false
+            → (self.new.state.met ≡ self.old.state.met) × (batches_learnt self.new ≡ batches_learnt self.old)) }
+        ensures none { IfOk result (λ learnt. learnt ≡ false
+            → (empty_answers self.new.versions ≡ raised (empty_answers self.old.versions))
             ⊎ Waits self.new.state.done self.new.batch) }
     {
         if !self.has_batch(rt) {
@@ -128,7 +134,8 @@ impl FlowHalf {
         ensures state { self.new.state ≡ self.old.state }
         ensures counts { (self.new.asks ≡ self.old.asks) × (self.new.learns ≡ self.old.learns) }
         ensures learnt { batches_learnt self.new ≡ batches_learnt self.old }
-        ensures none { self.new.batch ≡ None → empty_answers self.new.versions ≡ raised (empty_answers self.old.versions) }
+        ensures none { self.new.batch ≡ None → empty_answers self.new.versions
+            ≡ raised (empty_answers self.old.versions) }
     {
         if self.batch.is_none() {
             self.batch = self.versions.take(rt);

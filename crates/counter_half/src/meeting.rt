@@ -32,9 +32,12 @@ impl FlowState {
 
         // What it learnt and what the batch has left are as before, together.
         ensures whole { learnt_by self.new ++ in_batch batch.new ≡ learnt_by self.old ++ in_batch batch.old }
-        ensures one { IfOk result (λ learnt. learnt ≡ true → length (versions_of batch.old) ≡ length (versions_of batch.new) + 1) }
-        ensures none { IfOk result (λ learnt. learnt ≡ false → (versions_of batch.new ≡ []) × (versions_of batch.old ≡ [])) }
-        ensures kept { OnErr result ((learnt_by self.new ≡ learnt_by self.old) × (versions_of batch.new ≡ versions_of batch.old)) }
+        ensures one { IfOk result (λ learnt. learnt ≡ true
+            → length (versions_of batch.old) ≡ length (versions_of batch.new) + 1) }
+        ensures none { IfOk result (λ learnt. learnt ≡ false
+            → (versions_of batch.new ≡ []) × (versions_of batch.old ≡ [])) }
+        ensures kept { OnErr result ((learnt_by self.new ≡ learnt_by self.old)
+            × (versions_of batch.new ≡ versions_of batch.old)) }
     {
         known_pasts();
         let Some(next) = batch.versions().first() else {
@@ -64,7 +67,8 @@ impl FlowState {
         ensures started { self.new.started ≡ self.old.started }
         ensures learnt { self.new.learnt.items ≡ self.old.learnt.items }
         ensures met { self.new.met ≡ self.old.met }
-        ensures handled { OnOk result (self.new.handled.items ≡ self.old.handled.items ++ (item.now, self.old.met) ∷ []) }
+        ensures handled { OnOk result (self.new.handled.items
+            ≡ self.old.handled.items ++ (item.now, self.old.met) ∷ []) }
         ensures done { OnOk result (self.new.done ≡ self.old.done + 1) }
         ensures place { OnOk result (map (λ (d : PacketDone). d.place) self.new.notes.items
             ≡ map (λ (d : PacketDone). d.place) self.old.notes.items ++ place ∷ []) }
@@ -89,15 +93,13 @@ impl FlowState {
 }
 
 /// The verdict on a packet, at the later of its moment and that of the last one.
-fn verdict(
-    counters: &mut Counters,
-    version: &Version,
-    packet: &Packet,
-) -> Result<Verdict, NoMemory>
-    ensures verdict { (past : Past) (taken : ℕ) → StandsFor counters.old past taken → past.version ≡ version.now → AreFew past.charged
+fn verdict(counters: &mut Counters, version: &Version, packet: &Packet) -> Result<Verdict, NoMemory>
+    ensures verdict { (past : Past) (taken : ℕ) → StandsFor counters.old past taken → past.version ≡ version.now
+        → AreFew past.charged
         → IfSome (last_of counters.old) (λ last. last ≤ packet.now.moment)
         → IfOk result (λ verdict. verdict ≡ (judged past packet.now).1) }
-    ensures stands { (past : Past) (taken : ℕ) → StandsFor counters.old past taken → past.version ≡ version.now → AreFew past.charged
+    ensures stands { (past : Past) (taken : ℕ) → StandsFor counters.old past taken → past.version ≡ version.now
+        → AreFew past.charged
         → IfSome (last_of counters.old) (λ last. last ≤ packet.now.moment)
         → OnOk result (StandsFor counters.new (judged past packet.now).0 taken) }
     ensures unchanged { OnErr result (counters.new ≡ counters.old) }

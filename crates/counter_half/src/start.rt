@@ -29,7 +29,12 @@ impl Start {
     ghost use Rattle.counter_half.specs.Named.{started};
 
     /// These, as they are now.
-    pub(crate) fn of(session: &Session, version: &Version, counters: &Counters, packets: u64) -> Start
+    pub(crate) fn of(
+        session: &Session,
+        version: &Version,
+        counters: &Counters,
+        packets: u64,
+    ) -> Start
         ensures { result ≡ started session.now version.now counters.now packets }
     {
         Start {

@@ -8,7 +8,8 @@ use flow_core::Flow;
 use lane_core::{Sender, lane};
 use packet_steps::Counters;
 use pc_base::{
-    Addr4, Effect, Fate, Kbps, Moment, Octets, Packet, Peer, Place, SliceNo, Slot, Teid, Verdict, Way,
+    Addr4, Effect, Fate, Kbps, Moment, Octets, Packet, Peer, Place, SliceNo, Slot, Teid, Verdict,
+    Way,
 };
 use std::alloc::Global;
 use std::sync::Wait;
@@ -33,7 +34,9 @@ const SECOND: Peer = Peer {
 
 // The G-PDU with DOWN on the first tunnel, and the End Marker of it.
 const TUNNELLED: &str = "30ff001c00000a014500001c0000000040110000cb0071090a2d000213c4271000080000";
+
 const SWITCHED: &str = "30ff001c00000a024500001c0000000040110000cb0071090a2d000213c4271000080000";
+
 const MARKER: &str = "30fe000000000a01";
 
 /// A half, the far end of its lane, and the session whose versions are sent there.
@@ -230,7 +233,10 @@ fn packets_go_by_the_last_version(rt: HostRuntime) -> Result<(), Fail> {
     handed(&mut bench.half, &item(alloc, 1, 0, 1)?)?;
     assert!(rt; bench.half.state.counters.last() == Some(Moment(2)));
     let notes = notes_text(alloc, &bench.half)?;
-    let expected = format!(in alloc; "10 0 2 @1 down 0 {}\n11 1 3 @1 down 0 {}\n", TUNNELLED, SWITCHED)?;
+    let expected = format!(in alloc;
+        "10 0 2 @1 down 0 {}\n11 1 3 @1 down 0 {}\n",
+        TUNNELLED, SWITCHED
+    )?;
     assert_eq!(rt; notes.as_str(), expected.as_str());
     let effects = effects_text(alloc, &bench.half)?;
     let expected = format!(in alloc; "2 marker 0 {}\n", MARKER)?;
@@ -247,7 +253,10 @@ fn floors_are_waited_for(rt: HostRuntime) -> Result<(), Fail> {
     let version = bench.version_of(alloc, modify(alloc, 2, FIRST)?)?;
     bench.publish(&rt, Batch::new(alloc, version, 1)?)?;
     assert!(rt; learnt(&rt, &mut bench.half)?);
-    assert!(rt; !learnt(&rt, &mut bench.half)?, "one packet is to be handled before");
+    assert!(rt;
+        !learnt(&rt, &mut bench.half)?,
+        "one packet is to be handled before"
+    );
     assert!(rt; !bench.half.may(&item(alloc, 0, 2, 1)?));
     handed(&mut bench.half, &item(alloc, 0, 1, 1)?)?;
     assert!(rt; learnt(&rt, &mut bench.half)?);

@@ -1,4 +1,4 @@
-use Rattle.std.proofs.Common.{◌≡◌, ◌≤◌, ◌++◌, ◌∷◌, [], List, arith, refl, ap, sym, ◌∙◌, subst}
+use Rattle.std.proofs.Common.{◌≡◌, ◌≤◌, ◌++◌, ◌∷◌, [], List, arith, refl, ap, ◌∙◌, subst}
 use Rattle.bearer_state.specs.Version.{VersionState}
 use Rattle.update_batch.specs.Batch.{versions_of}
 use Rattle.counter_half.specs.declared.items.VersionDone.{VersionDone}
@@ -12,8 +12,10 @@ invariant_of-self c =
     let old = c.args.self.now in
     record {
       handles = old.handles;
-      tells = tells_same old.started (learnt_in old.learnt.items) old.handled.items old.version old.counters old.counters
-          old.notes.items old.notes.items old.effects.items c.reserve.new.self.items refl refl c.reserve.ensures.items old.tells;
+      tells = tells_same old.started (learnt_in old.learnt.items) old.handled.items old.version old.counters
+          old.counters
+          old.notes.items old.notes.items old.effects.items c.reserve.new.self.items refl refl c.reserve.ensures.items
+          old.tells;
     }
 
 pub invariant_of-self-in-Break-branch-2 : goal.invariant_of-self-in-Break-branch-2
@@ -21,8 +23,10 @@ invariant_of-self-in-Break-branch-2 c =
     let old = c.args.self.now in
     record {
       handles = old.handles;
-      tells = tells_same old.started (learnt_in old.learnt.items) old.handled.items old.version old.counters c.advance.new.counters
-          old.notes.items old.notes.items old.effects.items c.reserve.new.self.items c.in_err-effects.ensures.unchanged refl
+      tells = tells_same old.started (learnt_in old.learnt.items) old.handled.items old.version old.counters
+          c.advance.new.counters
+          old.notes.items old.notes.items old.effects.items c.reserve.new.self.items c.in_err-effects.ensures.unchanged
+          refl
           c.reserve.ensures.items old.tells;
     }
 
@@ -35,19 +39,22 @@ invariant_of-self-2 c =
     let done : VersionDone = record { command = old.met; effects = c.in_ok-effects.effects } in
     let more = c.push_reserved.ensures.items ∙ ap (λ (d : List VersionDone). d ++ done ∷ []) c.reserve.ensures.items in
     let same : c.in-Some.next.now ≡ version =
-    first_is c.versions.result.now (versions_of c.take_first.new.self) version c.in-Some.next.now c.in-Some.ensures.value
-        (c.versions.ensures.versions ∙ c.in-Some-take_first.ensures.first) in
+    first_is c.versions.result.now (versions_of c.take_first.new.self) version c.in-Some.next.now
+    c.in-Some.ensures.value
+    (c.versions.ensures.versions ∙ c.in-Some-take_first.ensures.first) in
     let learns : Learns old.counters c.advance.new.counters old.version version c.in_ok-effects.effects =
     subst (λ (v : VersionState). Learns old.counters c.advance.new.counters old.version v c.in_ok-effects.effects) same
-        (record {
-          effects_are = c.in_ok-effects.ensures.effects;
-          stands = c.in_ok-effects.ensures.stands;
-          moment = c.advance.ensures.moment;
-        }) in
+    (record {
+      effects_are = c.in_ok-effects.ensures.effects;
+      stands = c.in_ok-effects.ensures.stands;
+      moment = c.advance.ensures.moment;
+    }) in
     record {
-      handles = learnt_has old.started old.handled.items old.met old.done old.notes.items old.learnt.items c.and-self.result.items
+      handles = learnt_has old.started old.handled.items old.met old.done old.notes.items old.learnt.items
+          c.and-self.result.items
           version floor c.and-self.ensures old.handles ready;
-      tells = learnt_tells old.started old.handled.items old.met old.done old.notes.items old.learnt.items c.and-self.result.items
+      tells = learnt_tells old.started old.handled.items old.met old.done old.notes.items old.learnt.items
+          c.and-self.result.items
           version floor c.and-self.ensures old.handles c.known_pasts.ensures.sessions c.known_pasts.ensures.versions
           c.known_pasts.ensures.learnt c.known_pasts.ensures.follows old.version old.counters c.advance.new.counters
           old.effects.items c.push_reserved.new.self.items done more old.tells learns refl;

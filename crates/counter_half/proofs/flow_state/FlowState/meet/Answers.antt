@@ -11,8 +11,10 @@ invariant_of-self c =
     record {
       handles = subst (λ (n : List PacketDone). HasHandled old.started.version.number old.started.packets
           (learnt_in old.learnt.items) old.handled.items old.met old.done n) (sym c.reserve.ensures.items) old.handles;
-      tells = tells_same old.started (learnt_in old.learnt.items) old.handled.items old.version old.counters old.counters
-          old.notes.items c.reserve.new.self.items old.effects.items old.effects.items refl c.reserve.ensures.items refl old.tells;
+      tells = tells_same old.started (learnt_in old.learnt.items) old.handled.items old.version old.counters
+          old.counters
+          old.notes.items c.reserve.new.self.items old.effects.items old.effects.items refl c.reserve.ensures.items
+          refl old.tells;
     }
 
 pub invariant_of-self-in-Break-branch-2 : goal.invariant_of-self-in-Break-branch-2
@@ -21,8 +23,10 @@ invariant_of-self-in-Break-branch-2 c =
     record {
       handles = subst (λ (n : List PacketDone). HasHandled old.started.version.number old.started.packets
           (learnt_in old.learnt.items) old.handled.items old.met old.done n) (sym c.reserve.ensures.items) old.handles;
-      tells = tells_same old.started (learnt_in old.learnt.items) old.handled.items old.version old.counters c.verdict.new.counters
-          old.notes.items c.reserve.new.self.items old.effects.items old.effects.items c.in_err-verdict.ensures.unchanged
+      tells = tells_same old.started (learnt_in old.learnt.items) old.handled.items old.version old.counters
+          c.verdict.new.counters
+          old.notes.items c.reserve.new.self.items old.effects.items old.effects.items
+          c.in_err-verdict.ensures.unchanged
           c.reserve.ensures.items refl old.tells;
     }
 
@@ -40,9 +44,12 @@ invariant_of-self-2 c =
     } in
     let noted = c.push_reserved.ensures.items ∙ ap (λ (n : List PacketDone). n ++ note ∷ []) c.reserve.ensures.items in
     record {
-      handles = met_has old.started (learnt_in old.learnt.items) old.handled.items c.and-self.result.items old.met old.done
-          old.notes.items c.push_reserved.new.self.items item note c.and-self.ensures noted old.handles c.requires.floor refl;
-      tells = met_tells old.started (learnt_in old.learnt.items) old.handled.items c.and-self.result.items old.met old.done
+      handles = met_has old.started (learnt_in old.learnt.items) old.handled.items c.and-self.result.items old.met
+          old.done
+          old.notes.items c.push_reserved.new.self.items item note c.and-self.ensures noted old.handles
+          c.requires.floor refl;
+      tells = met_tells old.started (learnt_in old.learnt.items) old.handled.items c.and-self.result.items old.met
+          old.done
           old.notes.items c.push_reserved.new.self.items item note c.and-self.ensures noted old.handles
           c.known_pasts.ensures.judged c.known_pasts.ensures.charged old.version old.counters c.verdict.new.counters
           old.effects.items old.tells (record {

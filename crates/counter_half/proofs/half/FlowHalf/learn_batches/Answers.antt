@@ -1,4 +1,4 @@
-use Rattle.std.proofs.Common.{◌+◌, arith, ◌∙◌}
+use Rattle.std.proofs.Common.{arith, ◌∙◌}
 use Rattle.counter_half.proofs.half.FlowHalf.learn_batches.Goals as goal
 
 pub loop-learnt-preserved : goal.loop-learnt-preserved

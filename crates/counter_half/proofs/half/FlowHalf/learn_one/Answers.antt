@@ -9,5 +9,6 @@ pub learn_first-requires-clause-few : goal.learn_first-requires-clause-few
 learn_first-requires-clause-few c =
     let old = c.args.self.now in
     let few : length (learnt_in old.state.learnt.items) ≤ 2 ^ 54 =
-    few_learnt (taken old.versions) (learnt_in old.state.learnt.items) (in_kept old.batch) old.in_order old.versions.few in
+    few_learnt (taken old.versions) (learnt_in old.state.learnt.items)
+    (in_kept old.batch) old.in_order old.versions.few in
     omega (arith, few, old.state.handles.met_is, old.few.0)
