@@ -32,13 +32,6 @@ const SECOND: Peer = Peer {
     addr: Addr4(0xc633_6408),
 };
 
-// The G-PDU with DOWN on the first tunnel, and the End Marker of it.
-const TUNNELLED: &str = "30ff001c00000a014500001c0000000040110000cb0071090a2d000213c4271000080000";
-
-const SWITCHED: &str = "30ff001c00000a024500001c0000000040110000cb0071090a2d000213c4271000080000";
-
-const MARKER: &str = "30fe000000000a01";
-
 /// A half, the far end of its lane, and the session whose versions are sent there.
 #[derive(Drop)]
 struct Bench {
@@ -112,6 +105,19 @@ impl Bench {
         Ok(self.session.version(self.number)?)
     }
 
+    // Sends the version that a command leaves, in a batch of its own.
+    fn send<R: Wait>(
+        &mut self,
+        rt: &R,
+        alloc: Global,
+        kind: CommandKind,
+        floor: u64,
+    ) -> Result<(), Fail> {
+        let version = self.version_of(alloc, kind)?;
+        let batch = Batch::new(alloc, version, floor)?;
+        self.publish(rt, batch)
+    }
+
     fn publish<R: Wait>(&mut self, rt: &R, batch: Batch<Version>) -> Result<(), Fail> {
         if self.versions.offers() > 100 {
             return Err("few batches".into());
@@ -124,7 +130,8 @@ impl Bench {
 }
 
 // A packet down that waits for so many commands.
-fn item(alloc: Global, number: u64, floor: u64, moment: u64) -> Result<FlowItem, Fail> {
+fn item(alloc: Global, index: u32, floor: u64, moment: u64) -> Result<FlowItem, Fail> {
+    let number = u64::from(index);
     Ok(FlowItem {
         slot: Slot(0),
         number,
@@ -148,18 +155,28 @@ fn learnt<R: Wait>(rt: &R, half: &mut FlowHalf) -> Result<bool, Fail> {
     Ok(half.learn(rt, 16)?)
 }
 
-// The half handles an item that it may handle, once there is memory.
-fn handed(half: &mut FlowHalf, item: &FlowItem) -> Result<(), Fail> {
-    if !half.may(item) {
-        return Err("its floor is met".into());
-    }
-    if let Ok(()) = half.item(SliceNo(1), item) {
+// Whether the half may handle a packet with this floor.
+fn may(alloc: Global, half: &FlowHalf, floor: u64) -> Result<bool, Fail> {
+    let packet = item(alloc, 0, floor, 0)?;
+    Ok(half.may(&packet))
+}
+
+// The half handles a packet that it may handle, once there is memory.
+fn handed(
+    alloc: Global,
+    half: &mut FlowHalf,
+    index: u32,
+    floor: u64,
+    moment: u64,
+) -> Result<(), Fail> {
+    let packet = item(alloc, index, floor, moment)?;
+    if half.may(&packet) && half.item(SliceNo(1), &packet).is_ok() {
         return Ok(());
     }
-    if !half.may(item) {
-        return Err("its floor is still met".into());
+    if half.may(&packet) {
+        return Ok(half.item(SliceNo(1), &packet)?);
     }
-    Ok(half.item(SliceNo(1), item)?)
+    Err("its floor is met".into())
 }
 
 fn verdict_text(alloc: Global, verdict: &Verdict) -> Result<String, Fail> {
@@ -213,60 +230,81 @@ fn effects_text(alloc: Global, half: &FlowHalf) -> Result<String, Fail> {
     Ok(text)
 }
 
+// What was noted of packets, and then of versions.
+fn told(alloc: Global, half: &FlowHalf) -> Result<String, Fail> {
+    let mut text = notes_text(alloc, half)?;
+    let effects = effects_text(alloc, half)?;
+    text.push_str(effects.as_str())?;
+    Ok(text)
+}
+
+// EBI 5 is made, and gets an eNodeB behind so many packets.
+fn new_session<R: Wait>(rt: &R, alloc: Global, floor: u64) -> Result<Bench, Fail> {
+    let mut bench = new_bench(alloc)?;
+    bench.send(rt, alloc, create(), 0)?;
+    let enb = modify(alloc, 2, FIRST)?;
+    bench.send(rt, alloc, enb, floor)?;
+    Ok(bench)
+}
+
+// It gets another eNodeB behind one packet.
+fn switch<R: Wait>(rt: &R, alloc: Global, bench: &mut Bench) -> Result<bool, Fail> {
+    let enb = modify(alloc, 3, SECOND)?;
+    bench.send(rt, alloc, enb, 1)?;
+    learnt(rt, &mut bench.half)
+}
+
 #[test]
 fn packets_go_by_the_last_version(rt: HostRuntime) -> Result<(), Fail> {
     let alloc = rt.alloc();
-    let mut bench = new_bench(alloc)?;
-    let version = bench.version_of(alloc, create())?;
-    bench.publish(&rt, Batch::new(alloc, version, 0)?)?;
-    let version = bench.version_of(alloc, modify(alloc, 2, FIRST)?)?;
-    bench.publish(&rt, Batch::new(alloc, version, 0)?)?;
-    let packet = item(alloc, 0, 2, 2)?;
-    assert!(rt; !bench.half.may(&packet), "two commands aren't learnt yet");
+    let mut bench = new_session(&rt, alloc, 0)?;
+    assert!(rt;
+        !may(alloc, &bench.half, 2)?,
+        "two commands aren't learnt yet"
+    );
     assert!(rt; learnt(&rt, &mut bench.half)?);
-    handed(&mut bench.half, &packet)?;
-    let version = bench.version_of(alloc, modify(alloc, 3, SECOND)?)?;
-    bench.publish(&rt, Batch::new(alloc, version, 1)?)?;
-    assert!(rt; learnt(&rt, &mut bench.half)?);
-    assert!(rt; !learnt(&rt, &mut bench.half)?, "no version is left");
+    handed(alloc, &mut bench.half, 0, 2, 2)?;
+    assert!(rt; switch(&rt, alloc, &mut bench)?);
     // It is earlier than the one before.
-    handed(&mut bench.half, &item(alloc, 1, 0, 1)?)?;
+    handed(alloc, &mut bench.half, 1, 0, 1)?;
+    let text = told(alloc, &bench.half)?;
+    let expected =
+        "10 0 2 @1 down 0 30ff001c00000a014500001c0000000040110000cb0071090a2d000213c4271000080000
+11 1 3 @1 down 0 30ff001c00000a024500001c0000000040110000cb0071090a2d000213c4271000080000
+2 marker 0 30fe000000000a01
+";
+    assert_eq!(rt; text.as_str(), expected);
     assert!(rt; bench.half.state.counters.last() == Some(Moment(2)));
-    let notes = notes_text(alloc, &bench.half)?;
-    let expected = format!(in alloc;
-        "10 0 2 @1 down 0 {}\n11 1 3 @1 down 0 {}\n",
-        TUNNELLED, SWITCHED
-    )?;
-    assert_eq!(rt; notes.as_str(), expected.as_str());
-    let effects = effects_text(alloc, &bench.half)?;
-    let expected = format!(in alloc; "2 marker 0 {}\n", MARKER)?;
-    assert_eq!(rt; effects.as_str(), expected.as_str());
     Ok(())
 }
 
 #[test]
 fn floors_are_waited_for(rt: HostRuntime) -> Result<(), Fail> {
     let alloc = rt.alloc();
-    let mut bench = new_bench(alloc)?;
-    let version = bench.version_of(alloc, create())?;
-    bench.publish(&rt, Batch::new(alloc, version, 0)?)?;
-    let version = bench.version_of(alloc, modify(alloc, 2, FIRST)?)?;
-    bench.publish(&rt, Batch::new(alloc, version, 1)?)?;
+    let mut bench = new_session(&rt, alloc, 1)?;
     assert!(rt; learnt(&rt, &mut bench.half)?);
     assert!(rt;
         !learnt(&rt, &mut bench.half)?,
         "one packet is to be handled before"
     );
-    assert!(rt; !bench.half.may(&item(alloc, 0, 2, 1)?));
-    handed(&mut bench.half, &item(alloc, 0, 1, 1)?)?;
+    assert!(rt; !may(alloc, &bench.half, 2)?);
+    handed(alloc, &mut bench.half, 0, 1, 1)?;
     assert!(rt; learnt(&rt, &mut bench.half)?);
-    let notes = notes_text(alloc, &bench.half)?;
-    assert_eq!(rt; notes.as_str(), "10 0 1 @1 held 0\n");
-    let effects = effects_text(alloc, &bench.half)?;
-    let expected = format!(in alloc; "1 packet 0 down 0 {}\n", TUNNELLED)?;
-    assert_eq!(rt; effects.as_str(), expected.as_str());
+    let text = told(alloc, &bench.half)?;
+    let expected = "10 0 1 @1 held 0
+1 packet 0 down 0 30ff001c00000a014500001c0000000040110000cb0071090a2d000213c4271000080000
+";
+    assert_eq!(rt; text.as_str(), expected);
+    Ok(())
+}
+
+#[test]
+fn a_half_is_taken_apart(rt: HostRuntime) -> Result<(), Fail> {
+    let alloc = rt.alloc();
+    let mut bench = new_session(&rt, alloc, 1)?;
+    assert!(rt; learnt(&rt, &mut bench.half)?);
     let rest = bench.half.into_rest();
     assert!(rt; rest.batch.is_none());
-    assert_eq!(rt; (rest.state.met, rest.state.done), (2, 1));
+    assert_eq!(rt; (rest.state.met, rest.state.done), (1, 0));
     Ok(())
 }

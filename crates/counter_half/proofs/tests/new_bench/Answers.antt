@@ -5,8 +5,7 @@ use Rattle.counter_half.proofs.tests.new_bench.Goals as goal
 
 pub new-half-requires-clause-room : goal.new-half-requires-clause-room
 new-half-requires-clause-room c =
-    let version = c.in_ok-version.ensures ∙ ap (λ (s : SessionState). version_of s 0) c.new-session.ensures in
-    (
+    let version = c.in_ok-version.ensures ∙ ap (λ (s : SessionState). version_of s 0) c.new-session.ensures in (
       0,
       [],
       0,
