@@ -1,0 +1,26 @@
+//! The lines of an epoch with the entries of a report, held against the sentences of the lawful run
+//! that speak of one slot's lines: how its commands and packets are numbered, how many commands
+//! each packet has before it, and which packets are parked.
+#![tactic(auto)]
+
+mod counting;
+mod laws;
+mod meaning;
+mod numbering;
+mod sharing;
+mod slots;
+mod told;
+mod waiting;
+
+pub use counting::{counts_at_once, counts_rise};
+pub use laws::sentences_of_slots;
+pub use meaning::Meant;
+pub use numbering::are_numbered_on;
+pub use pc_base::NoMemory;
+pub use sharing::{Keyed, arranged, shares_of};
+pub use slots::by_slot;
+pub use told::Told;
+pub use waiting::parked_behind_moves;
+
+#[cfg(test)]
+mod tests;
