@@ -36,7 +36,7 @@ pub struct ControlEnd {
 impl ControlHalf {
     ghost use Rattle.control_half.specs.Half.{name_of, end_name};
 
-    /// The half of a subscriber with this session, after so many commands, and with its ends of two new
+    /// The half of a subscriber with a session, after so many commands, and with its ends of two new
     /// lanes. At most 2^50 commands come on one.
     pub fn new(
         session: Session,

@@ -28,7 +28,7 @@ pub struct FlowRest {
 impl FlowHalf {
     ghost use Rattle.counter_half.specs.Half.{name_of, rest_name, handled_by};
 
-    /// The half of a subscriber with this session, version, counters and count of packets, and with its
+    /// The half of a subscriber with a session, version, counters and count of packets, and with its
     /// end of a new lane.
     pub fn new(
         session: &Session,
