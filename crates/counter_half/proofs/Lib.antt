@@ -1,0 +1,10 @@
+pub mod Interleavings
+pub mod Facts
+pub mod Versions
+pub mod Made
+pub mod LearnStep
+pub mod MeetStep
+pub mod Begins
+pub mod Few
+pub mod Steps
+pub mod Looking

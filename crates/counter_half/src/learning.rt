@@ -1,0 +1,179 @@
+//! Versions are learnt, and packets handled.
+ghost use Rattle.std.specs.Prelude.{◌≡◌, ◌+◌, ◌<◌, ◌≤◌, ◌⊎◌, [], ◌∷◌, ◌++◌, true, false, None, length, map, IfOk, OnOk, OnErr, IsTrue, IsFalse};
+ghost use Rattle.lane_core.specs.Ends.{taken, empty_answers, raised};
+ghost use Rattle.flow_core.specs.Counts.{learns_after};
+ghost use Rattle.control_half.specs.Turns.{size as left_in};
+ghost use Rattle.pc_base.specs.declared.packet.Place.TheVariants as places;
+ghost use Rattle.counter_half.specs.declared.items.PacketDone.{PacketDone};
+
+use crate::half::FlowHalf;
+use crate::{FlowItem, NoMemory};
+use pc_base::{Place, SliceNo};
+use std::sync::Wait;
+
+/// How many packets a half handles at most.
+const MOST_PACKETS: usize = 0x4_0000_0000_0000;
+
+impl FlowHalf {
+    ghost use Rattle.counter_half.specs.Half.{name_of, handled_by, may_take, batches_learnt, IsReady, Waits};
+
+    /// Learns at most so many batches, as long as they come and their floors are met. Tells whether it
+    /// learnt one. Where memory is wanting, what was learnt stays learnt, and nothing is lost.
+    pub fn learn_at_most<R: Wait>(&mut self, rt: &R, most: u32) -> Result<bool, NoMemory>
+        requires { 1 ≤ most }
+
+        ensures name { name_of self.new ≡ name_of self.old }
+        ensures handled { handled_by self.new ≡ handled_by self.old }
+        ensures asks { self.new.asks ≡ raised self.old.asks }
+        ensures learns { self.new.learns ≡ learns_after result self.old.learns }
+        ensures done { self.new.state.done ≡ self.old.state.done }
+
+        ensures learnt { IfOk result (λ learnt. learnt ≡ true → batches_learnt self.old < batches_learnt self.new) }
+        ensures most { OnOk result (batches_learnt self.new ≤ batches_learnt self.old + most) }
+        ensures same { IfOk result (λ learnt. learnt ≡ false
+            → (self.new.state.met ≡ self.old.state.met) × (batches_learnt self.new ≡ batches_learnt self.old)) }
+        ensures none { IfOk result (λ learnt. learnt ≡ false
+            → (empty_answers self.new.versions ≡ raised (empty_answers self.old.versions))
+            ⊎ Waits self.new.state.done self.new.batch) }
+    {
+        self.asks = self.asks.saturating_add(1);
+        let learnt = self.learn_batches(rt, most)?;
+        if learnt {
+            self.learns = self.learns.saturating_add(1);
+        }
+        Ok(learnt)
+    }
+
+    /// Whether it has learnt as many commands as an item asks for, and may handle one more.
+    pub fn may_handle(&self, item: &FlowItem) -> bool
+        ensures { result ≡ may_take self.now item.now }
+    {
+        item.floor <= self.state.met && self.state.notes.len() < MOST_PACKETS
+    }
+
+    /// Handles an item at a slice. Where memory is wanting, nothing changes.
+    pub fn handle(&mut self, place: SliceNo, item: &FlowItem) -> Result<(), NoMemory>
+        requires { may_take self.old item.now ≡ true }
+
+        ensures name { name_of self.new ≡ name_of self.old }
+        ensures ok { OnOk result (handled_by self.new ≡ handled_by self.old ++ item.now ∷ []) }
+        ensures place { OnOk result (map (λ (d : PacketDone). d.place) self.new.state.notes.items
+            ≡ map (λ (d : PacketDone). d.place) self.old.state.notes.items ++ places.At place ∷ []) }
+        ensures err { OnErr result (handled_by self.new ≡ handled_by self.old) }
+        ensures met { self.new.state.met ≡ self.old.state.met }
+        ensures counts { (self.new.asks ≡ self.old.asks) × (self.new.learns ≡ self.old.learns) }
+    {
+        self.state.meet(Place::At(place), item)
+    }
+
+    /// Learns batches as long as they come and are ready.
+    fn learn_batches<R: Wait>(&mut self, rt: &R, most: u32) -> Result<bool, NoMemory>
+        requires { 1 ≤ most }
+
+        ensures name { name_of self.new ≡ name_of self.old }
+        ensures handled { self.new.state.handled.items ≡ self.old.state.handled.items }
+        ensures done { self.new.state.done ≡ self.old.state.done }
+        ensures counts { (self.new.asks ≡ self.old.asks) × (self.new.learns ≡ self.old.learns) }
+        ensures learnt { IfOk result (λ learnt. learnt ≡ true → batches_learnt self.old < batches_learnt self.new) }
+        ensures most { OnOk result (batches_learnt self.new ≤ batches_learnt self.old + most) }
+        ensures same { IfOk result (λ learnt. learnt ≡ false
+            → (self.new.state.met ≡ self.old.state.met) × (batches_learnt self.new ≡ batches_learnt self.old)) }
+        ensures none { IfOk result (λ learnt. learnt ≡ false
+            → (empty_answers self.new.versions ≡ raised (empty_answers self.old.versions))
+            ⊎ Waits self.new.state.done self.new.batch) }
+    {
+        for learnt in 0..most {
+            let more = self.learn_next(rt)?;
+            if !more {
+                return Ok(learnt > 0);
+            }
+        }
+        Ok(true)
+    }
+
+    /// Learns a batch, if one is there whose floor is met.
+    fn learn_next<R: Wait>(&mut self, rt: &R) -> Result<bool, NoMemory>
+        ensures name { name_of self.new ≡ name_of self.old }
+        ensures handled { self.new.state.handled.items ≡ self.old.state.handled.items }
+        ensures done { self.new.state.done ≡ self.old.state.done }
+        ensures counts { (self.new.asks ≡ self.old.asks) × (self.new.learns ≡ self.old.learns) }
+        ensures learnt { IfOk result (λ learnt. learnt ≡ true → batches_learnt self.new ≡ batches_learnt self.old + 1) }
+        ensures same { IfOk result (λ learnt. learnt ≡ false
+            → (self.new.state.met ≡ self.old.state.met) × (batches_learnt self.new ≡ batches_learnt self.old)) }
+        ensures none { IfOk result (λ learnt. learnt ≡ false
+            → (empty_answers self.new.versions ≡ raised (empty_answers self.old.versions))
+            ⊎ Waits self.new.state.done self.new.batch) }
+    {
+        if !self.has_batch(rt) {
+            return Ok(false);
+        }
+        self.learn_batch()?;
+        Ok(true)
+    }
+
+    /// Whether a batch is there whose floor is met.
+    fn has_batch<R: Wait>(&mut self, rt: &R) -> bool
+        ensures name { name_of self.new ≡ name_of self.old }
+        ensures state { self.new.state ≡ self.old.state }
+        ensures counts { (self.new.asks ≡ self.old.asks) × (self.new.learns ≡ self.old.learns) }
+        ensures learnt { batches_learnt self.new ≡ batches_learnt self.old }
+        ensures ready { IsTrue result → IsReady self.new.state.done self.new.batch }
+        ensures none { IsFalse result → (empty_answers self.new.versions ≡ raised (empty_answers self.old.versions))
+            ⊎ Waits self.new.state.done self.new.batch }
+    {
+        self.look(rt);
+        match &self.batch {
+            Some(batch) => batch.floor() <= self.state.done,
+            None => false,
+        }
+    }
+
+    /// Takes a batch, where none is kept.
+    fn look<R: Wait>(&mut self, rt: &R)
+        ensures name { name_of self.new ≡ name_of self.old }
+        ensures state { self.new.state ≡ self.old.state }
+        ensures counts { (self.new.asks ≡ self.old.asks) × (self.new.learns ≡ self.old.learns) }
+        ensures learnt { batches_learnt self.new ≡ batches_learnt self.old }
+        ensures none { self.new.batch ≡ None → empty_answers self.new.versions
+            ≡ raised (empty_answers self.old.versions) }
+    {
+        if self.batch.is_none() {
+            self.batch = self.versions.take(rt);
+        }
+    }
+
+    /// Learns the batch that is kept, whole.
+    fn learn_batch(&mut self) -> Result<(), NoMemory>
+        requires { IsReady self.old.state.done self.old.batch }
+
+        ensures name { name_of self.new ≡ name_of self.old }
+        ensures handled { self.new.state.handled.items ≡ self.old.state.handled.items }
+        ensures done { self.new.state.done ≡ self.old.state.done }
+        ensures versions { self.new.versions ≡ self.old.versions }
+        ensures counts { (self.new.asks ≡ self.old.asks) × (self.new.learns ≡ self.old.learns) }
+        ensures whole { OnOk result (self.new.batch ≡ None) }
+    {
+        while self.learn_one()? {}
+        self.batch = None;
+        Ok(())
+    }
+
+    /// Learns the first version of the batch that is kept; tells whether there was one.
+    fn learn_one(&mut self) -> Result<bool, NoMemory>
+        requires { IsReady self.old.state.done self.old.batch }
+
+        ensures name { name_of self.new ≡ name_of self.old }
+        ensures handled { self.new.state.handled.items ≡ self.old.state.handled.items }
+        ensures done { self.new.state.done ≡ self.old.state.done }
+        ensures versions { self.new.versions ≡ self.old.versions }
+        ensures counts { (self.new.asks ≡ self.old.asks) × (self.new.learns ≡ self.old.learns) }
+        ensures ready { IsReady self.new.state.done self.new.batch }
+        ensures one { IfOk result (λ learnt. learnt ≡ true → left_in self.old.batch ≡ left_in self.new.batch + 1) }
+        ensures none { IfOk result (λ learnt. learnt ≡ false → left_in self.new.batch ≡ 0) }
+    {
+        match &mut self.batch {
+            Some(batch) => self.state.learn_first(batch),
+            None => Ok(false),
+        }
+    }
+}
