@@ -32,6 +32,10 @@ const PACKET_LINE: &[u8] = b"0 SGI 4500001c0000000040110000cb0071090a2d000213c42
 const OTHER: &[u8] =
     b"\x0a\x0d\x0d\x0a\x00\x00\x00\x00\x00\x00\x00\x00\x00\x00\x00\x00\x00\x00\x00\x00\x00\x00\x00\x00";
 
+const ZERO: &[u8] = b"\x00";
+
+const WORD: &[u8] = b"x\n";
+
 const OVER: &[u8] = b"\x00\x00\x00\x00\x00\x00\x00\x09\x00\x04\x00\x01\x00\x04\x00\x01";
 
 fn joined(alloc: Global, parts: &[&[u8]]) -> Result<Vec<u8>, AllocError> {
@@ -58,6 +62,21 @@ fn turned(
     Ok((status, Vec::from_slice(alloc, sink.written())?))
 }
 
+// Whether a run of this word ends with this status, and wrote just these octets.
+fn leaves(
+    alloc: Global,
+    word: &str,
+    parts: &[&[u8]],
+    reads: &[u64],
+    writes: &[u64],
+    want: Status,
+    wanted: &[&[u8]],
+) -> Result<bool, AllocError> {
+    let (status, written) = turned(alloc, word, parts, reads, writes)?;
+    let octets = joined(alloc, wanted)?;
+    Ok(status == want && written.as_slice() == octets.as_slice())
+}
+
 #[test]
 fn capture_both_ways(rt: HostRuntime) -> Result<(), Fail> {
     let alloc = rt.alloc();
@@ -69,11 +88,8 @@ fn capture_both_ways(rt: HostRuntime) -> Result<(), Fail> {
         ("import", &[HEADER], &[]),
     ];
     for (word, parts, wanted) in rows {
-        let (status, written) = turned(alloc, word, parts, &[], &[])?;
-        assert_eq!(rt; status, Status::Ok, "{word}");
-        assert_eq!(rt;
-            written.as_slice(),
-            joined(alloc, wanted)?.as_slice(),
+        assert!(rt;
+            leaves(alloc, word, parts, &[], &[], Status::Ok, wanted)?,
             "{word}"
         );
     }
@@ -83,19 +99,17 @@ fn capture_both_ways(rt: HostRuntime) -> Result<(), Fail> {
 #[test]
 fn bad_capture(rt: HostRuntime) -> Result<(), Fail> {
     let alloc = rt.alloc();
-    let rows: [(&[&[u8]], &[&[u8]]); 4] = [
-        (&[], &[]),
-        (&[OTHER], &[]),
-        (&[HEADER, MESSAGE, OVER], &[FROM_ZERO]),
-        (&[HEADER, PACKET, b"\x00"], &[PACKET_LINE]),
+    let rows: [(&str, &[&[u8]], &[&[u8]]); 4] = [
+        ("no octet", &[], &[]),
+        ("another header", &[OTHER], &[]),
+        ("a record too long", &[HEADER, MESSAGE, OVER], &[FROM_ZERO]),
+        ("an octet behind", &[HEADER, PACKET, ZERO], &[PACKET_LINE]),
     ];
-    for (number, (parts, wanted)) in rows.iter().enumerate() {
-        let (status, written) = turned(alloc, "import", parts, &[], &[])?;
-        assert_eq!(rt; status, Status::BadCapture, "{number}");
-        assert_eq!(rt;
-            written.as_slice(),
-            joined(alloc, wanted)?.as_slice(),
-            "{number}"
+    for (name, parts, wanted) in rows {
+        let bad = Status::BadCapture;
+        assert!(rt;
+            leaves(alloc, "import", parts, &[], &[], bad, wanted)?,
+            "{name}"
         );
     }
     Ok(())
@@ -104,57 +118,59 @@ fn bad_capture(rt: HostRuntime) -> Result<(), Fail> {
 #[test]
 fn captures_that_fail(rt: HostRuntime) -> Result<(), Fail> {
     let alloc = rt.alloc();
-    let rows: [(&str, &[&[u8]], &[u64], &[u64], Status, &[&[u8]]); 5] = [
-        // Behind the record, and within the line.
-        (
+
+    // Behind the record, and within the line.
+    let fault = Status::ReadFault;
+    assert!(rt;
+        leaves(
+            alloc,
             "import",
             &[HEADER, MESSAGE],
             &[2],
             &[],
-            Status::ReadFault,
-            &[FROM_ZERO],
-        ),
-        (
-            "export",
-            &[PACKET_LINE],
-            &[1],
-            &[],
-            Status::ReadFault,
-            &[HEADER],
-        ),
-        (
+            fault,
+            &[FROM_ZERO]
+        )?
+    );
+    assert!(rt; leaves(alloc, "export", &[PACKET_LINE], &[1], &[], fault, &[HEADER])?);
+
+    let fault = Status::WriteFault;
+    let front = FROM_ZERO.get(..50).unwrap_or_default();
+    assert!(rt;
+        leaves(
+            alloc,
             "import",
             &[HEADER, MESSAGE],
             &[],
             &[1],
-            Status::WriteFault,
-            &[&FROM_ZERO[..50]],
-        ),
-        (
+            fault,
+            &[front]
+        )?
+    );
+    let front = PACKET.get(..26).unwrap_or_default();
+    assert!(rt;
+        leaves(
+            alloc,
             "export",
             &[PACKET_LINE],
             &[],
             &[1],
-            Status::WriteFault,
-            &[HEADER, &PACKET[..26]],
-        ),
-        (
+            fault,
+            &[HEADER, front]
+        )?
+    );
+
+    let bad = Status::BadLine;
+    assert!(rt;
+        leaves(
+            alloc,
             "export",
-            &[MESSAGE_LINE, b"x\n"],
+            &[MESSAGE_LINE, WORD],
             &[],
             &[],
-            Status::BadLine,
-            &[HEADER, MESSAGE],
-        ),
-    ];
-    for (word, parts, reads, writes, want, wanted) in rows {
-        let (status, written) = turned(alloc, word, parts, reads, writes)?;
-        assert_eq!(rt; status, want, "{word}");
-        assert_eq!(rt;
-            written.as_slice(),
-            joined(alloc, wanted)?.as_slice(),
-            "{word}"
-        );
-    }
+            bad,
+            &[HEADER, MESSAGE]
+        )?
+    );
     Ok(())
 }
