@@ -20,7 +20,7 @@ split false b is = (is, cc)
 join : (a b : Bool) → a ≡ true → b ≡ true → (a && b) ≡ true
 join a b is other = ap (λ t. t && b) is ∙ other
 
-both_decide : {P Q : Type 0} (a b : Bool) → Decides a P → Decides b Q → Decides (a && b) (P × Q)
+pub both_decide : {P Q : Type 0} (a b : Bool) → Decides a P → Decides b Q → Decides (a && b) (P × Q)
 both_decide a b one other = (
   λ is. let parts = split a b is in (one.0 parts.0, other.0 parts.1),
   λ holds. join a b (one.1 holds.0) (other.1 holds.1),

@@ -144,7 +144,8 @@ count_told slices done closed open_ noted cut few =
     omega (
       arith,
       few,
-      ap length (flat_map-append (λ (made : List Meaning). made) (meant_epochs slices [] closed) (own_epoch (last ++ noted))),
+      ap length (flat_map-append (λ (made : List Meaning). made) (meant_epochs slices [] closed)
+          (own_epoch (last ++ noted))),
       length-append (all_lines (meant_epochs slices [] closed)) (all_lines (own_epoch (last ++ noted))),
       ap length (all_own (last ++ noted)),
       length-append last noted,

@@ -44,9 +44,10 @@ pub is_answered : (epochs : List (Vec Meant)) (entries : List Entry) (count : �
     → IsAnswered epochs entries found
 is_answered epochs entries count found count_is many is =
     let made = epochs_meant epochs in
-    let all : option_map held found ≡ matched_all 1 [] made (in_line_order (length (all_lines made)) (line_entries entries)) =
+    let lines = in_line_order (length (all_lines made)) (line_entries entries) in
+    let all : option_map held found ≡ matched_all 1 [] made lines =
     is ∙ ap (λ n. matched_all 1 [] made (in_line_order n (line_entries entries))) count_is in
-    let finds_all = finds made (in_line_order (length (all_lines made)) (line_entries entries)) (option_map held found) all in
+    let finds_all = finds made lines (option_map held found) all in
     record {
       holds = (
         λ some. record { answers = finds_all.holds.0 (some_mapped found ∙ some); no_others = many ∙ count_is },
@@ -67,7 +68,8 @@ pub answered_so : (epochs : List (Vec Meant)) (entries : List Entry) (count : �
     → option_map (λ (all : Vec (Vec Told)). epochs_held all.items) found
     ≡ matched_all 1 [] (epochs_meant epochs) (lent order_lent)
     → IsAnswered epochs entries found
-answered_so epochs entries count keyed keyed_lent order order_lent found count_is is many keyed_is ordered order_is all =
+answered_so epochs entries count keyed keyed_lent order order_lent found count_is is many keyed_is ordered order_is
+    all =
     is_answered epochs entries count found count_is (sym is.as_many ∙ many)
     (all
     ∙ ap (λ es. matched_all 1 [] (epochs_meant epochs) (lent es)) order_is

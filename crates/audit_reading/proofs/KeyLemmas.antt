@@ -62,7 +62,8 @@ pub ordered : (all : List (Vec (Bor LineEntry))) (first : Vec (Bor LineEntry)) (
 ordered all first rest keyed entries count shares_are all_is is =
     let parts : first.items ∷ map (λ (v : Vec (Bor LineEntry)). v.items) rest
     ≡ under 0 keyed ∷ map (λ k. under k keyed) (counted 1 count) =
-    ap (map (λ (v : Vec (Bor LineEntry)). v.items)) (sym all_is) ∙ shares_are ∙ ap (λ n. shares n keyed) (add-one count) in
+    ap (map (λ (v : Vec (Bor LineEntry)). v.items)) (sym all_is) ∙ shares_are
+    ∙ ap (λ n. shares n keyed) (add-one count) in
     let later : map (λ (v : Vec (Bor LineEntry)). v.items) rest ≡ map (λ k. under k keyed) (counted 1 count) = cc in
     ap lent (flat_of_map (λ (v : Vec (Bor LineEntry)). v.items) rest
     ∙ ap (flat_map (λ (s : List (Bor LineEntry)). s)) later)
@@ -73,7 +74,8 @@ pub never_none : (all : List (Vec (Bor LineEntry))) (keyed : List (Keyed (Bor Li
 never_none all keyed count shares_are empty =
     let none : all ≡ [] = nil_from_length all empty in
     let parts : [] ≡ under 0 keyed ∷ map (λ k. under k keyed) (counted 1 count) =
-    ap (map (λ (v : Vec (Bor LineEntry)). v.items)) (sym none) ∙ shares_are ∙ ap (λ n. shares n keyed) (add-one count) in
+    ap (map (λ (v : Vec (Bor LineEntry)). v.items)) (sym none) ∙ shares_are
+    ∙ ap (λ n. shares n keyed) (add-one count) in
     cc
 
 -- the entries of the first of a report, with one more

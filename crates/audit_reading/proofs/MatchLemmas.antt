@@ -84,7 +84,8 @@ are_matched n before (now ∷ made) (entry ∷ entries) found is =
 
 -- the same of epochs
 pub all_match : (n : ℕ) (before : List (List LineTold)) (epochs : List (List Meaning)) (entries : List LineEntry)
-    → AnswersAll n (all_lines epochs) entries → matched_all n before epochs entries ≡ Some (before ++ cut epochs entries)
+    → AnswersAll n (all_lines epochs) entries
+    → matched_all n before epochs entries ≡ Some (before ++ cut epochs entries)
 all_match n before [] [] answer = ap (λ told. Some told) (sym (append-nil before))
 all_match n before [] (entry ∷ entries) answer = absurd answer
 all_match n before (made ∷ epochs) entries answer =
@@ -92,7 +93,8 @@ all_match n before (made ∷ epochs) entries answer =
     let left = drop (length made) entries in
     ap (then_all (λ own. matched_all (n + length made) (before ++ own ∷ []) epochs left))
     (matches n [] made entries (answers_front n made (all_lines epochs) entries answer))
-    ∙ all_match (n + length made) (before ++ lines ∷ []) epochs left (answers_rest n made (all_lines epochs) entries answer)
+    ∙ all_match (n + length made) (before ++ lines ∷ []) epochs left
+    (answers_rest n made (all_lines epochs) entries answer)
     ∙ ap (λ told. Some told) (append_assoc before (lines ∷ []) (cut epochs left))
 
 by_epoch : (n : ℕ) (before : List (List LineTold)) (made : List Meaning) (epochs : List (List Meaning))
@@ -100,7 +102,8 @@ by_epoch : (n : ℕ) (before : List (List LineTold)) (made : List Meaning) (epoc
     → matched_on n [] made entries ≡ found
     → then_all (λ lines. matched_all (n + length made) (before ++ lines ∷ []) epochs (drop (length made) entries)) found
     ≡ Some told
-    → ((lines : List LineTold) → matched_all (n + length made) (before ++ lines ∷ []) epochs (drop (length made) entries)
+    → ((lines : List LineTold)
+    → matched_all (n + length made) (before ++ lines ∷ []) epochs (drop (length made) entries)
     ≡ Some told → AnswersAll (n + length made) (all_lines epochs) (drop (length made) entries))
     → AnswersAll n (all_lines (made ∷ epochs)) entries
 by_epoch n before made epochs entries told None is same later = absurd (nothing same)
@@ -153,7 +156,8 @@ pub cut_means : (n : ℕ) (epochs : List (List Meaning)) (entries : List LineEnt
 cut_means n [] entries answer = refl
 cut_means n (made ∷ epochs) entries answer =
     (λ i. meanings-told n made (take (length made) entries) (answers_front n made (all_lines epochs) entries answer) i
-    ∷ cut_means (n + length made) epochs (drop (length made) entries) (answers_rest n made (all_lines epochs) entries answer) i)
+    ∷ cut_means (n + length made) epochs (drop (length made) entries)
+    (answers_rest n made (all_lines epochs) entries answer) i)
 
 -- what is found of all epochs: their lines with their entries exactly where each line is answered, and no other
 pub record Finds (found : Option (List (List LineTold))) (epochs : List (List Meaning)) (entries : List LineEntry) :

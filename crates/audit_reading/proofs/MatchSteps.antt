@@ -152,7 +152,8 @@ pub all_breaks : (behind : ℕ) (before : List (List LineTold)) (epochs : List (
 all_breaks behind before epochs i epoch left target within is found same =
     let later = epochs_meant (drop (i + 1) epochs) in
     let made = meant_of epoch.items in
-    ap (then_all (λ own. matched_all (behind + 1 + length made) (before ++ own ∷ []) later (drop (length made) left))) found
+    ap (then_all (λ own. matched_all (behind + 1 + length made) (before ++ own ∷ []) later (drop (length made) left)))
+    found
     ∙ ap (λ all. matched_all (behind + 1) before all left) (sym (epochs_behind epochs i epoch within is))
     ∙ same
 

@@ -239,7 +239,8 @@ pub closes_known : (cutter : Cutter) (slices slots : ℕ) (done : List Line) (st
     → last ≡ meant_of cutter.now.items ++ stop_noted (stop_of stop)
     → all ≡ epochs_meant cutter.epochs.items ++ own_epoch last → AreKnown slots all
 closes_known cutter slices slots done stop last all cuts slots_is last_is all_is =
-    subst (AreKnown slots) (sym (closes_told cutter slices done (stop_noted (stop_of stop)) last all cuts last_is all_is))
+    subst (AreKnown slots)
+    (sym (closes_told cutter slices done (stop_noted (stop_of stop)) last all cuts last_is all_is))
     (told_known slices slots done cuts.closed cuts.open_ (stop_noted (stop_of stop)) cuts.cut
     (omega (arith, slots_is, ap length cuts.reads.same_book)) (known_noted slots stop))
 

@@ -23,18 +23,8 @@ use Rattle.audit_lines.specs.declared.told.Told.{Told}
 use Rattle.audit_reading.specs.Holding.{AreKnownTold, IsKnown}
 use Rattle.audit_reading.specs.Rules.{job_of}
 use Rattle.audit_reading.specs.Waiting.{AllWait, AreWaiting, SlotWaits, may_refuse, one_new, refused_well}
+use Rattle.audit_reading.proofs.AnswerLemmas.{both_decide}
 use Rattle.audit_reading.proofs.WaitLemmas.{slots_with}
-
-split : (a b : Bool) → (a && b) ≡ true → (a ≡ true) × (b ≡ true)
-split true true is = (refl, refl)
-split true false is = (refl, is)
-split false b is = (is, cc)
-
-both_decide : {P Q : Type 0} (a b : Bool) → Decides a P → Decides b Q → Decides (a && b) (P × Q)
-both_decide a b one other = (
-  λ is. let parts = split a b is in (one.0 parts.0, other.0 parts.1),
-  λ holds. ap (λ t. t && b) (one.1 holds.0) ∙ other.1 holds.1,
-)
 
 either_decides : {P Q : Type 0} (a b : Bool) → Decides a P → Decides b Q → Decides (a || b) (P ⊎ Q)
 either_decides true b one other = (λ is. inl (one.0 refl), λ holds. refl)
@@ -104,7 +94,8 @@ line_decides rule n at slots own load before meaning (line.F refused) waits all 
     subst (λ slot. Decides (may_refuse rule refused.packet own load slots)
     (MayRefuse (job_of rule) slot refused.packet before now)) (sym (as_told n at meaning refused answers is))
     (refused_decides rule.solo rule.slices rule.room rule.lane refused.packet own load slots at before now waits all
-    (slots_is ∙ slots_with load before now at own.seen (slot_seen n at meaning refused answers is) waits.seen all.slots))
+    (slots_is ∙ slots_with load before now at own.seen (slot_seen n at meaning refused answers is)
+    waits.seen all.slots))
 
 pub line_holds : (rule : Rule) (waits : Waits) (n at slots : ℕ) (own : Waiting) (of_slots : ℕ)
     (before : List LineTold) (now : LineTold) → AreWaiting waits of_slots before
@@ -264,7 +255,8 @@ breaks_off rule lines i told first well is_bad tells within is answers holds = (
   λ never. absurd (not_true never),
   λ each. absurd (each_breaks rule (lines_of lines) i (line_told told) (told_within lines i within)
       (told_is lines i told within is)
-      (λ well_is. not_true (sym is_bad ∙ (tells (answer_of lines i told first within is answers)).1 well_is)) holds each),
+      (λ well_is. not_true (sym is_bad ∙ (tells (answer_of lines i told first within is answers)).1 well_is))
+      holds each),
 )
   where
     not_true : false ≡ true → ⊥

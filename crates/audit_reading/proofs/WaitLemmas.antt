@@ -256,8 +256,8 @@ most_new false = omega arith
 packets-push : (before : List LineTold) (now : LineTold) → packet_count (before ++ now ∷ [])
     ≡ packet_count before + (0 + cond (if is_refused now.entry then false else is_packet now.meaning) 1 0)
 packets-push before now =
-    sum_by-append (λ (told : LineTold). cond (if is_refused told.entry then false else is_packet told.meaning) 1 0) before
-    (now ∷ [])
+    sum_by-append (λ (told : LineTold). cond (if is_refused told.entry then false else is_packet told.meaning) 1 0)
+    before (now ∷ [])
 
 moves-push : (before : List LineTold) (now : LineTold) → move_count (before ++ now ∷ [])
     ≡ move_count before + (0 + cond (is_move now.meaning) 1 0)
@@ -266,13 +266,15 @@ moves-push before now = sum_by-append (λ (told : LineTold). cond (is_move told.
 slots-push : (before : List LineTold) (now : LineTold) (at : ℕ) → slot_of now ≡ Some at
     → slot_count (before ++ now ∷ []) ≡ slot_count before + one_new (is_seen at before)
 slots-push before now at is =
-    ap different (filter_map-append slot_of before (now ∷ []) ∙ ap (λ s. filter_map slot_of before ++ cons_option s []) is)
+    ap different (filter_map-append slot_of before (now ∷ [])
+    ∙ ap (λ s. filter_map slot_of before ++ cons_option s []) is)
     ∙ different-push (filter_map slot_of before) at
 
 slots-same : (before : List LineTold) (now : LineTold) → slot_of now ≡ None
     → slot_count (before ++ now ∷ []) ≡ slot_count before
 slots-same before now is =
-    ap different (filter_map-append slot_of before (now ∷ []) ∙ ap (λ s. filter_map slot_of before ++ cons_option s []) is
+    ap different (filter_map-append slot_of before (now ∷ [])
+    ∙ ap (λ s. filter_map slot_of before ++ cons_option s []) is
     ∙ append-nil (filter_map slot_of before))
 
 -- the slots with a line's own, as a refused packet counts them

@@ -28,7 +28,8 @@ loop-epoch-preserved c = record {
       omega (
         arith,
         c.loop-epoch.invariant.count,
-        count_more c.args.epochs.now c.loop-epoch.epoch-index c.epoch-item.result c.loop-epoch-test.true c.epoch-item.is,
+        count_more c.args.epochs.now c.loop-epoch.epoch-index c.epoch-item.result c.loop-epoch-test.true
+            c.epoch-item.is,
         c.len-behind.ensures,
       );
   same =
@@ -41,7 +42,8 @@ loop-epoch-preserved c = record {
       c.args.epochs.now c.loop-epoch.epoch-index c.epoch-item.result (lent c.args.entries.now)
       (lines_of c.in-Some.lines.items) _ c.loop-epoch-test.true c.epoch-item.is
       (ap (option_map (λ (lines : Vec Told). lines_of lines.items)) (sym c.in-Some.is) ∙ c.in_ok-lines.ensures
-      ∙ ap (λ e. matched_on (c.loop-epoch.behind + 1) [] (meant_of e) (drop c.loop-epoch.behind (lent c.args.entries.now)))
+      ∙ ap (λ e. matched_on (c.loop-epoch.behind + 1) [] (meant_of e)
+      (drop c.loop-epoch.behind (lent c.args.entries.now)))
       c.deref.ensures.value)
       (ap epochs_held c.in_ok-push.ensures.items
       ∙ map-append (λ (epoch : Vec Told). lines_of epoch.items) c.loop-epoch.all.items _)

@@ -28,7 +28,8 @@ returns c = λ slices done cuts.
     (subst (λ t. Measures c.ends.new.self (if t then [] else cuts.open_ ++ c.args.line.now ∷ [])) ends
     (c.in_ok-ends.ensures.measures cuts.open_ cuts.measures))
     (ap epochs_meant c.in_ok-push-2.ensures.items
-    ∙ map-append (λ (epoch : Vec Meant). meant_of epoch.items) c.args.self.now.epochs.items (c.replace-whole.result ∷ [])
+    ∙ map-append (λ (epoch : Vec Meant). meant_of epoch.items) c.args.self.now.epochs.items
+    (c.replace-whole.result ∷ [])
     ∙ ap (λ made. epochs_meant c.args.self.now.epochs.items ++ made ∷ [])
     (ap (λ (v : Vec Meant). meant_of v.items) c.replace-whole.ensures.value
     ∙ ap meant_of c.in_ok-push.ensures.items

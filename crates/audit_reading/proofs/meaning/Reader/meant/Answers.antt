@@ -21,10 +21,12 @@ returns-in-Packet-clause-reads c = λ slices done reads.
 
 pub returns-in-Move-clause-reads : goal.returns-in-Move-clause-reads
 returns-in-Move-clause-reads c = λ slices done reads.
-    let valid = subst (IsDecision c.args.self.now.slices c.args.self.now.book) c.in-Move.is c.in_ok-whose.ensures.valid in
+    let valid = subst (IsDecision c.args.self.now.slices c.args.self.now.book) c.in-Move.is
+    c.in_ok-whose.ensures.valid in
     let within : c.in-Move.slot < length c.args.self.now.bound.items =
     omega (arith, valid.0, c.len-known.ensures.book, reads.places) in
-    on_ok (c.moved.new.self.bound.items ≡ set c.args.self.now.bound.items c.in-Move.slot c.in-Move.slice) _ c.moved.result
+    on_ok (c.moved.new.self.bound.items ≡ set c.args.self.now.bound.items c.in-Move.slot c.in-Move.slice) _
+    c.moved.result
     (λ bound.
     reads_next c.args.self.now c.moved.new.self slices done c.args.line.now c.in_ok-whose.field-0
     (record { reads = reads; decision = c.in_ok-whose.ensures.decision; behind = c.in_ok-whose.ensures.book })

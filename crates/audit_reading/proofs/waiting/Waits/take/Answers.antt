@@ -19,7 +19,8 @@ returns-clause-holds c = λ slots n before are answers.
     let here : slot_in (meaning_of c.args.told.now.meant.now) ≡ Some at = cc in
     let below = known_below _ (meaning_of c.args.told.now.meant.now) at here c.requires.known in
     let load = c.args.self.now.load in
-    subst (λ t. IsTrue t ↔ RefusedAs (job_of c.args.rule.now) before (line_told c.args.told.now) c.args.told.now.entry.now)
+    subst (λ t. IsTrue t
+    ↔ RefusedAs (job_of c.args.rule.now) before (line_told c.args.told.now) c.args.told.now.entry.now)
     (sym (c.refused_well-well.ensures
     ∙ ap (refused_well c.args.rule.now own load (load.slots + c.one_new.result)) c.entry.ensures))
     (line_holds c.args.rule.now c.args.self.now n at (load.slots + c.one_new.result) own slots before
