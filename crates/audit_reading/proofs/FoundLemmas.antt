@@ -1,5 +1,5 @@
 -- What is found of all epochs, as the program holds it.
-use Rattle.std.proofs.Common.{◌≡◌, ◌≢◌, ℕ, ◌↔◌, Bool, true, false, Option, Some, None, IsSome, IfSome, List, [], length, refl, sym, ap, subst, ◌∙◌}
+use Rattle.std.proofs.Common.{◌≡◌, ◌≢◌, ℕ, ◌↔◌, true, false, Option, Some, None, IsSome, IfSome, List, [], length, refl, sym, ap, subst, ◌∙◌}
 use Rattle.std.specs.Prelude.{option_map, is_some}
 use Rattle.std.specs.Borrow.{Bor}
 use Rattle.std.specs.Global.{Vec}
@@ -14,7 +14,7 @@ use Rattle.audit_sentences.specs.Sentences.{LinesAreAnswered, told_epochs}
 use Rattle.audit_reading.specs.Answering.{matched_all}
 use Rattle.audit_reading.specs.Holding.{EpochsAnswered, epochs_held, epochs_meant, meanings_told}
 use Rattle.audit_reading.specs.Matching.{IsKeyed, lent}
-use Rattle.audit_reading.proofs.MatchLemmas.{Finds, finds}
+use Rattle.audit_reading.proofs.MatchLemmas.{finds}
 
 -- the lines of epochs with their entries, as the program found them
 abbrev held : Vec (Vec Told) → List (List LineTold)

@@ -1,12 +1,12 @@
 -- Each line is about a slot of the book behind the lines.
-use Rattle.std.proofs.Common.{◌≡◌, ℕ, ◌+◌, ◌<◌, ◌≤◌, ◌==◌, nat_lt, Bool, true, false, if◌then◌else◌, List, [], ◌∷◌, ◌++◌, All, length, refl, sym, ap, subst, ◌∙◌, arith, append_assoc, append-nil, length-append}
+use Rattle.std.proofs.Common.{ℕ, ◌<◌, ◌≤◌, ◌==◌, nat_lt, Bool, true, false, if◌then◌else◌, List, [], ◌∷◌, ◌++◌, All, length, ap, arith, append_assoc, append-nil, length-append}
 use Rattle.std.specs.Prelude.{is_some}
 use Rattle.std.proofs.lemmas.List.Elements.{All-append, All-cons, All-nil}
-use Rattle.address_book.specs.Book.{admitted, slot_in}
+use Rattle.address_book.specs.Book.{slot_in}
 use Rattle.trace_lines.specs.Line.{Line}
 use Rattle.demux.specs.Asked.{Asked, note, admission, of}
 use Rattle.demux.specs.Line.{asked}
-use Rattle.demux.specs.Resolved.{IsDecision, book_after, book_behind, booked, decided, with_imsi}
+use Rattle.demux.specs.Resolved.{IsDecision, book_behind, booked, decided}
 use Rattle.demux.specs.Trace as trace
 use Rattle.demux.specs.Trace.{Meaning, book_of, decisions, destination_after, meaning, meant}
 use Rattle.demux.specs.declared.decision.Decision.{Decision}

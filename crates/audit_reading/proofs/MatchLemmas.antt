@@ -1,11 +1,9 @@
 -- Lines matched with entries one after another, and epoch by epoch.
-use Rattle.std.proofs.Common.{◌≡◌, ℕ, zero, suc, ◌+◌, ◌==◌, ◌&&◌, ◌↔◌, Bool, true, false, IsTrue, if◌then◌else◌, Option, Some, None, IsSome, IfSome, List, [], ◌∷◌, ◌++◌, length, map, take, drop, refl, sym, ap, subst, ◌∙◌, inl, inr, arith, append_assoc, append-nil}
-use Rattle.demux.specs.Trace.{Meaning, command, packet, move, note}
+use Rattle.std.proofs.Common.{◌≡◌, ℕ, suc, ◌+◌, ◌↔◌, Bool, true, false, if◌then◌else◌, Option, Some, None, IsSome, IfSome, List, [], ◌∷◌, ◌++◌, length, map, take, drop, refl, sym, ap, subst, ◌∙◌, arith, append_assoc, append-nil}
+use Rattle.demux.specs.Trace.{Meaning}
 use Rattle.report_lines.specs.declared.entry.LineEntry.{LineEntry}
-use Rattle.report_lines.specs.declared.entry.LineEntry.TheVariants as line
-use Rattle.lawful_run.specs.Answers.{Answers, AnswersAll}
+use Rattle.lawful_run.specs.Answers.{AnswersAll}
 use Rattle.lawful_run.specs.LinesTold.{LineTold, lines_told}
-use Rattle.audit_lines.specs.OfSlot.{AreAnswered}
 use Rattle.audit_lines.proofs.LineKinds.{are_answered}
 use Rattle.audit_sentences.specs.Entries.{all_lines, cut}
 use Rattle.audit_reading.specs.Answering.{answers, matched_all, matched_on, then_all}

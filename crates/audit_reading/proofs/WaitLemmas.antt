@@ -1,6 +1,6 @@
 -- What waits behind one line more of an epoch.
-use Rattle.std.proofs.Common.{◌≡◌, ◌≢◌, ℕ, zero, suc, ◌+◌, ◌<◌, ◌≤◌, ◌==◌, ◌||◌, Bool, true, false, if◌then◌else◌, Option, None, Some, List, [], ◌∷◌, ◌++◌, length, get_or, set, get_or-set_same, get_or-set_other, length-set, cond, refl, sym, ap, subst, ◌∙◌, inl, inr, arith, append-nil, length-append}
-use Rattle.std.specs.List.{cons_option, count_by, filter_map, list_any}
+use Rattle.std.proofs.Common.{◌≡◌, ◌≢◌, ℕ, ◌+◌, ◌<◌, ◌≤◌, ◌==◌, ◌||◌, Bool, true, false, if◌then◌else◌, Option, None, Some, List, [], ◌∷◌, ◌++◌, length, get_or, set, get_or-set_same, get_or-set_other, length-set, cond, refl, sym, ap, subst, ◌∙◌, inl, inr, arith, append-nil, length-append}
+use Rattle.std.specs.List.{cons_option, filter_map, list_any}
 use Rattle.std.specs.Option.{option_map}
 use Rattle.std.proofs.lemmas.Bool.{cases_eq, eq-eqb, eqb-true, ne_eqb}
 use Rattle.std.proofs.lemmas.List.{get_or_append_left}
@@ -12,7 +12,7 @@ use Rattle.control_steps.specs.declared.command.CommandKind.{CommandKind}
 use Rattle.demux.specs.Trace.{Meaning, command, packet, move, note}
 use Rattle.demux.specs.declared.packet.LentPacket.{LentPacket}
 use Rattle.report_lines.specs.declared.entry.LineEntry.{LineEntry}
-use Rattle.lawful_run.specs.Accepted.{Placed, accepted_command, accepted_packet, command_count, commands_before, is_refused, packets_accepted}
+use Rattle.lawful_run.specs.Accepted.{Placed, accepted_command, accepted_packet, commands_before, is_refused}
 use Rattle.lawful_run.specs.LinesTold.{LineTold}
 use Rattle.lawful_run.specs.Moves.{is_moved, moves}
 use Rattle.lawful_run.specs.Refusals.{different, is_move, is_packet, move_count, packet_count, slot_count, slot_of}

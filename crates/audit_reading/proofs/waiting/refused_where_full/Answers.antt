@@ -1,5 +1,5 @@
 use Rattle.std.proofs.Common.{◌+◌, take, subst, sym}
-use Rattle.audit_lines.specs.Meant.{line_told, lines_of, meaning_of}
+use Rattle.audit_lines.specs.Meant.{lines_of, meaning_of}
 use Rattle.audit_reading.specs.Holding.{IsKnown}
 use Rattle.audit_reading.specs.Waiting.{AreWaiting}
 use Rattle.audit_reading.proofs.RefuseLemmas.{breaks_off, front_more, goes_on, known_at}

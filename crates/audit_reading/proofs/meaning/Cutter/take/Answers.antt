@@ -1,7 +1,6 @@
-use Rattle.std.proofs.Common.{◌≡◌, ◌++◌, ◌∷◌, [], true, false, if◌then◌else◌, ap, refl, sym, subst, ◌∙◌}
+use Rattle.std.proofs.Common.{◌++◌, ◌∷◌, [], if◌then◌else◌, ap, refl, sym, subst, ◌∙◌}
 use Rattle.std.specs.Global.{Vec}
 use Rattle.std.proofs.lemmas.List.{map-append}
-use Rattle.trace_lines.specs.Epochs.{ends_epoch}
 use Rattle.audit_lines.specs.declared.meaning.Meant.{Meant}
 use Rattle.audit_lines.specs.Meant.{meaning_of}
 use Rattle.audit_reading.specs.Cutting.{Measures}

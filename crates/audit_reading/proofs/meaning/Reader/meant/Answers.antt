@@ -1,7 +1,5 @@
-use Rattle.std.proofs.Common.{◌≡◌, ◌∙◌, ◌<◌, ◌≤◌, ap, sym, subst, refl, arith, length, get_or, set, length-set}
+use Rattle.std.proofs.Common.{◌≡◌, ◌∙◌, ◌<◌, ap, sym, subst, refl, arith, length, get_or, set, length-set}
 use Rattle.demux.specs.Resolved.{IsDecision, book_behind}
-use Rattle.demux.specs.declared.decision.Decision.TheVariants as decision
-use Rattle.audit_reading.specs.Cutting.{Reads}
 use Rattle.audit_reading.proofs.ReadLemmas.{bound_set, on_ok, reads_next}
 use Rattle.audit_reading.proofs.meaning.Reader.meant.Goals as goal
 
