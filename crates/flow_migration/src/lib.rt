@@ -7,6 +7,8 @@
 mod place;
 mod side;
 mod steps;
+#[cfg(test)]
+mod tests;
 
 pub use place::{FlowNo, FlowPlace, FlowState, HalfAside};
 pub use side::{FlowEnded, FlowSide};
