@@ -23,7 +23,8 @@ pub option_then : {X : Type 0} (o : Option X) {A B : Type 0} {P Q : X → Type 0
 option_then None f g m = f m
 option_then (Some x) f g m = g x m
 
-module _ {H I : Type 0} (slice : ℕ) (before now : FlowDesk H I) (old new : List (FlowDesk H I)) (desk : DeskChanged slice before now old new) where
+module _ {H I : Type 0} (slice : ℕ) (before now : FlowDesk H I) (old new : List (FlowDesk H I))
+    (desk : DeskChanged slice before now old new) where
   pub changed_sum : (f : FlowDesk H I → ℕ) → sum_by f new + f before ≡ sum_by f old + f now
   changed_sum f =
       let e = sum_by-set f old slice now before desk.within in
@@ -50,22 +51,29 @@ module _ {H I : Type 0} (slice : ℕ) (before now : FlowDesk H I) (old new : Lis
   pub at_before : {A : Type 0} (f : FlowDesk H I → A) (none : A) → get_or (map f old) slice none ≡ f before
   at_before f none = get_or-map f old slice before none desk.within ∙ ap f (sym desk.there)
 
-  pub at_other : {A : Type 0} (f : FlowDesk H I → A) (none : A) (other : ℕ) → other ≢ slice → get_or (map f new) other none ≡ get_or (map f old) other none
-  at_other f none other apart = ap (λ l. get_or l other none) (as_set f) ∙ get_or-set_other (map f old) slice other (f now) none apart
+  pub at_other : {A : Type 0} (f : FlowDesk H I → A) (none : A) (other : ℕ) → other ≢ slice
+      → get_or (map f new) other none ≡ get_or (map f old) other none
+  at_other f none other apart = ap (λ l. get_or l other none) (as_set f)
+      ∙ get_or-set_other (map f old) slice other (f now) none apart
 
-  pub at_same : {A : Type 0} (f : FlowDesk H I → A) (none : A) (other : ℕ) → f now ≡ f before → get_or (map f new) other none ≡ get_or (map f old) other none
+  pub at_same : {A : Type 0} (f : FlowDesk H I → A) (none : A) (other : ℕ) → f now ≡ f before
+      → get_or (map f new) other none ≡ get_or (map f old) other none
   at_same f none other same = ap (λ l. get_or l other none) (changed_map f same)
 
 module _ {H I : Type 0} (h : H → ℕ) where
-  pub arrive_weight : (came : List (FlowOrder H I)) (half : H) → sum_by h (halves_in (came ++ Arrive half ∷ [])) ≡ sum_by h (halves_in came) + h half
+  pub arrive_weight : (came : List (FlowOrder H I)) (half : H) → sum_by h (halves_in (came ++ Arrive half ∷ []))
+      ≡ sum_by h (halves_in came) + h half
   arrive_weight came half = ap (sum_by h) (halves-append came (Arrive half ∷ [])) ∙ sum_by_push h (halves_in came) half
 
-  pub none_weight : (came : List (FlowOrder H I)) (order : FlowOrder H I) → halves_in (order ∷ []) ≡ [] → sum_by h (halves_in (came ++ order ∷ [])) ≡ sum_by h (halves_in came)
+  pub none_weight : (came : List (FlowOrder H I)) (order : FlowOrder H I) → halves_in (order ∷ []) ≡ []
+      → sum_by h (halves_in (came ++ order ∷ [])) ≡ sum_by h (halves_in came)
   none_weight came order none =
-      ap (sum_by h) (halves-append came (order ∷ []) ∙ ap (λ l. halves_in came ++ l) none) ∙ sum_by-append h (halves_in came) [] ∙ (omega arith)
+      ap (sum_by h) (halves-append came (order ∷ []) ∙ ap (λ l. halves_in came ++ l) none)
+          ∙ sum_by-append h (halves_in came) [] ∙ (omega arith)
 
 -- one order more stands at one slice, and elsewhere none does
-pub record OneMore {H I : Type 0} (slice : ℕ) (order : FlowOrder H I) (old new : ℕ → List (FlowOrder H I)) : Type 0 where
+pub record OneMore {H I : Type 0} (slice : ℕ) (order : FlowOrder H I) (old new : ℕ
+    → List (FlowOrder H I)) : Type 0 where
   pub here : new slice ≡ old slice ++ order ∷ []
   pub others : (d : ℕ) → d ≢ slice → new d ≡ old d
 
@@ -75,7 +83,8 @@ pub record OneHome {H : Type 0} (slice : ℕ) (half : H) (old new : ℕ → List
   pub others : (d : ℕ) → d ≢ slice → new d ≡ old d
 
 -- an order that was put
-module _ {H I : Type 0} (slice : ℕ) (order : FlowOrder H I) (old new : List (FlowDesk H I)) (given : Given slice order old new) where
+module _ {H I : Type 0} (slice : ℕ) (order : FlowOrder H I) (old new : List (FlowDesk H I))
+    (given : Given slice order old new) where
   pub given_more : OneMore slice order (sent_at old) (sent_at new)
   given_more =
       let f : FlowDesk H I → List (FlowOrder H I) = λ desk. sent desk.orders in
@@ -86,13 +95,15 @@ module _ {H I : Type 0} (slice : ℕ) (order : FlowOrder H I) (old new : List (F
       }
 
   pub given_homes : (d : ℕ) → home_at new d ≡ home_at old d
-  given_homes d = at_same slice given.before given.now old new given.desk (λ desk. taken desk.home) [] d (ap taken given.home)
+  given_homes d = at_same slice given.before given.now old new given.desk (λ desk. taken desk.home) [] d
+      (ap taken given.home)
 
   pub given_ends : homes_of new ≡ homes_of old
   given_ends = changed_map slice given.before given.now old new given.desk (λ desk. desk.home) given.home
 
   pub given_fulls : (d : ℕ) → fulls_at new d ≡ fulls_at old d
-  given_fulls d = at_same slice given.before given.now old new given.desk (λ desk. full_answers desk.orders) 0 d given.fulls
+  given_fulls d = at_same slice given.before given.now old new given.desk (λ desk. full_answers desk.orders) 0 d
+      given.fulls
 
   pub given_count : sum_by (order_count {H = H} {I = I}) new ≡ sum_by (order_count {H = H} {I = I}) old + 1
   given_count =
@@ -109,15 +120,18 @@ module _ {H I : Type 0} (slice : ℕ) (order : FlowOrder H I) (old new : List (F
 -- a refused order: the lane of its slice was full once more, and nothing else is new
 module _ {H I : Type 0} (slice : ℕ) (old new : List (FlowDesk H I)) (refused : Refused slice old new) where
   pub refused_sent : (d : ℕ) → sent_at new d ≡ sent_at old d
-  refused_sent d = at_same slice refused.before refused.now old new refused.desk (λ desk. sent desk.orders) [] d refused.sent
+  refused_sent d = at_same slice refused.before refused.now old new refused.desk (λ desk. sent desk.orders) [] d
+      refused.sent
 
   pub refused_homes : (d : ℕ) → home_at new d ≡ home_at old d
-  refused_homes d = at_same slice refused.before refused.now old new refused.desk (λ desk. taken desk.home) [] d (ap taken refused.home)
+  refused_homes d = at_same slice refused.before refused.now old new refused.desk (λ desk. taken desk.home) [] d
+      (ap taken refused.home)
 
   pub refused_ends : homes_of new ≡ homes_of old
   refused_ends = changed_map slice refused.before refused.now old new refused.desk (λ desk. desk.home) refused.home
 
-  pub refused_sum : (f : List (FlowOrder H I) → ℕ) → sum_by (λ (desk : FlowDesk H I). f (sent desk.orders)) new ≡ sum_by (λ (desk : FlowDesk H I). f (sent desk.orders)) old
+  pub refused_sum : (f : List (FlowOrder H I) → ℕ) → sum_by (λ (desk : FlowDesk H I). f (sent desk.orders)) new
+      ≡ sum_by (λ (desk : FlowDesk H I). f (sent desk.orders)) old
   refused_sum f =
       let g : FlowDesk H I → ℕ = λ desk. f (sent desk.orders) in
       let e = changed_sum slice refused.before refused.now old new refused.desk g in
@@ -131,7 +145,8 @@ module _ {H I : Type 0} (slice : ℕ) (old new : List (FlowDesk H I)) (refused :
 
   pub refused_filled : room_at old slice ≤ sent_count old slice
   refused_filled =
-      let a = at_before slice refused.before refused.now old new refused.desk (λ desk. (sender_lane desk.orders).room) 0 in
+      let a = at_before slice refused.before refused.now old new refused.desk (λ desk. (sender_lane desk.orders).room)
+          0 in
       let b = at_before slice refused.before refused.now old new refused.desk order_count 0 in
       let c = refused.filled in omega arith
 
@@ -139,7 +154,8 @@ module _ {H I : Type 0} (slice : ℕ) (old new : List (FlowDesk H I)) (refused :
   refused_fulls d = elim (nat_eq d slice) as (λ b. nat_eq d slice ≡ b → Lasts (fulls_at old d) (fulls_at new d)) [
     | true ↦ λ e. lasts_raised (fulls_at old d) (fulls_at new d)
         (subst (λ (n : ℕ). fulls_at new n ≡ raised (fulls_at old n)) (sym (eqb-true d slice e)) refused_full)
-    | false ↦ λ e. inl (at_other slice refused.before refused.now old new refused.desk (λ desk. full_answers desk.orders) 0 d (eqb-false d slice e))
+    | false ↦ λ e. inl (at_other slice refused.before refused.now old new refused.desk
+        (λ desk. full_answers desk.orders) 0 d (eqb-false d slice e))
   ] refl
 
   pub refused_lanes : lanes_of new ≡ lanes_of old
@@ -160,10 +176,13 @@ module _ {H I : Type 0} (slice : ℕ) (half : H) (old new : List (FlowDesk H I))
       }
 
   pub taken_sent : (d : ℕ) → sent_at new d ≡ sent_at old d
-  taken_sent d = at_same slice took.before took.now old new took.desk (λ desk. sent desk.orders) [] d (ap sent took.orders)
+  taken_sent d = at_same slice took.before took.now old new took.desk (λ desk. sent desk.orders) [] d
+      (ap sent took.orders)
 
 pub homes_sum : {H I : Type 0} (f : List H → ℕ) (old new : List (FlowDesk H I)) → homes_of new ≡ homes_of old
-    → sum_by (λ (desk : FlowDesk H I). f (taken desk.home)) new ≡ sum_by (λ (desk : FlowDesk H I). f (taken desk.home)) old
+    → sum_by (λ (desk : FlowDesk H I). f (taken desk.home)) new
+        ≡ sum_by (λ (desk : FlowDesk H I). f (taken desk.home)) old
 homes_sum {H} {I} f old new same =
-    sum_by-through (λ (desk : FlowDesk H I). desk.home) (λ home. f (taken home)) new ∙ ap (sum_by (λ home. f (taken home))) same
+    sum_by-through (λ (desk : FlowDesk H I). desk.home) (λ home. f (taken home)) new
+        ∙ ap (sum_by (λ home. f (taken home))) same
     ∙ sym (sum_by-through (λ (desk : FlowDesk H I). desk.home) (λ home. f (taken home)) old)

@@ -12,7 +12,8 @@ use Rattle.flow_migration.specs.Sides.{HomeEnded}
 use Rattle.flow_migration.specs.Words.{TookOne, TookFrom}
 use Rattle.flow_migration.proofs.Desks.{at_now, at_before, at_other, at_same}
 
-module _ {H I : Type 0} (slice admitted : ℕ) (aside new_aside : List (HalfAside H)) (desks now : List (FlowDesk H I)) where
+module _ {H I : Type 0} (slice admitted : ℕ) (aside new_aside : List (HalfAside H)) (desks now : List (FlowDesk H I))
+    where
   -- a half was taken
   pub took_half : (half : H) → Taken slice half desks now → length aside ≤ length new_aside
       → TookOne true slice admitted aside new_aside desks now
@@ -59,7 +60,8 @@ module _ {H I : Type 0} (slice admitted : ℕ) (aside new_aside : List (HalfAsid
       }
 
 -- as many are kept aside as may be
-pub took_full : {H I : Type 0} (slice admitted : ℕ) (aside : List (HalfAside H)) (desks : List (FlowDesk H I)) → length aside ≡ admitted
+pub took_full : {H I : Type 0} (slice admitted : ℕ) (aside : List (HalfAside H)) (desks : List (FlowDesk H I))
+    → length aside ≡ admitted
     → TookOne false slice admitted aside aside desks desks
 took_full slice admitted aside desks full = record {
   others = λ other apart. (refl, refl);
@@ -70,7 +72,8 @@ took_full slice admitted aside desks full = record {
 }
 
 -- so many halves were taken from a lane home, and it wasn't empty yet
-pub record Taking {H I : Type 0} (slice done : ℕ) (aside new_aside : List (HalfAside H)) (desks now : List (FlowDesk H I)) : Type 0 where
+pub record Taking {H I : Type 0} (slice done : ℕ) (aside new_aside : List (HalfAside H))
+    (desks now : List (FlowDesk H I)) : Type 0 where
   pub others : (other : ℕ) → other ≢ slice → (home_count now other ≡ home_count desks other)
       × (empties_at now other ≡ empties_at desks other)
   pub so_many : home_count now slice ≡ home_count desks slice + done
@@ -88,7 +91,8 @@ module _ {H I : Type 0} (slice : ℕ) (first : List (HalfAside H)) (desks : List
     fulls = λ other. refl;
   }
 
-  pub taking_more : (went : Bool) (admitted done : ℕ) (aside new_aside : List (HalfAside H)) (now new : List (FlowDesk H I))
+  pub taking_more : (went : Bool) (admitted done : ℕ) (aside new_aside : List (HalfAside H))
+      (now new : List (FlowDesk H I))
       → Taking slice done first aside desks now
       → went ≡ true → TookOne went slice admitted aside new_aside now new
       → Taking slice (done + 1) first new_aside desks new
@@ -103,7 +107,8 @@ module _ {H I : Type 0} (slice : ℕ) (first : List (HalfAside H)) (desks : List
     fulls = λ other. took.fulls other ∙ taking.fulls other;
   }
 
-  pub taking_ends : (went : Bool) (admitted done : ℕ) (aside new_aside : List (HalfAside H)) (now new : List (FlowDesk H I))
+  pub taking_ends : (went : Bool) (admitted done : ℕ) (aside new_aside : List (HalfAside H))
+      (now new : List (FlowDesk H I))
       → Taking slice done first aside desks now
       → went ≡ false → TookOne went slice admitted aside new_aside now new
       → TookFrom slice admitted first new_aside desks new
@@ -131,7 +136,8 @@ module _ {H I : Type 0} (slice : ℕ) (first : List (HalfAside H)) (desks : List
   }
 
 -- the lanes home of the slices below this one were emptied, and no other one was touched
-pub record TakenBelow {H I : Type 0} (slice admitted : ℕ) (new_aside : List (HalfAside H)) (desks now : List (FlowDesk H I)) : Type 0 where
+pub record TakenBelow {H I : Type 0} (slice admitted : ℕ) (new_aside : List (HalfAside H))
+    (desks now : List (FlowDesk H I)) : Type 0 where
   pub ended : (low : ℕ) → low < slice → HomeEnded (length new_aside) admitted low desks now
   pub others : (high : ℕ) → slice ≤ high → (home_count now high ≡ home_count desks high)
       × (empties_at now high ≡ empties_at desks high)
@@ -145,7 +151,8 @@ below_none admitted aside desks = record {
   fulls = λ other. refl;
 }
 
-module _ {H I : Type 0} (slice admitted : ℕ) (aside new_aside : List (HalfAside H)) (desks now new : List (FlowDesk H I)) where
+module _ {H I : Type 0} (slice admitted : ℕ) (aside new_aside : List (HalfAside H))
+    (desks now new : List (FlowDesk H I)) where
   pub below_more : (was : ℕ) → TakenBelow slice was aside desks now → was ≡ admitted
       → TookFrom slice admitted aside new_aside now new
       → length new_aside ≤ admitted → TakenBelow (slice + 1) admitted new_aside desks new
@@ -154,7 +161,8 @@ module _ {H I : Type 0} (slice admitted : ℕ) (aside new_aside : List (HalfAsid
         → HomeEnded (length new_aside) admitted low desks new) [
           | true ↦ λ e. subst (λ (n : ℕ). HomeEnded (length new_aside) admitted n desks new)
               (sym (eqb-true low slice e)) here
-          | false ↦ λ e. let apart : low ≢ slice = eqb-false low slice e in still low apart (had.ended low (omega arith))
+          | false ↦ λ e. let apart : low ≢ slice = eqb-false low slice e in still low apart
+              (had.ended low (omega arith))
         ] refl;
     others = λ high above. let apart : high ≢ slice = λ e. absurd (omega arith) in (
       (took.others high apart).0 ∙ (had.others high (omega arith)).0,

@@ -23,7 +23,8 @@ module _ {H I : Type 0} (slot : H → ℕ) (handled : H → List I) where
   -- what the halves of a slot handled that were kept aside as they came from a slice
   abbrev pub asides_of : ℕ → List (HalfAside H) → ℕ → List (List I)
   asides_of s [] d = []
-  asides_of s (kept ∷ aside) d = if slot kept.half == s then (if kept.slice == d then handled kept.half ∷ asides_of s aside d else asides_of s aside d) else asides_of s aside d
+  asides_of s (kept ∷ aside) d = if slot kept.half == s then (if kept.slice == d then handled kept.half ∷ asides_of s
+      aside d else asides_of s aside d) else asides_of s aside d
 
 module _ {H I : Type 0} (slot : H → ℕ) (item_slot : I → ℕ) (handled : H → List I) where
   abbrev pub PlaceIs : ℕ → Option (FlowPlace H I) → Where I → Type 0
@@ -31,10 +32,12 @@ module _ {H I : Type 0} (slot : H → ℕ) (item_slot : I → ℕ) (handled : H 
   PlaceIs s (Some at) place = StateIs slot handled s at.state place
 
   -- what is known of a slot, by its place
-  pub record Tells (s : ℕ) (place : Option (FlowPlace H I)) (desks : List (FlowDesk H I)) (aside : List (HalfAside H)) : Type 0 where
+  pub record Tells (s : ℕ) (place : Option (FlowPlace H I)) (desks : List (FlowDesk H I))
+      (aside : List (HalfAside H)) : Type 0 where
     pub stays : List (Stay I)
     pub half : Where I
-    pub knows : SlotKnows slot item_slot handled s (sent_at desks) (home_at desks) (asides_of slot handled s aside) stays half (queue_at place) (accepted_at place)
+    pub knows : SlotKnows slot item_slot handled s (sent_at desks) (home_at desks) (asides_of slot handled s aside)
+        stays half (queue_at place) (accepted_at place)
     pub is : PlaceIs s place half
 
   -- each slot is known
@@ -42,7 +45,8 @@ module _ {H I : Type 0} (slot : H → ℕ) (item_slot : I → ℕ) (handled : H 
   AllKnown places desks aside = (s : ℕ) → ∥ Tells s (place_at places s) desks aside ∥₁
 
 -- each name that was admitted or came home is at the front, is kept aside there, or was sent to a slice, as often
-abbrev pub Balanced : {H N I : Type 0} → (H → N) → List (Option (FlowPlace H I)) → List (HalfAside H) → List (FlowDesk H I) → Type 0
+abbrev pub Balanced : {H N I : Type 0} → (H → N) → List (Option (FlowPlace H I)) → List (HalfAside H)
+    → List (FlowDesk H I) → Type 0
 Balanced {H} {N} {I} name places aside desks =
     (h : N → ℕ) → sum_by (front_at (λ half. h (name half))) places + sum_by (λ kept. h (name kept.half)) aside
     + sum_by (sent_weight (λ half. h (name half))) desks
@@ -57,9 +61,11 @@ slot_at_place slot_at slot (Some name) = slot_at name
 abbrev pub BySlot : {N : Type 0} → (N → ℕ) → List (Option N) → Type 0
 BySlot slot_at names = (slot : ℕ) → slot_at_place slot_at slot (slice_index_or names slot None) ≡ slot
 
--- what a side keeps: each name in one place, each at its slot, what is known of each slot's stays, and few enough orders
+-- what a side keeps: each name in one place, each at its slot, what is known of each slot's stays, and few enough
+-- orders
 pub record IsFlowSide {H N I : Type 0} (name : H → N) (slot_at : N → ℕ) (item_slot : I → ℕ) (handled : H → List I)
-    (places : List (Option (FlowPlace H I))) (aside : List (HalfAside H)) (desks : List (FlowDesk H I)) (room admitted asked : ℕ) : Type 0 where
+    (places : List (Option (FlowPlace H I))) (aside : List (HalfAside H)) (desks : List (FlowDesk H I))
+        (room admitted asked : ℕ) : Type 0 where
   pub known : AllKnown (λ half. slot_at (name half)) item_slot handled places desks aside
   pub balanced : Balanced name places aside desks
   pub slots : BySlot slot_at (names_of name places)
@@ -72,12 +78,16 @@ pub record IsFlowSide {H N I : Type 0} (name : H → N) (slot_at : N → ℕ) (i
   pub aside_few : length aside ≤ admitted
 
 -- each slot that still waits for a slice met a full lane there
-abbrev pub AllMetFull : {H I : Type 0} → List (Option (FlowPlace H I)) → List (FlowDesk H I) → List (FlowDesk H I) → Type 0
-AllMetFull places old new = (slot slice : ℕ) → waits_at (place_at places slot) ≡ Some slice → Rises (fulls_at old slice) (fulls_at new slice)
+abbrev pub AllMetFull : {H I : Type 0} → List (Option (FlowPlace H I)) → List (FlowDesk H I) → List (FlowDesk H I)
+    → Type 0
+AllMetFull places old new = (slot slice : ℕ) → waits_at (place_at places slot) ≡ Some slice
+    → Rises (fulls_at old slice) (fulls_at new slice)
 
 -- each placed slot whose queue has items left met a full lane at its slice
-abbrev pub QueuesMetFull : {H I : Type 0} → List (Option (FlowPlace H I)) → List (FlowDesk H I) → List (FlowDesk H I) → Type 0
-QueuesMetFull places old new = (slot slice : ℕ) → queues_for (place_at places slot) ≡ Some slice → 0 < length (queue_at (place_at places slot))
+abbrev pub QueuesMetFull : {H I : Type 0} → List (Option (FlowPlace H I)) → List (FlowDesk H I) → List (FlowDesk H I)
+    → Type 0
+QueuesMetFull places old new = (slot slice : ℕ) → queues_for (place_at places slot) ≡ Some slice
+    → 0 < length (queue_at (place_at places slot))
     → Rises (fulls_at old slice) (fulls_at new slice)
 
 -- the lane home of a slice was empty, or 64 halves were taken from it, or no more may be kept aside

@@ -4,7 +4,8 @@ use Rattle.flow_core.specs.declared.order.FlowOrder.{FlowOrder}
 use Rattle.flow_core.specs.Orders.{now_of, gone_of}
 use Rattle.flow_core.specs.Picks.{lists_of}
 
--- a stay that ended: at which slice; which items the half had handled as it came; which were sent for it there; and which it had handled as it came home
+-- a stay that ended: at which slice; which items the half had handled as it came; which were sent for it there; and
+-- which it had handled as it came home
 pub record Stay (I : Type 0) : Type 0 where
   pub at : ℕ
   pub came : List I
@@ -67,7 +68,9 @@ abbrev pub Owned : {I : Type 0} → (I → ℕ) → ℕ → List I → Type 0
 Owned item_slot s [] = Unit {0}
 Owned item_slot s (x ∷ xs) = (item_slot x ≡ s) × Owned item_slot s xs
 
--- what is known of one slot: the orders that were sent to each slice are those of its stays, the halves that came home are those that left, each stay began where the one before ended, and the accepted items are those sent for it, stay by stay, and then its queue
+-- what is known of one slot: the orders that were sent to each slice are those of its stays, the halves that came home
+-- are those that left, each stay began where the one before ended, and the accepted items are those sent for it, stay
+-- by stay, and then its queue
 pub record SlotKnows {H I : Type 0} (slot : H → ℕ) (item_slot : I → ℕ) (handled : H → List I) (s : ℕ)
     (orders : ℕ → List (FlowOrder H I)) (homes : ℕ → List H) (asides : ℕ → List (List I))
     (stays : List (Stay I)) (half : Where I) (queue accepted : List I) : Type 0 where

@@ -34,7 +34,8 @@ pub struct FlowSide<H: Flow> {
     admitted: usize,
     asked: u64,
     refused: u64,
-    ghost laid: { IsFlowSide H.name H.slot_at H.item_slot H.handled places.items aside.items desks.items room admitted asked },
+    ghost laid: { IsFlowSide H.name H.slot_at H.item_slot H.handled places.items aside.items desks.items room admitted
+        asked },
     ghost aside_room: { admitted ≤ vec_capacity aside },
 }
 
@@ -312,7 +313,8 @@ impl<H: Flow> FlowSide<H> {
         ensures roll { roll_of H.name self.new ≡ roll_of H.name self.old }
         ensures aside { aside_of self.new ≡ aside_of self.old }
         ensures homes { homes_of (desks_of self.new) ≡ homes_of (desks_of self.old) }
-        ensures waits { (slot : ℕ) → waits_at (place_at (places_of self.new) slot) ≡ waits_at (place_at (places_of self.old) slot) }
+        ensures waits { (slot : ℕ) → waits_at (place_at (places_of self.new) slot)
+            ≡ waits_at (place_at (places_of self.old) slot) }
         ensures queues { QueuesMetFull (places_of self.new) (desks_of self.old) (desks_of self.new) }
         ensures lasts { (slice : ℕ) → Lasts (fulls_at (desks_of self.old) slice) (fulls_at (desks_of self.new) slice) }
     {

@@ -159,7 +159,8 @@ fn send_first<H: Flow, R: Wait>(
     requires law { stands (λ half. H.slot_at (H.name half)) H.item_slot slot (sent_at desks.old.items at) ≡ true }
     requires own { All (λ item. H.item_slot item ≡ slot) queue.old.items }
     ensures sent { result ≡ true → SentFirst at queue.old.items queue.new.items desks.old.items desks.new.items }
-    ensures refused { result ≡ false → (queue.new.items ≡ queue.old.items) × QueueRests at queue.old.items desks.old.items desks.new.items }
+    ensures refused { result ≡ false → (queue.new.items ≡ queue.old.items)
+        × QueueRests at queue.old.items desks.old.items desks.new.items }
     ensures len { vec_len desks.new ≡ vec_len desks.old }
 {
     let Some(item) = queue.pop_front() else {
@@ -521,7 +522,8 @@ fn give_parked<H: Flow>(
 ) -> (FlowPlace<H>, Result<(), FlowNo<H::Item>>)
     ensures queue { QueueTakes room item result.1 place.queue.items result.0.queue.items }
     ensures accepted { Accepts item result.1 (accepted_by place) (accepted_by result.0) }
-    ensures same { (result.0.moved ≡ place.moved) × (result.0.state ≡ place.state) × (result.0.admitted ≡ place.admitted) }
+    ensures same { (result.0.moved ≡ place.moved) × (result.0.state ≡ place.state)
+        × (result.0.admitted ≡ place.admitted) }
 {
     let FlowPlace {
         moved,
@@ -556,7 +558,8 @@ fn give_placed<H: Flow, R: Wait>(
     requires ready { IsReady (λ half. H.slot_at (H.name half)) H.item_slot slot (Some place) desks.old.items }
     ensures delivers { Delivers slot item result.1 place.state result.0.state desks.old.items desks.new.items }
     ensures accepted { Accepts item result.1 (accepted_by place) (accepted_by result.0) }
-    ensures same { (result.0.moved ≡ place.moved) × (result.0.queue.items ≡ place.queue.items) × (result.0.admitted ≡ place.admitted) }
+    ensures same { (result.0.moved ≡ place.moved) × (result.0.queue.items ≡ place.queue.items)
+        × (result.0.admitted ≡ place.admitted) }
 {
     let FlowPlace {
         moved,

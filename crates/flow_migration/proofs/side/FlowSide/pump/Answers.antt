@@ -4,10 +4,12 @@ use Rattle.flow_migration.proofs.Passes.{met_in_all, queues_in_all, ended_since}
 use Rattle.flow_migration.proofs.side.FlowSide.pump.Goals as goal
 
 pub returns-clause-full : goal.returns-clause-full
-returns-clause-full g c = met_in_all _ _ _ _ _ _ c.take_all.ensures.fulls c.serve_all.ensures.full c.drain_all.ensures.waits c.drain_all.ensures.lasts
+returns-clause-full g c = met_in_all _ _ _ _ _ _ c.take_all.ensures.fulls c.serve_all.ensures.full
+    c.drain_all.ensures.waits c.drain_all.ensures.lasts
 
 pub returns-clause-queues : goal.returns-clause-queues
-returns-clause-queues g c = queues_in_all _ _ _ _ _ c.take_all.ensures.fulls c.serve_all.ensures.lasts c.drain_all.ensures.queues
+returns-clause-queues g c = queues_in_all _ _ _ _ _ c.take_all.ensures.fulls c.serve_all.ensures.lasts
+    c.drain_all.ensures.queues
 
 pub returns-clause-home : goal.returns-clause-home
 returns-clause-home g c = λ slice within.
