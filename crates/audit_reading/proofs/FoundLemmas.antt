@@ -1,0 +1,68 @@
+-- What is found of all epochs, as the program holds it.
+use Rattle.std.proofs.Common.{◌≡◌, ◌≢◌, ℕ, ◌↔◌, Bool, true, false, Option, Some, None, IsSome, IfSome, List, [], length, refl, sym, ap, subst, ◌∙◌}
+use Rattle.std.specs.Prelude.{option_map, is_some}
+use Rattle.std.specs.Global.{Vec}
+use Rattle.report_lines.specs.declared.entry.Entry.{Entry}
+use Rattle.lawful_run.specs.LinesTold.{LineTold}
+use Rattle.audit_lines.specs.declared.meaning.Meant.{Meant}
+use Rattle.audit_lines.specs.declared.told.Told.{Told}
+use Rattle.audit_sentences.specs.Entries.{all_lines, in_line_order, line_entries}
+use Rattle.audit_sentences.specs.Sentences.{LinesAreAnswered, told_epochs}
+use Rattle.audit_reading.specs.Answering.{matched_all}
+use Rattle.audit_reading.specs.Holding.{EpochsAnswered, epochs_held, epochs_meant, meanings_told}
+use Rattle.audit_reading.proofs.MatchLemmas.{Finds, finds}
+
+-- the lines of epochs with their entries, as the program found them
+abbrev held : Vec (Vec Told) → List (List LineTold)
+held all = epochs_held all.items
+
+some_mapped : (found : Option (Vec (Vec Told))) → is_some (option_map held found) ≡ is_some found
+some_mapped None = refl
+some_mapped (Some all) = refl
+
+if_mapped : (P : List (List LineTold) → Type 0) (found : Option (Vec (Vec Told))) → IfSome (option_map held found) P
+    → IfSome found (λ all. P (held all))
+if_mapped P None holds = tt
+if_mapped P (Some all) holds = holds
+
+pub record IsAnswered (epochs : List (Vec Meant)) (entries : List Entry) (found : Option (Vec (Vec Told))) :
+    Type 0 where
+  pub holds : IsSome found ↔ LinesAreAnswered (epochs_meant epochs) entries
+  pub told : IfSome found (λ all. epochs_held all.items ≡ told_epochs (epochs_meant epochs) entries)
+  pub answers : IfSome found (λ all. EpochsAnswered 1 (epochs_held all.items))
+  pub lines : IfSome found (λ all. meanings_told (epochs_held all.items) ≡ epochs_meant epochs)
+
+pub is_answered : (epochs : List (Vec Meant)) (entries : List Entry) (count : ℕ) (found : Option (Vec (Vec Told)))
+    → count ≡ length (all_lines (epochs_meant epochs))
+    → length (line_entries entries) ≡ count
+    → option_map (λ (all : Vec (Vec Told)). epochs_held all.items) found
+    ≡ matched_all 1 [] (epochs_meant epochs) (in_line_order count (line_entries entries))
+    → IsAnswered epochs entries found
+is_answered epochs entries count found count_is many is =
+    let made = epochs_meant epochs in
+    let all : option_map held found ≡ matched_all 1 [] made (in_line_order (length (all_lines made)) (line_entries entries)) =
+    is ∙ ap (λ n. matched_all 1 [] made (in_line_order n (line_entries entries))) count_is in
+    let finds_all = finds made (in_line_order (length (all_lines made)) (line_entries entries)) (option_map held found) all in
+    record {
+      holds = (
+        λ some. record { answers = finds_all.holds.0 (some_mapped found ∙ some); no_others = many ∙ count_is },
+        λ are. sym (some_mapped found) ∙ finds_all.holds.1 are.answers,
+      );
+      told = if_mapped (λ lines. lines ≡ told_epochs made entries) found finds_all.told;
+      answers = if_mapped (EpochsAnswered 1) found finds_all.answered;
+      lines = if_mapped (λ lines. meanings_told lines ≡ made) found finds_all.meanings;
+    }
+
+-- there are more entries of lines than lines, or fewer
+pub not_answered : (epochs : List (Vec Meant)) (entries : List Entry) (count : ℕ)
+    → count ≡ length (all_lines (epochs_meant epochs)) → length (line_entries entries) ≢ count
+    → IsAnswered epochs entries None
+not_answered epochs entries count count_is others = record {
+  holds = (λ some. absurd (never some), λ are. absurd (others (are.no_others ∙ sym count_is)));
+  told = tt;
+  answers = tt;
+  lines = tt;
+}
+  where
+    never : false ≡ true → ⊥
+    never is = cc

@@ -1,0 +1,10 @@
+pub mod AnswerLemmas
+pub mod CutLemmas
+pub mod FoundLemmas
+pub mod KeyLemmas
+pub mod KnownLemmas
+pub mod MatchLemmas
+pub mod MatchSteps
+pub mod ReadLemmas
+pub mod RefuseLemmas
+pub mod WaitLemmas
