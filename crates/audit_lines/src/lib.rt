@@ -21,3 +21,6 @@ pub use sharing::{Keyed, arranged, shares_of};
 pub use slots::by_slot;
 pub use told::Told;
 pub use waiting::parked_behind_moves;
+
+#[cfg(test)]
+mod tests;

@@ -1,5 +1,5 @@
 -- Whether an entry answers a line.
-use Rattle.std.proofs.Common.{◌≡◌, ℕ, ◌==◌, ◌&&◌, Bool, true, false, List, refl, sym, ap, subst, ◌∙◌}
+use Rattle.std.proofs.Common.{◌≡◌, ℕ, ◌&&◌, Bool, true, false, List, refl, ap, ◌∙◌}
 use Rattle.std.specs.Bool.{Decides}
 use Rattle.std.specs.Cmp.{booleans_Decides}
 use Rattle.std.proofs.lemmas.Bool.Decides.{Decides-eqb}
@@ -20,7 +20,7 @@ split false b is = (is, cc)
 join : (a b : Bool) → a ≡ true → b ≡ true → (a && b) ≡ true
 join a b is other = ap (λ t. t && b) is ∙ other
 
-both_decide : {P Q : Type 0} (a b : Bool) → Decides a P → Decides b Q → Decides (a && b) (P × Q)
+pub both_decide : {P Q : Type 0} (a b : Bool) → Decides a P → Decides b Q → Decides (a && b) (P × Q)
 both_decide a b one other = (
   λ is. let parts = split a b is in (one.0 parts.0, other.0 parts.1),
   λ holds. join a b (one.1 holds.0) (other.1 holds.1),
@@ -52,7 +52,8 @@ refusal_decides n slot of_packet refused =
       ),
     )
 
-answer_decides : (n : ℕ) (meaning : Meaning) (entry : LineEntry) → Decides (answers n meaning entry) (Answers n meaning entry)
+answer_decides : (n : ℕ) (meaning : Meaning) (entry : LineEntry)
+    → Decides (answers n meaning entry) (Answers n meaning entry)
 answer_decides n (note text) (line.N noted) = note_decides n text noted
 answer_decides n (note text) (line.C answered) = never (λ none. none)
 answer_decides n (note text) (line.P judged) = never (λ none. none)

@@ -1,13 +1,13 @@
 -- Lines cut into epochs, behind one line more.
-use Rattle.std.proofs.Common.{◌≡◌, ℕ, suc, ◌+◌, ◌<◌, ◌≤◌, ◌||◌, nat_le, Bool, true, false, if◌then◌else◌, List, [], ◌∷◌, ◌++◌, All, length, flat_map, refl, sym, ap, subst, ◌∙◌, arith, append_assoc, append-nil, length-append}
+use Rattle.std.proofs.Common.{◌≡◌, ℕ, suc, ◌+◌, ◌<◌, ◌≤◌, ◌||◌, nat_le, Bool, true, false, if◌then◌else◌, List, [], ◌∷◌, ◌++◌, length, refl, sym, ap, ◌∙◌, arith, append_assoc, append-nil, length-append}
 use Rattle.std.proofs.lemmas.Bool.{leb-false}
 use Rattle.std.proofs.lemmas.Grind.{flat_map-append}
-use Rattle.std.proofs.lemmas.List.Elements.{All-append, All-nil, All-push}
+use Rattle.std.proofs.lemmas.List.Elements.{All-nil, All-push}
 use Rattle.std.proofs.lemmas.List.Sums.{sum_by-append}
 use Rattle.trace_lines.specs.Epochs.{ends_epoch, epochs_behind, epochs_of, is_fence, octets_in}
 use Rattle.trace_lines.specs.Line.{Line}
 use Rattle.trace_lines.specs.Text.{line_text}
-use Rattle.demux.specs.Trace.{Meaning, book_of}
+use Rattle.demux.specs.Trace.{Meaning}
 use Rattle.lawful_run.specs.Trace.{epochs_from, is_whole, meant_epochs, meant_from, open_epoch, own_epoch}
 use Rattle.lawful_run.proofs.CutEpochs.{cut_means}
 use Rattle.audit_reading.specs.Cutting.{IsCut, lines_in}
@@ -144,7 +144,8 @@ count_told slices done closed open_ noted cut few =
     omega (
       arith,
       few,
-      ap length (flat_map-append (λ (made : List Meaning). made) (meant_epochs slices [] closed) (own_epoch (last ++ noted))),
+      ap length (flat_map-append (λ (made : List Meaning). made) (meant_epochs slices [] closed)
+          (own_epoch (last ++ noted))),
       length-append (all_lines (meant_epochs slices [] closed)) (all_lines (own_epoch (last ++ noted))),
       ap length (all_own (last ++ noted)),
       length-append last noted,

@@ -1,16 +1,20 @@
 -- What is found of all epochs, as the program holds it.
-use Rattle.std.proofs.Common.{◌≡◌, ◌≢◌, ℕ, ◌↔◌, Bool, true, false, Option, Some, None, IsSome, IfSome, List, [], length, refl, sym, ap, subst, ◌∙◌}
+use Rattle.std.proofs.Common.{◌≡◌, ◌≢◌, ℕ, ◌↔◌, true, false, Option, Some, None, IsSome, IfSome, List, [], length, refl, sym, ap, subst, ◌∙◌}
 use Rattle.std.specs.Prelude.{option_map, is_some}
+use Rattle.std.specs.Borrow.{Bor}
 use Rattle.std.specs.Global.{Vec}
 use Rattle.report_lines.specs.declared.entry.Entry.{Entry}
+use Rattle.report_lines.specs.declared.entry.LineEntry.{LineEntry}
 use Rattle.lawful_run.specs.LinesTold.{LineTold}
 use Rattle.audit_lines.specs.declared.meaning.Meant.{Meant}
+use Rattle.audit_lines.specs.declared.sharing.Keyed.{Keyed}
 use Rattle.audit_lines.specs.declared.told.Told.{Told}
 use Rattle.audit_sentences.specs.Entries.{all_lines, in_line_order, line_entries}
 use Rattle.audit_sentences.specs.Sentences.{LinesAreAnswered, told_epochs}
 use Rattle.audit_reading.specs.Answering.{matched_all}
 use Rattle.audit_reading.specs.Holding.{EpochsAnswered, epochs_held, epochs_meant, meanings_told}
-use Rattle.audit_reading.proofs.MatchLemmas.{Finds, finds}
+use Rattle.audit_reading.specs.Matching.{IsKeyed, lent}
+use Rattle.audit_reading.proofs.MatchLemmas.{finds}
 
 -- the lines of epochs with their entries, as the program found them
 abbrev held : Vec (Vec Told) → List (List LineTold)
@@ -40,9 +44,10 @@ pub is_answered : (epochs : List (Vec Meant)) (entries : List Entry) (count : �
     → IsAnswered epochs entries found
 is_answered epochs entries count found count_is many is =
     let made = epochs_meant epochs in
-    let all : option_map held found ≡ matched_all 1 [] made (in_line_order (length (all_lines made)) (line_entries entries)) =
+    let lines = in_line_order (length (all_lines made)) (line_entries entries) in
+    let all : option_map held found ≡ matched_all 1 [] made lines =
     is ∙ ap (λ n. matched_all 1 [] made (in_line_order n (line_entries entries))) count_is in
-    let finds_all = finds made (in_line_order (length (all_lines made)) (line_entries entries)) (option_map held found) all in
+    let finds_all = finds made lines (option_map held found) all in
     record {
       holds = (
         λ some. record { answers = finds_all.holds.0 (some_mapped found ∙ some); no_others = many ∙ count_is },
@@ -52,6 +57,24 @@ is_answered epochs entries count found count_is many is =
       answers = if_mapped (EpochsAnswered 1) found finds_all.answered;
       lines = if_mapped (λ lines. meanings_told lines ≡ made) found finds_all.meanings;
     }
+
+-- by what was keyed, and brought into line order
+pub answered_so : (epochs : List (Vec Meant)) (entries : List Entry) (count : ℕ)
+    (keyed keyed_lent : List (Keyed (Bor LineEntry))) (order order_lent : List (Bor LineEntry))
+    (found : Option (Vec (Vec Told))) → count ≡ length (all_lines (epochs_meant epochs))
+    → IsKeyed keyed (line_entries entries) → length keyed ≡ count → keyed_lent ≡ keyed
+    → ((lines : List LineEntry) → IsKeyed keyed_lent lines → lent order ≡ in_line_order count lines)
+    → order_lent ≡ order
+    → option_map (λ (all : Vec (Vec Told)). epochs_held all.items) found
+    ≡ matched_all 1 [] (epochs_meant epochs) (lent order_lent)
+    → IsAnswered epochs entries found
+answered_so epochs entries count keyed keyed_lent order order_lent found count_is is many keyed_is ordered order_is
+    all =
+    is_answered epochs entries count found count_is (sym is.as_many ∙ many)
+    (all
+    ∙ ap (λ es. matched_all 1 [] (epochs_meant epochs) (lent es)) order_is
+    ∙ ap (matched_all 1 [] (epochs_meant epochs))
+    (ordered (line_entries entries) (subst (λ k. IsKeyed k (line_entries entries)) (sym keyed_is) is)))
 
 -- there are more entries of lines than lines, or fewer
 pub not_answered : (epochs : List (Vec Meant)) (entries : List Entry) (count : ℕ)

@@ -3,7 +3,7 @@ use Rattle.std.proofs.Common.{◌≡◌, ℕ, zero, suc, ◌+◌, ◌<◌, ◌==
 use Rattle.std.specs.Borrow.{Bor}
 use Rattle.std.specs.Global.{Vec}
 use Rattle.std.specs.List.{cons_option, filter_map}
-use Rattle.std.proofs.lemmas.List.{map-append, take_more}
+use Rattle.std.proofs.lemmas.List.{map-append, nil_from_length, take_more}
 use Rattle.std.proofs.lemmas.List.Elements.{filter-append, filter_map-append}
 use Rattle.report_lines.specs.declared.entry.Entry.{Entry}
 use Rattle.report_lines.specs.declared.entry.Entry.TheVariants as of
@@ -62,17 +62,20 @@ pub ordered : (all : List (Vec (Bor LineEntry))) (first : Vec (Bor LineEntry)) (
 ordered all first rest keyed entries count shares_are all_is is =
     let parts : first.items ∷ map (λ (v : Vec (Bor LineEntry)). v.items) rest
     ≡ under 0 keyed ∷ map (λ k. under k keyed) (counted 1 count) =
-    ap (map (λ (v : Vec (Bor LineEntry)). v.items)) (sym all_is) ∙ shares_are ∙ ap (λ n. shares n keyed) (add-one count) in
+    ap (map (λ (v : Vec (Bor LineEntry)). v.items)) (sym all_is) ∙ shares_are
+    ∙ ap (λ n. shares n keyed) (add-one count) in
     let later : map (λ (v : Vec (Bor LineEntry)). v.items) rest ≡ map (λ k. under k keyed) (counted 1 count) = cc in
     ap lent (flat_of_map (λ (v : Vec (Bor LineEntry)). v.items) rest
     ∙ ap (flat_map (λ (s : List (Bor LineEntry)). s)) later)
     ∙ in_order keyed entries count is
 
 pub never_none : (all : List (Vec (Bor LineEntry))) (keyed : List (Keyed (Bor LineEntry))) (count : ℕ)
-    → map (λ (v : Vec (Bor LineEntry)). v.items) all ≡ shares (count + 1) keyed → all ≡ [] → ⊥
-never_none all keyed count shares_are none =
+    → map (λ (v : Vec (Bor LineEntry)). v.items) all ≡ shares (count + 1) keyed → length all ≡ 0 → ⊥
+never_none all keyed count shares_are empty =
+    let none : all ≡ [] = nil_from_length all empty in
     let parts : [] ≡ under 0 keyed ∷ map (λ k. under k keyed) (counted 1 count) =
-    ap (map (λ (v : Vec (Bor LineEntry)). v.items)) (sym none) ∙ shares_are ∙ ap (λ n. shares n keyed) (add-one count) in
+    ap (map (λ (v : Vec (Bor LineEntry)). v.items)) (sym none) ∙ shares_are
+    ∙ ap (λ n. shares n keyed) (add-one count) in
     cc
 
 -- the entries of the first of a report, with one more
@@ -91,6 +94,11 @@ keyed_line keyed one entries i entry within is line key held =
     (sym (line_entries-push entries i entry within is
     ∙ ap (λ e. line_entries (take i entries) ++ filter_map as_line (e ∷ [])) line))
     (keyed_more keyed one (line_entries (take i entries)) held key)
+
+pub no_line : (e : Entry) → ((of_line : LineEntry) → e ≡ of.Line of_line → ⊥) → as_line e ≡ None
+no_line (of.Line of_line) other = absurd (other of_line refl)
+no_line (of.Effect effect) other = refl
+no_line (of.Charge charge) other = refl
 
 pub keyed_other : (keyed : List (Keyed (Bor LineEntry))) (entries : List Entry) (i : ℕ) (entry : Entry)
     → i < length entries → entry ≡ get_or entries i entry → as_line entry ≡ None

@@ -1,12 +1,12 @@
 -- Each line is about a slot of the book behind the lines.
-use Rattle.std.proofs.Common.{◌≡◌, ℕ, ◌+◌, ◌<◌, ◌≤◌, ◌==◌, nat_lt, Bool, true, false, if◌then◌else◌, List, [], ◌∷◌, ◌++◌, All, length, refl, sym, ap, subst, ◌∙◌, arith, append_assoc, append-nil, length-append}
+use Rattle.std.proofs.Common.{ℕ, ◌<◌, ◌≤◌, ◌==◌, nat_lt, Bool, true, false, if◌then◌else◌, List, [], ◌∷◌, ◌++◌, All, length, ap, arith, append_assoc, append-nil, length-append}
 use Rattle.std.specs.Prelude.{is_some}
 use Rattle.std.proofs.lemmas.List.Elements.{All-append, All-cons, All-nil}
-use Rattle.address_book.specs.Book.{admitted, slot_in}
+use Rattle.address_book.specs.Book.{slot_in}
 use Rattle.trace_lines.specs.Line.{Line}
 use Rattle.demux.specs.Asked.{Asked, note, admission, of}
 use Rattle.demux.specs.Line.{asked}
-use Rattle.demux.specs.Resolved.{IsDecision, book_after, book_behind, booked, decided, with_imsi}
+use Rattle.demux.specs.Resolved.{IsDecision, book_behind, booked, decided}
 use Rattle.demux.specs.Trace as trace
 use Rattle.demux.specs.Trace.{Meaning, book_of, decisions, destination_after, meaning, meant}
 use Rattle.demux.specs.declared.decision.Decision.{Decision}
@@ -55,12 +55,14 @@ decided_known : (slices slots : ℕ) (before : List Line) (book : List (List ℕ
     → IsDecision slices book made
     → length book ≤ slots → length (book_behind book made) ≤ slots
     → IsKnown slots (settled_by slices before (meant slices book (decisions slices before) made))
-decided_known slices slots before book (decision.Command (whose.Known at) asks) is below behind = omega (arith, is, below)
+decided_known slices slots before book (decision.Command (whose.Known at) asks) is below behind =
+    omega (arith, is, below)
 decided_known slices slots before book (decision.Command (whose.New digits) asks) is below behind =
     omega (arith, behind, length-append book (digits ∷ []))
 decided_known slices slots before book (decision.Packet at lent) is below behind = omega (arith, is, below)
 decided_known slices slots before book (decision.Move at slice) is below behind =
-    settled_known slices slots at slice _ before (slice == destination_after slices at before) (omega (arith, is.0, below))
+    settled_known slices slots at slice _ before (slice == destination_after slices at before)
+    (omega (arith, is.0, below))
 decided_known slices slots before book (decision.Note text) is below behind = tt
 
 line_known : (slices slots : ℕ) (before : List Line) (line : Line) → length (book_of (before ++ line ∷ [])) ≤ slots
@@ -68,7 +70,12 @@ line_known : (slices slots : ℕ) (before : List Line) (line : Line) → length 
 line_known slices slots before line below =
     decided_known slices slots before (book_of before) (decided slices (book_of before) line)
     (is_decision slices (book_of before) (asked line)) (omega (arith, below, book_grows before line))
-    (omega (arith, below, ap length (book_resolved slices (book_of before) (asked line)), ap length (book_of-push before line)))
+    (omega (
+      arith,
+      below,
+      ap length (book_resolved slices (book_of before) (asked line)),
+      ap length (book_of-push before line),
+    ))
 
 lines_known : (slices slots : ℕ) (before lines : List Line) → length (book_of (before ++ lines)) ≤ slots
     → All (IsKnown slots) (meant_from slices before lines)
@@ -86,7 +93,8 @@ epochs_known slices slots before [] below = All-nil (All (IsKnown slots))
 epochs_known slices slots before (epoch ∷ closed) below =
     let same = ap (λ l. length (book_of l)) (append_assoc before epoch (lines_in closed)) in
     All-cons (All (IsKnown slots)) _ _
-    (lines_known slices slots before epoch (omega (arith, below, same, book_grows_all (before ++ epoch) (lines_in closed))))
+    (lines_known slices slots before epoch
+    (omega (arith, below, same, book_grows_all (before ++ epoch) (lines_in closed))))
     (epochs_known slices slots (before ++ epoch) closed (omega (arith, below, same)))
 
 own_known : (slots : ℕ) (made : List Meaning) → All (IsKnown slots) made → AreKnown slots (own_epoch made)

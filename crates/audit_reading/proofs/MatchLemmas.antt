@@ -1,11 +1,9 @@
 -- Lines matched with entries one after another, and epoch by epoch.
-use Rattle.std.proofs.Common.{◌≡◌, ℕ, zero, suc, ◌+◌, ◌==◌, ◌&&◌, ◌↔◌, Bool, true, false, IsTrue, if◌then◌else◌, Option, Some, None, IsSome, IfSome, List, [], ◌∷◌, ◌++◌, length, map, take, drop, refl, sym, ap, subst, ◌∙◌, inl, inr, arith, append_assoc, append-nil}
-use Rattle.demux.specs.Trace.{Meaning, command, packet, move, note}
+use Rattle.std.proofs.Common.{◌≡◌, ℕ, suc, ◌+◌, ◌↔◌, Bool, true, false, if◌then◌else◌, Option, Some, None, IsSome, IfSome, List, [], ◌∷◌, ◌++◌, length, map, take, drop, refl, sym, ap, subst, ◌∙◌, arith, append_assoc, append-nil}
+use Rattle.demux.specs.Trace.{Meaning}
 use Rattle.report_lines.specs.declared.entry.LineEntry.{LineEntry}
-use Rattle.report_lines.specs.declared.entry.LineEntry.TheVariants as line
-use Rattle.lawful_run.specs.Answers.{Answers, AnswersAll}
+use Rattle.lawful_run.specs.Answers.{AnswersAll}
 use Rattle.lawful_run.specs.LinesTold.{LineTold, lines_told}
-use Rattle.audit_lines.specs.OfSlot.{AreAnswered}
 use Rattle.audit_lines.proofs.LineKinds.{are_answered}
 use Rattle.audit_sentences.specs.Entries.{all_lines, cut}
 use Rattle.audit_reading.specs.Answering.{answers, matched_all, matched_on, then_all}
@@ -84,7 +82,8 @@ are_matched n before (now ∷ made) (entry ∷ entries) found is =
 
 -- the same of epochs
 pub all_match : (n : ℕ) (before : List (List LineTold)) (epochs : List (List Meaning)) (entries : List LineEntry)
-    → AnswersAll n (all_lines epochs) entries → matched_all n before epochs entries ≡ Some (before ++ cut epochs entries)
+    → AnswersAll n (all_lines epochs) entries
+    → matched_all n before epochs entries ≡ Some (before ++ cut epochs entries)
 all_match n before [] [] answer = ap (λ told. Some told) (sym (append-nil before))
 all_match n before [] (entry ∷ entries) answer = absurd answer
 all_match n before (made ∷ epochs) entries answer =
@@ -92,7 +91,8 @@ all_match n before (made ∷ epochs) entries answer =
     let left = drop (length made) entries in
     ap (then_all (λ own. matched_all (n + length made) (before ++ own ∷ []) epochs left))
     (matches n [] made entries (answers_front n made (all_lines epochs) entries answer))
-    ∙ all_match (n + length made) (before ++ lines ∷ []) epochs left (answers_rest n made (all_lines epochs) entries answer)
+    ∙ all_match (n + length made) (before ++ lines ∷ []) epochs left
+    (answers_rest n made (all_lines epochs) entries answer)
     ∙ ap (λ told. Some told) (append_assoc before (lines ∷ []) (cut epochs left))
 
 by_epoch : (n : ℕ) (before : List (List LineTold)) (made : List Meaning) (epochs : List (List Meaning))
@@ -100,7 +100,8 @@ by_epoch : (n : ℕ) (before : List (List LineTold)) (made : List Meaning) (epoc
     → matched_on n [] made entries ≡ found
     → then_all (λ lines. matched_all (n + length made) (before ++ lines ∷ []) epochs (drop (length made) entries)) found
     ≡ Some told
-    → ((lines : List LineTold) → matched_all (n + length made) (before ++ lines ∷ []) epochs (drop (length made) entries)
+    → ((lines : List LineTold)
+    → matched_all (n + length made) (before ++ lines ∷ []) epochs (drop (length made) entries)
     ≡ Some told → AnswersAll (n + length made) (all_lines epochs) (drop (length made) entries))
     → AnswersAll n (all_lines (made ∷ epochs)) entries
 by_epoch n before made epochs entries told None is same later = absurd (nothing same)
@@ -153,7 +154,8 @@ pub cut_means : (n : ℕ) (epochs : List (List Meaning)) (entries : List LineEnt
 cut_means n [] entries answer = refl
 cut_means n (made ∷ epochs) entries answer =
     (λ i. meanings-told n made (take (length made) entries) (answers_front n made (all_lines epochs) entries answer) i
-    ∷ cut_means (n + length made) epochs (drop (length made) entries) (answers_rest n made (all_lines epochs) entries answer) i)
+    ∷ cut_means (n + length made) epochs (drop (length made) entries)
+    (answers_rest n made (all_lines epochs) entries answer) i)
 
 -- what is found of all epochs: their lines with their entries exactly where each line is answered, and no other
 pub record Finds (found : Option (List (List LineTold))) (epochs : List (List Meaning)) (entries : List LineEntry) :

@@ -1,5 +1,5 @@
 -- The steps of matching lines with entries.
-use Rattle.std.proofs.Common.{◌≡◌, ◌≢◌, ℕ, zero, suc, ◌+◌, ◌<◌, ◌≤◌, add-one, Bool, true, false, if◌then◌else◌, Option, Some, None, List, [], ◌∷◌, ◌++◌, length, map, take, drop, get_or, slice_get, flat_map, refl, sym, ap, subst, ◌∙◌, arith, append-nil, length-append}
+use Rattle.std.proofs.Common.{◌≡◌, ◌≢◌, ℕ, zero, suc, ◌+◌, ◌<◌, ◌≤◌, add-one, true, false, if◌then◌else◌, Option, Some, None, List, [], ◌∷◌, ◌++◌, length, take, drop, get_or, refl, sym, ap, ◌∙◌, arith, append-nil, length-append}
 use Rattle.std.specs.Borrow.{Bor}
 use Rattle.std.specs.Global.{Vec}
 use Rattle.std.proofs.lemmas.Grind.{flat_map-append}
@@ -21,20 +21,16 @@ meant_behind epoch i meant within is =
     ap meant_of (drop_more epoch i meant within ∙ ap (λ m. m ∷ drop (i + 1) epoch) (sym is))
 
 -- the entry of this place, and those behind it
-entry_next : (entries : List (Bor LineEntry)) (k : ℕ) (entry : Bor LineEntry) → slice_get entries k ≡ Some entry
-    → drop k (lent entries) ≡ entry.now ∷ drop (suc k) (lent entries)
-entry_next [] k entry found = absurd (nothing found)
-  where
-    nothing : None ≡ Some entry → ⊥
-    nothing none = cc
-entry_next (first ∷ entries) zero entry found =
-    let same : first ≡ entry = cc in ap (λ (e : Bor LineEntry). e.now ∷ lent entries) same
-entry_next (first ∷ entries) (suc k) entry found = entry_next entries k entry found
+entry_next : (entries : List (Bor LineEntry)) (k : ℕ) (entry : Bor LineEntry) → k < length entries
+    → entry ≡ get_or entries k entry → drop k (lent entries) ≡ entry.now ∷ drop (suc k) (lent entries)
+entry_next [] k entry within is = absurd (omega (arith, within))
+entry_next (first ∷ entries) zero entry within is = ap (λ (e : Bor LineEntry). e.now ∷ lent entries) (sym is)
+entry_next (first ∷ entries) (suc k) entry within is = entry_next entries k entry (omega (arith, within)) is
 
-pub entry_behind : (entries : List (Bor LineEntry)) (k : ℕ) (entry : Bor LineEntry) → slice_get entries k ≡ Some entry
-    → drop k (lent entries) ≡ entry.now ∷ drop (k + 1) (lent entries)
-entry_behind entries k entry found =
-    entry_next entries k entry found ∙ ap (λ n. entry.now ∷ drop n (lent entries)) (sym (add-one k))
+pub entry_behind : (entries : List (Bor LineEntry)) (k : ℕ) (entry : Bor LineEntry) → k < length entries
+    → entry ≡ get_or entries k entry → drop k (lent entries) ≡ entry.now ∷ drop (k + 1) (lent entries)
+entry_behind entries k entry within is =
+    entry_next entries k entry within is ∙ ap (λ n. entry.now ∷ drop n (lent entries)) (sym (add-one k))
 
 pub none_behind : (entries : List (Bor LineEntry)) (k : ℕ) → length entries ≤ k → drop k (lent entries) ≡ []
 none_behind [] zero past = refl
@@ -77,6 +73,36 @@ match_breaks number before epoch i meant entry left later target within is left_
     sym (ap (λ test. if test then matched_on (number + 1) (before ++ told ∷ []) behind later else None) other)
     ∙ (λ k. matched_on number before (sym (meant_behind epoch i meant within is) k) (sym left_is k))
     ∙ same
+
+-- the same by places
+pub match_next : (behind i : ℕ) (before after : List LineTold) (epoch : List Meant) (meant : Meant)
+    (entries : List (Bor LineEntry)) (entry : Bor LineEntry) (target : Option (List LineTold))
+    → i < length epoch → meant ≡ get_or epoch i meant
+    → behind + i < length entries → entry ≡ get_or entries (behind + i) entry
+    → answers (behind + i + 1) (meaning_of meant) entry.now ≡ true
+    → after ≡ before ++ record { meaning = meaning_of meant; entry = entry.now } ∷ []
+    → matched_on (behind + i + 1) before (meant_of (drop i epoch)) (drop (behind + i) (lent entries)) ≡ target
+    → matched_on (behind + (i + 1) + 1) after (meant_of (drop (i + 1) epoch)) (drop (behind + (i + 1)) (lent entries))
+    ≡ target
+match_next behind i before after epoch meant entries entry target within is there entry_is answer after_is same =
+    let number : behind + (i + 1) + 1 ≡ behind + i + 1 + 1 = omega arith in
+    let place : behind + (i + 1) ≡ behind + i + 1 = omega arith in
+    (λ k. matched_on (number k) after (meant_of (drop (i + 1) epoch)) (drop (place k) (lent entries)))
+    ∙ match_step (behind + i + 1) before after epoch i meant entry.now (drop (behind + i) (lent entries))
+    (drop (behind + i + 1) (lent entries)) target within is (entry_behind entries (behind + i) entry there entry_is)
+    answer after_is same
+
+pub match_other : (behind i : ℕ) (before : List LineTold) (epoch : List Meant) (meant : Meant)
+    (entries : List (Bor LineEntry)) (entry : Bor LineEntry) (target : Option (List LineTold))
+    → i < length epoch → meant ≡ get_or epoch i meant
+    → behind + i < length entries → entry ≡ get_or entries (behind + i) entry
+    → answers (behind + i + 1) (meaning_of meant) entry.now ≡ false
+    → matched_on (behind + i + 1) before (meant_of (drop i epoch)) (drop (behind + i) (lent entries)) ≡ target
+    → None ≡ target
+match_other behind i before epoch meant entries entry target within is there entry_is other same =
+    match_breaks (behind + i + 1) before epoch i meant entry.now (drop (behind + i) (lent entries))
+    (drop (behind + i + 1) (lent entries)) target within is (entry_behind entries (behind + i) entry there entry_is)
+    other same
 
 pub match_stops : (number : ℕ) (before : List LineTold) (epoch : List Meant) (i : ℕ) (meant : Meant)
     (left : List LineEntry) (target : Option (List LineTold)) → i < length epoch → meant ≡ get_or epoch i meant
@@ -126,7 +152,8 @@ pub all_breaks : (behind : ℕ) (before : List (List LineTold)) (epochs : List (
 all_breaks behind before epochs i epoch left target within is found same =
     let later = epochs_meant (drop (i + 1) epochs) in
     let made = meant_of epoch.items in
-    ap (then_all (λ own. matched_all (behind + 1 + length made) (before ++ own ∷ []) later (drop (length made) left))) found
+    ap (then_all (λ own. matched_all (behind + 1 + length made) (before ++ own ∷ []) later (drop (length made) left)))
+    found
     ∙ ap (λ all. matched_all (behind + 1) before all left) (sym (epochs_behind epochs i epoch within is))
     ∙ same
 
@@ -170,3 +197,9 @@ count_more epochs i epoch within is =
 pub count_most : (epochs : List (Vec Meant)) (i : ℕ) → count_in (take i epochs) ≤ count_in epochs
 count_most epochs i =
     omega (arith, count_both (take i epochs) (drop i epochs), ap count_in (take-append-drop i epochs))
+
+pub count_fits : (epochs : List (Vec Meant)) (i : ℕ) (epoch : Vec Meant) (count most : ℕ) → i < length epochs
+    → epoch ≡ get_or epochs i epoch → count ≡ count_in (take i epochs) → count_in epochs < most
+    → count + length epoch.items < most
+count_fits epochs i epoch count most within is count_is few =
+    omega (arith, count_is, few, count_more epochs i epoch within is, count_most epochs (i + 1))

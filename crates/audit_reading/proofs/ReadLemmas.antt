@@ -1,5 +1,5 @@
 -- What was read, one line more.
-use Rattle.std.proofs.Common.{◌≡◌, ◌≢◌, All, ℕ, ◌+◌, ◌<◌, ◌≤◌, ◌==◌, Bool, true, false, if◌then◌else◌, Option, None, Some, List, [], ◌∷◌, ◌++◌, length, map, get_or, set, take, get_or-set_same, get_or-set_other, length-set, refl, sym, ap, subst, ◌∙◌, inl, inr, arith, append-nil, length-append}
+use Rattle.std.proofs.Common.{◌≡◌, ◌≢◌, All, ℕ, ◌+◌, ◌<◌, ◌≤◌, ◌==◌, true, false, if◌then◌else◌, Option, None, Some, List, [], ◌∷◌, ◌++◌, length, get_or, set, take, get_or-set_same, get_or-set_other, refl, sym, ap, subst, ◌∙◌, inl, inr, arith, append-nil, length-append}
 use Rattle.std.specs.Global.{Vec}
 use Rattle.std.specs.Prelude.{Result, Ok, Err, IfOk, OnOk}
 use Rattle.std.proofs.lemmas.List.Elements.{All-cons, All-nil}
@@ -18,7 +18,7 @@ use Rattle.demux.specs.declared.decision.Decision.TheVariants as decision
 use Rattle.demux.specs.declared.decision.Whose.{Whose}
 use Rattle.control_steps.specs.declared.command.CommandKind.{CommandKind}
 use Rattle.demux.proofs.TraceLemmas.{book_of-push, destination_after-push}
-use Rattle.lawful_run.specs.Trace.{epochs_told, meant_epochs, meant_from, own_epoch, settled_by, stop_noted}
+use Rattle.lawful_run.specs.Trace.{epochs_told, meant_from, own_epoch, settled_by, stop_noted}
 use Rattle.lawful_run.proofs.CutEpochs.{meant_from-append}
 use Rattle.audit_lines.specs.declared.meaning.Meant.{Meant}
 use Rattle.audit_sentences.specs.Entries.{all_lines}
@@ -29,7 +29,7 @@ use Rattle.audit_reading.specs.declared.meaning.Reader.{Reader}
 use Rattle.audit_reading.specs.Cutting.{Cuts, IsCut, Measures, Reads, lines_in, meant_next, moved_from}
 use Rattle.audit_reading.specs.Holding.{AreKnown, IsKnown, epochs_meant, meant_of}
 use Rattle.audit_reading.specs.Rules.{input_with, stop_of}
-use Rattle.audit_reading.proofs.CutLemmas.{count_told, cut_open, cut_told, cut_whole, epochs_mean, lines_in-push, meant_epochs-push, octets_more, stays_short}
+use Rattle.audit_reading.proofs.CutLemmas.{count_told, cut_open, cut_told, cut_whole, epochs_mean, meant_epochs-push, octets_more, stays_short}
 use Rattle.audit_reading.proofs.KnownLemmas.{told_known}
 
 -- the home slices of the slots so far
@@ -239,7 +239,8 @@ pub closes_known : (cutter : Cutter) (slices slots : ℕ) (done : List Line) (st
     → last ≡ meant_of cutter.now.items ++ stop_noted (stop_of stop)
     → all ≡ epochs_meant cutter.epochs.items ++ own_epoch last → AreKnown slots all
 closes_known cutter slices slots done stop last all cuts slots_is last_is all_is =
-    subst (AreKnown slots) (sym (closes_told cutter slices done (stop_noted (stop_of stop)) last all cuts last_is all_is))
+    subst (AreKnown slots)
+    (sym (closes_told cutter slices done (stop_noted (stop_of stop)) last all cuts last_is all_is))
     (told_known slices slots done cuts.closed cuts.open_ (stop_noted (stop_of stop)) cuts.cut
     (omega (arith, slots_is, ap length cuts.reads.same_book)) (known_noted slots stop))
 

@@ -1,8 +1,8 @@
 -- Whether a line is refused only where it may be.
-use Rattle.std.proofs.Common.{◌≡◌, ℕ, zero, suc, ◌+◌, ◌*◌, ◌^◌, ◌<◌, ◌≤◌, ◌&&◌, ◌||◌, ◌⊎◌, ◌↔◌, nat_le, Bool, true, false, IsTrue, if◌then◌else◌, None, Some, List, [], ◌∷◌, ◌++◌, length, get_or, take, drop, refl, sym, ap, subst, ◌∙◌, inl, inr, arith, append_assoc}
+use Rattle.std.proofs.Common.{◌≡◌, ℕ, zero, suc, ◌+◌, ◌*◌, ◌^◌, ◌<◌, ◌≤◌, ◌&&◌, ◌||◌, ◌⊎◌, ◌↔◌, nat_le, Bool, true, false, IsTrue, None, Some, IfSome, List, [], ◌∷◌, ◌++◌, length, get_or, take, drop, refl, sym, ap, subst, ◌∙◌, inl, inr, arith}
 use Rattle.std.specs.Bool.{Decides}
 use Rattle.std.proofs.lemmas.Bool.{leb-true, le-leb}
-use Rattle.std.proofs.lemmas.List.{drop_more, take_more}
+use Rattle.std.proofs.lemmas.List.{drop_more, length-map, take_more}
 use Rattle.demux.specs.Trace.{Meaning, command, packet, move, note}
 use Rattle.report_lines.specs.declared.entry.LineEntry.{LineEntry}
 use Rattle.report_lines.specs.declared.entry.LineEntry.TheVariants as line
@@ -13,26 +13,18 @@ use Rattle.lawful_run.specs.LinesTold.{EachFrom, LineTold}
 use Rattle.lawful_run.specs.Moves.{is_moved}
 use Rattle.lawful_run.specs.Refusals.{MayRefuse, RefusedAs, lane_load, slot_by, slot_count}
 use Rattle.lawful_run.specs.Job.{sliced}
-use Rattle.audit_lines.specs.Meant.{slot_in}
+use Rattle.audit_lines.specs.Meant.{line_told, lines_of, slot_in}
 use Rattle.audit_lines.specs.OfSlot.{AreAnswered}
 use Rattle.audit_reading.specs.declared.rule.Rule.{Rule}
 use Rattle.audit_reading.specs.declared.waiting.Load.{Load}
 use Rattle.audit_reading.specs.declared.waiting.Waiting.{Waiting}
 use Rattle.audit_reading.specs.declared.waiting.Waits.{Waits}
+use Rattle.audit_lines.specs.declared.told.Told.{Told}
+use Rattle.audit_reading.specs.Holding.{AreKnownTold, IsKnown}
 use Rattle.audit_reading.specs.Rules.{job_of}
 use Rattle.audit_reading.specs.Waiting.{AllWait, AreWaiting, SlotWaits, may_refuse, one_new, refused_well}
+use Rattle.audit_reading.proofs.AnswerLemmas.{both_decide}
 use Rattle.audit_reading.proofs.WaitLemmas.{slots_with}
-
-split : (a b : Bool) → (a && b) ≡ true → (a ≡ true) × (b ≡ true)
-split true true is = (refl, refl)
-split true false is = (refl, is)
-split false b is = (is, cc)
-
-both_decide : {P Q : Type 0} (a b : Bool) → Decides a P → Decides b Q → Decides (a && b) (P × Q)
-both_decide a b one other = (
-  λ is. let parts = split a b is in (one.0 parts.0, other.0 parts.1),
-  λ holds. ap (λ t. t && b) (one.1 holds.0) ∙ other.1 holds.1,
-)
 
 either_decides : {P Q : Type 0} (a b : Bool) → Decides a P → Decides b Q → Decides (a || b) (P ⊎ Q)
 either_decides true b one other = (λ is. inl (one.0 refl), λ holds. refl)
@@ -102,7 +94,8 @@ line_decides rule n at slots own load before meaning (line.F refused) waits all 
     subst (λ slot. Decides (may_refuse rule refused.packet own load slots)
     (MayRefuse (job_of rule) slot refused.packet before now)) (sym (as_told n at meaning refused answers is))
     (refused_decides rule.solo rule.slices rule.room rule.lane refused.packet own load slots at before now waits all
-    (slots_is ∙ slots_with load before now at own.seen (slot_seen n at meaning refused answers is) waits.seen all.slots))
+    (slots_is ∙ slots_with load before now at own.seen (slot_seen n at meaning refused answers is)
+    waits.seen all.slots))
 
 pub line_holds : (rule : Rule) (waits : Waits) (n at slots : ℕ) (own : Waiting) (of_slots : ℕ)
     (before : List LineTold) (now : LineTold) → AreWaiting waits of_slots before
@@ -204,3 +197,67 @@ are_few waits at own few within own_is =
       all_packets = omega (arith, few.3, are.all.few_packets);
       all_moves = omega (arith, few.3, are.all.few_moves);
     }
+
+-- the slot of a line is one of those that there are
+pub known_below : (slots : ℕ) (meaning : Meaning) (at : ℕ) → slot_in meaning ≡ Some at → IsKnown slots meaning
+    → at < slots
+known_below slots meaning at is known = subst (λ found. IfSome found (λ slot. slot < slots)) is known
+
+-- lines, as the program holds them
+told_is : (lines : List Told) (i : ℕ) (told : Told) → i < length lines → told ≡ get_or lines i told
+    → line_told told ≡ get_or (lines_of lines) i (line_told told)
+told_is [] i told within is = absurd (omega (arith, within))
+told_is (first ∷ lines) zero told within is = ap line_told is
+told_is (first ∷ lines) (suc i) told within is = told_is lines i told (omega (arith, within)) is
+
+told_within : (lines : List Told) (i : ℕ) → i < length lines → i < length (lines_of lines)
+told_within lines i within = omega (arith, within, length-map lines line_told)
+
+pub known_at : (slots : ℕ) (lines : List Told) (i : ℕ) (told : Told) → AreKnownTold slots (lines_of lines)
+    → i < length lines → told ≡ get_or lines i told → IsKnown slots (line_told told).meaning
+known_at slots lines i told known within is =
+    subst (λ (t : LineTold). IsKnown slots t.meaning) (sym (told_is lines i told within is))
+    (known i (line_told told) (told_within lines i within))
+
+pub front_more : (lines : List Told) (i : ℕ) (told : Told) → i < length lines → told ≡ get_or lines i told
+    → take i (lines_of lines) ++ line_told told ∷ [] ≡ take (i + 1) (lines_of lines)
+front_more lines i told within is =
+    ap (λ t. take i (lines_of lines) ++ t ∷ []) (told_is lines i told within is)
+    ∙ sym (take_more (lines_of lines) i (line_told told) (told_within lines i within))
+
+-- what is said of an answered line of theirs
+abbrev pub Tells : Rule → List Told → ℕ → Told → ℕ → Bool → Type 0
+Tells rule lines i told first well =
+    Answers (first + i) (line_told told).meaning (line_told told).entry
+    → IsTrue well ↔ RefusedAs (job_of rule) (take i (lines_of lines)) (line_told told) (line_told told).entry
+
+answer_of : (lines : List Told) (i : ℕ) (told : Told) (first : ℕ) → i < length lines → told ≡ get_or lines i told
+    → AreAnswered first (lines_of lines) → Answers (first + i) (line_told told).meaning (line_told told).entry
+answer_of lines i told first within is answers =
+    subst (λ (t : LineTold). Answers (first + i) t.meaning t.entry) (sym (told_is lines i told within is))
+    (answered_at first (lines_of lines) i (line_told told) answers (told_within lines i within))
+
+pub goes_on : (rule : Rule) (lines : List Told) (i : ℕ) (told : Told) (first : ℕ) (well : Bool) → well ≡ true
+    → Tells rule lines i told first well
+    → i < length lines → told ≡ get_or lines i told → AreAnswered first (lines_of lines)
+    → (Each rule (take i (lines_of lines)) (drop i (lines_of lines)) ↔ Each rule [] (lines_of lines))
+    → (Each rule (take (i + 1) (lines_of lines)) (drop (i + 1) (lines_of lines)) ↔ Each rule [] (lines_of lines))
+goes_on rule lines i told first well is_well tells within is answers holds =
+    each_step rule (lines_of lines) i (line_told told) (told_within lines i within) (told_is lines i told within is)
+    ((tells (answer_of lines i told first within is answers)).0 is_well) holds
+
+pub breaks_off : (rule : Rule) (lines : List Told) (i : ℕ) (told : Told) (first : ℕ) (well : Bool) → well ≡ false
+    → Tells rule lines i told first well
+    → i < length lines → told ≡ get_or lines i told → AreAnswered first (lines_of lines)
+    → (Each rule (take i (lines_of lines)) (drop i (lines_of lines)) ↔ Each rule [] (lines_of lines))
+    → (IsTrue false ↔ Each rule [] (lines_of lines))
+breaks_off rule lines i told first well is_bad tells within is answers holds = (
+  λ never. absurd (not_true never),
+  λ each. absurd (each_breaks rule (lines_of lines) i (line_told told) (told_within lines i within)
+      (told_is lines i told within is)
+      (λ well_is. not_true (sym is_bad ∙ (tells (answer_of lines i told first within is answers)).1 well_is))
+      holds each),
+)
+  where
+    not_true : false ≡ true → ⊥
+    not_true is_true = cc

@@ -1,16 +1,18 @@
 -- What waits behind one line more of an epoch.
-use Rattle.std.proofs.Common.{◌≡◌, ◌≢◌, ℕ, zero, suc, ◌+◌, ◌<◌, ◌≤◌, ◌==◌, ◌||◌, Bool, true, false, if◌then◌else◌, Option, None, Some, List, [], ◌∷◌, ◌++◌, length, get_or, set, get_or-set_same, get_or-set_other, length-set, cond, refl, sym, ap, subst, ◌∙◌, inl, inr, arith, append-nil, length-append}
-use Rattle.std.specs.List.{cons_option, count_by, filter_map, list_any}
+use Rattle.std.proofs.Common.{◌≡◌, ◌≢◌, ℕ, ◌+◌, ◌<◌, ◌≤◌, ◌==◌, ◌||◌, Bool, true, false, if◌then◌else◌, Option, None, Some, List, [], ◌∷◌, ◌++◌, length, get_or, set, get_or-set_same, get_or-set_other, length-set, cond, refl, sym, ap, subst, ◌∙◌, inl, inr, arith, append-nil, length-append}
+use Rattle.std.specs.List.{cons_option, filter_map, list_any}
 use Rattle.std.specs.Option.{option_map}
 use Rattle.std.proofs.lemmas.Bool.{cases_eq, eq-eqb, eqb-true, ne_eqb}
+use Rattle.std.proofs.lemmas.List.{get_or_append_left}
 use Rattle.std.proofs.lemmas.List.Elements.{filter_map-append}
+use Rattle.std.proofs.Math.Seq.{get_or-append_seam}
 use Rattle.std.proofs.lemmas.List.Folds.{list_any-append}
 use Rattle.std.proofs.lemmas.List.Sums.{sum_by-append}
 use Rattle.control_steps.specs.declared.command.CommandKind.{CommandKind}
 use Rattle.demux.specs.Trace.{Meaning, command, packet, move, note}
 use Rattle.demux.specs.declared.packet.LentPacket.{LentPacket}
 use Rattle.report_lines.specs.declared.entry.LineEntry.{LineEntry}
-use Rattle.lawful_run.specs.Accepted.{Placed, accepted_command, accepted_packet, command_count, commands_before, is_refused, packets_accepted}
+use Rattle.lawful_run.specs.Accepted.{Placed, accepted_command, accepted_packet, commands_before, is_refused}
 use Rattle.lawful_run.specs.LinesTold.{LineTold}
 use Rattle.lawful_run.specs.Moves.{is_moved, moves}
 use Rattle.lawful_run.specs.Refusals.{different, is_move, is_packet, move_count, packet_count, slot_count, slot_of}
@@ -254,8 +256,8 @@ most_new false = omega arith
 packets-push : (before : List LineTold) (now : LineTold) → packet_count (before ++ now ∷ [])
     ≡ packet_count before + (0 + cond (if is_refused now.entry then false else is_packet now.meaning) 1 0)
 packets-push before now =
-    sum_by-append (λ (told : LineTold). cond (if is_refused told.entry then false else is_packet told.meaning) 1 0) before
-    (now ∷ [])
+    sum_by-append (λ (told : LineTold). cond (if is_refused told.entry then false else is_packet told.meaning) 1 0)
+    before (now ∷ [])
 
 moves-push : (before : List LineTold) (now : LineTold) → move_count (before ++ now ∷ [])
     ≡ move_count before + (0 + cond (is_move now.meaning) 1 0)
@@ -264,13 +266,15 @@ moves-push before now = sum_by-append (λ (told : LineTold). cond (is_move told.
 slots-push : (before : List LineTold) (now : LineTold) (at : ℕ) → slot_of now ≡ Some at
     → slot_count (before ++ now ∷ []) ≡ slot_count before + one_new (is_seen at before)
 slots-push before now at is =
-    ap different (filter_map-append slot_of before (now ∷ []) ∙ ap (λ s. filter_map slot_of before ++ cons_option s []) is)
+    ap different (filter_map-append slot_of before (now ∷ [])
+    ∙ ap (λ s. filter_map slot_of before ++ cons_option s []) is)
     ∙ different-push (filter_map slot_of before) at
 
 slots-same : (before : List LineTold) (now : LineTold) → slot_of now ≡ None
     → slot_count (before ++ now ∷ []) ≡ slot_count before
 slots-same before now is =
-    ap different (filter_map-append slot_of before (now ∷ []) ∙ ap (λ s. filter_map slot_of before ++ cons_option s []) is
+    ap different (filter_map-append slot_of before (now ∷ [])
+    ∙ ap (λ s. filter_map slot_of before ++ cons_option s []) is
     ∙ append-nil (filter_map slot_of before))
 
 -- the slots with a line's own, as a refused packet counts them
@@ -399,3 +403,18 @@ noted_next waits slots before (move at slice text) entry are is = absurd (someth
 pub waits_same : (waits : Waits) (slots : ℕ) (before : List LineTold) (now : LineTold) → AreWaiting waits slots before
     → slot_in now.meaning ≡ None → AreWaiting waits slots (before ++ now ∷ [])
 waits_same waits slots before now are is = noted_next waits slots before now.meaning now.entry are is
+
+-- slots before which nothing stood, with one more
+pub waits_none : (own : List Waiting) (count : ℕ) (one : Waiting) → length own ≡ count
+    → ((at : ℕ) (none : Waiting) → at < count → SlotWaits (get_or own at none) at [])
+    → ((slot : ℕ) → SlotWaits one slot [])
+    → (at : ℕ) (none : Waiting) → at < count + 1 → SlotWaits (get_or (own ++ one ∷ []) at none) at []
+waits_none own count one many each new at none below = elim (cases_eq at count) [
+  | inl same ↦
+      subst (λ w. SlotWaits w at [])
+      (sym (ap (λ k. get_or (own ++ one ∷ []) k none) (same ∙ sym many) ∙ get_or-append_seam own one [] none)) (new at)
+  | inr other ↦
+      let before : at < count = omega (arith, below, λ (is : at ≡ count). other is) in
+      subst (λ w. SlotWaits w at [])
+      (sym (get_or_append_left own (one ∷ []) none at (omega (arith, before, many)))) (each at none before)
+]

@@ -38,7 +38,8 @@ abbrev pub matched_on : ℕ → List LineTold → List Meaning → List LineEntr
 matched_on n before [] entries = Some before
 matched_on n before (now ∷ later) [] = None
 matched_on n before (now ∷ later) (entry ∷ entries) =
-    if answers n now entry then matched_on (n + 1) (before ++ record { meaning = now; entry = entry } ∷ []) later entries
+    if answers n now entry then
+    matched_on (n + 1) (before ++ record { meaning = now; entry = entry } ∷ []) later entries
     else None
 
 -- the same of epoch after epoch; None where entries are left, too

@@ -1,5 +1,5 @@
 -- What a report is held against.
-use Rattle.std.specs.Prelude.{◌≡◌, ℕ, ◌≤◌, IsTrue, if◌then◌else◌, Option, Some, None, List}
+use Rattle.std.specs.Prelude.{◌≡◌, ◌≤◌, IsTrue, if◌then◌else◌, Option, Some, None, List}
 use Rattle.trace_lines.specs.Input.{Input, Stop, bad, ended}
 use Rattle.trace_lines.specs.Line.{Line}
 use Rattle.lawful_run.specs.Job.{Job, solo, sliced}

@@ -40,7 +40,8 @@ load_by load seen (note text) entry = load
 abbrev pub may_refuse : Rule → Bool → Waiting → Load → ℕ → Bool
 may_refuse rule of_packet own load slots =
     if rule.solo then false
-    else if of_packet then nat_le rule.lane (load.packets + slots + 2 * load.moves) || (own.moved && nat_le rule.room own.packets)
+    else if of_packet then
+    nat_le rule.lane (load.packets + slots + 2 * load.moves) || (own.moved && nat_le rule.room own.packets)
     else nat_le rule.room own.commands
 
 abbrev pub refused_well : Rule → Waiting → Load → ℕ → LineEntry → Bool

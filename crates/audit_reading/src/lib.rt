@@ -5,6 +5,8 @@
 mod answering;
 mod meaning;
 mod rule;
+#[cfg(test)]
+mod tests;
 mod waiting;
 
 pub use answering::{answered, line_of};

@@ -258,7 +258,8 @@ fn with_last<'a>(
     mut epochs: Vec<Vec<Meant<'a>>>,
     last: Vec<Meant<'a>>,
 ) -> Result<Vec<Vec<Meant<'a>>>, NoMemory>
-    ensures { IfOk result (λ all. epochs_meant all.items ≡ epochs_meant epochs.entry.items ++ own_epoch (meant_of last.entry.items)) }
+    ensures { IfOk result (λ all. epochs_meant all.items
+        ≡ epochs_meant epochs.entry.items ++ own_epoch (meant_of last.entry.items)) }
 {
     if last.is_empty() {
         return Ok(epochs);

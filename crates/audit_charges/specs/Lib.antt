@@ -1,0 +1,4 @@
+pub mod Made
+pub mod Order
+pub mod Placing
+pub mod Agreeing

@@ -1,0 +1,4 @@
+pub mod ChargedMore
+pub mod Steps
+pub mod Loops
+pub mod Opens

@@ -1,0 +1,11 @@
+use Rattle.std.proofs.Common.{length}
+use Rattle.flow_migration.proofs.Sides.{fits_most}
+use Rattle.flow_migration.proofs.side.FlowSide.into_end.Goals as goal
+
+pub invariant_of-result : goal.invariant_of-result
+invariant_of-result g c = record {
+  known = c.args.self.laid.known;
+  balanced = c.args.self.laid.balanced;
+  slots = c.args.self.laid.slots;
+  fits = fits_most (length c.args.self.desks.items) c.args.self.room c.args.self.places.items c.args.self.laid.room_few c.args.self.laid.fits;
+}

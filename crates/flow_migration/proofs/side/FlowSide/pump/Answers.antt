@@ -1,0 +1,17 @@
+use Rattle.std.proofs.Common.{◌∙◌, ap}
+use Rattle.flow_migration.specs.Words.{Roll}
+use Rattle.flow_migration.proofs.Passes.{met_in_all, queues_in_all, ended_since}
+use Rattle.flow_migration.proofs.side.FlowSide.pump.Goals as goal
+
+pub returns-clause-full : goal.returns-clause-full
+returns-clause-full g c = met_in_all _ _ _ _ _ _ c.take_all.ensures.fulls c.serve_all.ensures.full c.drain_all.ensures.waits c.drain_all.ensures.lasts
+
+pub returns-clause-queues : goal.returns-clause-queues
+returns-clause-queues g c = queues_in_all _ _ _ _ _ c.take_all.ensures.fulls c.serve_all.ensures.lasts c.drain_all.ensures.queues
+
+pub returns-clause-home : goal.returns-clause-home
+returns-clause-home g c = λ slice within.
+    let homes = c.drain_all.ensures.homes ∙ c.serve_all.ensures.homes in
+    let aside = c.drain_all.ensures.aside ∙ c.serve_all.ensures.aside in
+    let admitted = ap (λ (r : Roll _ _). r.admitted) (c.drain_all.ensures.roll ∙ c.serve_all.ensures.roll) in
+    ended_since _ _ _ _ slice _ _ _ homes aside admitted (c.take_all.ensures.home slice within)

@@ -1,0 +1,36 @@
+use Rattle.std.proofs.Common.{rules, ◌∙◌, inl, refl, arith}
+use Rattle.flow_core.proofs.Changes.{lasts_then}
+use Rattle.flow_migration.proofs.Passes.{Waits, meets_none, meets_more, meets_all, waits_not, served_still}
+use Rattle.flow_migration.proofs.side.FlowSide.serve_all.Goals as goal
+
+pub loop-slot-init : goal.loop-slot-init
+loop-slot-init g c = (
+  refl,
+  refl,
+  refl,
+  refl,
+  λ slice. inl refl,
+  meets_none Waits _ _,
+)
+
+pub loop-slot-preserved : goal.loop-slot-preserved
+loop-slot-preserved g c =
+    let at = c.serve.ensures.served in
+    let s = served_still g.H.Flow.name g.H.Flow.slot_at g.H.Flow.item_slot g.H.Flow.handled _ _ c.loop-slot.slot _ _ _ _ _ _ c.loop-slot.self.laid at in (
+      c.serve.ensures.roll ∙ c.loop-slot.invariant.0,
+      c.serve.ensures.aside ∙ c.loop-slot.invariant.1,
+      c.serve.ensures.homes ∙ c.loop-slot.invariant.2,
+      search rules,
+      λ slice. lasts_then _ _ _ (c.loop-slot.invariant.4 slice) (s.lasts slice),
+      meets_more Waits c.loop-slot.slot _ _ at.0 _ _ _ at.1 at.2 c.loop-slot.invariant.4 s.lasts at.3.again c.loop-slot.invariant.5,
+    )
+
+pub returns-clause-full : goal.returns-clause-full
+returns-clause-full g c = meets_all Waits _ _ _ c.loop-slot.slot (let a = c.loop-slot.self.places.ok in search (rules, arith)) waits_not c.loop-slot.invariant.5
+
+pub returns-clause-lasts : goal.returns-clause-lasts
+returns-clause-lasts g c = c.loop-slot.invariant.4
+
+pub invariant_of-serve : goal.invariant_of-serve
+invariant_of-serve g c =
+    let a = c.args.self.now.laid.short in let b = c.args.self.now.places.ok in let d = c.loop-slot-test.true in let e = c.len-slot-end.ensures in search (rules, arith)

@@ -1,0 +1,10 @@
+use Rattle.std.proofs.Common.{◌≡◌, vec_len}
+use Rattle.flow_migration.specs.Words.{roll_of}
+use Rattle.flow_migration.proofs.Homes.{TakenBelow}
+use Rattle.flow_migration.proofs.side.FlowSide.take_all.Given as goal
+
+abbrev pub invariant-loop-slice : goal.invariant-loop-slice
+invariant-loop-slice g l =
+    (roll_of g.H.Flow.name l.self ≡ roll_of g.H.Flow.name l.fn.self)
+    × (vec_len l.self.desks ≡ vec_len l.fn.self.desks)
+    × TakenBelow l.slice l.self.admitted l.self.aside.items l.fn.self.desks.items l.self.desks.items

@@ -1,0 +1,7 @@
+pub mod Desks
+pub mod Keeps
+pub mod Places
+pub mod Sides
+pub mod Stays
+pub mod Steps
+pub mod Words

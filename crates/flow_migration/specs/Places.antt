@@ -1,0 +1,139 @@
+-- What a side knows of each slot. Places lie by slot.
+use Rattle.std.specs.Prelude.{◌≡◌, ℕ, ◌+◌, ◌≤◌, Bool, true, false, not, ◌&&◌, ◌||◌, nat_eq, List, [], map, length, slice_index_or, Option, Some, None}
+use Rattle.flow_migration.specs.declared.place.FlowPlace.{FlowPlace}
+use Rattle.flow_migration.specs.declared.place.FlowState.{FlowState}
+use Rattle.flow_migration.specs.declared.place.FlowState.TheVariants.{Front, Placed, Recall, Leaving}
+
+module _ {H : Type 0} where
+  -- the half was sent to a slice, and nothing else is asked of it
+  abbrev pub is_placed : FlowState H → Bool
+  is_placed (Front _ _) = false
+  is_placed (Placed _) = true
+  is_placed (Recall _ _) = false
+  is_placed (Leaving _ _) = false
+
+  -- the half is at the front, or was sent to a slice
+  abbrev pub is_settled : FlowState H → Bool
+  is_settled (Front _ _) = true
+  is_settled (Placed _) = true
+  is_settled (Recall _ _) = false
+  is_settled (Leaving _ _) = false
+
+  -- how many orders a state has still to give before its half rests at a slice
+  abbrev pub pending : FlowState H → ℕ
+  pending (Front _ _) = 1
+  pending (Placed _) = 0
+  pending (Recall _ _) = 2
+  pending (Leaving _ _) = 1
+
+  -- the slice whose lane the next order waits for
+  abbrev pub waits_for : FlowState H → Option ℕ
+  waits_for (Front _ to) = Some to
+  waits_for (Placed _) = None
+  waits_for (Recall at _) = Some at
+  waits_for (Leaving _ _) = None
+
+  -- the slice whose lane the next item waits for
+  abbrev pub placed_at : FlowState H → Option ℕ
+  placed_at (Front _ _) = None
+  placed_at (Placed at) = Some at
+  placed_at (Recall _ _) = None
+  placed_at (Leaving _ _) = None
+
+  -- one more than the slice where the half is, was or is told to leave, and 0 where there is none
+  abbrev pub at_end : FlowState H → ℕ
+  at_end (Front _ _) = 0
+  at_end (Placed at) = at + 1
+  at_end (Recall at _) = at + 1
+  at_end (Leaving from _) = from + 1
+
+  -- one more than the slice that it is bound for
+  abbrev pub to_end : FlowState H → ℕ
+  to_end (Front _ to) = to + 1
+  to_end (Placed _) = 0
+  to_end (Recall _ to) = to + 1
+  to_end (Leaving _ to) = to + 1
+
+  -- a number of the half at the front, and 0 where it is elsewhere
+  abbrev pub front_weight : (H → ℕ) → FlowState H → ℕ
+  front_weight h (Front half _) = h half
+  front_weight h (Placed _) = 0
+  front_weight h (Recall _ _) = 0
+  front_weight h (Leaving _ _) = 0
+
+module _ {H I : Type 0} where
+  abbrev pub place_at : List (Option (FlowPlace H I)) → ℕ → Option (FlowPlace H I)
+  place_at places slot = slice_index_or places slot None
+
+  -- the items that were accepted for a place, in order
+  abbrev pub accepted_by : FlowPlace H I → List I
+  accepted_by place = map (λ p. p.0) place.accepted.items
+
+  abbrev pub accepted_at : Option (FlowPlace H I) → List I
+  accepted_at None = []
+  accepted_at (Some place) = accepted_by place
+
+  abbrev pub queue_at : Option (FlowPlace H I) → List I
+  queue_at None = []
+  queue_at (Some place) = place.queue.items
+
+  -- what is accepted for a place goes to its queue: its slot moved, and its half isn't placed or others wait
+  abbrev pub parks_at : Option (FlowPlace H I) → Bool
+  parks_at None = false
+  parks_at (Some place) = place.moved && (not (is_placed place.state) || not (nat_eq (length place.queue.items) 0))
+
+  abbrev pub waits_at : Option (FlowPlace H I) → Option ℕ
+  waits_at None = None
+  waits_at (Some place) = waits_for place.state
+
+  -- the slice for whose lane its items wait
+  abbrev pub queues_for : Option (FlowPlace H I) → Option ℕ
+  queues_for None = None
+  queues_for (Some place) = placed_at place.state
+
+  abbrev pub is_admitted : Option (FlowPlace H I) → Bool
+  is_admitted None = false
+  is_admitted (Some place) = true
+
+  abbrev pub pending_at : Option (FlowPlace H I) → ℕ
+  pending_at None = 0
+  pending_at (Some place) = pending place.state + length place.queue.items
+
+  abbrev pub accepted_count : Option (FlowPlace H I) → ℕ
+  accepted_count place = length (accepted_at place)
+
+  abbrev pub front_at : (H → ℕ) → Option (FlowPlace H I) → ℕ
+  front_at h None = 0
+  front_at h (Some place) = front_weight h place.state
+
+  abbrev pub at_end_at : Option (FlowPlace H I) → ℕ
+  at_end_at None = 0
+  at_end_at (Some place) = at_end place.state
+
+  abbrev pub to_end_at : Option (FlowPlace H I) → ℕ
+  to_end_at None = 0
+  to_end_at (Some place) = to_end place.state
+
+  -- whether the slot moved
+  abbrev pub moved_at : Option (FlowPlace H I) → Bool
+  moved_at None = false
+  moved_at (Some place) = place.moved
+
+  abbrev pub is_settled_at : Option (FlowPlace H I) → Bool
+  is_settled_at None = true
+  is_settled_at (Some place) = is_settled place.state
+
+  -- the slices of a place are below a number, its queue has at most so many items, and where its slot didn't move none waits
+  abbrev pub Fits : ℕ → ℕ → Option (FlowPlace H I) → Type 0
+  Fits slices room place = (at_end_at place ≤ slices) × (to_end_at place ≤ slices) × (length (queue_at place) ≤ room)
+      × (moved_at place ≡ false → (length (queue_at place) ≡ 0) × (is_settled_at place ≡ true))
+
+module _ {H N I : Type 0} (name : H → N) where
+  -- the name of the half that was admitted
+  abbrev pub name_at : Option (FlowPlace H I) → Option N
+  name_at None = None
+  name_at (Some place) = Some (name place.admitted.value)
+
+  -- the names of the admitted halves, by slot
+  abbrev pub names_of : List (Option (FlowPlace H I)) → List (Option N)
+  names_of places = map name_at places

@@ -1,0 +1,113 @@
+-- Parts of a side that clauses speak of.
+use Rattle.std.specs.Prelude.{◌≡◌, ◌≢◌, ℕ, ◌+◌, ◌<◌, ◌≤◌, ◌⊎◌, Bool, true, false, List, map, length, Option, Some, None, slice_set, replicate, [], ◌++◌}
+use Rattle.worker_core.specs.Workers.{Lanes}
+use Rattle.flow_core.specs.declared.pairing.FlowDesk.{FlowDesk}
+use Rattle.flow_core.specs.declared.flow.Flow.{Ghosts}
+use Rattle.flow_core.specs.Counts.{Rises}
+use Rattle.flow_migration.specs.declared.place.FlowPlace.{FlowPlace}
+use Rattle.flow_migration.specs.declared.place.FlowState.TheVariants.{Front}
+use Rattle.flow_migration.specs.declared.place.HalfAside.{HalfAside}
+use Rattle.flow_migration.specs.declared.side.FlowSide.{FlowSide}
+use Rattle.flow_migration.specs.Desks.{lanes_of, fulls_at, room_at, sent_count, empties_at, home_count}
+use Rattle.flow_migration.specs.Places.{names_of, accepted_at, accepted_by, moved_at}
+use Rattle.flow_migration.specs.Sides.{HomeEnded}
+use Rattle.flow_migration.specs.Steps.{Sends}
+
+-- what pumping leaves: the names, the accepted items and whether it moved, by slot; the lanes; and the counts
+pub record Roll (N I : Type 0) : Type 0 where
+  pub names : List (Option N)
+  pub accepted : List (List I)
+  pub moved : List Bool
+  pub lanes : List Lanes
+  pub admitted : ℕ
+  pub asked : ℕ
+  pub refused : ℕ
+
+module _ {H I : Type 0} where
+  abbrev pub accepts_of : List (Option (FlowPlace H I)) → List (List I)
+  accepts_of places = map accepted_at places
+
+  abbrev pub moves_of : List (Option (FlowPlace H I)) → List Bool
+  moves_of places = map moved_at places
+
+module _ {H N I : Type 0} {g : Ghosts H N I} where
+  abbrev pub desks_of : FlowSide H N I g → List (FlowDesk H I)
+  desks_of side = side.desks.items
+
+  abbrev pub places_of : FlowSide H N I g → List (Option (FlowPlace H I))
+  places_of side = side.places.items
+
+  -- the halves that came home though nobody had told them to
+  abbrev pub aside_of : FlowSide H N I g → List (HalfAside H)
+  aside_of side = side.aside.items
+
+  -- how many items wait in a queue, at most
+  abbrev pub queue_room_of : FlowSide H N I g → ℕ
+  queue_room_of side = side.room
+
+  abbrev pub admitted_of : FlowSide H N I g → ℕ
+  admitted_of side = side.admitted
+
+  abbrev pub asked_of : FlowSide H N I g → ℕ
+  asked_of side = side.asked
+
+  abbrev pub refused_of : FlowSide H N I g → ℕ
+  refused_of side = side.refused
+
+  abbrev pub roll_of : (H → N) → FlowSide H N I g → Roll N I
+  roll_of name side = record {
+    names = names_of name side.places.items;
+    accepted = accepts_of side.places.items;
+    moved = moves_of side.places.items;
+    lanes = lanes_of side.desks.items;
+    admitted = side.admitted;
+    asked = side.asked;
+    refused = side.refused;
+  }
+
+-- a lane was full at a step, and as many orders as it has room for were sent on it in all
+abbrev pub MetFull : {H I : Type 0} → List (FlowDesk H I) → List (FlowDesk H I) → Type 0
+MetFull old new = (slice : ℕ) × Rises (fulls_at old slice) (fulls_at new slice) × (room_at new slice ≤ sent_count new slice)
+
+-- a look at the lane home of a slice: a half was taken, or none, since the lane was empty or no more may be kept aside
+pub record TookOne {H I : Type 0} (went : Bool) (slice admitted : ℕ) (aside new_aside : List (HalfAside H))
+    (old new : List (FlowDesk H I)) : Type 0 where
+  pub others : (other : ℕ) → other ≢ slice → (home_count new other ≡ home_count old other)
+      × (empties_at new other ≡ empties_at old other)
+  pub more : went ≡ true → (home_count new slice ≡ home_count old slice + 1)
+      × (empties_at new slice ≡ empties_at old slice)
+  pub ended : went ≡ false → Rises (empties_at old slice) (empties_at new slice) ⊎ (length new_aside ≡ admitted)
+  pub aside_grows : length aside ≤ length new_aside
+  pub fulls : (other : ℕ) → fulls_at new other ≡ fulls_at old other
+
+-- the lane home of a slice was emptied as far as it may be at once
+pub record TookFrom {H I : Type 0} (slice admitted : ℕ) (aside new_aside : List (HalfAside H))
+    (old new : List (FlowDesk H I)) : Type 0 where
+  pub others : (other : ℕ) → other ≢ slice → (home_count new other ≡ home_count old other)
+      × (empties_at new other ≡ empties_at old other)
+  pub ended : HomeEnded (length new_aside) admitted slice old new
+  pub aside_grows : length aside ≤ length new_aside
+  pub fulls : (other : ℕ) → fulls_at new other ≡ fulls_at old other
+
+-- a half that was admitted stands at the front of its slot, and no other slot changed
+pub record Enters {H I : Type 0} (slot slice : ℕ) (moves : Bool) (half : H) (places new_places : List (Option (FlowPlace H I))) : Type 0 where
+  pub now : FlowPlace H I
+  pub is : new_places ≡ slice_set places slot (Some now)
+  pub admitted : now.admitted.value ≡ half
+  pub moved : now.moved ≡ moves
+  pub state : now.state ≡ Front half slice
+  pub queue : now.queue.items ≡ []
+  pub accepted : accepted_by now ≡ []
+
+-- a half was admitted at its slot, and sent to a slice or kept at the front, and no other slot changed
+pub record Admits {H I : Type 0} (slot slice : ℕ) (moves : Bool) (half : H) (places new_places : List (Option (FlowPlace H I)))
+    (old new : List (FlowDesk H I)) : Type 0 where
+  pub now : FlowPlace H I
+  pub more : ℕ
+  pub within : slot < length (places ++ replicate more None)
+  pub is : new_places ≡ slice_set (places ++ replicate more None) slot (Some now)
+  pub admitted : now.admitted.value ≡ half
+  pub moved : now.moved ≡ moves
+  pub queue : now.queue.items ≡ []
+  pub accepted : accepted_by now ≡ []
+  pub sends : Sends half slice now.state old new

@@ -1,0 +1,693 @@
+//! Steps at one slot: an order is offered, an item is accepted, and a half comes home.
+ghost use Rattle.std.specs.Prelude.{◌≡◌, ◌≤◌, ◌<◌, ◌+◌, ◌^◌, cond, true, false, [], ◌∷◌, ◌++◌, ℕ, Some, None, List, length, vec_len, vec_capacity, slice_set, OnOk, OnErr, IfErr, MatchOption};
+ghost use Rattle.std.specs.List.{sum_by, All};
+ghost use Rattle.flow_core.specs.declared.order.FlowOrder.TheVariants.{Arrive, Item, Leave};
+ghost use Rattle.flow_core.specs.Orders.{MayFollow, stands};
+ghost use Rattle.flow_core.specs.Counts.{Rises};
+ghost use Rattle.flow_migration.specs.declared.place.FlowState.TheVariants.{Placed};
+ghost use Rattle.flow_migration.specs.Desks.{Given, Refused, Taken, Empty, order_count, sent_at, fulls_at};
+ghost use Rattle.flow_migration.specs.Places.{at_end, to_end, is_placed, is_settled, parks_at, place_at, is_admitted, Fits, placed_at, queue_at, accepted_by};
+ghost use Rattle.flow_migration.specs.Keeps.{Keeps, MayGive, IsReady};
+ghost use Rattle.flow_migration.specs.Sides.{is_lost};
+ghost use Rattle.flow_migration.specs.Steps.{Sends, Recalls, Serves, Goes, SentFirst, QueueRests, Empties, EmptiesPlaced, QueueTakes, Lands, Delivers, Accepts, Served, Drained, Moved, Gave, AtSlot, Grown, Homes, Welcomes, WelcomesAt};
+
+use crate::place::{FlowNo, FlowPlace, FlowState, HalfAside};
+use flow_core::{Flow, FlowDesk, FlowKind, FlowOrder};
+use http_server::Log;
+use lane_core::{Full, NoMemory};
+use pc_base::{SliceNo, Slot};
+use std::collections::VecDeque;
+use std::sync::Wait;
+
+// Offers an order at the desk of a slice.
+fn offer<H: Flow, R: Wait>(
+    rt: &R,
+    desks: &mut Vec<FlowDesk<H>>,
+    slice: SliceNo,
+    order: FlowOrder<H>,
+) -> Result<(), Full<FlowOrder<H>>>
+    requires within { slice < vec_len desks.old }
+    requires few { sum_by order_count desks.old.items < 2 ^ 50 }
+    requires law { MayFollow (λ half. H.slot_at (H.name half)) H.item_slot (sent_at desks.old.items slice) order }
+    ensures given { OnOk result (Given slice order desks.old.items desks.new.items) }
+    ensures full { IfErr result (λ full. (full.0 ≡ order) × Refused slice desks.old.items desks.new.items) }
+    ensures len { vec_len desks.new ≡ vec_len desks.old }
+{
+    desks[slice.0 as usize].orders.offer(rt, order)
+}
+
+// Sends a half to a slice, or keeps it at the front where that lane is full.
+fn arrive<H: Flow, R: Wait>(
+    rt: &R,
+    desks: &mut Vec<FlowDesk<H>>,
+    half: H,
+    to: SliceNo,
+) -> FlowState<H>
+    requires within { to < vec_len desks.old }
+    requires few { sum_by order_count desks.old.items < 2 ^ 50 }
+    requires law { MayFollow (λ half. H.slot_at (H.name half)) H.item_slot (sent_at desks.old.items to) (Arrive half) }
+    ensures sends { Sends half to result desks.old.items desks.new.items }
+    ensures len { vec_len desks.new ≡ vec_len desks.old }
+{
+    match offer(rt, desks, to, FlowOrder::Arrive(half)) {
+        Ok(()) => FlowState::Placed { at: to },
+        Err(Full(order)) => match order {
+            FlowOrder::Arrive(half) => FlowState::Front { half, to },
+            FlowOrder::Item(_) => unreachable!(),
+            FlowOrder::Leave(_) => unreachable!(),
+        },
+    }
+}
+
+// Tells a half to leave a slice, or waits with it where that lane is full.
+fn recall<H: Flow, R: Wait>(
+    rt: &R,
+    desks: &mut Vec<FlowDesk<H>>,
+    slot: Slot,
+    at: SliceNo,
+    to: SliceNo,
+) -> FlowState<H>
+    requires within { at < vec_len desks.old }
+    requires few { sum_by order_count desks.old.items < 2 ^ 50 }
+    requires law { MayFollow (λ half. H.slot_at (H.name half)) H.item_slot (sent_at desks.old.items at) (Leave slot) }
+    ensures recalls { Recalls slot at to result desks.old.items desks.new.items }
+    ensures len { vec_len desks.new ≡ vec_len desks.old }
+{
+    match offer(rt, desks, at, FlowOrder::Leave(slot)) {
+        Ok(()) => FlowState::Leaving { from: at, to },
+        Err(_) => FlowState::Recall { at, to },
+    }
+}
+
+// Sends an item to a slice, or hands it back where that lane is full.
+fn send<H: Flow, R: Wait>(
+    rt: &R,
+    desks: &mut Vec<FlowDesk<H>>,
+    at: SliceNo,
+    item: H::Item,
+) -> Result<(), Full<H::Item>>
+    requires within { at < vec_len desks.old }
+    requires few { sum_by order_count desks.old.items < 2 ^ 50 }
+    requires law { MayFollow (λ half. H.slot_at (H.name half)) H.item_slot (sent_at desks.old.items at) (Item item) }
+    ensures given { OnOk result (Given at (Item item) desks.old.items desks.new.items) }
+    ensures full { IfErr result (λ full. (full.0 ≡ item) × Refused at desks.old.items desks.new.items) }
+    ensures len { vec_len desks.new ≡ vec_len desks.old }
+{
+    match offer(rt, desks, at, FlowOrder::Item(item)) {
+        Ok(()) => Ok(()),
+        Err(Full(order)) => match order {
+            FlowOrder::Item(item) => Err(Full(item)),
+            FlowOrder::Arrive(_) => unreachable!(),
+            FlowOrder::Leave(_) => unreachable!(),
+        },
+    }
+}
+
+// Offers the order that a state waits to give.
+fn served<H: Flow, R: Wait>(
+    rt: &R,
+    desks: &mut Vec<FlowDesk<H>>,
+    slot: Slot,
+    state: FlowState<H>,
+) -> FlowState<H>
+    requires fits { (at_end state ≤ vec_len desks.old) × (to_end state ≤ vec_len desks.old) }
+    requires few { sum_by order_count desks.old.items < 2 ^ 50 }
+    requires law { MayGive (λ half. H.slot_at (H.name half)) H.item_slot slot state desks.old.items }
+    ensures serves { Serves slot state result desks.old.items desks.new.items }
+    ensures len { vec_len desks.new ≡ vec_len desks.old }
+{
+    match state {
+        FlowState::Front { half, to } => arrive(rt, desks, half, to),
+        FlowState::Placed { at } => FlowState::Placed { at },
+        FlowState::Recall { at, to } => recall(rt, desks, slot, at, to),
+        FlowState::Leaving { from, to } => FlowState::Leaving { from, to },
+    }
+}
+
+// What a move makes of a state.
+fn gone<H: Flow, R: Wait>(
+    rt: &R,
+    desks: &mut Vec<FlowDesk<H>>,
+    slot: Slot,
+    slice: SliceNo,
+    state: FlowState<H>,
+) -> FlowState<H>
+    requires fits { (at_end state ≤ vec_len desks.old) × (to_end state ≤ vec_len desks.old) }
+    requires few { sum_by order_count desks.old.items < 2 ^ 50 }
+    requires law { MayGive (λ half. H.slot_at (H.name half)) H.item_slot slot state desks.old.items }
+    ensures goes { Goes slot slice state result desks.old.items desks.new.items }
+    ensures len { vec_len desks.new ≡ vec_len desks.old }
+{
+    match state {
+        FlowState::Front { half, .. } => FlowState::Front { half, to: slice },
+        FlowState::Placed { at } => recall(rt, desks, slot, at, slice),
+        FlowState::Recall { at, .. } => FlowState::Recall { at, to: slice },
+        FlowState::Leaving { from, .. } => FlowState::Leaving { from, to: slice },
+    }
+}
+
+// Sends the first item of a queue, unless it is empty, and tells whether one was sent.
+fn send_first<H: Flow, R: Wait>(
+    rt: &R,
+    desks: &mut Vec<FlowDesk<H>>,
+    at: SliceNo,
+    slot: Slot,
+    queue: &mut VecDeque<H::Item>,
+) -> bool
+    requires within { at < vec_len desks.old }
+    requires few { sum_by order_count desks.old.items < 2 ^ 50 }
+    requires law { stands (λ half. H.slot_at (H.name half)) H.item_slot slot (sent_at desks.old.items at) ≡ true }
+    requires own { All (λ item. H.item_slot item ≡ slot) queue.old.items }
+    ensures sent { result ≡ true → SentFirst at queue.old.items queue.new.items desks.old.items desks.new.items }
+    ensures refused { result ≡ false → (queue.new.items ≡ queue.old.items) × QueueRests at queue.old.items desks.old.items desks.new.items }
+    ensures len { vec_len desks.new ≡ vec_len desks.old }
+{
+    let Some(item) = queue.pop_front() else {
+        return false;
+    };
+    match send(rt, desks, at, item) {
+        Ok(()) => true,
+        Err(Full(item)) => {
+            queue.push_front_reserved(item);
+            false
+        }
+    }
+}
+
+// Sends items of a queue to the slice of their half, from the first on, until one is refused.
+fn drained<H: Flow, R: Wait>(
+    rt: &R,
+    desks: &mut Vec<FlowDesk<H>>,
+    at: SliceNo,
+    slot: Slot,
+    mut queue: VecDeque<H::Item>,
+) -> VecDeque<H::Item>
+    requires within { at < vec_len desks.old }
+    requires few { sum_by order_count desks.old.items + length queue.items < 2 ^ 50 }
+    requires law { stands (λ half. H.slot_at (H.name half)) H.item_slot slot (sent_at desks.old.items at) ≡ true }
+    requires own { All (λ item. H.item_slot item ≡ slot) queue.items }
+    ensures empties { Empties (λ half. H.slot_at (H.name half)) H.item_slot H.handled slot at queue.items result.items
+        desks.old.items desks.new.items }
+    ensures len { vec_len desks.new ≡ vec_len desks.old }
+{
+    for _ in 0..queue.len() {
+        if !send_first(rt, desks, at, slot, &mut queue) {
+            return queue;
+        }
+    }
+    queue
+}
+
+// The same where the half is placed.
+fn emptied<H: Flow, R: Wait>(
+    rt: &R,
+    desks: &mut Vec<FlowDesk<H>>,
+    slot: Slot,
+    state: &FlowState<H>,
+    queue: VecDeque<H::Item>,
+) -> VecDeque<H::Item>
+    requires fits { at_end state.now ≤ vec_len desks.old }
+    requires few { sum_by order_count desks.old.items + length queue.items < 2 ^ 50 }
+    requires law { MayGive (λ half. H.slot_at (H.name half)) H.item_slot slot state.now desks.old.items }
+    requires own { All (λ item. H.item_slot item ≡ slot) queue.items }
+    ensures empties { EmptiesPlaced (λ half. H.slot_at (H.name half)) H.item_slot H.handled slot state.now queue.items
+        result.items desks.old.items desks.new.items }
+    ensures len { vec_len desks.new ≡ vec_len desks.old }
+{
+    match state {
+        FlowState::Placed { at } => drained(rt, desks, *at, slot, queue),
+        FlowState::Front { .. } => queue,
+        FlowState::Recall { .. } => queue,
+        FlowState::Leaving { .. } => queue,
+    }
+}
+
+// Whether a half was sent to a slice, and nothing else is asked of it.
+fn placed<H>(state: &FlowState<H>) -> bool
+    ensures { result ≡ is_placed state.now }
+{
+    match state {
+        FlowState::Front { .. } => false,
+        FlowState::Placed { .. } => true,
+        FlowState::Recall { .. } => false,
+        FlowState::Leaving { .. } => false,
+    }
+}
+
+// Whether an item of a place goes to its queue.
+pub fn parks<H: Flow>(place: &FlowPlace<H>) -> bool
+    ensures { result ≡ parks_at (Some place.now) }
+{
+    place.moved && (!placed(&place.state) || !place.queue.is_empty())
+}
+
+// Puts an item last into a queue of at most so many.
+fn park<I>(queue: &mut VecDeque<I>, room: usize, item: I) -> Result<(), FlowNo<I>>
+    ensures { QueueTakes room item result queue.old.items queue.new.items }
+{
+    if queue.len() >= room {
+        return Err(FlowNo::Full(item));
+    }
+    match queue.push_back(item) {
+        Ok(()) => Ok(()),
+        Err(refused) => Err(FlowNo::NoMemory(refused.value)),
+    }
+}
+
+// Sends an item to the slice where its half is placed.
+fn landed<H: Flow, R: Wait>(
+    rt: &R,
+    desks: &mut Vec<FlowDesk<H>>,
+    slot: Slot,
+    state: &FlowState<H>,
+    item: H::Item,
+) -> Result<(), FlowNo<H::Item>>
+    requires settled { is_settled state.now ≡ true }
+    requires fits { at_end state.now ≤ vec_len desks.old }
+    requires few { sum_by order_count desks.old.items < 2 ^ 50 }
+    requires law { MayGive (λ half. H.slot_at (H.name half)) H.item_slot slot state.now desks.old.items }
+    requires own { H.item_slot item ≡ slot }
+    ensures lands { Lands item state.now result desks.old.items desks.new.items }
+    ensures len { vec_len desks.new ≡ vec_len desks.old }
+{
+    match state {
+        FlowState::Placed { at } => match send(rt, desks, *at, item) {
+            Ok(()) => Ok(()),
+            Err(Full(item)) => Err(FlowNo::Full(item)),
+        },
+        FlowState::Front { .. } => Err(FlowNo::Full(item)),
+        FlowState::Recall { .. } => unreachable!(),
+        FlowState::Leaving { .. } => unreachable!(),
+    }
+}
+
+// Offers the order that a place waits to give.
+fn serve<H: Flow, R: Wait>(
+    rt: &R,
+    desks: &mut Vec<FlowDesk<H>>,
+    place: &mut Option<FlowPlace<H>>,
+    slot: Slot,
+)
+    requires ready { IsReady (λ half. H.slot_at (H.name half)) H.item_slot slot place.old desks.old.items }
+    ensures { Served (λ half. H.slot_at (H.name half)) H.item_slot H.handled slot place.old place.new
+        desks.old.items desks.new.items }
+{
+    let Some(place_was) = place.take() else {
+        return;
+    };
+    let FlowPlace {
+        moved,
+        state,
+        queue,
+        admitted,
+        accepted,
+    } = place_was;
+    let state = served(rt, desks, slot, state);
+    *place = Some(FlowPlace {
+        moved,
+        state,
+        queue,
+        admitted,
+        accepted,
+    });
+}
+
+// The same at the place of a slot.
+pub fn serve_at<H: Flow, R: Wait>(
+    rt: &R,
+    desks: &mut Vec<FlowDesk<H>>,
+    places: &mut Vec<Option<FlowPlace<H>>>,
+    slot: Slot,
+)
+    requires within { slot < length places.old.items }
+    requires ready { IsReady (λ half. H.slot_at (H.name half)) H.item_slot slot (place_at places.old.items slot)
+        desks.old.items }
+    ensures { AtSlot (Served (λ half. H.slot_at (H.name half)) H.item_slot H.handled slot) slot
+        places.old.items places.new.items desks.old.items desks.new.items }
+{
+    serve(rt, desks, &mut places[slot.0 as usize], slot)
+}
+
+// Sends what waits in the queue of a placed slot.
+fn drain<H: Flow, R: Wait>(
+    rt: &R,
+    desks: &mut Vec<FlowDesk<H>>,
+    place: &mut Option<FlowPlace<H>>,
+    slot: Slot,
+)
+    requires ready { IsReady (λ half. H.slot_at (H.name half)) H.item_slot slot place.old desks.old.items }
+    ensures { Drained (λ half. H.slot_at (H.name half)) H.item_slot H.handled slot place.old place.new
+        desks.old.items desks.new.items }
+{
+    let Some(place_was) = place.take() else {
+        return;
+    };
+    let FlowPlace {
+        moved,
+        state,
+        queue,
+        admitted,
+        accepted,
+    } = place_was;
+    let queue = emptied(rt, desks, slot, &state, queue);
+    *place = Some(FlowPlace {
+        moved,
+        state,
+        queue,
+        admitted,
+        accepted,
+    });
+}
+
+// The same at the place of a slot.
+pub fn drain_at<H: Flow, R: Wait>(
+    rt: &R,
+    desks: &mut Vec<FlowDesk<H>>,
+    places: &mut Vec<Option<FlowPlace<H>>>,
+    slot: Slot,
+)
+    requires within { slot < length places.old.items }
+    requires ready { IsReady (λ half. H.slot_at (H.name half)) H.item_slot slot (place_at places.old.items slot)
+        desks.old.items }
+    ensures { AtSlot (Drained (λ half. H.slot_at (H.name half)) H.item_slot H.handled slot) slot
+        places.old.items places.new.items desks.old.items desks.new.items }
+{
+    drain(rt, desks, &mut places[slot.0 as usize], slot)
+}
+
+// Moves a slot to a slice.
+fn go<H: Flow, R: Wait>(
+    rt: &R,
+    desks: &mut Vec<FlowDesk<H>>,
+    place: &mut Option<FlowPlace<H>>,
+    slot: Slot,
+    slice: SliceNo,
+)
+    requires slice { slice < length desks.old.items }
+    requires ready { IsReady (λ half. H.slot_at (H.name half)) H.item_slot slot place.old desks.old.items }
+    ensures { Moved (λ half. H.slot_at (H.name half)) H.item_slot H.handled slot slice place.old place.new
+        desks.old.items desks.new.items }
+{
+    let Some(place_was) = place.take() else {
+        return;
+    };
+    let FlowPlace {
+        moved: _,
+        state,
+        queue,
+        admitted,
+        accepted,
+    } = place_was;
+    let state = gone(rt, desks, slot, slice, state);
+    *place = Some(FlowPlace {
+        moved: true,
+        state,
+        queue,
+        admitted,
+        accepted,
+    });
+}
+
+// The same at the place of a slot.
+pub fn go_at<H: Flow, R: Wait>(
+    rt: &R,
+    desks: &mut Vec<FlowDesk<H>>,
+    places: &mut Vec<Option<FlowPlace<H>>>,
+    slot: Slot,
+    slice: SliceNo,
+)
+    requires within { slot < length places.old.items }
+    requires slice { slice < length desks.old.items }
+    requires ready { IsReady (λ half. H.slot_at (H.name half)) H.item_slot slot (place_at places.old.items slot)
+        desks.old.items }
+    ensures { AtSlot (Moved (λ half. H.slot_at (H.name half)) H.item_slot H.handled slot slice) slot
+        places.old.items places.new.items desks.old.items desks.new.items }
+{
+    go(rt, desks, &mut places[slot.0 as usize], slot, slice)
+}
+
+// Gives an item to a slot.
+fn give<H: Flow, R: Wait>(
+    rt: &R,
+    desks: &mut Vec<FlowDesk<H>>,
+    place: &mut Option<FlowPlace<H>>,
+    slot: Slot,
+    room: usize,
+    item: H::Item,
+) -> Result<(), FlowNo<H::Item>>
+    requires admitted { is_admitted place.old ≡ true }
+    requires own { H.item_slot item ≡ slot }
+    requires fits { Fits (length desks.old.items) room place.old }
+    requires ready { IsReady (λ half. H.slot_at (H.name half)) H.item_slot slot place.old desks.old.items }
+    ensures { Gave (λ half. H.slot_at (H.name half)) H.item_slot H.handled slot room item result place.old place.new
+        desks.old.items desks.new.items }
+{
+    let Some(place_was) = place.take() else {
+        unreachable!()
+    };
+    let (place_now, answer) = given(rt, desks, place_was, slot, room, item);
+    *place = Some(place_now);
+    answer
+}
+
+// The item goes to the queue of a place, or to the slice of its half.
+fn given<H: Flow, R: Wait>(
+    rt: &R,
+    desks: &mut Vec<FlowDesk<H>>,
+    place: FlowPlace<H>,
+    slot: Slot,
+    room: usize,
+    item: H::Item,
+) -> (FlowPlace<H>, Result<(), FlowNo<H::Item>>)
+    requires own { H.item_slot item ≡ slot }
+    requires fits { Fits (length desks.old.items) room (Some place) }
+    requires ready { IsReady (λ half. H.slot_at (H.name half)) H.item_slot slot (Some place) desks.old.items }
+    ensures parked { parks_at (Some place) ≡ true → (desks.new.items ≡ desks.old.items) × (result.0.state ≡ place.state)
+        × QueueTakes room item result.1 place.queue.items result.0.queue.items }
+    ensures placed { parks_at (Some place) ≡ false → (result.0.queue.items ≡ place.queue.items)
+        × Delivers slot item result.1 place.state result.0.state desks.old.items desks.new.items }
+    ensures accepted { Accepts item result.1 (accepted_by place) (accepted_by result.0) }
+    ensures same { (result.0.moved ≡ place.moved) × (result.0.admitted ≡ place.admitted) }
+{
+    if parks(&place) {
+        give_parked(place, slot, room, item)
+    } else {
+        give_placed(rt, desks, place, slot, item)
+    }
+}
+
+// The same at the place of a slot.
+pub fn give_at<H: Flow, R: Wait>(
+    rt: &R,
+    desks: &mut Vec<FlowDesk<H>>,
+    places: &mut Vec<Option<FlowPlace<H>>>,
+    slot: Slot,
+    room: usize,
+    item: H::Item,
+) -> Result<(), FlowNo<H::Item>>
+    requires within { slot < length places.old.items }
+    requires admitted { is_admitted (place_at places.old.items slot) ≡ true }
+    requires own { H.item_slot item ≡ slot }
+    requires fits { Fits (length desks.old.items) room (place_at places.old.items slot) }
+    requires ready { IsReady (λ half. H.slot_at (H.name half)) H.item_slot slot (place_at places.old.items slot)
+        desks.old.items }
+    ensures { AtSlot (Gave (λ half. H.slot_at (H.name half)) H.item_slot H.handled slot room item result) slot
+        places.old.items places.new.items desks.old.items desks.new.items }
+{
+    give(rt, desks, &mut places[slot.0 as usize], slot, room, item)
+}
+
+// What is accepted after an answer.
+fn accepted_now<I>(
+    answer: &Result<(), FlowNo<I>>,
+    before: Log<I, Slot>,
+    more: Log<I, Slot>,
+) -> Log<I, Slot>
+    ensures ok { OnOk answer.now (result.items ≡ more.items) }
+    ensures err { OnErr answer.now (result.items ≡ before.items) }
+{
+    match answer {
+        Ok(()) => more,
+        Err(_) => before,
+    }
+}
+
+// The item goes last into the queue.
+fn give_parked<H: Flow>(
+    place: FlowPlace<H>,
+    slot: Slot,
+    room: usize,
+    item: H::Item,
+) -> (FlowPlace<H>, Result<(), FlowNo<H::Item>>)
+    ensures queue { QueueTakes room item result.1 place.queue.items result.0.queue.items }
+    ensures accepted { Accepts item result.1 (accepted_by place) (accepted_by result.0) }
+    ensures same { (result.0.moved ≡ place.moved) × (result.0.state ≡ place.state) × (result.0.admitted ≡ place.admitted) }
+{
+    let FlowPlace {
+        moved,
+        state,
+        mut queue,
+        admitted,
+        accepted,
+    } = place;
+    let more = accepted.and(&item, &slot);
+    let answer = park(&mut queue, room, item);
+    let accepted = accepted_now(&answer, accepted, more);
+    let place = FlowPlace {
+        moved,
+        state,
+        queue,
+        admitted,
+        accepted,
+    };
+    (place, answer)
+}
+
+// The item goes to the slice of its half, which arrives there first if it is at the front.
+fn give_placed<H: Flow, R: Wait>(
+    rt: &R,
+    desks: &mut Vec<FlowDesk<H>>,
+    place: FlowPlace<H>,
+    slot: Slot,
+    item: H::Item,
+) -> (FlowPlace<H>, Result<(), FlowNo<H::Item>>)
+    requires settled { is_settled place.state ≡ true }
+    requires own { H.item_slot item ≡ slot }
+    requires ready { IsReady (λ half. H.slot_at (H.name half)) H.item_slot slot (Some place) desks.old.items }
+    ensures delivers { Delivers slot item result.1 place.state result.0.state desks.old.items desks.new.items }
+    ensures accepted { Accepts item result.1 (accepted_by place) (accepted_by result.0) }
+    ensures same { (result.0.moved ≡ place.moved) × (result.0.queue.items ≡ place.queue.items) × (result.0.admitted ≡ place.admitted) }
+{
+    let FlowPlace {
+        moved,
+        state,
+        queue,
+        admitted,
+        accepted,
+    } = place;
+    let more = accepted.and(&item, &slot);
+    let state = served(rt, desks, slot, state);
+    let answer = landed(rt, desks, slot, &state, item);
+    let accepted = accepted_now(&answer, accepted, more);
+    let place = FlowPlace {
+        moved,
+        state,
+        queue,
+        admitted,
+        accepted,
+    };
+    (place, answer)
+}
+
+// A half that came home from a slice stands at the front where its slot is leaving that slice, and else
+// it is handed back.
+fn welcome<H: Flow>(place: &mut Option<FlowPlace<H>>, half: H, slice: usize) -> Option<H>
+    ensures { Welcomes half slice place.old place.new result }
+{
+    let Some(place_was) = place.take() else {
+        return Some(half);
+    };
+    let FlowPlace {
+        moved,
+        state,
+        queue,
+        admitted,
+        accepted,
+    } = place_was;
+    let (state, back) = homed(state, half, slice);
+    *place = Some(FlowPlace {
+        moved,
+        state,
+        queue,
+        admitted,
+        accepted,
+    });
+    back
+}
+
+// The same at the place of a slot, unless a half of it is kept aside.
+pub fn welcome_at<H: Flow>(
+    places: &mut Vec<Option<FlowPlace<H>>>,
+    aside: &[HalfAside<H>],
+    half: H,
+    slice: usize,
+    slot: Slot,
+) -> Option<H>
+    ensures { WelcomesAt H.slot_of_half half slice slot aside.now places.old.items places.new.items result }
+{
+    if slot.0 as usize >= places.len() {
+        return Some(half);
+    }
+    if is_aside(aside, slot) {
+        return Some(half);
+    }
+    welcome(&mut places[slot.0 as usize], half, slice)
+}
+
+// What a state becomes as a half comes home from a slice, which is handed back where it isn't expected.
+fn homed<H: Drop>(state: FlowState<H>, half: H, slice: usize) -> (FlowState<H>, Option<H>)
+    ensures { Homes half slice state result.0 result.1 }
+{
+    match state {
+        FlowState::Front { half: own, to } => (FlowState::Front { half: own, to }, Some(half)),
+        FlowState::Placed { at } => (FlowState::Placed { at }, Some(half)),
+        FlowState::Recall { at, to } => (FlowState::Recall { at, to }, Some(half)),
+        FlowState::Leaving { from, to } => {
+            if from.0 as usize == slice {
+                (FlowState::Front { half, to }, None)
+            } else {
+                (FlowState::Leaving { from, to }, Some(half))
+            }
+        }
+    }
+}
+
+// Takes a half from the lane home of a slice.
+pub fn take_home<H: Flow, R: Wait>(rt: &R, desks: &mut Vec<FlowDesk<H>>, slice: usize) -> Option<H>
+    requires { slice < vec_len desks.old }
+    ensures taken { MatchOption result (Empty slice desks.old.items desks.new.items)
+        (λ half. Taken slice half desks.old.items desks.new.items) }
+    ensures len { vec_len desks.new ≡ vec_len desks.old }
+{
+    desks[slice].home.take(rt)
+}
+
+// Whether a half of a slot is kept aside.
+pub fn is_aside<H: FlowKind>(aside: &[HalfAside<H>], slot: Slot) -> bool
+    ensures { result ≡ is_lost H.slot_of_half slot aside.now }
+{
+    aside.iter().any(|kept| kept.half.slot() == slot)
+}
+
+// Puts a place in its slot.
+pub fn put<H: Flow>(places: &mut Vec<Option<FlowPlace<H>>>, slot: Slot, place: FlowPlace<H>)
+    requires { slot < vec_len places.old }
+    ensures { places.new.items ≡ slice_set places.old.items slot (Some place) }
+{
+    places[slot.0 as usize] = Some(place);
+}
+
+// Makes free places until there are so many.
+pub fn grow<H: Flow>(places: &mut Vec<Option<FlowPlace<H>>>, len: usize) -> Result<(), NoMemory>
+    requires room { (len ≤ 65533) × (vec_len places.old ≤ 65533) }
+    ensures short { vec_len places.new ≤ 65533 }
+    ensures grown { Grown places.old.items places.new.items }
+    ensures enough { OnOk result (len ≤ vec_len places.new) }
+{
+    while places.len() < len {
+        places.push(None)?;
+    }
+    Ok(())
+}
+
+// Makes room for so many items.
+pub fn widen<T>(items: &mut Vec<T>, room: usize) -> Result<(), NoMemory>
+    ensures items { items.new.items ≡ items.old.items }
+    ensures kept { vec_capacity items.old ≤ vec_capacity items.new }
+    ensures wide { OnOk result (room ≤ vec_capacity items.new) }
+{
+    if items.len() < room {
+        items.reserve(room - items.len())?;
+    }
+    Ok(())
+}

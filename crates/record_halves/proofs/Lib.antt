@@ -1,0 +1,12 @@
+pub mod Orders
+pub mod Lists
+pub mod Lanes
+pub mod Floors
+pub mod Leaving
+pub mod Waiting
+pub mod Handling
+pub mod Stood
+pub mod Together
+pub mod Splits
+pub mod Stages
+pub mod Ending

@@ -1,0 +1,22 @@
+use Rattle.std.proofs.Common.{ℕ, ◌++◌, List, IfOk, ap, ◌∙◌, subst}
+use Rattle.counter_half.specs.Half.{handled_by}
+use Rattle.counter_half.specs.declared.half.FlowHalf.{FlowHalf}
+use Rattle.counter_half.specs.declared.items.FlowItem.{FlowItem}
+use Rattle.record_halves.specs.Rejoined.{Finishes, start_of, commands_sent}
+use Rattle.record_halves.specs.declared.finishing.Finished.{Finished}
+use Rattle.record_halves.specs.declared.front.FrontEnd.{FrontEnd}
+use Rattle.record_halves.proofs.Ending.{still_of}
+use Rattle.record_halves.proofs.finishing.finish.Goals as goal
+
+pub returns-clause-finished : goal.returns-clause-finished
+returns-clause-finished g c =
+    let parts = c.new.result in
+    let of = c.new.ensures in
+    subst (λ (p : FrontEnd × FlowHalf × List FlowItem × ℕ). IfOk c.again.result (λ (made : Finished).
+    Finishes (start_of p.0) (commands_sent p.0) (handled_by p.1 ++ p.2) p.3 made))
+    (λ i. (of.front_is i, of.flow_is i, of.left_is i, (parts.bound ∙ ap (λ (f : FrontEnd). f.destination) of.front_is) i))
+    c.again.ensures.finished
+
+pub returns-clause-parts : goal.returns-clause-parts
+returns-clause-parts g c =
+    still_of c.again.result c.new.result c.args.front c.args.flow c.args.left.items c.new.ensures c.again.ensures.parts

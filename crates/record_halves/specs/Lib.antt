@@ -1,0 +1,7 @@
+pub mod Accepted
+pub mod Closing
+pub mod Finishing
+pub mod Origin
+pub mod Parts
+pub mod Props
+pub mod Rejoined

@@ -1,0 +1,48 @@
+//! The halves of a subscriber finish what is left, and are one again.
+ghost use Rattle.std.specs.Prelude.{◌≡◌, ◌++◌, IfOk, IfErr};
+ghost use Rattle.counter_half.specs.Half.{handled_by};
+ghost use Rattle.record_halves.specs.Rejoined.{AreOfOneSplit, AreAccepted, Finishes, start_of, commands_sent};
+ghost use Rattle.record_halves.specs.Parts.{IsOf};
+
+use crate::{FrontEnd, Parts, Record};
+use charging_book::ChargeRow;
+use control_half::{CommandDone, ControlHalf};
+use counter_half::{FlowHalf, FlowItem, PacketDone, VersionDone};
+use std::alloc::Global;
+use std::sync::Wait;
+
+/// A subscriber that is one record again, and what became of the commands and packets since its split.
+#[derive(Drop)]
+pub struct Finished {
+    pub record: Record,
+    /// The replies to its commands, in their order.
+    pub commands: Vec<CommandDone>,
+    /// The verdicts on its packets, in their order.
+    pub packets: Vec<PacketDone>,
+    /// The effects of each command.
+    pub effects: Vec<VersionDone>,
+    /// The charging records that were made.
+    pub rows: Vec<ChargeRow>,
+}
+
+/// Does what the halves of a subscriber have left to do, with the packets that were accepted and that no
+/// one handled, and makes them one record. The three come from one split. The items that the counter half
+/// handled and those that are left are those that the front end counted, in order, and their moments don't
+/// fall. Where memory is wanting, all is handed back.
+pub fn finish<R: Wait>(
+    rt: &R,
+    alloc: Global,
+    front: FrontEnd,
+    control: ControlHalf,
+    flow: FlowHalf,
+    left: Vec<FlowItem>,
+) -> Result<Finished, Parts>
+    requires one { AreOfOneSplit front control flow }
+    requires accepted { AreAccepted front (handled_by flow ++ left.items) }
+
+    ensures finished { IfOk result (λ made. Finishes (start_of front) (commands_sent front)
+        (handled_by flow ++ left.items) front.destination made) }
+    ensures parts { IfErr result (λ parts. IsOf parts front flow left.items) }
+{
+    Parts::new(alloc, front, control, flow, left).again(rt)
+}

@@ -1,0 +1,20 @@
+//! A subscriber's record in two halves, and one again: it is split into a front end, which numbers what
+//! comes, a control half and a counter half; brought together they finish what is left. Who turns the
+//! halves meanwhile, and where, is left to others.
+#![tactic(auto)]
+
+mod closing;
+mod finishing;
+mod front;
+mod laws;
+mod origin;
+mod parts;
+mod record;
+mod splitting;
+
+pub use finishing::{Finished, finish};
+pub use front::FrontEnd;
+pub use parts::Parts;
+pub use record::Record;
+pub use splitting::split;
+pub use std::alloc::AllocError as NoMemory;
