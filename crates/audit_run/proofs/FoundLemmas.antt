@@ -79,12 +79,15 @@ audits_so job found (Err fault) start left old new texts finds reached whole cut
   written = cut.appended;
   report = told_as start left (λ octets rest. Reached stopped_at.Ended octets rest texts)
       (λ octets rest. Reports (ending_as found (Err fault)) job octets rest cut.front)
-      (λ octets rest is. (is.0, record {
-        found = found;
-        finds = subst (λ t. Finds job t found) (sym is.1) finds;
-        more = cut.rest;
-        says = cut.parts;
-      })) reached;
+      (λ octets rest is. (
+        is.0,
+        record {
+          found = found;
+          finds = subst (λ t. Finds job t found) (sym is.1) finds;
+          more = cut.rest;
+          says = cut.parts;
+        },
+      )) reached;
 }
 
 -- nothing is written where memory ran out, or where no more can be read

@@ -131,8 +131,7 @@ ends_last start a left room after line last front done is =
         → Reached stopped_at.Ended octets rest (done ++ line ∷ [])
     by_last octets ahead rest false is before holds = cc
     by_last octets ahead rest true is before holds =
-        let whole = read_last room after done line octets ahead (front ++ rest) before holds in
-        (
+        let whole = read_last room after done line octets ahead (front ++ rest) before holds in (
           (ap (λ (t : Texts). t.stop) whole, none_left front rest holds.form.none_left),
           ap (λ (t : Texts). t.lines) whole,
         )
@@ -153,8 +152,7 @@ ends_ended start a left room after line last front done =
     (λ octets ahead rest before says.
     let whole : texts_of octets ≡ after_lines done (stopped ended) =
     stands octets ahead room done (stopped ended) before
-    (ap (texts_within room) says.1 ∙ at_end room says.2) in
-    (
+    (ap (texts_within room) says.1 ∙ at_end room says.2) in (
       (ap (λ (t : Texts). t.stop) whole, none_left front rest (says.0.octets_stay ∙ says.1)),
       ap (λ (t : Texts). t.lines) whole ∙ append-nil done,
     ))

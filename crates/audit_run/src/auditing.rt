@@ -90,7 +90,13 @@ fn found(alloc: Global, rule: &Rule, heard: &Heard) -> Result<Option<u8>, AllocE
     if heard.outside {
         return Ok(Some(0));
     }
-    match audit_core::audit(alloc, rule, heard.lines.as_slice(), heard.bad, heard.entries.as_slice())? {
+    match audit_core::audit(
+        alloc,
+        rule,
+        heard.lines.as_slice(),
+        heard.bad,
+        heard.entries.as_slice(),
+    )? {
         Finding::Yes => Ok(None),
         Finding::No(k) => Ok(Some(k)),
     }

@@ -110,10 +110,11 @@ impl Heard {
     {
         match why {
             LineBad::NoMemory => Err(AllocError),
-            LineBad::Field | LineBad::Number | LineBad::Kind | LineBad::Hex | LineBad::MomentBack => {
-                self.bad = Some(BadAt { number, why });
-                Ok(())
-            }
+            LineBad::Field | LineBad::Number | LineBad::Kind | LineBad::Hex | LineBad::MomentBack =>
+                {
+                    self.bad = Some(BadAt { number, why });
+                    Ok(())
+                }
         }
     }
 }
