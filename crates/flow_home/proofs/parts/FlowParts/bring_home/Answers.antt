@@ -1,0 +1,17 @@
+use Rattle.std.proofs.Common.{refl}
+use base.Stored.{coded_list}
+use Rattle.flow_home.proofs.Laid.{home_all}
+use Rattle.flow_home.proofs.parts.FlowParts.bring_home.Goals as goal
+
+pub invariant_of-self : goal.invariant_of-self
+invariant_of-self g c =
+    let emptied = c.requires.closed.2 in
+    record {
+      laid = home_all g.H.Flow.name g.H.Flow.slot_at g.H.Flow.item_slot g.H.Flow.handled _ _ _ (coded_list g.row.H-Item.coded) _ _ _ _
+          c.requires.closed.0 c.requires.empty.1 c.requires.closed.1 c.requires.closed.2 c.args.self.now.laid c.bring_home.result _ _
+          (record { item = refl; left = refl; waiting = refl }) refl
+          (record { item = emptied.item; left = emptied.left; held = emptied.held; waiting = emptied.waiting })
+          c.bring_home.ensures.ok c.bring_home.ensures.err;
+      slots = c.args.self.now.slots;
+      ends_of = c.args.self.now.ends_of;
+    }

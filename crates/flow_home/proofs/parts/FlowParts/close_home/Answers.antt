@@ -1,0 +1,11 @@
+use Rattle.std.proofs.Common.{refl}
+use Rattle.flow_home.proofs.Laid.{closed_home}
+use Rattle.flow_home.proofs.parts.FlowParts.close_home.Goals as goal
+
+pub invariant_of-self : goal.invariant_of-self
+invariant_of-self g c = record {
+  laid = closed_home g.H.Flow.name g.H.Flow.slot_at g.H.Flow.item_slot g.H.Flow.handled _ _ _ _ _ _ _ _ _ c.requires
+      (record { item = refl; left = refl; waiting = refl }) refl refl c.close_home.ensures.rest c.args.self.now.laid;
+  slots = c.args.self.now.slots;
+  ends_of = c.args.self.now.ends_of;
+}

@@ -1,0 +1,55 @@
+use Rattle.std.proofs.Common.{rules, ◌≡◌, ◌∙◌, [], ◌∷◌, ◌++◌, refl, sym, ap}
+use Rattle.std.specs.Prelude.{reverse}
+use Rattle.std.specs.List.{sum_by}
+use Rattle.std.specs.Option.{option_to_list, is_some}
+use Rattle.std.proofs.lemmas.List.{reverse-reverse}
+use base.Stored.{coded_list}
+use Rattle.lane_core.specs.Ends.{sent, taken}
+use Rattle.worker_core.specs.Names.{weight}
+use Rattle.flow_core.specs.Orders.{halves_in, now_of, gone_of}
+use Rattle.flow_core.specs.Workers.{desk_lanes, end_lanes}
+use Rattle.gather_home.proofs.Wholes.{lasts_same}
+use Rattle.flow_home.proofs.Laid.{closes_all, lawful_by}
+use Rattle.flow_home.proofs.parts.FlowParts.close_orders.Goals as goal
+
+pub invariant_of-self : goal.invariant_of-self
+invariant_of-self g c =
+    let parts = c.args.self.now in
+    let laws = g.met.H.Flow g.world.𝓛 g.world.𝓜 g.world.𝓡 ((λ s x. x), (λ x. x), (λ x. x), λ x. x) in
+    let last : c.args.self.now.desks.items ≡ c.pop.new.self.items ++ c.in-Some.desk ∷ [] = search rules in
+    let final : c.args.self.now.ends.items ≡ c.pop-2.new.self.items ++ c.in-Some-pop.end ∷ [] = search rules in
+    let turned : reverse c.reversed.result.items ≡ c.in-Ok.left.items = ap reverse c.reversed.ensures ∙ reverse-reverse c.in-Ok.left.items in
+    record {
+      laid = closes_all g.H.Flow.name g.H.Flow.slot_at g.H.Flow.item_slot g.H.Flow.handled (coded_list g.row.H-Item.coded)
+          parts.admitted.value.items parts.places.items parts.aside.items parts.hand
+          (record {
+            found = c.args.self.now.hand.found;
+            lefts = c.args.self.now.hand.lefts;
+            item = c.in-Some-pop.end.kept;
+            left = c.reversed.result;
+            held = c.in-Some-pop.end.held;
+            waiting = c.in-Some-pop.end.waiting;
+          }) parts.opened parts.desks.items c.pop.new.self.items c.in-Some.desk parts.homes.items
+          (taken c.in-Some-pop.end.orders) c.in-Ok.left.items (sent c.in-Some-pop.end.home)
+          c.requires.empty.1 last c.requires.empty.0 refl refl c.in-Ok.ensures.rest turned
+          (lawful_by g.H.FlowKind.slot_of_half (λ half. g.H.Flow.slot_at (g.H.Flow.name half)) g.H.FlowKind.slot_of_item g.H.Flow.item_slot
+          laws.half_slots laws.item_slots (sent c.in-Some.desk.orders) c.in-Ok.ensures.lawful)
+          c.in-Some-pop.end.names c.in-Some-pop.end.holds c.in-Some-pop.end.sends c.in-Some-pop.end.stands parts.laid;
+      slots = parts.slots;
+      ends_of = (lasts_same end_lanes desk_lanes c.args.self.now.ends.items c.pop-2.new.self.items c.in-Some-pop.end
+          c.args.self.now.desks.items c.pop.new.self.items c.in-Some.desk final last c.args.self.now.ends_of).0;
+    }
+
+pub invariant_of-push_reserved : goal.invariant_of-push_reserved
+invariant_of-push_reserved g c =
+    let was = c.in-Some-pop.end in
+    let same : taken c.in-Err.ends.rx ≡ taken c.in-Some-pop.end.orders = ap taken c.in-Err.ensures.kept.1 in
+    record {
+      names = λ h. ap (λ l. weight g.H.Flow.name h (halves_in l)) same ∙ was.names h;
+      holds = λ s h. was.holds s h
+          ∙ ap (λ l. sum_by h (option_to_list (now_of (λ half. g.H.Flow.slot_at (g.H.Flow.name half)) g.H.Flow.item_slot g.H.Flow.handled s l))) (sym same);
+      sends = λ s f. was.sends s f
+          ∙ ap (λ l. f (gone_of (λ half. g.H.Flow.slot_at (g.H.Flow.name half)) g.H.Flow.item_slot g.H.Flow.handled s l)) (sym same);
+      stands = λ x is. ap (λ l. is_some (now_of (λ half. g.H.Flow.slot_at (g.H.Flow.name half)) g.H.Flow.item_slot g.H.Flow.handled
+          (g.H.Flow.item_slot x) l)) same ∙ was.stands x is;
+    }

@@ -1,0 +1,27 @@
+use Rattle.std.proofs.Common.{rules, ◌≡◌, refl, sym, subst}
+use Rattle.std.specs.Prelude.{None}
+use Rattle.flow_migration.specs.Places.{names_of}
+use Rattle.flow_migration.specs.Sides.{BySlot}
+use Rattle.flow_home.proofs.Laid.{begins_all}
+use Rattle.flow_home.proofs.parts.FlowParts.new.Goals as goal
+
+pub invariant_of-result : goal.invariant_of-result
+invariant_of-result g c =
+    let side = c.args.side in
+    let same : c.of-admitted.result.value.items ≡ c.args.side.places.items = search rules in
+    record {
+      laid = begins_all g.H.Flow.name g.H.Flow.slot_at g.H.Flow.item_slot g.H.Flow.handled c.of-admitted.result.value.items
+          side.places.items side.aside.items
+          (record { found = c.new.result; lefts = c.new-2.result; item = None; left = c.new-3.result; held = c.new-4.result; waiting = None })
+          side.desks.items c.new-5.result.items same c.new-5.ensures.items
+          (record {
+            found = c.new.ensures.items;
+            lefts = c.new-2.ensures.items;
+            item = refl;
+            left = c.new-3.ensures.items;
+            held = c.new-4.ensures.items;
+            waiting = refl;
+          }) side.known side.balanced;
+      slots = subst (λ l. BySlot g.H.Flow.slot_at (names_of g.H.Flow.name l)) (sym same) side.slots;
+      ends_of = c.requires;
+    }

@@ -1,0 +1,4 @@
+pub mod Homecomings
+pub mod Lefts
+pub mod Steps
+pub mod Words

@@ -1,0 +1,281 @@
+//! What is left of a side and its workers, until each half is home.
+ghost use Rattle.std.specs.Prelude.{◌≡◌, ◌≤◌, ◌<◌, ◌+◌, ◌++◌, ℕ, [], None, Some, length, map, reverse, vec_len, All, OnOk, OnErr, IfOk, IfErr};
+ghost use Rattle.gather_home.specs.Homecomings.{somes};
+ghost use Rattle.flow_migration.specs.Places.{names_of};
+ghost use Rattle.flow_migration.specs.Sides.{BySlot};
+ghost use Rattle.flow_home.specs.Homecomings.{AreEnds, AtSlots, ComeToAccepted, AllLaid, AreHome, IsEmptied};
+
+use crate::hand::Hand;
+use crate::home::Home;
+use crate::home_lane::HomeLane;
+use crate::steps;
+use flow_core::{Flow, FlowDesk, FlowEnd};
+use flow_migration::{FlowEnded, FlowPlace, HalfAside};
+use lane_core::NoMemory;
+use std::alloc::Global;
+use std::snapshot::Snapshot;
+use std::sync::Wait;
+
+/// What is left of a side and its workers after want of memory. No half and no item is lost.
+#[derive(Drop)]
+pub struct FlowParts<H: Flow> {
+    alloc: Global,
+    /// The places as they were when the side stopped, for clauses alone.
+    admitted: Snapshot<Vec<Option<FlowPlace<H>>>>,
+    /// Those that were not looked at yet.
+    places: Vec<Option<FlowPlace<H>>>,
+    aside: Vec<HalfAside<H>>,
+    hand: Hand<H>,
+    /// The lane home of the worker whose lane of orders was closed last.
+    opened: Option<HomeLane<H>>,
+    desks: Vec<FlowDesk<H>>,
+    ends: Vec<FlowEnd<H>>,
+    homes: Vec<Home<H>>,
+    ghost laid: { AllLaid H.name H.slot_at H.item_slot H.handled admitted.value.items places.items aside.items hand opened desks.items homes.items },
+    ghost slots: { BySlot H.slot_at (names_of H.name admitted.value.items) },
+    ghost ends_of: { AreEnds desks.items ends.items },
+}
+
+impl<H: Flow> FlowParts<H> {
+    ghost use Rattle.flow_home.specs.Words.{admitted_of, AreClosed};
+
+    pub(crate) fn new(alloc: Global, side: FlowEnded<H>, ends: Vec<FlowEnd<H>>) -> FlowParts<H>
+        requires { AreEnds side.desks.items ends.items }
+        ensures { admitted_of result ≡ side.places.items }
+    {
+        let FlowEnded {
+            desks,
+            places,
+            aside,
+        } = side;
+        let admitted = Snapshot::of(&places);
+        let hand = Hand {
+            found: Vec::new(alloc),
+            lefts: Vec::new(alloc),
+            item: None,
+            left: Vec::new(alloc),
+            held: Vec::new(alloc),
+            waiting: None,
+        };
+        FlowParts {
+            alloc,
+            admitted,
+            places,
+            aside,
+            hand,
+            opened: None,
+            desks,
+            ends,
+            homes: Vec::new(alloc),
+        }
+    }
+
+    /// Goes on where memory was wanting.
+    pub fn again<R: Wait>(mut self, rt: &R) -> Result<Vec<Home<H>>, FlowParts<H>>
+        ensures home { IfOk result (λ homes. map (λ home. H.name home.half) homes.items
+            ≡ somes (names_of H.name (admitted_of self))) }
+        ensures each { IfOk result (λ homes. AtSlots H.name H.slot_at (admitted_of self) homes.items) }
+        ensures items { IfOk result (λ homes. ComeToAccepted H.name H.slot_at H.handled (admitted_of self) homes.items) }
+        ensures parts { IfErr result (λ parts. admitted_of parts ≡ admitted_of self) }
+    {
+        match self.collect(rt) {
+            Ok(()) => Ok(self.sorted()),
+            Err(_) => Err(self),
+        }
+    }
+
+    // The halves by slot, once all are home.
+    fn sorted(self) -> Vec<Home<H>>
+        requires { AreHome H.name H.slot_at H.handled (admitted_of self) self.homes.items }
+        ensures home { map (λ home. H.name home.half) result.items ≡ somes (names_of H.name (admitted_of self)) }
+        ensures each { AtSlots H.name H.slot_at (admitted_of self) result.items }
+        ensures items { ComeToAccepted H.name H.slot_at H.handled (admitted_of self) result.items }
+    {
+        let FlowParts { mut homes, .. } = self;
+        steps::sort(&mut homes);
+        homes
+    }
+
+    // Brings all halves and all items home: first what the lanes have, and then what is at the front.
+    fn collect<R: Wait>(&mut self, rt: &R) -> Result<(), NoMemory>
+        ensures same { admitted_of self.new ≡ admitted_of self.old }
+        ensures home { OnOk result (AreHome H.name H.slot_at H.handled (admitted_of self.new) self.new.homes.items) }
+    {
+        self.close_all(rt)?;
+        self.take_asides()?;
+        self.take_places()?;
+        self.bring_all()
+    }
+
+    // Closes all lanes.
+    fn close_all<R: Wait>(&mut self, rt: &R) -> Result<(), NoMemory>
+        ensures same { admitted_of self.new ≡ admitted_of self.old }
+        ensures closed { OnOk result (AreClosed self.new) }
+    {
+        self.empty_out()?;
+        self.close_home(rt)?;
+        self.empty_out()?;
+        for _ in 0..self.desks.len() {
+            self.close_slice(rt)?;
+        }
+        Ok(())
+    }
+
+    // Closes the lanes of the last slice.
+    fn close_slice<R: Wait>(&mut self, rt: &R) -> Result<(), NoMemory>
+        requires some { 0 < vec_len self.old.desks }
+        requires empty { IsEmptied self.old.hand × (self.old.opened ≡ None) }
+        ensures same { admitted_of self.new ≡ admitted_of self.old }
+        ensures one { OnOk result (vec_len self.new.desks + 1 ≡ vec_len self.old.desks) }
+        ensures empty { OnOk result (IsEmptied self.new.hand × (self.new.opened ≡ None)) }
+    {
+        self.close_orders(rt)?;
+        self.empty_out()?;
+        self.close_home(rt)?;
+        self.empty_out()
+    }
+
+    // What is in hand is found.
+    fn empty_out(&mut self) -> Result<(), NoMemory>
+        ensures same { admitted_of self.new ≡ admitted_of self.old }
+        ensures desks { vec_len self.new.desks ≡ vec_len self.old.desks }
+        ensures opened { self.new.opened ≡ self.old.opened }
+        ensures empty { OnOk result (IsEmptied self.new.hand) }
+    {
+        steps::empty_out(self.alloc, &mut self.hand)
+    }
+
+    // Closes the lane home that is open.
+    fn close_home<R: Wait>(&mut self, rt: &R) -> Result<(), NoMemory>
+        requires { IsEmptied self.old.hand }
+        ensures same { admitted_of self.new ≡ admitted_of self.old }
+        ensures desks { vec_len self.new.desks ≡ vec_len self.old.desks }
+        ensures closed { OnOk result (self.new.opened ≡ None) }
+    {
+        steps::close_home(rt, self.alloc, &mut self.opened, &mut self.hand.held)
+    }
+
+    // Closes the lane of orders of the last slice.
+    fn close_orders<R: Wait>(&mut self, rt: &R) -> Result<(), NoMemory>
+        requires some { 0 < vec_len self.old.desks }
+        requires empty { IsEmptied self.old.hand × (self.old.opened ≡ None) }
+        ensures same { admitted_of self.new ≡ admitted_of self.old }
+        ensures one { OnOk result (vec_len self.new.desks + 1 ≡ vec_len self.old.desks) }
+    {
+        let Some(desk) = self.desks.pop() else {
+            unreachable!()
+        };
+        let Some(end) = self.ends.pop() else {
+            unreachable!()
+        };
+        let FlowDesk { orders, home } = desk;
+        let FlowEnd {
+            place,
+            held,
+            waiting,
+            kept,
+            orders: taking,
+            home: sending,
+        } = end;
+        match lane_core::close(rt, self.alloc, orders, taking) {
+            Ok(left) => {
+                self.hand.item = kept;
+                self.hand.left = steps::reversed(left);
+                self.hand.held = held;
+                self.hand.waiting = waiting;
+                self.opened = Some(HomeLane {
+                    tx: sending,
+                    rx: home,
+                });
+                Ok(())
+            }
+            Err(ends) => {
+                self.desks.push_reserved(FlowDesk {
+                    orders: ends.tx,
+                    home,
+                });
+                self.ends.push_reserved(FlowEnd {
+                    place,
+                    held,
+                    waiting,
+                    kept,
+                    orders: ends.rx,
+                    home: sending,
+                });
+                Err(NoMemory)
+            }
+        }
+    }
+
+    // The halves that were kept aside are found.
+    fn take_asides(&mut self) -> Result<(), NoMemory>
+        requires { AreClosed self.old }
+        ensures same { admitted_of self.new ≡ admitted_of self.old }
+        ensures closed { AreClosed self.new }
+        ensures empty { OnOk result (self.new.aside.items ≡ []) }
+    {
+        steps::take_asides(&mut self.aside, &mut self.hand.found)
+    }
+
+    // The halves at the front are found, and the items of all queues.
+    fn take_places(&mut self) -> Result<(), NoMemory>
+        requires { AreClosed self.old }
+        ensures same { admitted_of self.new ≡ admitted_of self.old }
+        ensures closed { AreClosed self.new }
+        ensures aside { self.new.aside ≡ self.old.aside }
+        ensures empty { OnOk result (self.new.places.items ≡ []) }
+    {
+        for _ in 0..self.places.len() {
+            self.take_place()?;
+        }
+        Ok(())
+    }
+
+    // The last place.
+    fn take_place(&mut self) -> Result<(), NoMemory>
+        requires some { 0 < vec_len self.old.places }
+        requires closed { AreClosed self.old }
+        ensures same { admitted_of self.new ≡ admitted_of self.old }
+        ensures closed { AreClosed self.new }
+        ensures aside { self.new.aside ≡ self.old.aside }
+        ensures one { OnOk result (vec_len self.new.places + 1 ≡ vec_len self.old.places) }
+    {
+        steps::take_place(
+            self.alloc,
+            &mut self.places,
+            &mut self.hand.lefts,
+            &mut self.hand.found,
+        )
+    }
+
+    // All halves that are found come home.
+    fn bring_all(&mut self) -> Result<(), NoMemory>
+        requires closed { AreClosed self.old }
+        requires empty { (self.old.aside.items ≡ []) × (self.old.places.items ≡ []) }
+        ensures same { admitted_of self.new ≡ admitted_of self.old }
+        ensures home { OnOk result (AreHome H.name H.slot_at H.handled (admitted_of self.new) self.new.homes.items) }
+    {
+        for _ in 0..self.hand.found.len() {
+            self.bring_home()?;
+        }
+        Ok(())
+    }
+
+    // The half that was found last comes home.
+    fn bring_home(&mut self) -> Result<(), NoMemory>
+        requires some { 0 < vec_len self.old.hand.found }
+        requires closed { AreClosed self.old }
+        requires empty { (self.old.aside.items ≡ []) × (self.old.places.items ≡ []) }
+        ensures same { admitted_of self.new ≡ admitted_of self.old }
+        ensures closed { AreClosed self.new }
+        ensures empty { (self.new.aside.items ≡ []) × (self.new.places.items ≡ []) }
+        ensures one { OnOk result (vec_len self.new.hand.found + 1 ≡ vec_len self.old.hand.found) }
+    {
+        steps::bring_home(
+            self.alloc,
+            &mut self.hand.found,
+            &mut self.hand.lefts,
+            &mut self.homes,
+        )
+    }
+}
