@@ -103,29 +103,34 @@ module _ {H I : Type 0} (slot : H → ℕ) (item_slot : I → ℕ) (handled : H 
   fronts_here places desks aside known g s =
       sum_here (front_at (on slot s g)) (front_at g) s 0 places s (omega arith) refl
       (λ k. ∥∥₁_elim (known k) (Coded-set coded_ℕ _ _) (λ tells.
-      subst (λ (n : ℕ). front_at (on slot s g) (place_at places k) ≡ cond (nat_eq n s) (front_at g (place_at places k)) 0)
+      subst (λ (n : ℕ). front_at (on slot s g) (place_at places k)
+          ≡ cond (nat_eq n s) (front_at g (place_at places k)) 0)
       (let e : k ≡ 0 + k = omega arith in e) (front_own g k s (place_at places k) tells.half tells.is)))
 
   front_sum : (h : List I → ℕ) (place : Option (FlowPlace H I))
       → front_at (λ half. h (handled half)) place ≡ sum_by h (front_lists_at handled place)
   front_sum h None = refl
   front_sum h (Some place) = state_sum place.state where
-    state_sum : (state : FlowState H) → front_weight (λ half. h (handled half)) state ≡ sum_by h (front_lists handled state)
+    state_sum : (state : FlowState H) → front_weight (λ half. h (handled half)) state
+        ≡ sum_by h (front_lists handled state)
     state_sum (Front half to) = omega arith
     state_sum (Placed at) = refl
     state_sum (Recall at to) = refl
     state_sum (Leaving from to) = refl
 
   -- none is aside from a slice that isn't there
-  none_aside : (s n : ℕ) (g : H → ℕ) (aside : List (HalfAside H)) → ((d : ℕ) → n ≤ d → asides_of slot handled s aside d ≡ [])
+  none_aside : (s n : ℕ) (g : H → ℕ) (aside : List (HalfAside H)) → ((d : ℕ) → n ≤ d → asides_of slot handled s aside d
+      ≡ [])
       → aside_sum n (on slot s g) aside ≡ 0
   none_aside s n g [] none = refl
   none_aside s n g (kept ∷ aside) none =
       let f : HalfAside H → ℕ = λ x. cond (nat_lt x.slice n) 0 (on slot s g x.half) in
       let a = sum_by-cons f kept aside in
-      elim (nat_eq (slot kept.half) s) as (λ b. nat_eq (slot kept.half) s ≡ b → aside_sum n (on slot s g) (kept ∷ aside) ≡ 0) [
+      elim (nat_eq (slot kept.half) s) as (λ b. nat_eq (slot kept.half) s ≡ b
+          → aside_sum n (on slot s g) (kept ∷ aside) ≡ 0) [
         | true ↦ λ e.
-            elim (nat_lt kept.slice n) as (λ b. nat_lt kept.slice n ≡ b → aside_sum n (on slot s g) (kept ∷ aside) ≡ 0) [
+            elim (nat_lt kept.slice n) as (λ b. nat_lt kept.slice n ≡ b → aside_sum n (on slot s g) (kept ∷ aside)
+                ≡ 0) [
               | true ↦ λ low.
                   let b : f kept ≡ 0 = ap (λ t. cond t 0 (on slot s g kept.half)) low in
                   let c = none_aside s n g aside (λ d past. tail d (none d past)) in omega arith
@@ -134,15 +139,19 @@ module _ {H I : Type 0} (slot : H → ℕ) (item_slot : I → ℕ) (handled : H 
                   let b = ap length (sym (there e) ∙ none kept.slice past) in omega arith)
             ] refl
         | false ↦ λ e.
-            let b : f kept ≡ 0 = ap (λ t. cond (nat_lt kept.slice n) 0 (cond t (g kept.half) 0)) e ∙ nothing (nat_lt kept.slice n) in
+            let b : f kept ≡ 0 = ap (λ t. cond (nat_lt kept.slice n) 0 (cond t (g kept.half) 0)) e
+                ∙ nothing (nat_lt kept.slice n) in
             let c = none_aside s n g aside (λ d past. sym (others d e) ∙ none d past) in omega arith
       ] refl where
         there : nat_eq (slot kept.half) s ≡ true
-            → asides_of slot handled s (kept ∷ aside) kept.slice ≡ handled kept.half ∷ asides_of slot handled s aside kept.slice
+            → asides_of slot handled s (kept ∷ aside) kept.slice
+                ≡ handled kept.half ∷ asides_of slot handled s aside kept.slice
         there e =
-            ap (λ b. cond b (cond (nat_eq kept.slice kept.slice) (handled kept.half ∷ asides_of slot handled s aside kept.slice)
+            ap (λ b. cond b (cond (nat_eq kept.slice kept.slice)
+                (handled kept.half ∷ asides_of slot handled s aside kept.slice)
             (asides_of slot handled s aside kept.slice)) (asides_of slot handled s aside kept.slice)) e
-            ∙ ap (λ b. cond b (handled kept.half ∷ asides_of slot handled s aside kept.slice) (asides_of slot handled s aside kept.slice))
+            ∙ ap (λ b. cond b (handled kept.half ∷ asides_of slot handled s aside kept.slice)
+                (asides_of slot handled s aside kept.slice))
             (eq-eqb kept.slice kept.slice refl)
 
         others : (d : ℕ) → nat_eq (slot kept.half) s ≡ false
@@ -153,8 +162,10 @@ module _ {H I : Type 0} (slot : H → ℕ) (item_slot : I → ℕ) (handled : H 
 
         tail : (d : ℕ) → asides_of slot handled s (kept ∷ aside) d ≡ [] → asides_of slot handled s aside d ≡ []
         tail d =
-            elim (nat_eq (slot kept.half) s) as (λ b. cond b (cond (nat_eq kept.slice d) (handled kept.half ∷ asides_of slot handled s aside d)
-            (asides_of slot handled s aside d)) (asides_of slot handled s aside d) ≡ [] → asides_of slot handled s aside d ≡ []) [
+            elim (nat_eq (slot kept.half) s) as
+                (λ b. cond b (cond (nat_eq kept.slice d) (handled kept.half ∷ asides_of slot handled s aside d)
+            (asides_of slot handled s aside d)) (asides_of slot handled s aside d) ≡ []
+                → asides_of slot handled s aside d ≡ []) [
               | true ↦ elim (nat_eq kept.slice d) as (λ b. cond b (handled kept.half ∷ asides_of slot handled s aside d)
                   (asides_of slot handled s aside d) ≡ [] → asides_of slot handled s aside d ≡ []) [
                     | true ↦ λ some. absurd (let c = ap length some in omega arith)
@@ -167,7 +178,8 @@ module _ {H I : Type 0} (slot : H → ℕ) (item_slot : I → ℕ) (handled : H 
   module _ (s : ℕ) (desks : List (FlowDesk H I)) (aside : List (HalfAside H)) (stays : List (Stay I)) (half : Where I)
       (gone : (d : ℕ) → gone_of slot item_slot handled s (sent_at desks d) ≡ reaches d stays ++ away_at d half)
       (now : (d : ℕ) → now_of slot item_slot handled s (sent_at desks d) ≡ now_at d half)
-      (back : (d : ℕ) → lists_of slot handled s (home_at desks d) ≡ backs d stays ++ asides_of slot handled s aside d) where
+      (back : (d : ℕ) → lists_of slot handled s (home_at desks d) ≡ backs d stays
+          ++ asides_of slot handled s aside d) where
     sent_past : (d : ℕ) → length desks ≤ d → sent_at desks d ≡ []
     sent_past d past = none_past (λ (desk : FlowDesk H I). sent desk.orders) desks d past
 
@@ -189,7 +201,8 @@ module _ {H I : Type 0} (slot : H → ℕ) (item_slot : I → ℕ) (handled : H 
     asides_past d past = right_nil (backs d stays) (asides_of slot handled s aside d) (back_past d past)
 
     elsewhere : (at : ℕ) (l : List I) → (length desks ≤ at → ⊥) → cond (nat_lt at (length desks)) [] (l ∷ []) ≡ []
-    elsewhere at l apart = elim (nat_lt at (length desks)) as (λ b. nat_lt at (length desks) ≡ b → cond b [] (l ∷ []) ≡ []) [
+    elsewhere at l apart = elim (nat_lt at (length desks)) as (λ b. nat_lt at (length desks) ≡ b → cond b [] (l ∷ [])
+        ≡ []) [
       | true ↦ λ e. refl
       | false ↦ λ e. absurd (apart (ltb-false at (length desks) e))
     ] refl
@@ -209,7 +222,8 @@ module _ {H I : Type 0} (slot : H → ℕ) (item_slot : I → ℕ) (handled : H 
 
 -- what is known as nothing is found yet
 module _ {H N I : Type 0} (name : H → N) (slot_at : N → ℕ) (item_slot : I → ℕ) (handled : H → List I)
-    (places : List (Option (FlowPlace H I))) (aside : List (HalfAside H)) (desks : List (FlowDesk H I)) (hand : Hand H I)
+    (places : List (Option (FlowPlace H I))) (aside : List (HalfAside H)) (desks : List (FlowDesk H I))
+        (hand : Hand H I)
     (new : IsNew hand) where
   abbrev slot : H → ℕ
   slot half = slot_at (name half)
@@ -219,14 +233,16 @@ module _ {H N I : Type 0} (name : H → N) (slot_at : N → ℕ) (item_slot : I 
       let a = ap (sum_by f) new.found in
       let b = ap (sum_by f) new.held in
       let c = ap (λ o. sum_by f (option_to_list o)) new.waiting in
-      let d : sum_by f (halves_in (reverse hand.left.items)) ≡ 0 = ap (λ l. sum_by f (halves_in (reverse l))) new.left in omega arith
+      let d : sum_by f (halves_in (reverse hand.left.items))
+          ≡ 0 = ap (λ l. sum_by f (halves_in (reverse l))) new.left in omega arith
 
   rest_new : (s : ℕ) → rest_at item_slot s places hand ≡ queue_at (place_at places s)
   rest_new s = λ i.
       ((lefts_at (new.lefts i) s ++ kept_in item_slot s (new.item i)) ++ items_in item_slot s (reverse (new.left i)))
       ++ queue_at (place_at places s)
 
-  begin_slot : AllKnown slot item_slot handled places desks aside → (s : ℕ) → Tells slot item_slot handled s (place_at places s) desks aside
+  begin_slot : AllKnown slot item_slot handled places desks aside → (s : ℕ)
+      → Tells slot item_slot handled s (place_at places s) desks aside
       → SlotLeft slot item_slot handled s places places aside hand [] desks []
   begin_slot known s tells =
       let knows = tells.knows in
@@ -239,7 +255,8 @@ module _ {H N I : Type 0} (name : H → N) (slot_at : N → ℕ) (item_slot : I 
         gone = λ d within. knows.gone d;
         now = λ d within. knows.now d;
         back = λ d within. knows.back d;
-        closed = closed_past slot item_slot handled s desks aside tells.stays tells.half knows.gone knows.now knows.back;
+        closed = closed_past slot item_slot handled s desks aside tells.stays tells.half knows.gone knows.now
+            knows.back;
         lists = front_lists_at handled (place_at places s);
         met = λ h.
             let g : H → ℕ = λ half. h (handled half) in
@@ -251,7 +268,8 @@ module _ {H N I : Type 0} (name : H → N) (slot_at : N → ℕ) (item_slot : I 
         come = λ h.
             let q : List I = queue_at (place_at places s) in
             let none : met_from (length desks) tells.half ≡ [] =
-            none_met slot item_slot handled s desks aside tells.stays tells.half knows.gone knows.now knows.back tells.half refl in
+            none_met slot item_slot handled s desks aside tells.stays tells.half knows.gone knows.now knows.back
+                tells.half refl in
             let a : sum_by (λ l. h (l ++ rest_at item_slot s places hand)) (front_lists_at handled (place_at places s))
             ≡ sum_by (λ l. h (l ++ q)) (front_lists_at handled (place_at places s)) =
             ap (λ r. sum_by (λ l. h (l ++ r)) (front_lists_at handled (place_at places s))) (rest_new s) in

@@ -38,18 +38,24 @@ module _ {H I : Type 0} (slot : H → ℕ) (item_slot : I → ℕ) (handled : H 
   LawFrom now [] = Unit {0}
   LawFrom now (order ∷ orders) = May now order × LawFrom (next now order) orders
 
-  may_from : (came : List (FlowOrder H I)) (order : FlowOrder H I) → MayFollow slot item_slot came order → May (now_of slot item_slot handled s came) order
-  may_from came (Arrive half) law = λ is. standing slot item_slot handled s came ∙ ap (λ n. stands slot item_slot n came) (sym (eqb-true (slot half) s is)) ∙ law
-  may_from came (Item x) law = λ is. standing slot item_slot handled s came ∙ ap (λ n. stands slot item_slot n came) (sym (eqb-true (item_slot x) s is)) ∙ law
-  may_from came (Leave t) law = λ is. standing slot item_slot handled s came ∙ ap (λ n. stands slot item_slot n came) (sym (eqb-true t s is)) ∙ law
+  may_from : (came : List (FlowOrder H I)) (order : FlowOrder H I) → MayFollow slot item_slot came order
+      → May (now_of slot item_slot handled s came) order
+  may_from came (Arrive half) law = λ is. standing slot item_slot handled s came
+      ∙ ap (λ n. stands slot item_slot n came) (sym (eqb-true (slot half) s is)) ∙ law
+  may_from came (Item x) law = λ is. standing slot item_slot handled s came
+      ∙ ap (λ n. stands slot item_slot n came) (sym (eqb-true (item_slot x) s is)) ∙ law
+  may_from came (Leave t) law = λ is. standing slot item_slot handled s came
+      ∙ ap (λ n. stands slot item_slot n came) (sym (eqb-true t s is)) ∙ law
 
   -- what follows lawfully follows what was taken
-  pub law_from : (came left : List (FlowOrder H I)) → Lawful (MayFollow slot item_slot) (came ++ left) → LawFrom (now_of slot item_slot handled s came) left
+  pub law_from : (came left : List (FlowOrder H I)) → Lawful (MayFollow slot item_slot) (came ++ left)
+      → LawFrom (now_of slot item_slot handled s came) left
   law_from came [] law = tt
   law_from came (order ∷ left) law = (
     may_from came order (law came order left refl),
     subst (λ (o : Option (List I)). LawFrom o left) (now_last slot item_slot handled s came order)
-        (law_from (came ++ order ∷ []) left (subst (Lawful (MayFollow slot item_slot)) (sym (append_assoc came (order ∷ []) left)) law)),
+        (law_from (came ++ order ∷ []) left (subst (Lawful (MayFollow slot item_slot))
+            (sym (append_assoc came (order ∷ []) left)) law)),
   )
 
   abbrev one : {A : Type 0} → A → ℕ
@@ -63,25 +69,29 @@ module _ {H I : Type 0} (slot : H → ℕ) (item_slot : I → ℕ) (handled : H 
   none_one None none = refl
   none_one (Some l) none = absurd (true≢false none)
 
-  more_one : (now : Option (List I)) (x : I) → sum_by one (option_to_list (more now x)) ≡ sum_by one (option_to_list now)
+  more_one : (now : Option (List I)) (x : I) → sum_by one (option_to_list (more now x))
+      ≡ sum_by one (option_to_list now)
   more_one None x = refl
   more_one (Some l) x = refl
 
   -- halves that stand there or come leave or stand there at the end
   pub conserved : (now : Option (List I)) (left : List (FlowOrder H I)) → LawFrom now left
       → sum_by one (option_to_list now) + count slot s (halves_in left)
-      ≡ sum_by one (gone_from slot item_slot handled s now left) + sum_by one (option_to_list (now_from slot item_slot handled s now left))
+      ≡ sum_by one (gone_from slot item_slot handled s now left)
+          + sum_by one (option_to_list (now_from slot item_slot handled s now left))
   conserved now [] law = omega arith
   conserved now (Arrive half ∷ left) law =
       let c = sum_by-cons (on slot s one) half (halves_in left) in
       let later = conserved (next now (Arrive half)) left law.1 in
-      elim (nat_eq (slot half) s) as (λ b. nat_eq (slot half) s ≡ b → sum_by one (option_to_list now) + count slot s (half ∷ halves_in left)
+      elim (nat_eq (slot half) s) as (λ b. nat_eq (slot half) s ≡ b → sum_by one (option_to_list now)
+          + count slot s (half ∷ halves_in left)
       ≡ sum_by one (gone_from slot item_slot handled s (next now (Arrive half)) left)
       + sum_by one (option_to_list (now_from slot item_slot handled s (next now (Arrive half)) left))) [
         | true ↦ λ e.
             let a = none_one now (law.0 e) in
             let b : on slot s one half ≡ 1 = ap (λ t. cond t 1 0) e in
-            let d : sum_by one (option_to_list (next now (Arrive half))) ≡ 1 = ap (λ t. sum_by one (option_to_list (cond t (Some (handled half)) now))) e in
+            let d : sum_by one (option_to_list (next now (Arrive half)))
+                ≡ 1 = ap (λ t. sum_by one (option_to_list (cond t (Some (handled half)) now))) e in
             omega arith
         | false ↦ λ e.
             let b : on slot s one half ≡ 0 = ap (λ t. cond t 1 0) e in
@@ -92,28 +102,34 @@ module _ {H I : Type 0} (slot : H → ℕ) (item_slot : I → ℕ) (handled : H 
   conserved now (Item x ∷ left) law =
       let later = conserved (next now (Item x)) left law.1 in
       let d : sum_by one (option_to_list (next now (Item x))) ≡ sum_by one (option_to_list now) =
-      elim (nat_eq (item_slot x) s) as (λ b. sum_by one (option_to_list (cond b (more now x) now)) ≡ sum_by one (option_to_list now)) [
+      elim (nat_eq (item_slot x) s) as (λ b. sum_by one (option_to_list (cond b (more now x) now))
+          ≡ sum_by one (option_to_list now)) [
         | true ↦ more_one now x
         | false ↦ refl
       ] in omega arith
   conserved now (Leave t ∷ left) law =
       let later = conserved (next now (Leave t)) left law.1 in
-      let g = sum_by-append one (gone_after slot item_slot handled s now (Leave t)) (gone_from slot item_slot handled s (next now (Leave t)) left) in
+      let g = sum_by-append one (gone_after slot item_slot handled s now (Leave t)) (gone_from slot item_slot handled s
+          (next now (Leave t)) left) in
       elim (nat_eq t s) as (λ b. nat_eq t s ≡ b → sum_by one (option_to_list now) + count slot s (halves_in left)
-      ≡ sum_by one (gone_after slot item_slot handled s now (Leave t) ++ gone_from slot item_slot handled s (next now (Leave t)) left)
+      ≡ sum_by one (gone_after slot item_slot handled s now (Leave t)
+          ++ gone_from slot item_slot handled s (next now (Leave t)) left)
       + sum_by one (option_to_list (now_from slot item_slot handled s (next now (Leave t)) left))) [
         | true ↦ λ e.
-            let d : sum_by one (option_to_list (next now (Leave t))) ≡ 0 = ap (λ b. sum_by one (option_to_list (cond {A = Option (List I)} b None now))) e in
+            let d : sum_by one (option_to_list (next now (Leave t)))
+                ≡ 0 = ap (λ b. sum_by one (option_to_list (cond {A = Option (List I)} b None now))) e in
             let f : sum_by one (gone_after slot item_slot handled s now (Leave t)) ≡ sum_by one (option_to_list now) =
             ap (λ b. sum_by one (cond b (option_to_list now) [])) e in omega arith
         | false ↦ λ e.
             let d : sum_by one (option_to_list (next now (Leave t))) ≡ sum_by one (option_to_list now) =
             ap (λ b. sum_by one (option_to_list (cond {A = Option (List I)} b None now))) e in
-            let f : sum_by one (gone_after slot item_slot handled s now (Leave t)) ≡ 0 = ap (λ b. sum_by one (cond b (option_to_list now) [])) e in omega arith
+            let f : sum_by one (gone_after slot item_slot handled s now (Leave t))
+                ≡ 0 = ap (λ b. sum_by one (cond b (option_to_list now) [])) e in omega arith
       ] refl
 
   -- where none stands there and none comes there are no items
-  pub none_left : (left : List (FlowOrder H I)) → LawFrom None left → count slot s (halves_in left) ≡ 0 → items_in item_slot s left ≡ []
+  pub none_left : (left : List (FlowOrder H I)) → LawFrom None left → count slot s (halves_in left) ≡ 0
+      → items_in item_slot s left ≡ []
   none_left [] law none = refl
   none_left (Arrive half ∷ left) law none =
       let c = sum_by-cons (on slot s one) half (halves_in left) in
@@ -121,17 +137,21 @@ module _ {H I : Type 0} (slot : H → ℕ) (item_slot : I → ℕ) (handled : H 
         | true ↦ λ e. absurd (let b : on slot s one half ≡ 1 = ap (λ t. cond t 1 0) e in omega arith)
         | false ↦ λ e.
             let b : on slot s one half ≡ 0 = ap (λ t. cond t 1 0) e in
-            none_left left (subst (λ (o : Option (List I)). LawFrom o left) (ap (λ t. cond t (Some (handled half)) None) e) law.1) (omega arith)
+            none_left left (subst (λ (o : Option (List I)). LawFrom o left)
+                (ap (λ t. cond t (Some (handled half)) None) e) law.1) (omega arith)
       ] refl
   none_left (Item x ∷ left) law none =
-      elim (nat_eq (item_slot x) s) as (λ b. nat_eq (item_slot x) s ≡ b → cond b (x ∷ items_in item_slot s left) (items_in item_slot s left) ≡ []) [
+      elim (nat_eq (item_slot x) s) as (λ b. nat_eq (item_slot x) s ≡ b
+          → cond b (x ∷ items_in item_slot s left) (items_in item_slot s left) ≡ []) [
         | true ↦ λ e. absurd (true≢false (sym (law.0 e)))
-        | false ↦ λ e. none_left left (subst (λ (o : Option (List I)). LawFrom o left) (ap (λ t. cond {A = Option (List I)} t None None) e) law.1) none
+        | false ↦ λ e. none_left left (subst (λ (o : Option (List I)). LawFrom o left)
+            (ap (λ t. cond {A = Option (List I)} t None None) e) law.1) none
       ] refl
   none_left (Leave t ∷ left) law none =
       elim (nat_eq t s) as (λ b. nat_eq t s ≡ b → items_in item_slot s left ≡ []) [
         | true ↦ λ e. absurd (true≢false (sym (law.0 e)))
-        | false ↦ λ e. none_left left (subst (λ (o : Option (List I)). LawFrom o left) (ap (λ b. cond {A = Option (List I)} b None None) e) law.1) none
+        | false ↦ λ e. none_left left (subst (λ (o : Option (List I)). LawFrom o left)
+            (ap (λ b. cond {A = Option (List I)} b None None) e) law.1) none
       ] refl
 
   -- what the halves add up to that stand there or come, once each has what is left
@@ -141,53 +161,66 @@ module _ {H I : Type 0} (slot : H → ℕ) (item_slot : I → ℕ) (handled : H 
 
   -- what those add up to that left, and what stands there at the end
   abbrev at_end : (List I → ℕ) → Option (List I) → List (FlowOrder H I) → ℕ
-  at_end h now left = sum_by h (gone_from slot item_slot handled s now left) + sum_by h (option_to_list (now_from slot item_slot handled s now left))
+  at_end h now left = sum_by h (gone_from slot item_slot handled s now left)
+      + sum_by h (option_to_list (now_from slot item_slot handled s now left))
 
-  none_more : (now : Option (List I)) (h : List I → ℕ) → sum_by (λ l. h (l ++ [])) (option_to_list now) ≡ sum_by h (option_to_list now)
+  none_more : (now : Option (List I)) (h : List I → ℕ) → sum_by (λ l. h (l ++ [])) (option_to_list now)
+      ≡ sum_by h (option_to_list now)
   none_more None h = refl
   none_more (Some l) h = (omega arith) ∙ ap h (append-nil l) ∙ (omega arith)
 
   -- where one half at most is meant, it has all that is left with it
-  pub left_over : (h : List I → ℕ) (now : Option (List I)) (left : List (FlowOrder H I)) → LawFrom now left → at_end one now left ≤ 1
+  pub left_over : (h : List I → ℕ) (now : Option (List I)) (left : List (FlowOrder H I)) → LawFrom now left
+      → at_end one now left ≤ 1
       → with_left h now left ≡ at_end h now left
   left_over h now [] law few = (let a = none_more now h in omega arith)
   left_over h now (Arrive half ∷ left) law few =
       let g : H → ℕ = λ half. h (handled half ++ items_in item_slot s left) in
       let c = sum_by-cons (on slot s g) half (halves_in left) in
       let later = left_over h (next now (Arrive half)) left law.1 few in
-      elim (nat_eq (slot half) s) as (λ b. nat_eq (slot half) s ≡ b → with_left h now (Arrive half ∷ left) ≡ at_end h now (Arrive half ∷ left)) [
+      elim (nat_eq (slot half) s) as (λ b. nat_eq (slot half) s ≡ b → with_left h now (Arrive half ∷ left)
+          ≡ at_end h now (Arrive half ∷ left)) [
         | true ↦ λ e.
             let b : on slot s g half ≡ g half = ap (λ t. cond t (g half) 0) e in
             let a = zero_sum (λ l. h (l ++ items_in item_slot s left)) (option_to_list now) (none_one now (law.0 e)) in
-            let d : sum_by (λ l. h (l ++ items_in item_slot s left)) (option_to_list (next now (Arrive half))) ≡ g half =
-            ap (λ t. sum_by (λ l. h (l ++ items_in item_slot s left)) (option_to_list (cond t (Some (handled half)) now))) e ∙ (omega arith) in omega arith
+            let d : sum_by (λ l. h (l ++ items_in item_slot s left)) (option_to_list (next now (Arrive half)))
+                ≡ g half =
+            ap (λ t. sum_by (λ l. h (l ++ items_in item_slot s left))
+                (option_to_list (cond t (Some (handled half)) now))) e ∙ (omega arith) in omega arith
         | false ↦ λ e.
             let b : on slot s g half ≡ 0 = ap (λ t. cond t (g half) 0) e in
             let d : sum_by (λ l. h (l ++ items_in item_slot s left)) (option_to_list (next now (Arrive half)))
             ≡ sum_by (λ l. h (l ++ items_in item_slot s left)) (option_to_list now) =
-            ap (λ t. sum_by (λ l. h (l ++ items_in item_slot s left)) (option_to_list (cond t (Some (handled half)) now))) e in omega arith
+            ap (λ t. sum_by (λ l. h (l ++ items_in item_slot s left))
+                (option_to_list (cond t (Some (handled half)) now))) e in omega arith
       ] refl
   left_over h now (Item x ∷ left) law few =
       let rest : List I = items_in item_slot s left in
       let later = left_over h (next now (Item x)) left law.1 few in
       elim (nat_eq (item_slot x) s) as (λ b. nat_eq (item_slot x) s ≡ b
-      → sum_by (λ l. h (l ++ cond b (x ∷ rest) rest)) (option_to_list now) + slot_sum slot s (λ half. h (handled half ++ cond b (x ∷ rest) rest)) (halves_in left)
+      → sum_by (λ l. h (l ++ cond b (x ∷ rest) rest)) (option_to_list now)
+          + slot_sum slot s (λ half. h (handled half ++ cond b (x ∷ rest) rest)) (halves_in left)
       ≡ at_end h (next now (Item x)) left) [
         | true ↦ λ e.
             let count_now = conserved (next now (Item x)) left law.1 in
             let same : sum_by one (option_to_list (next now (Item x))) ≡ 1 =
-            ap (λ t. sum_by one (option_to_list (cond t (more now x) now))) e ∙ more_one now x ∙ some_one now (law.0 e) in
+            ap (λ t. sum_by one (option_to_list (cond t (more now x) now))) e ∙ more_one now x
+                ∙ some_one now (law.0 e) in
             let none : count slot s (halves_in left) ≡ 0 = omega arith in
             let a = none_adds slot s (λ half. h (handled half ++ x ∷ rest)) (halves_in left) none in
             let b = none_adds slot s (λ half. h (handled half ++ rest)) (halves_in left) none in
-            let d : sum_by (λ l. h (l ++ rest)) (option_to_list (next now (Item x))) ≡ sum_by (λ l. h (l ++ x ∷ rest)) (option_to_list now) =
-            ap (λ t. sum_by (λ l. h (l ++ rest)) (option_to_list (cond t (more now x) now))) e ∙ moved now x h rest in omega arith
+            let d : sum_by (λ l. h (l ++ rest)) (option_to_list (next now (Item x)))
+                ≡ sum_by (λ l. h (l ++ x ∷ rest)) (option_to_list now) =
+            ap (λ t. sum_by (λ l. h (l ++ rest)) (option_to_list (cond t (more now x) now))) e
+                ∙ moved now x h rest in omega arith
         | false ↦ λ e.
-            let d : sum_by (λ l. h (l ++ rest)) (option_to_list (next now (Item x))) ≡ sum_by (λ l. h (l ++ rest)) (option_to_list now) =
+            let d : sum_by (λ l. h (l ++ rest)) (option_to_list (next now (Item x)))
+                ≡ sum_by (λ l. h (l ++ rest)) (option_to_list now) =
             ap (λ t. sum_by (λ l. h (l ++ rest)) (option_to_list (cond t (more now x) now))) e in omega arith
       ] refl where
         moved : (o : Option (List I)) (x : I) (h : List I → ℕ) (rest : List I)
-            → sum_by (λ l. h (l ++ rest)) (option_to_list (more o x)) ≡ sum_by (λ l. h (l ++ x ∷ rest)) (option_to_list o)
+            → sum_by (λ l. h (l ++ rest)) (option_to_list (more o x))
+                ≡ sum_by (λ l. h (l ++ x ∷ rest)) (option_to_list o)
         moved None x h rest = refl
         moved (Some l) x h rest = (omega arith) ∙ ap h (append_assoc l (x ∷ []) rest) ∙ (omega arith)
   left_over h now (Leave t ∷ left) law few =
@@ -198,21 +231,26 @@ module _ {H I : Type 0} (slot : H → ℕ) (item_slot : I → ℕ) (handled : H 
       let count_now = conserved (next now (Leave t)) left law.1 in
       elim (nat_eq t s) as (λ b. nat_eq t s ≡ b → with_left h now (Leave t ∷ left) ≡ at_end h now (Leave t ∷ left)) [
         | true ↦ λ e.
-            let gone_is : (f : List I → ℕ) → sum_by f (gone_after slot item_slot handled s now (Leave t)) ≡ sum_by f (option_to_list now) =
+            let gone_is : (f : List I → ℕ) → sum_by f (gone_after slot item_slot handled s now (Leave t))
+                ≡ sum_by f (option_to_list now) =
             λ f. ap (λ b. sum_by f (cond b (option_to_list now) [])) e in
             let p = gone_is one in let q = gone_is h in
             let stood = some_one now (law.0 e) in
-            let off : sum_by one (option_to_list (next now (Leave t))) ≡ 0 = ap (λ b. sum_by one (option_to_list (cond {A = Option (List I)} b None now))) e in
+            let off : sum_by one (option_to_list (next now (Leave t)))
+                ≡ 0 = ap (λ b. sum_by one (option_to_list (cond {A = Option (List I)} b None now))) e in
             let none : count slot s (halves_in left) ≡ 0 = omega arith in
             let quiet : rest ≡ [] =
-            none_left left (subst (λ (o : Option (List I)). LawFrom o left) (ap (λ b. cond {A = Option (List I)} b None now) e) law.1) none in
+            none_left left (subst (λ (o : Option (List I)). LawFrom o left)
+                (ap (λ b. cond {A = Option (List I)} b None now) e) law.1) none in
             let a = none_adds slot s (λ half. h (handled half ++ rest)) (halves_in left) none in
             let b : sum_by (λ l. h (l ++ rest)) (option_to_list now) ≡ sum_by h (option_to_list now) =
             ap (λ r. sum_by (λ l. h (l ++ r)) (option_to_list now)) quiet ∙ none_more now h in
             let c = zero_sum h gone (omega arith) in
-            let d = zero_sum h (option_to_list (now_from slot item_slot handled s (next now (Leave t)) left)) (omega arith) in omega arith
+            let d = zero_sum h (option_to_list (now_from slot item_slot handled s (next now (Leave t)) left))
+                (omega arith) in omega arith
         | false ↦ λ e.
-            let same : (f : List I → ℕ) → sum_by f (option_to_list (next now (Leave t))) ≡ sum_by f (option_to_list now) =
+            let same : (f : List I → ℕ) → sum_by f (option_to_list (next now (Leave t)))
+                ≡ sum_by f (option_to_list now) =
             λ f. ap (λ b. sum_by f (option_to_list (cond {A = Option (List I)} b None now))) e in
             let none_gone : (f : List I → ℕ) → sum_by f (gone_after slot item_slot handled s now (Leave t)) ≡ 0 =
             λ f. ap (λ b. sum_by f (cond b (option_to_list now) [])) e in
@@ -238,14 +276,16 @@ module _ {H I : Type 0} (slot : H → ℕ) (item_slot : I → ℕ) (handled : H 
   none_kept : (came : List (FlowOrder H I)) (kept : Option I) → KeptStands slot item_slot handled came kept
       → is_some (now_of slot item_slot handled s came) ≡ false → kept_in item_slot s kept ≡ []
   none_kept came None stands none = refl
-  none_kept came (Some x) stands none = elim (nat_eq (item_slot x) s) as (λ b. nat_eq (item_slot x) s ≡ b → cond b (x ∷ []) [] ≡ []) [
+  none_kept came (Some x) stands none = elim (nat_eq (item_slot x) s) as (λ b. nat_eq (item_slot x) s ≡ b
+      → cond b (x ∷ []) [] ≡ []) [
     | true ↦ λ e. absurd (true≢false (sym (stands x refl)
         ∙ ap (λ n. is_some (now_of slot item_slot handled n came)) (eqb-true (item_slot x) s e) ∙ none))
     | false ↦ λ e. refl
   ] refl
 
 -- two lists whose beginnings are as long
-pub append_same : {A : Type 0} (ws bs xs ys : List A) → length ws ≡ length bs → ws ++ xs ≡ bs ++ ys → (ws ≡ bs) × (xs ≡ ys)
+pub append_same : {A : Type 0} (ws bs xs ys : List A) → length ws ≡ length bs → ws ++ xs ≡ bs ++ ys → (ws ≡ bs)
+    × (xs ≡ ys)
 append_same [] [] xs ys long e = (refl, e)
 append_same [] (b ∷ bs) xs ys long e = absurd (omega arith)
 append_same (a ∷ ws) [] xs ys long e = absurd (omega arith)
@@ -253,11 +293,14 @@ append_same (a ∷ ws) (b ∷ bs) xs ys long e =
     let head : a ≡ b = cc in let tail : ws ++ xs ≡ bs ++ ys = cc in
     let later = append_same ws bs xs ys (omega arith) tail in ((λ i. head i ∷ later.0 i), later.1)
 
--- a desk whose lane was closed: what its halves have, once each has what is left, is what was sent there for the half of the slot
+-- a desk whose lane was closed: what its halves have, once each has what is left, is what was sent there for the half
+-- of the slot
 module _ {H I : Type 0} (slot : H → ℕ) (item_slot : I → ℕ) (handled : H → List I) (s : ℕ)
     (came left : List (FlowOrder H I)) (held : List H) (kept : Option I) (lists backs reaches away : List (List I))
-    (law : Lawful (MayFollow slot item_slot) (came ++ left)) (holds : Holds slot item_slot handled came held kept) (stands : KeptStands slot item_slot handled came kept)
-    (gone : gone_of slot item_slot handled s came ≡ backs ++ lists) (all : gone_of slot item_slot handled s (came ++ left) ≡ reaches ++ away)
+    (law : Lawful (MayFollow slot item_slot) (came ++ left)) (holds : Holds slot item_slot handled came held kept)
+        (stands : KeptStands slot item_slot handled came kept)
+    (gone : gone_of slot item_slot handled s came ≡ backs ++ lists) (all : gone_of slot item_slot handled s (came
+        ++ left) ≡ reaches ++ away)
     (long : length backs ≡ length reaches)
     (few : length away + sum_by (λ _. 1) (option_to_list (now_of slot item_slot handled s (came ++ left))) ≤ 1) where
   abbrev now : Option (List I)
@@ -272,15 +315,18 @@ module _ {H I : Type 0} (slot : H → ℕ) (item_slot : I → ℕ) (handled : H 
   abbrev pub rest : List I
   rest = kept_in item_slot s kept ++ items_in item_slot s left
 
-  parted : (backs ≡ reaches) × (lists ++ gone_from slot item_slot handled s (now_of slot item_slot handled s came) left ≡ away)
+  parted : (backs ≡ reaches) × (lists ++ gone_from slot item_slot handled s (now_of slot item_slot handled s came) left
+      ≡ away)
   parted =
       append_same backs reaches (lists ++ later) away long
-      (sym (append_assoc backs lists later) ∙ ap (λ l. l ++ later) (sym gone) ∙ sym (gone-append slot item_slot handled s None came left) ∙ all)
+      (sym (append_assoc backs lists later) ∙ ap (λ l. l ++ later) (sym gone)
+          ∙ sym (gone-append slot item_slot handled s None came left) ∙ all)
 
   pub backs_are : backs ≡ reaches
   backs_are = parted.0
 
-  ends : now_of slot item_slot handled s (came ++ left) ≡ now_from slot item_slot handled s (now_of slot item_slot handled s came) left
+  ends : now_of slot item_slot handled s (came ++ left)
+      ≡ now_from slot item_slot handled s (now_of slot item_slot handled s came) left
   ends = now-append slot item_slot handled s None came left
 
   laws : LawFrom slot item_slot handled s (now_of slot item_slot handled s came) left
@@ -299,13 +345,16 @@ module _ {H I : Type 0} (slot : H → ℕ) (item_slot : I → ℕ) (handled : H 
       let c = counted away in
       let d = ap (λ o. tally (option_to_list o)) ends in omega arith
 
-  stood : tally (option_to_list now) + count slot s (halves_in left) ≡ tally later + tally (option_to_list (now_from slot item_slot handled s now left))
+  stood : tally (option_to_list now) + count slot s (halves_in left) ≡ tally later
+      + tally (option_to_list (now_from slot item_slot handled s now left))
   stood = conserved slot item_slot handled s now left laws
 
   -- each half that is held
-  held_sum : (h : List I → ℕ) → slot_sum slot s (λ half. h (handled half ++ rest)) held ≡ sum_by (λ l. h (l ++ items_in item_slot s left)) (option_to_list now)
+  held_sum : (h : List I → ℕ) → slot_sum slot s (λ half. h (handled half ++ rest)) held
+      ≡ sum_by (λ l. h (l ++ items_in item_slot s left)) (option_to_list now)
   held_sum h =
-      let same : (λ (half : H). h (handled half ++ rest)) ≡ (λ half. h (with_kept item_slot s kept (handled half) ++ items_in item_slot s left)) =
+      let same : (λ (half : H). h (handled half ++ rest)) ≡ (λ half. h (with_kept item_slot s kept (handled half)
+          ++ items_in item_slot s left)) =
       λ i half. h ((sym (append_assoc (handled half) (kept_in item_slot s kept) (items_in item_slot s left))
       ∙ ap (λ l. l ++ items_in item_slot s left) (sym (kept_is slot item_slot handled s kept (handled half)))) i) in
       ap (λ g. slot_sum slot s g held) same ∙ holds s (λ l. h (l ++ items_in item_slot s left))
@@ -334,22 +383,26 @@ module _ {H I : Type 0} (slot : H → ℕ) (item_slot : I → ℕ) (handled : H 
       let b = stood in
       let off : is_some now ≡ false = absent slot item_slot handled s now (omega arith) in
       (λ i. none_kept slot item_slot handled s came kept stands off i ++ none_left slot item_slot handled s left
-      (subst (λ (o : Option (List I)). LawFrom slot item_slot handled s o left) (is_nothing slot item_slot handled s now off) laws) (omega arith) i)
+      (subst (λ (o : Option (List I)). LawFrom slot item_slot handled s o left)
+          (is_nothing slot item_slot handled s now off) laws) (omega arith) i)
 
   nothing_more : (h : List I → ℕ) (xs : List (List I)) → sum_by (λ l. h (l ++ [])) xs ≡ sum_by h xs
   nothing_more h xs = ap (λ (g : List I → ℕ). sum_by g xs) (λ i l. h (append-nil l i))
 
   -- each that left
   gone_sum : (h : List I → ℕ) → sum_by (λ l. h (l ++ rest)) lists ≡ sum_by h lists
-  gone_sum h = elim (nat_eq (tally lists) 0) as (λ b. nat_eq (tally lists) 0 ≡ b → sum_by (λ l. h (l ++ rest)) lists ≡ sum_by h lists) [
-    | true ↦ λ e. let none = eqb-true (tally lists) 0 e in zero_sum (λ l. h (l ++ rest)) lists none ∙ sym (zero_sum h lists none)
+  gone_sum h = elim (nat_eq (tally lists) 0) as (λ b. nat_eq (tally lists) 0 ≡ b → sum_by (λ l. h (l ++ rest)) lists
+      ≡ sum_by h lists) [
+    | true ↦ λ e. let none = eqb-true (tally lists) 0 e in zero_sum (λ l. h (l ++ rest)) lists none
+        ∙ sym (zero_sum h lists none)
     | false ↦ λ e.
         let some : tally lists ≢ 0 = eqb-false (tally lists) 0 e in
         let a = counts in
         ap (λ r. sum_by (λ l. h (l ++ r)) lists) (quiet (omega arith)) ∙ nothing_more h lists
   ] refl
 
-  pub desk_found : (h : List I → ℕ) → sum_by (λ l. h (l ++ rest)) lists + slot_sum slot s (λ half. h (handled half ++ rest)) held
+  pub desk_found : (h : List I → ℕ) → sum_by (λ l. h (l ++ rest)) lists
+      + slot_sum slot s (λ half. h (handled half ++ rest)) held
       + slot_sum slot s (λ half. h (handled half ++ rest)) (halves_in left)
       ≡ sum_by h away + sum_by h (option_to_list (now_of slot item_slot handled s (came ++ left)))
   desk_found h =
@@ -360,7 +413,8 @@ module _ {H I : Type 0} (slot : H → ℕ) (item_slot : I → ℕ) (handled : H 
       let g = ap (λ o. sum_by h (option_to_list o)) ends in omega arith
 
   -- where the half isn't meant nothing of the slot is left here
-  pub desk_quiet : length away + sum_by (λ _. 1) (option_to_list (now_of slot item_slot handled s (came ++ left))) ≡ 0 → rest ≡ []
+  pub desk_quiet : length away + sum_by (λ _. 1) (option_to_list (now_of slot item_slot handled s (came ++ left))) ≡ 0
+      → rest ≡ []
   desk_quiet none =
       let a = sum_by-append one_list lists later in
       let b = ap (sum_by (λ _. 1)) parted.1 in

@@ -17,7 +17,8 @@ pub aside_all : {H : Type 0} (k : ℕ) (f : H → ℕ) (aside : List (HalfAside 
     → aside_sum k f aside ≡ sum_by (λ kept. f kept.half) aside
 aside_all {H} k f aside none =
     ap (λ n. aside_sum n f aside) none
-    ∙ ap (λ (g : HalfAside H → ℕ). sum_by g aside) (λ i kept. cond (le-ltb kept.slice 0 (omega arith) i) 0 (f kept.half))
+    ∙ ap (λ (g : HalfAside H → ℕ). sum_by g aside) (λ i kept. cond (le-ltb kept.slice 0 (omega arith) i) 0
+        (f kept.half))
 
 module _ {H N I : Type 0} (name : H → N) (slot_at : N → ℕ) (item_slot : I → ℕ) (handled : H → List I)
     (admitted : List (Option (FlowPlace H I))) (desks : List (FlowDesk H I)) (homes : List (Home H I)) where
@@ -33,7 +34,8 @@ module _ {H N I : Type 0} (name : H → N) (slot_at : N → ℕ) (item_slot : I 
   module _ (places later : List (Option (FlowPlace H I))) (hand next : Hand H I) (out rest : List H)
       (items : (s : ℕ) → rest_at item_slot s later next ≡ rest_at item_slot s places hand)
       (queues : (s : ℕ) → 0 < length desks → queue_at (place_at later s) ≡ queue_at (place_at places s)) where
-    module _ (aside : List (HalfAside H)) (halves : (f : H → ℕ) → halves_sum f later next rest ≡ halves_sum f places hand out) where
+    module _ (aside : List (HalfAside H)) (halves : (f : H → ℕ) → halves_sum f later next rest
+        ≡ halves_sum f places hand out) where
       moved_slot : (s : ℕ) → Left s places aside hand out → Left s later aside next rest
       moved_slot s left = record {
         stays = left.stays;
@@ -47,7 +49,8 @@ module _ {H N I : Type 0} (name : H → N) (slot_at : N → ℕ) (item_slot : I 
         closed = left.closed;
         lists = left.lists;
         met = λ h. let a = halves (of_slot slot handled s h) in let b = left.met h in omega arith;
-        come = λ h. ap (λ r. sum_by (λ l. h (l ++ r)) left.lists + homes_sum slot handled s h homes) (items s) ∙ left.come h;
+        come = λ h. ap (λ r. sum_by (λ l. h (l ++ r)) left.lists + homes_sum slot handled s h homes) (items s)
+            ∙ left.come h;
         queued = λ some. queues s some ∙ left.queued some;
         quiet = λ some none. items s ∙ left.quiet some none;
       }
@@ -78,7 +81,8 @@ module _ {H N I : Type 0} (name : H → N) (slot_at : N → ℕ) (item_slot : I 
             let f : H → ℕ = of_slot slot handled s h in
             let a = aside_all (length desks) f aside none in let b = aside_all (length desks) f kept none in
             let c = halves f in let d = left.met h in omega arith;
-        come = λ h. ap (λ r. sum_by (λ l. h (l ++ r)) left.lists + homes_sum slot handled s h homes) (items s) ∙ left.come h;
+        come = λ h. ap (λ r. sum_by (λ l. h (l ++ r)) left.lists + homes_sum slot handled s h homes) (items s)
+            ∙ left.come h;
         queued = λ some. queues s some ∙ left.queued some;
         quiet = λ some met. items s ∙ left.quiet some met;
       }

@@ -31,7 +31,8 @@ pub struct FlowParts<H: Flow> {
     desks: Vec<FlowDesk<H>>,
     ends: Vec<FlowEnd<H>>,
     homes: Vec<Home<H>>,
-    ghost laid: { AllLaid H.name H.slot_at H.item_slot H.handled admitted.value.items places.items aside.items hand opened desks.items homes.items },
+    ghost laid: { AllLaid H.name H.slot_at H.item_slot H.handled admitted.value.items places.items aside.items hand
+        opened desks.items homes.items },
     ghost slots: { BySlot H.slot_at (names_of H.name admitted.value.items) },
     ghost ends_of: { AreEnds desks.items ends.items },
 }
@@ -75,7 +76,8 @@ impl<H: Flow> FlowParts<H> {
         ensures home { IfOk result (λ homes. map (λ home. H.name home.half) homes.items
             ≡ somes (names_of H.name (admitted_of self))) }
         ensures each { IfOk result (λ homes. AtSlots H.name H.slot_at (admitted_of self) homes.items) }
-        ensures items { IfOk result (λ homes. ComeToAccepted H.name H.slot_at H.handled (admitted_of self) homes.items) }
+        ensures items { IfOk result (λ homes. ComeToAccepted H.name H.slot_at H.handled (admitted_of self) homes.items)
+            }
         ensures parts { IfErr result (λ parts. admitted_of parts ≡ admitted_of self) }
     {
         match self.collect(rt) {

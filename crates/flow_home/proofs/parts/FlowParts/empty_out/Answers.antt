@@ -3,7 +3,8 @@ use Rattle.flow_home.proofs.parts.FlowParts.empty_out.Goals as goal
 
 pub invariant_of-self : goal.invariant_of-self
 invariant_of-self g c = record {
-  laid = emptied_all g.H.Flow.name g.H.Flow.slot_at g.H.Flow.item_slot g.H.Flow.handled _ _ _ _ _ _ _ _ c.empty_out.ensures.keeps
+  laid = emptied_all g.H.Flow.name g.H.Flow.slot_at g.H.Flow.item_slot g.H.Flow.handled _ _ _ _ _ _ _ _
+      c.empty_out.ensures.keeps
       c.args.self.now.laid;
   slots = c.args.self.now.slots;
   ends_of = c.args.self.now.ends_of;

@@ -10,9 +10,11 @@ invariant_of-result g c =
     let side = c.args.side in
     let same : c.of-admitted.result.value.items ≡ c.args.side.places.items = search rules in
     record {
-      laid = begins_all g.H.Flow.name g.H.Flow.slot_at g.H.Flow.item_slot g.H.Flow.handled c.of-admitted.result.value.items
+      laid = begins_all g.H.Flow.name g.H.Flow.slot_at g.H.Flow.item_slot g.H.Flow.handled
+          c.of-admitted.result.value.items
           side.places.items side.aside.items
-          (record { found = c.new.result; lefts = c.new-2.result; item = None; left = c.new-3.result; held = c.new-4.result; waiting = None })
+          (record { found = c.new.result; lefts = c.new-2.result; item = None; left = c.new-3.result; held =
+              c.new-4.result; waiting = None })
           side.desks.items c.new-5.result.items same c.new-5.ensures.items
           (record {
             found = c.new.ensures.items;
