@@ -20,3 +20,6 @@ pub use items::{FlowItem, PacketDone, VersionDone};
 pub use making::FlowRest;
 pub use name::FlowName;
 pub use std::alloc::AllocError as NoMemory;
+
+#[cfg(test)]
+mod tests;
