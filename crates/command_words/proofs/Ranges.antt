@@ -86,9 +86,15 @@ lanes_keep given asked is =
     go (Some s) (Some r) None few small short e = absurd (cc)
     go (Some s) (Some r) (Some l) few small short e =
         let same : job.Audit false s r l ≡ asked = cc in
-        subst IsInRange same
-        ((few s refl).0, (few s refl).1, (λ is. absurd (cc)), (small r refl).0, (small r refl).1,
-        (short l refl).0, (short l refl).1)
+        subst IsInRange same (
+          (few s refl).0,
+          (few s refl).1,
+          (λ is. absurd (cc)),
+          (small r refl).0,
+          (small r refl).1,
+          (short l refl).0,
+          (short l refl).1,
+        )
 
 audit_keeps : (given : List Given) (asked : Job) → audit_job given ≡ Some asked → IsInRange asked
 audit_keeps given asked is = go (has_flag (codes "solo") given) is

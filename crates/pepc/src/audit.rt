@@ -12,12 +12,7 @@ use std::alloc::Global;
 
 /// Does the command `audit`: reads a trace and its report from the source, and writes to the sink whether
 /// the report is a lawful one.
-pub fn audit<S: Source, K: Sink>(
-    alloc: Global,
-    rule: &Rule,
-    source: &mut S,
-    sink: &mut K,
-) -> Status
+pub fn audit<S: Source, K: Sink>(alloc: Global, rule: &Rule, source: &mut S, sink: &mut K) -> Status
     requires { IsRule rule.now }
 
     ensures audits { Audits (job_of rule.now) result (S.left source.old) (S.left source.new) (K.written sink.old)
