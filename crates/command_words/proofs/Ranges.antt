@@ -3,7 +3,7 @@ use Rattle.std.proofs.Common.{◌≡◌, ◌≤◌, ◌&&◌, ℕ, Bool, true, f
 use Rattle.std.specs.Option.{option_map_or}
 use Rattle.std.specs.Str.Parse.{digits_value}
 use Rattle.text_fields.specs.Number.{is_decimal, number_in}
-use Rattle.command_words.specs.Job.{Command, IsInRange, commands, job_of, make_job, number_of}
+use Rattle.command_words.specs.Job.{Command, IsInRange, audit_job, commands, has_number, job_of, lanes_audit, make_job, number_of, solo_audit}
 use Rattle.command_words.specs.Options.{Given, given_once, has_flag, value_of}
 use Rattle.command_words.specs.Words.{Text}
 use Rattle.command_words.specs.declared.jobs.Job.{Job}
@@ -59,6 +59,50 @@ make_keeps given asked is =
         let same : job.Make s m l (has_flag (codes "summary") given) ≡ asked = cc in
         subst IsInRange same ((some m refl).0, (some m refl).1, (few l refl).1)
 
+solo_keeps : (given : List Given) (asked : Job) → solo_audit given ≡ Some asked → IsInRange asked
+solo_keeps given asked is = go (has_number given) is
+  where
+    go : (numbered : Bool) → cond numbered None (Some (job.Audit true 64 64 1024)) ≡ Some asked → IsInRange asked
+    go true e = absurd (cc)
+    go false e =
+        let same : job.Audit true 64 64 1024 ≡ asked = cc in
+        subst IsInRange same (lit≤ tt, lit≤ tt, (λ yes. refl), lit≤ tt, lit≤ tt, lit≤ tt, lit≤ tt)
+
+lanes_keep : (given : List Given) (asked : Job) → lanes_audit given ≡ Some asked → IsInRange asked
+lanes_keep given asked is =
+    go (number_of (codes "slices") 1 64 2 given) (number_of (codes "room") 1 256 64 given)
+    (number_of (codes "lane") 1 16384 1024 given)
+    (λ n e. number_within (codes "slices") 1 64 2 given n (lit≤ tt, lit≤ tt) e)
+    (λ n e. number_within (codes "room") 1 256 64 given n (lit≤ tt, lit≤ tt) e)
+    (λ n e. number_within (codes "lane") 1 16384 1024 given n (lit≤ tt, lit≤ tt) e) is
+  where
+    go : (slices room lane : Option ℕ) → ((n : ℕ) → slices ≡ Some n → IsWithin 1 64 n)
+        → ((n : ℕ) → room ≡ Some n → IsWithin 1 256 n)
+        → ((n : ℕ) → lane ≡ Some n → IsWithin 1 16384 n)
+        → option_and_then (λ s. option_and_then (λ r. option_map (λ l. job.Audit false s r l) lane) room) slices
+        ≡ Some asked → IsInRange asked
+    go None room lane few small short e = absurd (cc)
+    go (Some s) None lane few small short e = absurd (cc)
+    go (Some s) (Some r) None few small short e = absurd (cc)
+    go (Some s) (Some r) (Some l) few small short e =
+        let same : job.Audit false s r l ≡ asked = cc in
+        subst IsInRange same (
+          (few s refl).0,
+          (few s refl).1,
+          (λ is. absurd (cc)),
+          (small r refl).0,
+          (small r refl).1,
+          (short l refl).0,
+          (short l refl).1,
+        )
+
+audit_keeps : (given : List Given) (asked : Job) → audit_job given ≡ Some asked → IsInRange asked
+audit_keeps given asked is = go (has_flag (codes "solo") given) is
+  where
+    go : (solo : Bool) → cond solo (solo_audit given) (lanes_audit given) ≡ Some asked → IsInRange asked
+    go true e = solo_keeps given asked e
+    go false e = lanes_keep given asked e
+
 abbrev AllKeep : List Command → Type 0
 AllKeep [] = Unit {0}
 AllKeep (command ∷ rest) = Keeps command × AllKeep rest
@@ -67,7 +111,10 @@ bare_keeps : (is : Job) → IsInRange is → (given : List Given) (asked : Job) 
 bare_keeps is range given asked e = let same : is ≡ asked = cc in subst IsInRange same range
 
 all_keep : AllKeep commands
-all_keep = (bare_keeps job.Solo tt, (make_keeps, (bare_keeps job.Import tt, (bare_keeps job.Export tt, tt))))
+all_keep = (
+  bare_keeps job.Solo tt,
+  (make_keeps, (bare_keeps job.Import tt, (bare_keeps job.Export tt, (audit_keeps, tt)))),
+)
 
 found_keeps : (of : List Command) (word : Text) (command : Command) → AllKeep of
     → find (named_so word) of ≡ Some command → Keeps command

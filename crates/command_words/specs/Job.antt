@@ -1,5 +1,5 @@
 -- The job that words ask for.
-use Rattle.std.specs.Prelude.{ℕ, ◌≤◌, List, [], ◌∷◌, find, Option, Some, None, option_and_then, option_map, codes}
+use Rattle.std.specs.Prelude.{◌≡◌, ℕ, ◌≤◌, Bool, true, false, IsTrue, List, [], ◌∷◌, find, Option, Some, None, is_some, ◌||◌, option_and_then, option_map, if◌then◌else◌, codes}
 use Rattle.std.specs.Option.{option_map_or}
 use Rattle.std.specs.Str.{bytes_eq}
 use Rattle.text_fields.specs.Number.{number_in}
@@ -27,6 +27,26 @@ make_job given =
     (number_of (codes "subs") 1 65533 10 given))
     (number_of (codes "seed") 0 18446744073709551615 1 given)
 
+-- a lane's number is given, of slices, of a room or of a lane
+abbrev pub has_number : List Given → Bool
+has_number given = is_some (value_of (codes "slices") given) || is_some (value_of (codes "room") given)
+    || is_some (value_of (codes "lane") given)
+
+-- `audit --solo` is of 64 slices, and has no other option
+abbrev pub solo_audit : List Given → Option Job
+solo_audit given = if has_number given then None else Some (job.Audit true 64 64 1024)
+
+abbrev pub lanes_audit : List Given → Option Job
+lanes_audit given =
+    option_and_then (λ slices. option_and_then (λ room. option_map (λ lane.
+    job.Audit false slices room lane)
+    (number_of (codes "lane") 1 16384 1024 given))
+    (number_of (codes "room") 1 256 64 given))
+    (number_of (codes "slices") 1 64 2 given)
+
+abbrev pub audit_job : List Given → Option Job
+audit_job given = if has_flag (codes "solo") given then solo_audit given else lanes_audit given
+
 -- a command without options
 abbrev pub bare : Text → Job → Command
 bare name is = record { name = name; forms = []; job = λ given. Some is }
@@ -35,8 +55,15 @@ abbrev pub make_forms : List Form
 make_forms = with_value (codes "seed") ∷ with_value (codes "subs") ∷ with_value (codes "lines") ∷ without_value
     (codes "summary") ∷ []
 
+abbrev pub audit_forms : List Form
+audit_forms = without_value (codes "solo") ∷ with_value (codes "slices") ∷ with_value (codes "room")
+    ∷ with_value (codes "lane") ∷ []
+
 abbrev pub make_command : Command
 make_command = record { name = codes "make"; forms = make_forms; job = make_job }
+
+abbrev pub audit_command : Command
+audit_command = record { name = codes "audit"; forms = audit_forms; job = audit_job }
 
 -- The commands of the program.
 abbrev pub commands : List Command
@@ -44,6 +71,7 @@ commands = bare (codes "solo") job.Solo
     ∷ make_command
     ∷ bare (codes "import") job.Import
     ∷ bare (codes "export") job.Export
+    ∷ audit_command
     ∷ []
 
 -- the command of the first word, with the options that the others give
@@ -63,3 +91,5 @@ IsInRange job.Solo = Unit {0}
 IsInRange (job.Make seed subs lines summary) = (1 ≤ subs) × (subs ≤ 65533) × (lines ≤ 100000)
 IsInRange job.Import = Unit {0}
 IsInRange job.Export = Unit {0}
+IsInRange (job.Audit solo slices room lane) =
+    (1 ≤ slices) × (slices ≤ 64) × (IsTrue solo → slices ≡ 64) × (1 ≤ room) × (room ≤ 256) × (1 ≤ lane) × (lane ≤ 16384)

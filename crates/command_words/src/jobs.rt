@@ -17,4 +17,12 @@ pub enum Job {
     Import,
     /// `export`: make a capture of a trace.
     Export,
+    /// `audit`: judge a report, as one of `solo` (then with 64 slices) or of lanes: 1 to 64 slices,
+    /// room for 1 to 256 items of a subscriber, and for 1 to 16,384 of a slice.
+    Audit {
+        solo: bool,
+        slices: u8,
+        room: u32,
+        lane: u32,
+    },
 }

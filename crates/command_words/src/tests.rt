@@ -47,6 +47,46 @@ fn options_in_any_order(rt: HostRuntime) -> Result<(), Fail> {
     Ok(())
 }
 
+fn audited(solo: bool, slices: u8, room: u32, lane: u32) -> Option<Job> {
+    Some(Job::Audit {
+        solo,
+        slices,
+        room,
+        lane,
+    })
+}
+
+#[test]
+fn audits(rt: HostRuntime) -> Result<(), Fail> {
+    let alloc = rt.alloc();
+    assert!(rt; job_of(alloc, &["audit"])? == audited(false, 2, 64, 1_024));
+    assert!(rt; job_of(alloc, &["audit", "--solo"])? == audited(true, 64, 64, 1_024));
+    let words = ["audit", "--lane=16384", "--slices", "64", "--room", "256"];
+    assert!(rt; job_of(alloc, &words)? == audited(false, 64, 256, 16_384));
+    let words = ["audit", "--slices=1", "--room=1", "--lane=1"];
+    assert!(rt; job_of(alloc, &words)? == audited(false, 1, 1, 1));
+    let none: [&[&str]; 14] = [
+        &["audit", "--solo", "--slices", "2"],
+        &["audit", "--room", "2", "--solo"],
+        &["audit", "--lane", "1", "--solo"],
+        &["audit", "--solo", "--solo"],
+        &["audit", "--solo=1"],
+        &["audit", "--places"],
+        &["audit", "--turns", "0"],
+        &["audit", "--slices", "0"],
+        &["audit", "--slices", "65"],
+        &["audit", "--room", "0"],
+        &["audit", "--room", "257"],
+        &["audit", "--lane", "0"],
+        &["audit", "--lane", "16385"],
+        &["audit", "report"],
+    ];
+    for words in none {
+        assert!(rt; job_of(alloc, words)? == None, "{words:?}");
+    }
+    Ok(())
+}
+
 #[test]
 fn words_of_no_job(rt: HostRuntime) -> Result<(), Fail> {
     let alloc = rt.alloc();

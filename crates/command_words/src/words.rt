@@ -1,11 +1,11 @@
 //! From words to a job.
-ghost use Rattle.std.specs.Prelude.{◌≡◌, ◌^◌, ◌<◌, ℕ, Some, List, IfOk, IfSome, bytes_eq, find, map};
+ghost use Rattle.std.specs.Prelude.{◌≡◌, ◌^◌, ◌<◌, ℕ, Some, List, IfOk, IfSome, bytes_eq, find, is_some, map};
 ghost use Rattle.std.specs.List.{list_any};
 ghost use Rattle.std.specs.Option.{option_map, option_map_or};
 ghost use Rattle.std.specs.String.{string_bytes};
 ghost use Rattle.clap.specs.Words.{first_value, found_of, subcommand_rows_of};
 ghost use Rattle.text_fields.specs.Number.{number_in};
-ghost use Rattle.command_words.specs.Job.{Command, IsInRange, asked_of, commands, job_of, make_forms, make_job};
+ghost use Rattle.command_words.specs.Job.{Command, IsInRange, asked_of, audit_forms, audit_job, commands, has_number, job_of, lanes_audit, make_forms, make_job, solo_audit};
 ghost use Rattle.command_words.specs.Options.{Given};
 ghost use Rattle.command_words.specs.Program.{Gives, found_asked};
 ghost use Rattle.command_words.specs.Words.{Text, is_stray, word_of};
@@ -63,6 +63,23 @@ fn small_number(
     Some(number as u32)
 }
 
+// The same of a number with 8 bits.
+fn octet_number(
+    matches: &ArgMatches<'_>,
+    name: &str,
+    least: u64,
+    last: u64,
+    default: u64,
+) -> Option<u8>
+    requires last { last < 2 ^ 8 }
+    requires default { default < 2 ^ 8 }
+    ensures { result ≡ option_map_or (number_in least last) (first_value (found_of matches.now) name.now)
+        (Some default) }
+{
+    let number = number(matches, name, least, last, default)?;
+    Some(number as u8)
+}
+
 fn make_job(matches: &ArgMatches<'_>) -> Option<Job>
     ensures { (given : List Given) → Gives matches.now make_forms given → result ≡ make_job given }
 {
@@ -77,6 +94,60 @@ fn make_job(matches: &ArgMatches<'_>) -> Option<Job>
     })
 }
 
+// `audit --solo` has no other option.
+fn audit_job(matches: &ArgMatches<'_>) -> Option<Job>
+    ensures { (given : List Given) → Gives matches.now audit_forms given → result ≡ audit_job given }
+{
+    if matches.get_flag("solo") {
+        solo_audit(matches)
+    } else {
+        lanes_audit(matches)
+    }
+}
+
+fn solo_audit(matches: &ArgMatches<'_>) -> Option<Job>
+    ensures { (given : List Given) → Gives matches.now audit_forms given → result ≡ solo_audit given }
+{
+    if has_number(matches) {
+        return None;
+    }
+    Some(Job::Audit {
+        solo: true,
+        slices: 64,
+        room: 64,
+        lane: 1_024,
+    })
+}
+
+fn has_number(matches: &ArgMatches<'_>) -> bool
+    ensures { (given : List Given) → Gives matches.now audit_forms given → result ≡ has_number given }
+{
+    let slices = has_value(matches, "slices");
+    let room = has_value(matches, "room");
+    let lane = has_value(matches, "lane");
+    slices | room | lane
+}
+
+fn has_value(matches: &ArgMatches<'_>, name: &str) -> bool
+    ensures { result ≡ is_some (first_value (found_of matches.now) name.now) }
+{
+    matches.get_str(name).is_some()
+}
+
+fn lanes_audit(matches: &ArgMatches<'_>) -> Option<Job>
+    ensures { (given : List Given) → Gives matches.now audit_forms given → result ≡ lanes_audit given }
+{
+    let slices = octet_number(matches, "slices", 1, 64, 2)?;
+    let room = small_number(matches, "room", 1, 256, 64)?;
+    let lane = small_number(matches, "lane", 1, 16_384, 1_024)?;
+    Some(Job::Audit {
+        solo: false,
+        slices,
+        room,
+        lane,
+    })
+}
+
 fn job_named(name: &str, matches: &ArgMatches<'_>) -> Option<Job>
     ensures { (command : Command) (given : List Given)
         → find (λ (c : Command). bytes_eq c.name name.now) commands ≡ Some command
@@ -87,6 +158,7 @@ fn job_named(name: &str, matches: &ArgMatches<'_>) -> Option<Job>
         "make" => make_job(matches),
         "import" => Some(Job::Import),
         "export" => Some(Job::Export),
+        "audit" => audit_job(matches),
         _ => None,
     }
 }

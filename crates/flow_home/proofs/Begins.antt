@@ -104,7 +104,7 @@ module _ {H I : Type 0} (slot : H → ℕ) (item_slot : I → ℕ) (handled : H 
       sum_here (front_at (on slot s g)) (front_at g) s 0 places s (omega arith) refl
       (λ k. ∥∥₁_elim (known k) (Coded-set coded_ℕ _ _) (λ tells.
       subst (λ (n : ℕ). front_at (on slot s g) (place_at places k)
-          ≡ cond (nat_eq n s) (front_at g (place_at places k)) 0)
+      ≡ cond (nat_eq n s) (front_at g (place_at places k)) 0)
       (let e : k ≡ 0 + k = omega arith in e) (front_own g k s (place_at places k) tells.half tells.is)))
 
   front_sum : (h : List I → ℕ) (place : Option (FlowPlace H I))
@@ -127,10 +127,10 @@ module _ {H I : Type 0} (slot : H → ℕ) (item_slot : I → ℕ) (handled : H 
       let f : HalfAside H → ℕ = λ x. cond (nat_lt x.slice n) 0 (on slot s g x.half) in
       let a = sum_by-cons f kept aside in
       elim (nat_eq (slot kept.half) s) as (λ b. nat_eq (slot kept.half) s ≡ b
-          → aside_sum n (on slot s g) (kept ∷ aside) ≡ 0) [
+      → aside_sum n (on slot s g) (kept ∷ aside) ≡ 0) [
         | true ↦ λ e.
             elim (nat_lt kept.slice n) as (λ b. nat_lt kept.slice n ≡ b → aside_sum n (on slot s g) (kept ∷ aside)
-                ≡ 0) [
+            ≡ 0) [
               | true ↦ λ low.
                   let b : f kept ≡ 0 = ap (λ t. cond t 0 (on slot s g kept.half)) low in
                   let c = none_aside s n g aside (λ d past. tail d (none d past)) in omega arith
@@ -140,18 +140,18 @@ module _ {H I : Type 0} (slot : H → ℕ) (item_slot : I → ℕ) (handled : H 
             ] refl
         | false ↦ λ e.
             let b : f kept ≡ 0 = ap (λ t. cond (nat_lt kept.slice n) 0 (cond t (g kept.half) 0)) e
-                ∙ nothing (nat_lt kept.slice n) in
+            ∙ nothing (nat_lt kept.slice n) in
             let c = none_aside s n g aside (λ d past. sym (others d e) ∙ none d past) in omega arith
       ] refl where
         there : nat_eq (slot kept.half) s ≡ true
             → asides_of slot handled s (kept ∷ aside) kept.slice
-                ≡ handled kept.half ∷ asides_of slot handled s aside kept.slice
+            ≡ handled kept.half ∷ asides_of slot handled s aside kept.slice
         there e =
             ap (λ b. cond b (cond (nat_eq kept.slice kept.slice)
-                (handled kept.half ∷ asides_of slot handled s aside kept.slice)
+            (handled kept.half ∷ asides_of slot handled s aside kept.slice)
             (asides_of slot handled s aside kept.slice)) (asides_of slot handled s aside kept.slice)) e
             ∙ ap (λ b. cond b (handled kept.half ∷ asides_of slot handled s aside kept.slice)
-                (asides_of slot handled s aside kept.slice))
+            (asides_of slot handled s aside kept.slice))
             (eq-eqb kept.slice kept.slice refl)
 
         others : (d : ℕ) → nat_eq (slot kept.half) s ≡ false
@@ -163,9 +163,9 @@ module _ {H I : Type 0} (slot : H → ℕ) (item_slot : I → ℕ) (handled : H 
         tail : (d : ℕ) → asides_of slot handled s (kept ∷ aside) d ≡ [] → asides_of slot handled s aside d ≡ []
         tail d =
             elim (nat_eq (slot kept.half) s) as
-                (λ b. cond b (cond (nat_eq kept.slice d) (handled kept.half ∷ asides_of slot handled s aside d)
+            (λ b. cond b (cond (nat_eq kept.slice d) (handled kept.half ∷ asides_of slot handled s aside d)
             (asides_of slot handled s aside d)) (asides_of slot handled s aside d) ≡ []
-                → asides_of slot handled s aside d ≡ []) [
+            → asides_of slot handled s aside d ≡ []) [
               | true ↦ elim (nat_eq kept.slice d) as (λ b. cond b (handled kept.half ∷ asides_of slot handled s aside d)
                   (asides_of slot handled s aside d) ≡ [] → asides_of slot handled s aside d ≡ []) [
                     | true ↦ λ some. absurd (let c = ap length some in omega arith)
@@ -179,7 +179,7 @@ module _ {H I : Type 0} (slot : H → ℕ) (item_slot : I → ℕ) (handled : H 
       (gone : (d : ℕ) → gone_of slot item_slot handled s (sent_at desks d) ≡ reaches d stays ++ away_at d half)
       (now : (d : ℕ) → now_of slot item_slot handled s (sent_at desks d) ≡ now_at d half)
       (back : (d : ℕ) → lists_of slot handled s (home_at desks d) ≡ backs d stays
-          ++ asides_of slot handled s aside d) where
+      ++ asides_of slot handled s aside d) where
     sent_past : (d : ℕ) → length desks ≤ d → sent_at desks d ≡ []
     sent_past d past = none_past (λ (desk : FlowDesk H I). sent desk.orders) desks d past
 
@@ -203,9 +203,9 @@ module _ {H I : Type 0} (slot : H → ℕ) (item_slot : I → ℕ) (handled : H 
     elsewhere : (at : ℕ) (l : List I) → (length desks ≤ at → ⊥) → cond (nat_lt at (length desks)) [] (l ∷ []) ≡ []
     elsewhere at l apart = elim (nat_lt at (length desks)) as (λ b. nat_lt at (length desks) ≡ b → cond b [] (l ∷ [])
         ≡ []) [
-      | true ↦ λ e. refl
-      | false ↦ λ e. absurd (apart (ltb-false at (length desks) e))
-    ] refl
+          | true ↦ λ e. refl
+          | false ↦ λ e. absurd (apart (ltb-false at (length desks) e))
+        ] refl
 
     pub none_met : (whole : Where I) → half ≡ whole → met_from (length desks) whole ≡ []
     none_met (AtFront came) is = refl
@@ -223,7 +223,7 @@ module _ {H I : Type 0} (slot : H → ℕ) (item_slot : I → ℕ) (handled : H 
 -- what is known as nothing is found yet
 module _ {H N I : Type 0} (name : H → N) (slot_at : N → ℕ) (item_slot : I → ℕ) (handled : H → List I)
     (places : List (Option (FlowPlace H I))) (aside : List (HalfAside H)) (desks : List (FlowDesk H I))
-        (hand : Hand H I)
+    (hand : Hand H I)
     (new : IsNew hand) where
   abbrev slot : H → ℕ
   slot half = slot_at (name half)
@@ -234,7 +234,7 @@ module _ {H N I : Type 0} (name : H → N) (slot_at : N → ℕ) (item_slot : I 
       let b = ap (sum_by f) new.held in
       let c = ap (λ o. sum_by f (option_to_list o)) new.waiting in
       let d : sum_by f (halves_in (reverse hand.left.items))
-          ≡ 0 = ap (λ l. sum_by f (halves_in (reverse l))) new.left in omega arith
+      ≡ 0 = ap (λ l. sum_by f (halves_in (reverse l))) new.left in omega arith
 
   rest_new : (s : ℕ) → rest_at item_slot s places hand ≡ queue_at (place_at places s)
   rest_new s = λ i.
@@ -269,7 +269,7 @@ module _ {H N I : Type 0} (name : H → N) (slot_at : N → ℕ) (item_slot : I 
             let q : List I = queue_at (place_at places s) in
             let none : met_from (length desks) tells.half ≡ [] =
             none_met slot item_slot handled s desks aside tells.stays tells.half knows.gone knows.now knows.back
-                tells.half refl in
+            tells.half refl in
             let a : sum_by (λ l. h (l ++ rest_at item_slot s places hand)) (front_lists_at handled (place_at places s))
             ≡ sum_by (λ l. h (l ++ q)) (front_lists_at handled (place_at places s)) =
             ap (λ r. sum_by (λ l. h (l ++ r)) (front_lists_at handled (place_at places s))) (rest_new s) in

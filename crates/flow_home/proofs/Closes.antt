@@ -139,7 +139,7 @@ module _ {H I : Type 0} (slot : H → ℕ) (item_slot : I → ℕ) (handled : H 
         → length (front_lists handled state ++ met_from k half) ≤ 1
     few_state (Front own to) at =
         let e : length (handled own ∷ met_from k half)
-            ≡ 1 = ap (λ w. length (handled own ∷ met_from k w)) at.0 in omega arith
+        ≡ 1 = ap (λ w. length (handled own ∷ met_from k w)) at.0 in omega arith
     few_state (Placed at) is = few_from k half
     few_state (Recall at to) is = few_from k half
     few_state (Leaving from to) is = few_from k half
@@ -159,7 +159,7 @@ module _ {H I : Type 0} (slot : H → ℕ) (item_slot : I → ℕ) (handled : H 
       let c : sum_by h (asides_of slot handled s (kept ∷ aside) k)
       ≡ cond (nat_eq kept.slice k) (f kept.half) 0 + sum_by h (asides_of slot handled s aside k) =
       aside_one (nat_eq (slot kept.half) s) (nat_eq kept.slice k) (handled kept.half)
-          (asides_of slot handled s aside k) in omega arith where
+      (asides_of slot handled s aside k) in omega arith where
         aside_one : (b c : Bool) (l : List I) (ls : List (List I))
             → sum_by h (cond b (cond c (l ∷ ls) ls) ls) ≡ cond c (cond b (h l) 0) 0 + sum_by h ls
         aside_one true true l ls = sum_by-cons h l ls
@@ -179,16 +179,16 @@ module _ {H I : Type 0} (hand : Hand H I) (emptied : IsEmptied hand) where
       let b = ap (sum_by f) emptied.held in
       let c = ap (λ o. sum_by f (option_to_list o)) emptied.waiting in
       let d : sum_by f (halves_in (reverse hand.left.items))
-          ≡ 0 = ap (λ l. sum_by f (halves_in (reverse l))) emptied.left in omega arith
+      ≡ 0 = ap (λ l. sum_by f (halves_in (reverse l))) emptied.left in omega arith
 
   pub rest_emptied : (item_slot : I → ℕ) (s : ℕ) (places : List (Option (FlowPlace H I)))
       → rest_at item_slot s places hand ≡ lefts_at hand.lefts.items s ++ queue_at (place_at places s)
   rest_emptied item_slot s places =
       (λ i. ((lefts_at hand.lefts.items s ++ kept_in item_slot s (emptied.item i))
-          ++ items_in item_slot s (reverse (emptied.left i)))
+      ++ items_in item_slot s (reverse (emptied.left i)))
       ++ queue_at (place_at places s))
       ∙ ap (λ l. l ++ queue_at (place_at places s)) (append-nil (lefts_at hand.lefts.items s ++ [])
-          ∙ append-nil (lefts_at hand.lefts.items s))
+      ∙ append-nil (lefts_at hand.lefts.items s))
 
 -- what was in hand as the lanes of a desk were closed
 module _ {H I : Type 0} (hand next : Hand H I) (emptied : IsEmptied hand) (found : next.found.items ≡ hand.found.items)
@@ -202,10 +202,10 @@ module _ {H I : Type 0} (hand next : Hand H I) (emptied : IsEmptied hand) (found
       ++ queue_at (place_at places s)
   rest_now item_slot s places =
       ap (λ l. ((lefts_at l s ++ kept_in item_slot s next.item) ++ items_in item_slot s (orders_left next))
-          ++ queue_at (place_at places s)) lefts
+      ++ queue_at (place_at places s)) lefts
       ∙ ap (λ l. l ++ queue_at (place_at places s))
       (append_assoc (lefts_at hand.lefts.items s) (kept_in item_slot s next.item)
-          (items_in item_slot s (orders_left next)))
+      (items_in item_slot s (orders_left next)))
 
 -- one slot, as the lanes of the last desk are closed
 module _ {H I : Type 0} (slot : H → ℕ) (item_slot : I → ℕ) (handled : H → List I) (s : ℕ)
@@ -214,7 +214,7 @@ module _ {H I : Type 0} (slot : H → ℕ) (item_slot : I → ℕ) (handled : H 
     (came : List (FlowOrder H I)) (gone_home : List H)
     (last : desks ≡ first ++ desk ∷ [])
     (emptied : IsEmptied hand) (found : next.found.items ≡ hand.found.items) (lefts : next.lefts.items
-        ≡ hand.lefts.items)
+    ≡ hand.lefts.items)
     (whole : sent desk.orders ≡ came ++ orders_left next) (law : Lawful (MayFollow slot item_slot) (sent desk.orders))
     (home : gone_home ≡ taken desk.home ++ out)
     (holds : Holds slot item_slot handled came next.held.items next.item)
@@ -253,12 +253,12 @@ module _ {H I : Type 0} (slot : H → ℕ) (item_slot : I → ℕ) (handled : H 
       ∙ ap (λ l. l ++ lists_of slot handled s (option_to_list next.waiting))
       (lists-append slot handled s (taken desk.home) out
       ∙ ap (λ l. l ++ lists_of slot handled s out) (ap (lists_of slot handled s) (sym home_last)
-          ∙ left.back (length first) (omega (arith, long))))
+      ∙ left.back (length first) (omega (arith, long))))
       ∙ ap (λ l. l ++ lists_of slot handled s (option_to_list next.waiting))
       (append_assoc (backs (length first) left.stays) (asides_of slot handled s aside (length first))
-          (lists_of slot handled s out))
+      (lists_of slot handled s out))
       ∙ append_assoc (backs (length first) left.stays) (asides_of slot handled s aside (length first)
-          ++ lists_of slot handled s out)
+      ++ lists_of slot handled s out)
       (lists_of slot handled s (option_to_list next.waiting))
       ∙ ap (λ l. backs (length first) left.stays ++ l) (append_assoc (asides_of slot handled s aside (length first))
       (lists_of slot handled s out) (lists_of slot handled s (option_to_list next.waiting)))
@@ -275,7 +275,7 @@ module _ {H I : Type 0} (slot : H → ℕ) (item_slot : I → ℕ) (handled : H 
   as_long (stay ∷ stays) =
       let later = as_long stays in
       elim (nat_eq stay.at (length first)) as (λ b. length (cond b (stay.back ∷ backs (length first) stays)
-          (backs (length first) stays))
+      (backs (length first) stays))
       ≡ length (cond b ((stay.came ++ stay.items) ∷ reaches (length first) stays) (reaches (length first) stays))) [
         | true ↦ omega arith
         | false ↦ later
@@ -329,9 +329,9 @@ module _ {H I : Type 0} (slot : H → ℕ) (item_slot : I → ℕ) (handled : H 
       + slot_sum slot s (λ half. g (handled half)) (halves_in (orders_left next))
   there_adds g =
       let a = sum_by-append g away_lists (lists_of slot handled s next.held.items
-          ++ lists_of slot handled s (halves_in (orders_left next))) in
+      ++ lists_of slot handled s (halves_in (orders_left next))) in
       let b = sum_by-append g (lists_of slot handled s next.held.items)
-          (lists_of slot handled s (halves_in (orders_left next))) in
+      (lists_of slot handled s (halves_in (orders_left next))) in
       let c = lists-sum slot handled s g next.held.items in
       let d = lists-sum slot handled s g (halves_in (orders_left next)) in omega arith
 
@@ -349,12 +349,12 @@ module _ {H I : Type 0} (slot : H → ℕ) (item_slot : I → ℕ) (handled : H 
       let c = aside_more slot item_slot handled s (length desks) (length first) h aside long in
       let d = sum_by-append h left.lists lists_there in
       let e = sum_by-append h away_lists (lists_of slot handled s next.held.items
-          ++ lists_of slot handled s (halves_in (orders_left next))) in
+      ++ lists_of slot handled s (halves_in (orders_left next))) in
       let i = sum_by-append h (asides_of slot handled s aside (length first))
       (lists_of slot handled s out ++ lists_of slot handled s (option_to_list next.waiting)) in
       let j = sum_by-append h (lists_of slot handled s out) (lists_of slot handled s (option_to_list next.waiting)) in
       let m = sum_by-append h (lists_of slot handled s next.held.items)
-          (lists_of slot handled s (halves_in (orders_left next))) in
+      (lists_of slot handled s (halves_in (orders_left next))) in
       let n = lists_sum slot item_slot handled s h out in
       let o = lists_sum slot item_slot handled s h (option_to_list next.waiting) in
       let p = lists_sum slot item_slot handled s h next.held.items in
@@ -391,10 +391,10 @@ module _ {H I : Type 0} (slot : H → ℕ) (item_slot : I → ℕ) (handled : H 
   -- where the half was met before, nothing is met or left there
   none_there : sum_by (λ _. 1) met_before ≢ 0
       → length (away_at (length first) left.half) + sum_by (λ _. 1) (option_to_list (now_at (length first) left.half))
-          ≡ 0
+      ≡ 0
   none_there some =
       let a = met_adds one_list in let b = few_after in let c = counted (away_at (length first) left.half) in omega
-          arith
+      arith
 
   rest_same : sum_by (λ _. 1) met_before ≢ 0 → rest_at item_slot s places next ≡ rest_at item_slot s places hand
   rest_same some =
@@ -409,14 +409,14 @@ module _ {H I : Type 0} (slot : H → ℕ) (item_slot : I → ℕ) (handled : H 
       let none = none_there some in
       let a = sum_by-append g left.lists lists_there in
       let b = zero_sum g lists_there (found_lists one_list
-          ∙ (let c = counted (away_at (length first) left.half) in omega arith)) in
+      ∙ (let c = counted (away_at (length first) left.half) in omega arith)) in
       let c : sum_by g left.lists ≡ sum_by (λ l. h (l ++ rest_at item_slot s places hand)) left.lists =
       ap (λ r. sum_by (λ l. h (l ++ r)) left.lists) (rest_same some) in
       let d = left.come h in
       let q : List I → ℕ = λ l. h (l ++ queue_at (place_at admitted s)) in
       let e = met_adds q in
       let m = zero_sum q (away_at (length first) left.half) (let n = counted (away_at (length first) left.half) in
-          omega arith) in
+      omega arith) in
       let n = zero_sum q (option_to_list (now_at (length first) left.half)) (omega arith) in omega arith
 
   -- where it wasn't, what is left there is all that is left
@@ -466,10 +466,10 @@ module _ {H I : Type 0} (slot : H → ℕ) (item_slot : I → ℕ) (handled : H 
   closed_now : (d : ℕ) → length first ≤ d → backs d left.stays ≡ reaches d left.stays
   closed_now d past = elim (nat_eq d (length first)) as (λ b. nat_eq d (length first) ≡ b → backs d left.stays
       ≡ reaches d left.stays) [
-    | true ↦ λ e. (λ i. backs (eqb-true d (length first) e i) left.stays) ∙ same_there
-        ∙ sym (λ i. reaches (eqb-true d (length first) e i) left.stays)
-    | false ↦ λ e. left.closed d (let a = eqb-false d (length first) e in let b = long in omega arith)
-  ] refl
+        | true ↦ λ e. (λ i. backs (eqb-true d (length first) e i) left.stays) ∙ same_there
+            ∙ sym (λ i. reaches (eqb-true d (length first) e i) left.stays)
+        | false ↦ λ e. left.closed d (let a = eqb-false d (length first) e in let b = long in omega arith)
+      ] refl
 
   pub slot_closed : SlotLeft slot item_slot handled s admitted places aside next out first homes
   slot_closed = record {
@@ -499,7 +499,7 @@ module _ {H N I : Type 0} (name : H → N) (slot_at : N → ℕ) (item_slot : I 
     (came : List (FlowOrder H I)) (gone_home : List H)
     (last : desks ≡ first ++ desk ∷ [])
     (emptied : IsEmptied hand) (found : next.found.items ≡ hand.found.items) (lefts : next.lefts.items
-        ≡ hand.lefts.items)
+    ≡ hand.lefts.items)
     (whole : sent desk.orders ≡ came ++ orders_left next)
     (law : Lawful (MayFollow (λ half. slot_at (name half)) item_slot) (sent desk.orders))
     (home : gone_home ≡ taken desk.home ++ out)
@@ -509,7 +509,7 @@ module _ {H N I : Type 0} (name : H → N) (slot_at : N → ℕ) (item_slot : I 
     (stands : KeptStands (λ half. slot_at (name half)) item_slot handled came next.item) where
   names_closed : (h : N → ℕ) (fronts asides homes_are names : ℕ)
       → fronts + hand_sum (λ half. h (name half)) hand + 0 + asides + homes_are
-          + sum_by (sent_weight (λ half. h (name half))) desks
+      + sum_by (sent_weight (λ half. h (name half))) desks
       ≡ names + sum_by (home_weight (λ half. h (name half))) desks
       → fronts + hand_sum (λ half. h (name half)) next + sum_by (λ half. h (name half)) out + asides + homes_are
       + sum_by (sent_weight (λ half. h (name half))) first
@@ -520,15 +520,15 @@ module _ {H N I : Type 0} (name : H → N) (slot_at : N → ℕ) (item_slot : I 
       let s = ap (sum_by (sent_weight f)) last ∙ sum_by_push (sent_weight f) first desk in
       let t = ap (sum_by (home_weight f)) last ∙ sum_by_push (home_weight f) first desk in
       let b : sum_by f (halves_in (sent desk.orders)) ≡ sum_by f (halves_in came)
-          + sum_by f (halves_in (orders_left next)) =
+      + sum_by f (halves_in (orders_left next)) =
       ap (λ l. sum_by f (halves_in l)) whole ∙ ap (sum_by f) (halves-append came (orders_left next))
       ∙ sum_by-append f (halves_in came) (halves_in (orders_left next)) in
       let c = kept h in
       let d : sum_by f (gone_home ++ option_to_list next.waiting) ≡ sum_by f (taken desk.home) + sum_by f out
-          + sum_by f (option_to_list next.waiting) =
+      + sum_by f (option_to_list next.waiting) =
       sum_by-append f gone_home (option_to_list next.waiting)
       ∙ ap (λ n. n + sum_by f (option_to_list next.waiting)) (ap (sum_by f) home
-          ∙ sum_by-append f (taken desk.home) out) in omega arith
+      ∙ sum_by-append f (taken desk.home) out) in omega arith
 
   pub closes : IsLaid name slot_at item_slot handled admitted places aside hand [] desks homes
       → IsLaid name slot_at item_slot handled admitted places aside next out first homes
@@ -536,7 +536,7 @@ module _ {H N I : Type 0} (name : H → N) (slot_at : N → ℕ) (item_slot : I 
     names = λ h. names_closed h (sum_by (front_at (λ half. h (name half))) places)
         (sum_by (λ (kept : HalfAside H). h (name kept.half)) aside)
         (sum_by (λ (home : Home H I). h (name home.half)) homes) (sum_by (weight_at h) (names_of name admitted))
-            (laid.names h);
+        (laid.names h);
     known = λ s. ∥∥₁_map (laid.known s) (slot_closed (λ half. slot_at (name half)) item_slot handled s admitted places
         aside hand next out
         desks first desk homes came gone_home last emptied found lefts whole law home holds sends stands told);

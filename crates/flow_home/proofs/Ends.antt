@@ -52,10 +52,10 @@ module _ {I : Type 0} where
   unfolding head_or
   first_back stay stays same =
       ap (λ b. head_or [] (cond b (stay.back ∷ backs stay.at stays) (backs stay.at stays)))
-          (sym (eq-eqb stay.at stay.at refl))
+      (sym (eq-eqb stay.at stay.at refl))
       ∙ ap (head_or []) same
       ∙ ap (λ b. head_or [] (cond b ((stay.came ++ stay.items) ∷ reaches stay.at stays) (reaches stay.at stays)))
-          (eq-eqb stay.at stay.at refl)
+      (eq-eqb stay.at stay.at refl)
 
   later_backs : (d : ℕ) (stay : Stay I) (stays : List (Stay I)) → backs d (stay ∷ stays) ≡ reaches d (stay ∷ stays)
       → backs d stays ≡ reaches d stays
@@ -98,7 +98,7 @@ module _ {H I : Type 0} (slot : H → ℕ) (item_slot : I → ℕ) (handled : H 
   met_whole : (s k : ℕ) (place : Option (FlowPlace H I)) (stays : List (Stay I)) (half : Where I) (h : List I → ℕ)
       → k ≡ 0
       → PlaceIs slot item_slot handled s place half → Chain [] stays (came_of half)
-          → ((d : ℕ) → backs d stays ≡ reaches d stays)
+      → ((d : ℕ) → backs d stays ≡ reaches d stays)
       → accepted_at place ≡ (stay_items stays ++ since_of half) ++ queue_at place
       → sum_by (λ l. h (l ++ queue_at place)) (met_lists handled k place half) ≡ sum_by h (accepted_lists place)
   met_whole s k None stays half h none is chain same all =
@@ -106,7 +106,7 @@ module _ {H I : Type 0} (slot : H → ℕ) (item_slot : I → ℕ) (handled : H 
   met_whole s k (Some place) stays half h none is chain same all =
       ap (sum_by (λ l. h (l ++ place.queue.items))) (met_is s k place half none is)
       ∙ ap (λ l. sum_by h (l ∷ [])) (ap (λ l. (l ++ since_of half) ++ place.queue.items)
-          (chain_items [] stays (came_of half) same chain) ∙ sym all)
+      (chain_items [] stays (came_of half) same chain) ∙ sym all)
 
 -- a half comes home
 module _ {H I : Type 0} (slot : H → ℕ) (item_slot : I → ℕ) (handled : H → List I) (coded : Coded (List I))
@@ -132,13 +132,13 @@ module _ {H I : Type 0} (slot : H → ℕ) (item_slot : I → ℕ) (handled : H 
   rest_is s =
       rest_emptied hand emptied item_slot s places
       ∙ ap (λ l. lefts_at hand.lefts.items s ++ queue_at (place_at l s)) no_place
-          ∙ append-nil (lefts_at hand.lefts.items s)
+      ∙ append-nil (lefts_at hand.lefts.items s)
 
   rest_next : (s : ℕ) → rest_at item_slot s places next ≡ lefts_at next.lefts.items s
   rest_next s =
       rest_emptied next still item_slot s places
       ∙ ap (λ l. lefts_at next.lefts.items s ++ queue_at (place_at l s)) no_place
-          ∙ append-nil (lefts_at next.lefts.items s)
+      ∙ append-nil (lefts_at next.lefts.items s)
 
   abbrev Before : ℕ → Type 0
   Before s = SlotLeft slot item_slot handled s admitted places aside hand [] desks homes
@@ -188,7 +188,7 @@ module _ {H I : Type 0} (slot : H → ℕ) (item_slot : I → ℕ) (handled : H 
         let f : H → ℕ = of_slot slot handled s h in
         let a = found_more f in let b = left.met h in
         let c : f comes.home.half ≡ h (handled comes.home.half) = ap (λ t. cond t (h (handled comes.home.half)) 0) test
-            in omega arith
+        in omega arith
 
     abbrev one_list : List I → ℕ
     one_list _ = 1
@@ -229,7 +229,7 @@ module _ {H I : Type 0} (slot : H → ℕ) (item_slot : I → ℕ) (handled : H 
           let c = homes_more s h ∙ ap (λ t. homes_sum slot handled s h homes
           + cond t (h (handled comes.home.half ++ comes.home.left.items)) 0) test in
           let d : h (handled comes.home.half ++ comes.home.left.items) ≡ h ((one_of left.lists one).0
-              ++ rest_at item_slot s places hand) =
+          ++ rest_at item_slot s places hand) =
           λ i. h (same_list i ++ (comes.own ∙ ap (lefts_at hand.lefts.items) at ∙ sym (rest_is s)) i) in omega arith;
       queued = left.queued;
       quiet = λ some _. absurd (omega arith);
@@ -248,14 +248,14 @@ module _ {H N I : Type 0} (name : H → N) (slot_at : N → ℕ) (item_slot : I 
   -- one half more is home
   pub home_laid : (hand next : Hand H I) (later : List (Home H I)) → IsEmptied hand → IsEmptied next
       → ComesHome (λ half. slot_at (name half)) hand.found.items next.found.items hand.lefts.items next.lefts.items
-          homes later
+      homes later
       → IsLaid name slot_at item_slot handled admitted places aside hand [] desks homes
       → IsLaid name slot_at item_slot handled admitted places aside next [] desks later
   home_laid hand next later emptied still comes laid = record {
     names = λ h.
         let f : Home H I → ℕ = λ home. h (name home.half) in
         let a = found_more (λ half. slot_at (name half)) item_slot handled coded admitted places aside hand next desks
-            homes later
+        homes later
         none no_place emptied still comes (λ half. h (name half)) in
         let b = ap (sum_by f) comes.is ∙ sum_by_push f homes comes.home in let c = laid.names h in omega arith;
     known = λ s. ∥∥₁_map (laid.known s) (slot_home (λ half. slot_at (name half)) item_slot handled coded admitted
@@ -266,7 +266,7 @@ module _ {H N I : Type 0} (name : H → N) (slot_at : N → ℕ) (item_slot : I 
   -- all are home
   pub all_home : (hand : Hand H I) → IsEmptied hand → hand.found.items ≡ [] → aside ≡ [] → desks ≡ []
       → IsLaid name slot_at item_slot handled admitted places aside hand [] desks homes
-          → AreHome name slot_at handled admitted homes
+      → AreHome name slot_at handled admitted homes
   all_home hand emptied no_half no_aside no_desk laid = record {
     names = λ h.
         let f : H → ℕ = λ half. h (name half) in
@@ -278,7 +278,7 @@ module _ {H N I : Type 0} (name : H → N) (slot_at : N → ℕ) (item_slot : I 
         let g = ap (sum_by (home_weight f)) no_desk in omega arith;
     lists = λ s h. ∥∥₁_elim (laid.known s) (Coded-set coded_ℕ _ _) (λ left.
         let whole = met_whole (λ half. slot_at (name half)) item_slot handled s (length desks)
-            (place_at admitted s) left.stays left.half h
+        (place_at admitted s) left.stays left.half h
         none left.is left.chain (λ d. left.closed d (omega arith)) left.all in
         let one : List I → ℕ = λ _. 1 in
         let f : H → ℕ = of_slot (λ half. slot_at (name half)) handled s one in
@@ -305,17 +305,17 @@ module _ {H N I : Type 0} (name : H → N) (slot_at : N → ℕ) (handled : H �
   pub each_comes : (homes : List (Home H I)) → Within homes → ComeToAccepted name slot_at handled admitted homes
   each_comes [] within =
       All-nil (λ (home : Home H I). handled home.half ++ home.left.items
-          ≡ accepted_at (place_at admitted (slot_at (name home.half))))
+      ≡ accepted_at (place_at admitted (slot_at (name home.half))))
   each_comes (home ∷ homes) within =
       All-cons (λ (home : Home H I). handled home.half ++ home.left.items
-          ≡ accepted_at (place_at admitted (slot_at (name home.half))))
+      ≡ accepted_at (place_at admitted (slot_at (name home.half))))
       home homes first (each_comes homes (λ s h. let a = more s h in let b = within s h in omega arith)) where
         more : (s : ℕ) (h : List I → ℕ) → homes_sum (λ half. slot_at (name half)) handled s h (home ∷ homes)
             ≡ cond (nat_eq (slot_at (name home.half)) s) (h (handled home.half ++ home.left.items)) 0
             + homes_sum (λ half. slot_at (name half)) handled s h homes
         more s h =
             let f : Home H I → ℕ = λ x. cond (nat_eq (slot_at (name x.half)) s) (h (handled x.half
-                ++ x.left.items)) 0 in
+            ++ x.left.items)) 0 in
             sum_by-cons f home homes
 
         first : handled home.half ++ home.left.items ≡ accepted_at (place_at admitted (slot_at (name home.half)))
@@ -327,8 +327,8 @@ module _ {H N I : Type 0} (name : H → N) (slot_at : N → ℕ) (handled : H �
             let b = within (slot_at (name home.half)) h in
             let c = only_same coded (handled home.half ++ home.left.items) in
             let d : cond (nat_eq (slot_at (name home.half)) (slot_at (name home.half))) (h (handled home.half
-                ++ home.left.items)) 0
+            ++ home.left.items)) 0
             ≡ h (handled home.half ++ home.left.items) =
             ap (λ t. cond t (h (handled home.half ++ home.left.items)) 0) (eq-eqb (slot_at (name home.half))
-                (slot_at (name home.half)) refl) in
+            (slot_at (name home.half)) refl) in
             omega arith)

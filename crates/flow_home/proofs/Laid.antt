@@ -31,7 +31,7 @@ pub lawful_by : {H I : Type 0} (halves slot : H → ℕ) (items item_slot : I �
     → Lawful (MayFollow halves items) orders → Lawful (MayFollow slot item_slot) orders
 lawful_by {H} {I} halves slot items item_slot alike same orders =
     subst (λ (p : (H → ℕ) × (I → ℕ)). Lawful (MayFollow p.0 p.1) orders)
-        (λ i. ((λ x. sym (alike x) i), λ x. sym (same x) i))
+    (λ i. ((λ x. sym (alike x) i), λ x. sym (same x) i))
 
 -- all but some parts of a hand are as they were
 pub record SameOrders {H I : Type 0} (hand next : Hand H I) : Type 0 where
@@ -74,13 +74,13 @@ module _ {H N I : Type 0} (name : H → N) (slot_at : N → ℕ) (item_slot : I 
 
     pub closed_home : (places : List (Option (FlowPlace H I))) (aside : List (HalfAside H)) (hand next : Hand H I)
         (opened later : Option (HomeLane H)) → IsEmptied hand → SameOrders hand next → next.lefts.items
-            ≡ hand.lefts.items
+        ≡ hand.lefts.items
         → next.found.items ≡ hand.found.items
         → ((out : List H) → IsRest later out → IsRest opened (next.held.items ++ out))
         → All admitted places aside hand opened desks homes → All admitted places aside next later desks homes
     closed_home places aside hand next opened later emptied same lefts found rests laid out rest =
         moved_laid name slot_at item_slot handled admitted desks homes places places hand next (next.held.items
-            ++ out) out
+        ++ out) out
         (λ s. rest_same item_slot hand next same lefts s places) (λ s some. refl) aside
         (λ f.
         let a = ap (sum_by f) found in let b = ap (λ o. sum_by f (option_to_list o)) same.waiting in
@@ -132,13 +132,13 @@ module _ {H N I : Type 0} (name : H → N) (slot_at : N → ℕ) (item_slot : I 
 
       home_step : (next : Hand H I) (later : List (Home H I)) → IsEmptied next
           → ComesHome (λ half. slot_at (name half)) hand.found.items next.found.items hand.lefts.items next.lefts.items
-              homes later
+          homes later
           → All admitted places aside next opened desks later
       home_step next later still comes out rest =
           subst (λ (o : List H). IsLaid name slot_at item_slot handled admitted places aside next o desks later)
           (sym (rest_none out rest))
           (home_laid name slot_at item_slot handled coded admitted places aside desks homes
-              (ap length no_desk) no_place hand next later
+          (ap length no_desk) no_place hand next later
           emptied still comes none_out)
 
       home_kept : (next : Hand H I) (later : List (Home H I)) → SameOrders hand next → next.held.items ≡ hand.held.items
@@ -146,7 +146,7 @@ module _ {H N I : Type 0} (name : H → N) (slot_at : N → ℕ) (item_slot : I 
           → All admitted places aside next opened desks later
       home_kept next later same held is out rest =
           subst (λ (hs : List (Home H I)). IsLaid name slot_at item_slot handled admitted places aside next out desks
-              hs) (sym is.2)
+          hs) (sym is.2)
           (moved_laid name slot_at item_slot handled admitted desks homes places places hand next out out
           (λ s. rest_same item_slot hand next same is.1 s places) (λ s some. refl) aside
           (λ f.
@@ -160,9 +160,9 @@ module _ {H N I : Type 0} (name : H → N) (slot_at : N → ℕ) (item_slot : I 
           → SameOrders hand next
           → next.held.items ≡ hand.held.items → IsEmptied next
           → OnOk answer (ComesHome (λ half. slot_at (name half)) hand.found.items next.found.items hand.lefts.items
-              next.lefts.items homes later)
+          next.lefts.items homes later)
           → OnErr answer ((next.found.items ≡ hand.found.items) × (next.lefts.items ≡ hand.lefts.items)
-              × (later ≡ homes))
+          × (later ≡ homes))
           → All admitted places aside next opened desks later
       home_all (Ok _) next later same held still ok err = home_step next later still ok
       home_all (Err _) next later same held still ok err = home_kept next later same held err
@@ -170,7 +170,7 @@ module _ {H N I : Type 0} (name : H → N) (slot_at : N → ℕ) (item_slot : I 
       pub all_are_home : hand.found.items ≡ [] → aside ≡ [] → AreHome name slot_at handled admitted homes
       all_are_home no_half no_aside =
           all_home name slot_at item_slot handled coded admitted places aside desks homes
-              (ap length no_desk) no_place hand emptied
+          (ap length no_desk) no_place hand emptied
           no_half no_aside no_desk none_out
 
   -- the lanes of the last desk are closed
@@ -179,7 +179,7 @@ module _ {H N I : Type 0} (name : H → N) (slot_at : N → ℕ) (item_slot : I 
       (hand next : Hand H I) (opened : Option (HomeLane H)) (desks first : List (FlowDesk H I)) (desk : FlowDesk H I)
       (homes : List (Home H I)) (came left : List (FlowOrder H I)) (gone_home : List H) → opened ≡ None
       → desks ≡ first ++ desk ∷ [] → IsEmptied hand → next.found.items ≡ hand.found.items → next.lefts.items
-          ≡ hand.lefts.items
+      ≡ hand.lefts.items
       → sent desk.orders ≡ came ++ left → orders_left next ≡ left
       → Lawful (MayFollow (λ half. slot_at (name half)) item_slot) (sent desk.orders)
       → NamesKept name came next.held.items (gone_home ++ option_to_list next.waiting)
@@ -193,6 +193,6 @@ module _ {H N I : Type 0} (name : H → N) (slot_at : N → ℕ) (item_slot : I 
       found lefts whole turned
       law kept holds sends stands laid out rest =
       closes name slot_at item_slot handled (told_apart (coded_list coded)) admitted places aside hand next out desks
-          first desk homes came
+      first desk homes came
       gone_home last emptied found lefts (whole ∙ ap (λ l. came ++ l) (sym turned)) law rest kept holds sends stands
       (laid [] (subst (λ (o : Option (HomeLane H)). IsRest o []) (sym none) refl))

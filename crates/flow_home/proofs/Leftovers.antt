@@ -55,7 +55,7 @@ module _ {H I : Type 0} (slot : H → ℕ) (item_slot : I → ℕ) (handled : H 
     may_from came order (law came order left refl),
     subst (λ (o : Option (List I)). LawFrom o left) (now_last slot item_slot handled s came order)
         (law_from (came ++ order ∷ []) left (subst (Lawful (MayFollow slot item_slot))
-            (sym (append_assoc came (order ∷ []) left)) law)),
+        (sym (append_assoc came (order ∷ []) left)) law)),
   )
 
   abbrev one : {A : Type 0} → A → ℕ
@@ -78,20 +78,20 @@ module _ {H I : Type 0} (slot : H → ℕ) (item_slot : I → ℕ) (handled : H 
   pub conserved : (now : Option (List I)) (left : List (FlowOrder H I)) → LawFrom now left
       → sum_by one (option_to_list now) + count slot s (halves_in left)
       ≡ sum_by one (gone_from slot item_slot handled s now left)
-          + sum_by one (option_to_list (now_from slot item_slot handled s now left))
+      + sum_by one (option_to_list (now_from slot item_slot handled s now left))
   conserved now [] law = omega arith
   conserved now (Arrive half ∷ left) law =
       let c = sum_by-cons (on slot s one) half (halves_in left) in
       let later = conserved (next now (Arrive half)) left law.1 in
       elim (nat_eq (slot half) s) as (λ b. nat_eq (slot half) s ≡ b → sum_by one (option_to_list now)
-          + count slot s (half ∷ halves_in left)
+      + count slot s (half ∷ halves_in left)
       ≡ sum_by one (gone_from slot item_slot handled s (next now (Arrive half)) left)
       + sum_by one (option_to_list (now_from slot item_slot handled s (next now (Arrive half)) left))) [
         | true ↦ λ e.
             let a = none_one now (law.0 e) in
             let b : on slot s one half ≡ 1 = ap (λ t. cond t 1 0) e in
             let d : sum_by one (option_to_list (next now (Arrive half)))
-                ≡ 1 = ap (λ t. sum_by one (option_to_list (cond t (Some (handled half)) now))) e in
+            ≡ 1 = ap (λ t. sum_by one (option_to_list (cond t (Some (handled half)) now))) e in
             omega arith
         | false ↦ λ e.
             let b : on slot s one half ≡ 0 = ap (λ t. cond t 1 0) e in
@@ -103,28 +103,28 @@ module _ {H I : Type 0} (slot : H → ℕ) (item_slot : I → ℕ) (handled : H 
       let later = conserved (next now (Item x)) left law.1 in
       let d : sum_by one (option_to_list (next now (Item x))) ≡ sum_by one (option_to_list now) =
       elim (nat_eq (item_slot x) s) as (λ b. sum_by one (option_to_list (cond b (more now x) now))
-          ≡ sum_by one (option_to_list now)) [
+      ≡ sum_by one (option_to_list now)) [
         | true ↦ more_one now x
         | false ↦ refl
       ] in omega arith
   conserved now (Leave t ∷ left) law =
       let later = conserved (next now (Leave t)) left law.1 in
       let g = sum_by-append one (gone_after slot item_slot handled s now (Leave t)) (gone_from slot item_slot handled s
-          (next now (Leave t)) left) in
+      (next now (Leave t)) left) in
       elim (nat_eq t s) as (λ b. nat_eq t s ≡ b → sum_by one (option_to_list now) + count slot s (halves_in left)
       ≡ sum_by one (gone_after slot item_slot handled s now (Leave t)
-          ++ gone_from slot item_slot handled s (next now (Leave t)) left)
+      ++ gone_from slot item_slot handled s (next now (Leave t)) left)
       + sum_by one (option_to_list (now_from slot item_slot handled s (next now (Leave t)) left))) [
         | true ↦ λ e.
             let d : sum_by one (option_to_list (next now (Leave t)))
-                ≡ 0 = ap (λ b. sum_by one (option_to_list (cond {A = Option (List I)} b None now))) e in
+            ≡ 0 = ap (λ b. sum_by one (option_to_list (cond {A = Option (List I)} b None now))) e in
             let f : sum_by one (gone_after slot item_slot handled s now (Leave t)) ≡ sum_by one (option_to_list now) =
             ap (λ b. sum_by one (cond b (option_to_list now) [])) e in omega arith
         | false ↦ λ e.
             let d : sum_by one (option_to_list (next now (Leave t))) ≡ sum_by one (option_to_list now) =
             ap (λ b. sum_by one (option_to_list (cond {A = Option (List I)} b None now))) e in
             let f : sum_by one (gone_after slot item_slot handled s now (Leave t))
-                ≡ 0 = ap (λ b. sum_by one (cond b (option_to_list now) [])) e in omega arith
+            ≡ 0 = ap (λ b. sum_by one (cond b (option_to_list now) [])) e in omega arith
       ] refl
 
   -- where none stands there and none comes there are no items
@@ -138,11 +138,11 @@ module _ {H I : Type 0} (slot : H → ℕ) (item_slot : I → ℕ) (handled : H 
         | false ↦ λ e.
             let b : on slot s one half ≡ 0 = ap (λ t. cond t 1 0) e in
             none_left left (subst (λ (o : Option (List I)). LawFrom o left)
-                (ap (λ t. cond t (Some (handled half)) None) e) law.1) (omega arith)
+            (ap (λ t. cond t (Some (handled half)) None) e) law.1) (omega arith)
       ] refl
   none_left (Item x ∷ left) law none =
       elim (nat_eq (item_slot x) s) as (λ b. nat_eq (item_slot x) s ≡ b
-          → cond b (x ∷ items_in item_slot s left) (items_in item_slot s left) ≡ []) [
+      → cond b (x ∷ items_in item_slot s left) (items_in item_slot s left) ≡ []) [
         | true ↦ λ e. absurd (true≢false (sym (law.0 e)))
         | false ↦ λ e. none_left left (subst (λ (o : Option (List I)). LawFrom o left)
             (ap (λ t. cond {A = Option (List I)} t None None) e) law.1) none
@@ -179,48 +179,48 @@ module _ {H I : Type 0} (slot : H → ℕ) (item_slot : I → ℕ) (handled : H 
       let c = sum_by-cons (on slot s g) half (halves_in left) in
       let later = left_over h (next now (Arrive half)) left law.1 few in
       elim (nat_eq (slot half) s) as (λ b. nat_eq (slot half) s ≡ b → with_left h now (Arrive half ∷ left)
-          ≡ at_end h now (Arrive half ∷ left)) [
+      ≡ at_end h now (Arrive half ∷ left)) [
         | true ↦ λ e.
             let b : on slot s g half ≡ g half = ap (λ t. cond t (g half) 0) e in
             let a = zero_sum (λ l. h (l ++ items_in item_slot s left)) (option_to_list now) (none_one now (law.0 e)) in
             let d : sum_by (λ l. h (l ++ items_in item_slot s left)) (option_to_list (next now (Arrive half)))
-                ≡ g half =
+            ≡ g half =
             ap (λ t. sum_by (λ l. h (l ++ items_in item_slot s left))
-                (option_to_list (cond t (Some (handled half)) now))) e ∙ (omega arith) in omega arith
+            (option_to_list (cond t (Some (handled half)) now))) e ∙ (omega arith) in omega arith
         | false ↦ λ e.
             let b : on slot s g half ≡ 0 = ap (λ t. cond t (g half) 0) e in
             let d : sum_by (λ l. h (l ++ items_in item_slot s left)) (option_to_list (next now (Arrive half)))
             ≡ sum_by (λ l. h (l ++ items_in item_slot s left)) (option_to_list now) =
             ap (λ t. sum_by (λ l. h (l ++ items_in item_slot s left))
-                (option_to_list (cond t (Some (handled half)) now))) e in omega arith
+            (option_to_list (cond t (Some (handled half)) now))) e in omega arith
       ] refl
   left_over h now (Item x ∷ left) law few =
       let rest : List I = items_in item_slot s left in
       let later = left_over h (next now (Item x)) left law.1 few in
       elim (nat_eq (item_slot x) s) as (λ b. nat_eq (item_slot x) s ≡ b
       → sum_by (λ l. h (l ++ cond b (x ∷ rest) rest)) (option_to_list now)
-          + slot_sum slot s (λ half. h (handled half ++ cond b (x ∷ rest) rest)) (halves_in left)
+      + slot_sum slot s (λ half. h (handled half ++ cond b (x ∷ rest) rest)) (halves_in left)
       ≡ at_end h (next now (Item x)) left) [
         | true ↦ λ e.
             let count_now = conserved (next now (Item x)) left law.1 in
             let same : sum_by one (option_to_list (next now (Item x))) ≡ 1 =
             ap (λ t. sum_by one (option_to_list (cond t (more now x) now))) e ∙ more_one now x
-                ∙ some_one now (law.0 e) in
+            ∙ some_one now (law.0 e) in
             let none : count slot s (halves_in left) ≡ 0 = omega arith in
             let a = none_adds slot s (λ half. h (handled half ++ x ∷ rest)) (halves_in left) none in
             let b = none_adds slot s (λ half. h (handled half ++ rest)) (halves_in left) none in
             let d : sum_by (λ l. h (l ++ rest)) (option_to_list (next now (Item x)))
-                ≡ sum_by (λ l. h (l ++ x ∷ rest)) (option_to_list now) =
+            ≡ sum_by (λ l. h (l ++ x ∷ rest)) (option_to_list now) =
             ap (λ t. sum_by (λ l. h (l ++ rest)) (option_to_list (cond t (more now x) now))) e
-                ∙ moved now x h rest in omega arith
+            ∙ moved now x h rest in omega arith
         | false ↦ λ e.
             let d : sum_by (λ l. h (l ++ rest)) (option_to_list (next now (Item x)))
-                ≡ sum_by (λ l. h (l ++ rest)) (option_to_list now) =
+            ≡ sum_by (λ l. h (l ++ rest)) (option_to_list now) =
             ap (λ t. sum_by (λ l. h (l ++ rest)) (option_to_list (cond t (more now x) now))) e in omega arith
       ] refl where
         moved : (o : Option (List I)) (x : I) (h : List I → ℕ) (rest : List I)
             → sum_by (λ l. h (l ++ rest)) (option_to_list (more o x))
-                ≡ sum_by (λ l. h (l ++ x ∷ rest)) (option_to_list o)
+            ≡ sum_by (λ l. h (l ++ x ∷ rest)) (option_to_list o)
         moved None x h rest = refl
         moved (Some l) x h rest = (omega arith) ∙ ap h (append_assoc l (x ∷ []) rest) ∙ (omega arith)
   left_over h now (Leave t ∷ left) law few =
@@ -232,25 +232,25 @@ module _ {H I : Type 0} (slot : H → ℕ) (item_slot : I → ℕ) (handled : H 
       elim (nat_eq t s) as (λ b. nat_eq t s ≡ b → with_left h now (Leave t ∷ left) ≡ at_end h now (Leave t ∷ left)) [
         | true ↦ λ e.
             let gone_is : (f : List I → ℕ) → sum_by f (gone_after slot item_slot handled s now (Leave t))
-                ≡ sum_by f (option_to_list now) =
+            ≡ sum_by f (option_to_list now) =
             λ f. ap (λ b. sum_by f (cond b (option_to_list now) [])) e in
             let p = gone_is one in let q = gone_is h in
             let stood = some_one now (law.0 e) in
             let off : sum_by one (option_to_list (next now (Leave t)))
-                ≡ 0 = ap (λ b. sum_by one (option_to_list (cond {A = Option (List I)} b None now))) e in
+            ≡ 0 = ap (λ b. sum_by one (option_to_list (cond {A = Option (List I)} b None now))) e in
             let none : count slot s (halves_in left) ≡ 0 = omega arith in
             let quiet : rest ≡ [] =
             none_left left (subst (λ (o : Option (List I)). LawFrom o left)
-                (ap (λ b. cond {A = Option (List I)} b None now) e) law.1) none in
+            (ap (λ b. cond {A = Option (List I)} b None now) e) law.1) none in
             let a = none_adds slot s (λ half. h (handled half ++ rest)) (halves_in left) none in
             let b : sum_by (λ l. h (l ++ rest)) (option_to_list now) ≡ sum_by h (option_to_list now) =
             ap (λ r. sum_by (λ l. h (l ++ r)) (option_to_list now)) quiet ∙ none_more now h in
             let c = zero_sum h gone (omega arith) in
             let d = zero_sum h (option_to_list (now_from slot item_slot handled s (next now (Leave t)) left))
-                (omega arith) in omega arith
+            (omega arith) in omega arith
         | false ↦ λ e.
             let same : (f : List I → ℕ) → sum_by f (option_to_list (next now (Leave t)))
-                ≡ sum_by f (option_to_list now) =
+            ≡ sum_by f (option_to_list now) =
             λ f. ap (λ b. sum_by f (option_to_list (cond {A = Option (List I)} b None now))) e in
             let none_gone : (f : List I → ℕ) → sum_by f (gone_after slot item_slot handled s now (Leave t)) ≡ 0 =
             λ f. ap (λ b. sum_by f (cond b (option_to_list now) [])) e in
@@ -278,10 +278,10 @@ module _ {H I : Type 0} (slot : H → ℕ) (item_slot : I → ℕ) (handled : H 
   none_kept came None stands none = refl
   none_kept came (Some x) stands none = elim (nat_eq (item_slot x) s) as (λ b. nat_eq (item_slot x) s ≡ b
       → cond b (x ∷ []) [] ≡ []) [
-    | true ↦ λ e. absurd (true≢false (sym (stands x refl)
-        ∙ ap (λ n. is_some (now_of slot item_slot handled n came)) (eqb-true (item_slot x) s e) ∙ none))
-    | false ↦ λ e. refl
-  ] refl
+        | true ↦ λ e. absurd (true≢false (sym (stands x refl)
+            ∙ ap (λ n. is_some (now_of slot item_slot handled n came)) (eqb-true (item_slot x) s e) ∙ none))
+        | false ↦ λ e. refl
+      ] refl
 
 -- two lists whose beginnings are as long
 pub append_same : {A : Type 0} (ws bs xs ys : List A) → length ws ≡ length bs → ws ++ xs ≡ bs ++ ys → (ws ≡ bs)
@@ -298,9 +298,9 @@ append_same (a ∷ ws) (b ∷ bs) xs ys long e =
 module _ {H I : Type 0} (slot : H → ℕ) (item_slot : I → ℕ) (handled : H → List I) (s : ℕ)
     (came left : List (FlowOrder H I)) (held : List H) (kept : Option I) (lists backs reaches away : List (List I))
     (law : Lawful (MayFollow slot item_slot) (came ++ left)) (holds : Holds slot item_slot handled came held kept)
-        (stands : KeptStands slot item_slot handled came kept)
+    (stands : KeptStands slot item_slot handled came kept)
     (gone : gone_of slot item_slot handled s came ≡ backs ++ lists) (all : gone_of slot item_slot handled s (came
-        ++ left) ≡ reaches ++ away)
+    ++ left) ≡ reaches ++ away)
     (long : length backs ≡ length reaches)
     (few : length away + sum_by (λ _. 1) (option_to_list (now_of slot item_slot handled s (came ++ left))) ≤ 1) where
   abbrev now : Option (List I)
@@ -320,7 +320,7 @@ module _ {H I : Type 0} (slot : H → ℕ) (item_slot : I → ℕ) (handled : H 
   parted =
       append_same backs reaches (lists ++ later) away long
       (sym (append_assoc backs lists later) ∙ ap (λ l. l ++ later) (sym gone)
-          ∙ sym (gone-append slot item_slot handled s None came left) ∙ all)
+      ∙ sym (gone-append slot item_slot handled s None came left) ∙ all)
 
   pub backs_are : backs ≡ reaches
   backs_are = parted.0
@@ -354,7 +354,7 @@ module _ {H I : Type 0} (slot : H → ℕ) (item_slot : I → ℕ) (handled : H 
       ≡ sum_by (λ l. h (l ++ items_in item_slot s left)) (option_to_list now)
   held_sum h =
       let same : (λ (half : H). h (handled half ++ rest)) ≡ (λ half. h (with_kept item_slot s kept (handled half)
-          ++ items_in item_slot s left)) =
+      ++ items_in item_slot s left)) =
       λ i half. h ((sym (append_assoc (handled half) (kept_in item_slot s kept) (items_in item_slot s left))
       ∙ ap (λ l. l ++ items_in item_slot s left) (sym (kept_is slot item_slot handled s kept (handled half)))) i) in
       ap (λ g. slot_sum slot s g held) same ∙ holds s (λ l. h (l ++ items_in item_slot s left))
@@ -384,7 +384,7 @@ module _ {H I : Type 0} (slot : H → ℕ) (item_slot : I → ℕ) (handled : H 
       let off : is_some now ≡ false = absent slot item_slot handled s now (omega arith) in
       (λ i. none_kept slot item_slot handled s came kept stands off i ++ none_left slot item_slot handled s left
       (subst (λ (o : Option (List I)). LawFrom slot item_slot handled s o left)
-          (is_nothing slot item_slot handled s now off) laws) (omega arith) i)
+      (is_nothing slot item_slot handled s now off) laws) (omega arith) i)
 
   nothing_more : (h : List I → ℕ) (xs : List (List I)) → sum_by (λ l. h (l ++ [])) xs ≡ sum_by h xs
   nothing_more h xs = ap (λ (g : List I → ℕ). sum_by g xs) (λ i l. h (append-nil l i))
@@ -393,13 +393,13 @@ module _ {H I : Type 0} (slot : H → ℕ) (item_slot : I → ℕ) (handled : H 
   gone_sum : (h : List I → ℕ) → sum_by (λ l. h (l ++ rest)) lists ≡ sum_by h lists
   gone_sum h = elim (nat_eq (tally lists) 0) as (λ b. nat_eq (tally lists) 0 ≡ b → sum_by (λ l. h (l ++ rest)) lists
       ≡ sum_by h lists) [
-    | true ↦ λ e. let none = eqb-true (tally lists) 0 e in zero_sum (λ l. h (l ++ rest)) lists none
-        ∙ sym (zero_sum h lists none)
-    | false ↦ λ e.
-        let some : tally lists ≢ 0 = eqb-false (tally lists) 0 e in
-        let a = counts in
-        ap (λ r. sum_by (λ l. h (l ++ r)) lists) (quiet (omega arith)) ∙ nothing_more h lists
-  ] refl
+        | true ↦ λ e. let none = eqb-true (tally lists) 0 e in zero_sum (λ l. h (l ++ rest)) lists none
+            ∙ sym (zero_sum h lists none)
+        | false ↦ λ e.
+            let some : tally lists ≢ 0 = eqb-false (tally lists) 0 e in
+            let a = counts in
+            ap (λ r. sum_by (λ l. h (l ++ r)) lists) (quiet (omega arith)) ∙ nothing_more h lists
+      ] refl
 
   pub desk_found : (h : List I → ℕ) → sum_by (λ l. h (l ++ rest)) lists
       + slot_sum slot s (λ half. h (handled half ++ rest)) held

@@ -18,7 +18,7 @@ pub aside_all : {H : Type 0} (k : ℕ) (f : H → ℕ) (aside : List (HalfAside 
 aside_all {H} k f aside none =
     ap (λ n. aside_sum n f aside) none
     ∙ ap (λ (g : HalfAside H → ℕ). sum_by g aside) (λ i kept. cond (le-ltb kept.slice 0 (omega arith) i) 0
-        (f kept.half))
+    (f kept.half))
 
 module _ {H N I : Type 0} (name : H → N) (slot_at : N → ℕ) (item_slot : I → ℕ) (handled : H → List I)
     (admitted : List (Option (FlowPlace H I))) (desks : List (FlowDesk H I)) (homes : List (Home H I)) where

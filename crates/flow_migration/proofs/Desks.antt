@@ -61,15 +61,16 @@ module _ {H I : Type 0} (slice : ℕ) (before now : FlowDesk H I) (old new : Lis
   at_same f none other same = ap (λ l. get_or l other none) (changed_map f same)
 
 module _ {H I : Type 0} (h : H → ℕ) where
-  pub arrive_weight : (came : List (FlowOrder H I)) (half : H) → sum_by h (halves_in (came ++ Arrive half ∷ []))
-      ≡ sum_by h (halves_in came) + h half
-  arrive_weight came half = ap (sum_by h) (halves-append came (Arrive half ∷ [])) ∙ sum_by_push h (halves_in came) half
+  pub arrive_weight : (came : List (FlowOrder H I)) (half : H)
+      → sum_by h (halves_in (came ++ Arrive half ∷ [])) ≡ sum_by h (halves_in came) + h half
+  arrive_weight came half = ap (sum_by h) (halves-append came (Arrive half ∷ []))
+      ∙ sum_by_push h (halves_in came) half
 
   pub none_weight : (came : List (FlowOrder H I)) (order : FlowOrder H I) → halves_in (order ∷ []) ≡ []
       → sum_by h (halves_in (came ++ order ∷ [])) ≡ sum_by h (halves_in came)
   none_weight came order none =
       ap (sum_by h) (halves-append came (order ∷ []) ∙ ap (λ l. halves_in came ++ l) none)
-          ∙ sum_by-append h (halves_in came) [] ∙ (omega arith)
+      ∙ sum_by-append h (halves_in came) [] ∙ (omega arith)
 
 -- one order more stands at one slice, and elsewhere none does
 pub record OneMore {H I : Type 0} (slice : ℕ) (order : FlowOrder H I) (old new : ℕ
@@ -130,8 +131,8 @@ module _ {H I : Type 0} (slice : ℕ) (old new : List (FlowDesk H I)) (refused :
   pub refused_ends : homes_of new ≡ homes_of old
   refused_ends = changed_map slice refused.before refused.now old new refused.desk (λ desk. desk.home) refused.home
 
-  pub refused_sum : (f : List (FlowOrder H I) → ℕ) → sum_by (λ (desk : FlowDesk H I). f (sent desk.orders)) new
-      ≡ sum_by (λ (desk : FlowDesk H I). f (sent desk.orders)) old
+  pub refused_sum : (f : List (FlowOrder H I) → ℕ) → sum_by (λ (desk : FlowDesk H I). f (sent desk.orders)) new ≡
+      sum_by (λ (desk : FlowDesk H I). f (sent desk.orders)) old
   refused_sum f =
       let g : FlowDesk H I → ℕ = λ desk. f (sent desk.orders) in
       let e = changed_sum slice refused.before refused.now old new refused.desk g in
@@ -145,8 +146,8 @@ module _ {H I : Type 0} (slice : ℕ) (old new : List (FlowDesk H I)) (refused :
 
   pub refused_filled : room_at old slice ≤ sent_count old slice
   refused_filled =
-      let a = at_before slice refused.before refused.now old new refused.desk (λ desk. (sender_lane desk.orders).room)
-          0 in
+      let a = at_before slice refused.before refused.now old new refused.desk
+      (λ desk. (sender_lane desk.orders).room) 0 in
       let b = at_before slice refused.before refused.now old new refused.desk order_count 0 in
       let c = refused.filled in omega arith
 
@@ -180,9 +181,9 @@ module _ {H I : Type 0} (slice : ℕ) (half : H) (old new : List (FlowDesk H I))
       (ap sent took.orders)
 
 pub homes_sum : {H I : Type 0} (f : List H → ℕ) (old new : List (FlowDesk H I)) → homes_of new ≡ homes_of old
-    → sum_by (λ (desk : FlowDesk H I). f (taken desk.home)) new
-        ≡ sum_by (λ (desk : FlowDesk H I). f (taken desk.home)) old
+    → sum_by (λ (desk : FlowDesk H I). f (taken desk.home)) new ≡ sum_by
+    (λ (desk : FlowDesk H I). f (taken desk.home)) old
 homes_sum {H} {I} f old new same =
     sum_by-through (λ (desk : FlowDesk H I). desk.home) (λ home. f (taken home)) new
-        ∙ ap (sum_by (λ home. f (taken home))) same
+    ∙ ap (sum_by (λ home. f (taken home))) same
     ∙ sym (sum_by-through (λ (desk : FlowDesk H I). desk.home) (λ home. f (taken home)) old)

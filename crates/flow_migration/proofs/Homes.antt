@@ -12,8 +12,8 @@ use Rattle.flow_migration.specs.Sides.{HomeEnded}
 use Rattle.flow_migration.specs.Words.{TookOne, TookFrom}
 use Rattle.flow_migration.proofs.Desks.{at_now, at_before, at_other, at_same}
 
-module _ {H I : Type 0} (slice admitted : ℕ) (aside new_aside : List (HalfAside H)) (desks now : List (FlowDesk H I))
-    where
+module _ {H I : Type 0} (slice admitted : ℕ) (aside new_aside : List (HalfAside H))
+    (desks now : List (FlowDesk H I)) where
   -- a half was taken
   pub took_half : (half : H) → Taken slice half desks now → length aside ≤ length new_aside
       → TookOne true slice admitted aside new_aside desks now

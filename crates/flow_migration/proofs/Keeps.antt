@@ -131,7 +131,7 @@ module _ {H I : Type 0} (slot : H → ℕ) (item_slot : I → ℕ) (handled : H 
         long = given_len e order old.desks new.desks step.given;
         weight = λ h.
             let a = changed_sum e step.given.before step.given.now old.desks new.desks step.given.desk
-                (sent_weight h) in
+            (sent_weight h) in
             let b = ap (λ l. sum_by h (halves_in l)) step.given.sent in
             let c = arrive_weight h (sent step.given.before.orders) step.half in
             let f = ap (front_weight h) step.was in let g = ap (front_weight h) step.is in omega arith;
@@ -148,16 +148,16 @@ module _ {H I : Type 0} (slot : H → ℕ) (item_slot : I → ℕ) (handled : H 
             record {
               stays = tell.stays;
               half = Here e (handled step.half) [];
-              knows = subst (λ (p : List I × List I). SlotKnows slot item_slot handled s
-                  (sent_at new.desks) homes asides tell.stays (Here e (handled step.half) []) p.0 p.1)
+              knows = subst (λ (p : List I × List I). SlotKnows slot item_slot handled s (sent_at new.desks) homes
+                  asides tell.stays (Here e (handled step.half) []) p.0 p.1)
                   (λ i. (sym step.queue i, sym step.accepted i))
-                  (knows_arrive slot item_slot handled s e step.half (sent_at old.desks)
-                      (sent_at new.desks) homes asides tell.stays (handled step.half) old.queue old.accepted
+                  (knows_arrive slot item_slot handled s e step.half (sent_at old.desks) (sent_at new.desks) homes
+                  asides tell.stays (handled step.half) old.queue old.accepted
                   step.own refl one
                   (subst (λ (w : Where I). SlotKnows slot item_slot handled s (sent_at old.desks) homes asides
-                      tell.stays w old.queue old.accepted) is.0 tell.knows));
-              is = subst (λ (x : FlowState H). StateIs slot handled s x (Here e (handled step.half) [])) (sym step.is)
-                  (handled step.half, [], refl);
+                  tell.stays w old.queue old.accepted) is.0 tell.knows));
+              is = subst (λ (x : FlowState H). StateIs slot handled s x (Here e (handled step.half) []))
+                  (sym step.is) (handled step.half, [], refl);
             };
       }
 
@@ -189,10 +189,10 @@ module _ {H I : Type 0} (slot : H → ℕ) (item_slot : I → ℕ) (handled : H 
               knows = subst (λ (l : List I). SlotKnows slot item_slot handled s (sent_at new.desks) homes asides
                   tell.stays (Here e came (items ++ step.item ∷ [])) new.queue l)
                   (sym step.accepted)
-                  (knows_item slot item_slot handled s e step.item (sent_at old.desks) (sent_at new.desks) homes asides
-                      tell.stays came items new.queue old.accepted one
-                  (subst (λ (p : Where I × List I). SlotKnows slot item_slot handled s (sent_at old.desks) homes asides
-                      tell.stays p.0 p.1 old.accepted)
+                  (knows_item slot item_slot handled s e step.item (sent_at old.desks) (sent_at new.desks) homes
+                  asides tell.stays came items new.queue old.accepted one
+                  (subst (λ (p : Where I × List I). SlotKnows slot item_slot handled s (sent_at old.desks) homes
+                  asides tell.stays p.0 p.1 old.accepted)
                   (λ i. (is.2 i, step.queue i)) tell.knows));
               is = subst (λ (x : FlowState H). StateIs slot handled s x (Here e came (items ++ step.item ∷ [])))
                   (sym step.is) (came, items ++ step.item ∷ [], refl);
@@ -224,13 +224,13 @@ module _ {H I : Type 0} (slot : H → ℕ) (item_slot : I → ℕ) (handled : H 
             record {
               stays = tell.stays;
               half = Away e came items;
-              knows = subst (λ (p : List I × List I). SlotKnows slot item_slot handled s
-                  (sent_at new.desks) homes asides tell.stays (Away e came items) p.0 p.1)
+              knows = subst (λ (p : List I × List I). SlotKnows slot item_slot handled s (sent_at new.desks) homes
+                  asides tell.stays (Away e came items) p.0 p.1)
                   (λ i. (sym step.queue i, sym step.accepted i))
                   (knows_leave slot item_slot handled s e (sent_at old.desks) (sent_at new.desks) homes asides
-                      tell.stays came items old.queue old.accepted one
+                  tell.stays came items old.queue old.accepted one
                   (subst (λ (w : Where I). SlotKnows slot item_slot handled s (sent_at old.desks) homes asides
-                      tell.stays w old.queue old.accepted) is.2 tell.knows));
+                  tell.stays w old.queue old.accepted) is.2 tell.knows));
               is = subst (λ (x : FlowState H). StateIs slot handled s x (Away e came items)) (sym step.is)
                   (came, items, refl);
             };
@@ -242,7 +242,8 @@ module _ {H I : Type 0} (slot : H → ℕ) (item_slot : I → ℕ) (handled : H 
     ends = ap homes_of step.desks;
     homes = λ d. ap (λ l. home_at l d) step.desks;
     long = ap length step.desks;
-    weight = λ h. let a = ap (front_weight h) step.is in let b = ap (sum_by (sent_weight h)) step.desks in omega arith;
+    weight = λ h. let a = ap (front_weight h) step.is in let b = ap (sum_by (sent_weight h)) step.desks in omega
+        arith;
     orders = let a = ap pending step.is in let b = ap (sum_by (order_count {H = H} {I = I})) step.desks in
         let c = ap length step.queue ∙ length-append old.queue (step.item ∷ []) in
         let d = ap length step.accepted ∙ length-append old.accepted (step.item ∷ []) in omega arith;
@@ -256,7 +257,7 @@ module _ {H I : Type 0} (slot : H → ℕ) (item_slot : I → ℕ) (handled : H 
           (sent_at p.0) homes asides tell.stays tell.half p.1 p.2)
           (λ i. (sym step.desks i, sym step.queue i, sym step.accepted i))
           (knows_parked slot item_slot handled s step.item (sent_at old.desks) homes asides tell.stays tell.half
-              old.queue old.accepted step.own tell.knows);
+          old.queue old.accepted step.own tell.knows);
       is = at_state new.state old.state tell.half (sym step.is) tell.is;
     };
   }
@@ -272,38 +273,39 @@ module _ {H I : Type 0} (slot : H → ℕ) (item_slot : I → ℕ) (handled : H 
             let b = ap (front_weight h) step.is in omega arith;
         orders = let a = refused_sum e old.desks new.desks step.refused length in
             let b = ap pending step.is in let c = ap length step.queue in let d = ap length step.accepted in omega
-                arith;
+            arith;
         fulls = refused_fulls e old.desks new.desks step.refused;
         nows = λ t apart d. ap (now_of slot item_slot handled t) (refused_sent e old.desks new.desks step.refused d);
-        gones = λ t apart d. ap (gone_of slot item_slot handled t) (refused_sent e old.desks new.desks step.refused d);
+        gones = λ t apart d. ap (gone_of slot item_slot handled t)
+            (refused_sent e old.desks new.desks step.refused d);
         tells = λ homes asides tell. record {
           stays = tell.stays;
           half = tell.half;
-          knows = subst (λ (p : List I × List I). SlotKnows slot item_slot handled s (sent_at new.desks) homes asides
-              tell.stays tell.half p.0 p.1)
+          knows = subst (λ (p : List I × List I). SlotKnows slot item_slot handled s (sent_at new.desks) homes
+              asides tell.stays tell.half p.0 p.1)
               (λ i. (sym step.queue i, sym step.accepted i))
-              (knows_same slot item_slot handled s (sent_at old.desks) (sent_at new.desks) homes homes asides asides
-                  tell.stays tell.half old.queue old.accepted
+              (knows_same slot item_slot handled s (sent_at old.desks) (sent_at new.desks) homes homes asides
+              asides tell.stays tell.half old.queue old.accepted
               (λ d. ap (now_of slot item_slot handled s) (refused_sent e old.desks new.desks step.refused d))
               (λ d. ap (gone_of slot item_slot handled s) (refused_sent e old.desks new.desks step.refused d))
-                  (λ d. refl) (λ d. refl) tell.knows);
+              (λ d. refl) (λ d. refl) tell.knows);
           is = at_state new.state old.state tell.half (sym step.is) tell.is;
         };
       }
 
   -- its destination is another one, and it is to leave its slice if it is at one
-  pub keeps_goes_to : (slice : ℕ) (old new : Stand H I) → IsBound slice old.state new.state → new.queue ≡ old.queue
-      → new.accepted ≡ old.accepted → new.desks ≡ old.desks
+  pub keeps_goes_to : (slice : ℕ) (old new : Stand H I) → IsBound slice old.state new.state
+      → new.queue ≡ old.queue → new.accepted ≡ old.accepted → new.desks ≡ old.desks
       → Keeps slot item_slot handled s 2 old new
   keeps_goes_to slice old new bound queue accepted desks = record {
     lanes = ap lanes_of desks;
     ends = ap homes_of desks;
     homes = λ d. ap (λ l. home_at l d) desks;
     long = ap length desks;
-    weight = λ h. let a = bound_weight slice h old.state new.state bound in let b = ap (sum_by (sent_weight h)) desks
-        in omega arith;
-    orders = let a = bound_pending slice old.state new.state bound in let b = ap (sum_by (order_count {H = H} {I = I}))
-        desks in
+    weight = λ h. let a = bound_weight slice h old.state new.state bound in let b = ap (sum_by (sent_weight h))
+        desks in omega arith;
+    orders = let a = bound_pending slice old.state new.state bound in let b = ap
+        (sum_by (order_count {H = H} {I = I})) desks in
         let c = ap length queue in let d = ap length accepted in omega arith;
     fulls = λ d. inl (ap (λ l. fulls_at l d) desks);
     nows = λ t apart d. ap (λ l. now_of slot item_slot handled t (sent_at l d)) desks;
@@ -317,8 +319,8 @@ module _ {H I : Type 0} (slot : H → ℕ) (item_slot : I → ℕ) (handled : H 
       is = bound_is slice old.state new.state tell.half bound tell.is;
     };
   } where
-    bound_weight : (slice : ℕ) (h : H → ℕ) (old new : FlowState H) → IsBound slice old new → front_weight h new
-        ≡ front_weight h old
+    bound_weight : (slice : ℕ) (h : H → ℕ) (old new : FlowState H) → IsBound slice old new
+        → front_weight h new ≡ front_weight h old
     bound_weight slice h (Front half to) new bound = ap (front_weight h) bound
     bound_weight slice h (Placed at) new bound = ap (front_weight h) bound
     bound_weight slice h (Recall at to) new bound = ap (front_weight h) bound

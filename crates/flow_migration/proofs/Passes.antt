@@ -42,13 +42,13 @@ module _ {N I : Type 0} where
       (lanes first : List Lanes) (admitted asked refused : ℕ)
       → names ≡ was → accepted ≡ before → moved ≡ had → lanes ≡ first
       → roll names accepted moved lanes admitted asked refused ≡ roll was before had first admitted asked refused
-  roll_same names was accepted before moved had lanes first admitted asked refused n a m l i = roll (n i) (a i) (m i)
-      (l i) admitted asked refused
+  roll_same names was accepted before moved had lanes first admitted asked refused n a m l i = roll (n i) (a i)
+      (m i) (l i) admitted asked refused
 
 -- a step at one place, and what stays
 pub record Still {H N I : Type 0} (name : H → N) (slot_at : N → ℕ) (item_slot : I → ℕ) (handled : H → List I)
     (places new : List (Option (FlowPlace H I))) (aside : List (HalfAside H)) (desks now : List (FlowDesk H I))
-        (room admitted asked : ℕ) : Type 0 where
+    (room admitted asked : ℕ) : Type 0 where
   pub side : IsFlowSide name slot_at item_slot handled new aside now room admitted asked
   pub names : names_of name new ≡ names_of name places
   pub lanes : lanes_of now ≡ lanes_of desks
@@ -66,18 +66,19 @@ module _ {H N I : Type 0} (name : H → N) (slot_at : N → ℕ) (item_slot : I 
   pub still : (spare : ℕ) (places new : List (Option (FlowPlace H I))) (place : Option (FlowPlace H I)) (s : ℕ)
       (aside : List (HalfAside H))
       (desks now : List (FlowDesk H I)) (room admitted asked new_asked : ℕ)
-          → Side places aside desks room admitted asked → s < length places
+      → Side places aside desks room admitted asked → s < length places
       → new ≡ set places s place → PlaceKeeps slot item_slot handled s spare (place_at places s) place desks now
       → (Fits (length desks) room (place_at places s) → Fits (length desks) room place) → new_asked ≤ 2 ^ 48
       → 2 * asked + spare + 2 * accepted_count place ≤ 2 * new_asked + 2 * accepted_count (place_at places s)
       → Still name slot_at item_slot handled places new aside desks now room admitted new_asked
-  still spare places new place s aside desks now room admitted asked new_asked side within made keeps fits few enough =
+  still spare places new place s aside desks now room admitted asked new_asked side within made keeps fits few
+      enough =
       let step = kept_step name slot item_slot handled s spare (place_at places s) place desks now keeps in record {
         side = subst (λ (l : List (Option (FlowPlace H I))). Side l aside now room admitted new_asked) (sym made)
             (stepped_side name slot_at item_slot handled spare places place s aside desks now room admitted asked
-                new_asked side within step
-            (fits (fits_here name slot_at item_slot handled places s aside desks room admitted asked side within)) few
-                enough);
+            new_asked side within step
+            (fits (fits_here name slot_at item_slot handled places s aside desks room admitted asked side within))
+            few enough);
         names = ap (names_of name) made ∙ map-set_same (name_at name) places s place None step.named;
         lanes = step.lanes;
         homes = step.ends;
@@ -90,7 +91,7 @@ module _ {H N I : Type 0} (name : H → N) (slot_at : N → ℕ) (item_slot : I 
       → Still name slot_at item_slot handled places new aside desks now room admitted asked
   served_still places new s aside desks now room admitted asked side at =
       still 0 places new at.0 s aside desks now room admitted asked asked side at.1 at.2 at.3.keeps
-          (at.3.fits room) side.asked_few
+      (at.3.fits room) side.asked_few
       (let e = ap length at.3.accepted in omega arith)
 
   pub drained_still : (places new : List (Option (FlowPlace H I))) (s : ℕ) (aside : List (HalfAside H))
@@ -99,36 +100,37 @@ module _ {H N I : Type 0} (name : H → N) (slot_at : N → ℕ) (item_slot : I 
       → Still name slot_at item_slot handled places new aside desks now room admitted asked
   drained_still places new s aside desks now room admitted asked side at =
       still 0 places new at.0 s aside desks now room admitted asked asked side at.1 at.2 at.3.keeps
-          (at.3.fits room) side.asked_few
+      (at.3.fits room) side.asked_few
       (let e = ap length at.3.accepted in omega arith)
 
   pub moved_still : (slice : ℕ) (places new : List (Option (FlowPlace H I))) (s : ℕ) (aside : List (HalfAside H))
       (desks now : List (FlowDesk H I)) (room admitted asked : ℕ)
       → Side places aside desks room admitted asked → asked < 2 ^ 48
-          → AtSlot (Moved slot item_slot handled s slice) s places new desks now
+      → AtSlot (Moved slot item_slot handled s slice) s places new desks now
       → Still name slot_at item_slot handled places new aside desks now room admitted (asked + 1)
   moved_still slice places new s aside desks now room admitted asked side few at =
       still 2 places new at.0 s aside desks now room admitted asked (asked + 1) side at.1 at.2 at.3.keeps
-          (at.3.fits room) (omega arith)
+      (at.3.fits room) (omega arith)
       (let e = ap length at.3.accepted in omega arith)
 
-  gave_few : (item : I) (answer : Result (Unit {0}) (FlowNo I)) (asked : ℕ) (before after : List I) → asked < 2 ^ 48
-      → Accepts item answer before after
-      → (asked_after answer asked ≤ 2 ^ 48) × (2 * asked + 0 + 2 * length after ≤ 2 * asked_after answer asked
-          + 2 * length before)
+  gave_few : (item : I) (answer : Result (Unit {0}) (FlowNo I)) (asked : ℕ) (before after : List I)
+      → asked < 2 ^ 48 → Accepts item answer before after
+      → (asked_after answer asked ≤ 2 ^ 48) × (2 * asked + 0 + 2 * length after ≤ 2 * asked_after answer
+      asked + 2 * length before)
   gave_few item (Ok u) asked before after few accepts =
       let e = ap length accepts ∙ length-append before (item ∷ []) in (omega arith, omega arith)
-  gave_few item (Err refusal) asked before after few accepts = let e = ap length accepts.0 in (omega arith, omega arith)
+  gave_few item (Err refusal) asked before after few accepts = let e = ap length accepts.0 in
+      (omega arith, omega arith)
 
   pub gave_still : (item : I) (answer : Result (Unit {0}) (FlowNo I)) (places new : List (Option (FlowPlace H I)))
       (s : ℕ) (aside : List (HalfAside H)) (desks now : List (FlowDesk H I))
       (room admitted asked : ℕ) → Side places aside desks room admitted asked → asked < 2 ^ 48
-          → AtSlot (Gave slot item_slot handled s room item answer) s places new desks now
+      → AtSlot (Gave slot item_slot handled s room item answer) s places new desks now
       → Still name slot_at item_slot handled places new aside desks now room admitted (asked_after answer asked)
   gave_still item answer places new s aside desks now room admitted asked side few at =
       let n = gave_few item answer asked (accepted_at (place_at places s)) (accepted_at at.0) few at.3.accepted in
       still 0 places new at.0 s aside desks now room admitted asked (asked_after answer asked) side at.1 at.2
-          at.3.keeps at.3.fits n.0 n.1
+      at.3.keeps at.3.fits n.0 n.1
 
 pub waits_not : (slice : ℕ) → ◌≡◌ {A = Option ℕ} None (Some slice) → ⊥
 waits_not slice is = let none : ⊥ = cc in none
@@ -164,33 +166,33 @@ module _ {H I : Type 0} where
   pub meets_more : (Q : Option (FlowPlace H I) → ℕ → Type 0) (k : ℕ) (places new : List (Option (FlowPlace H I)))
       (place : Option (FlowPlace H I)) (first desks now : List (FlowDesk H I))
       → k < length places → new ≡ set places k place → ((d : ℕ) → Lasts (fulls_at first d) (fulls_at desks d))
-          → ((d : ℕ) → Lasts (fulls_at desks d) (fulls_at now d))
+      → ((d : ℕ) → Lasts (fulls_at desks d) (fulls_at now d))
       → ((slice : ℕ) → Q place slice → Rises (fulls_at desks slice) (fulls_at now slice))
-          → MeetsBelow Q k places first desks → MeetsBelow Q (k + 1) new first now
+      → MeetsBelow Q k places first desks → MeetsBelow Q (k + 1) new first now
   meets_more Q k places new place first desks now within made earlier later again met t slice low is =
       elim (nat_eq t k) as (λ b. nat_eq t k ≡ b → Rises (fulls_at first slice) (fulls_at now slice)) [
         | true ↦ λ e.
             let here = subst (λ (n : ℕ). Q (place_at new n) slice) (eqb-true t k e) is in
             then_rises (fulls_at first slice) (fulls_at desks slice) (fulls_at now slice) (earlier slice)
             (again slice (subst (λ (p : Option (FlowPlace H I)). Q p slice) (at_new places new place k within made)
-                here))
+            here))
         | false ↦ λ e.
             let apart : t ≢ k = eqb-false t k e in
             rises_then (fulls_at first slice) (fulls_at desks slice) (fulls_at now slice)
             (met t slice (omega arith) (subst (λ (p : Option (FlowPlace H I)). Q p slice)
-                (at_old places new place k t apart made) is)) (later slice)
+            (at_old places new place k t apart made) is)) (later slice)
       ] refl
 
   pub meets_all : (Q : Option (FlowPlace H I) → ℕ → Type 0) (places : List (Option (FlowPlace H I)))
       (first now : List (FlowDesk H I)) (k : ℕ) → length places ≤ k
       → ((slice : ℕ) → Q None slice → ⊥) → MeetsBelow Q k places first now → (t slice : ℕ)
-          → Q (place_at places t) slice → Rises (fulls_at first slice) (fulls_at now slice)
+      → Q (place_at places t) slice → Rises (fulls_at first slice) (fulls_at now slice)
   meets_all Q places first now k all none met t slice is =
       elim (nat_lt t (length places)) as (λ b. nat_lt t (length places) ≡ b
-          → Rises (fulls_at first slice) (fulls_at now slice)) [
+      → Rises (fulls_at first slice) (fulls_at now slice)) [
         | true ↦ λ e. let l : t < length places = ltb-true t (length places) e in met t slice (omega arith) is
-        | false ↦ λ e. absurd (none slice (subst (λ (p : Option (FlowPlace H I)). Q p slice) (get_or_past places t None
-            (ltb-false t (length places) e)) is))
+        | false ↦ λ e. absurd (none slice (subst (λ (p : Option (FlowPlace H I)). Q p slice)
+            (get_or_past places t None (ltb-false t (length places) e)) is))
       ] refl
 
   abbrev pub Waits : Option (FlowPlace H I) → ℕ → Type 0
@@ -202,38 +204,38 @@ module _ {H I : Type 0} where
   -- a place that stayed waits for what it waited for
   pub waits_kept : (places new : List (Option (FlowPlace H I))) (place : Option (FlowPlace H I)) (s : ℕ)
       → s < length places → new ≡ set places s place
-      → waits_at place ≡ waits_at (place_at places s) → (t : ℕ) → waits_at (place_at new t)
-          ≡ waits_at (place_at places t)
+      → waits_at place ≡ waits_at (place_at places s) → (t : ℕ)
+      → waits_at (place_at new t) ≡ waits_at (place_at places t)
   waits_kept places new place s within made same t = elim (nat_eq t s) as (λ b. nat_eq t s ≡ b
       → waits_at (place_at new t) ≡ waits_at (place_at places t)) [
-    | true ↦ λ e. subst (λ (n : ℕ). waits_at (place_at new n) ≡ waits_at (place_at places n)) (sym (eqb-true t s e))
-        (ap waits_at (at_new places new place s within made) ∙ same)
-    | false ↦ λ e. ap waits_at (at_old places new place s t (eqb-false t s e) made)
-  ] refl
+        | true ↦ λ e. subst (λ (n : ℕ). waits_at (place_at new n) ≡ waits_at (place_at places n))
+            (sym (eqb-true t s e)) (ap waits_at (at_new places new place s within made) ∙ same)
+        | false ↦ λ e. ap waits_at (at_old places new place s t (eqb-false t s e) made)
+      ] refl
 
   -- pumping in all
   pub met_in_all : (served places : List (Option (FlowPlace H I))) (first desks then now : List (FlowDesk H I))
-      → ((d : ℕ) → fulls_at desks d ≡ fulls_at first d) → AllMetFull served desks then
-          → ((t : ℕ) → waits_at (place_at places t) ≡ waits_at (place_at served t))
+      → ((d : ℕ) → fulls_at desks d ≡ fulls_at first d) → AllMetFull served desks then → ((t : ℕ)
+      → waits_at (place_at places t) ≡ waits_at (place_at served t))
       → ((d : ℕ) → Lasts (fulls_at then d) (fulls_at now d)) → AllMetFull places first now
   met_in_all served places first desks then now same met waits later t slice is =
       subst (λ (n : ℕ). Rises n (fulls_at now slice)) (same slice)
-      (rises_then (fulls_at desks slice) (fulls_at then slice) (fulls_at now slice) (met t slice (sym (waits t) ∙ is))
-          (later slice))
+      (rises_then (fulls_at desks slice) (fulls_at then slice) (fulls_at now slice) (met t slice (sym (waits t)
+      ∙ is)) (later slice))
 
   pub queues_in_all : (places : List (Option (FlowPlace H I))) (first desks then now : List (FlowDesk H I))
       → ((d : ℕ) → fulls_at desks d ≡ fulls_at first d) → ((d : ℕ) → Lasts (fulls_at desks d) (fulls_at then d))
-          → QueuesMetFull places then now → QueuesMetFull places first now
+      → QueuesMetFull places then now → QueuesMetFull places first now
   queues_in_all places first desks then now same earlier met t slice is some =
       subst (λ (n : ℕ). Rises n (fulls_at now slice)) (same slice)
       (then_rises (fulls_at desks slice) (fulls_at then slice) (fulls_at now slice) (earlier slice)
-          (met t slice is some))
+      (met t slice is some))
 
 -- how the lanes home ended stays, while orders are given
 pub ended_since : {H I : Type 0} (admitted was : ℕ) (aside old_aside : List (HalfAside H)) (slice : ℕ)
     (first desks now : List (FlowDesk H I))
     → homes_of now ≡ homes_of desks → aside ≡ old_aside → admitted ≡ was
-        → HomeEnded (length old_aside) was slice first desks
+    → HomeEnded (length old_aside) was slice first desks
     → HomeEnded (length aside) admitted slice first now
 ended_since {H} {I} admitted was aside old_aside slice first desks now homes same alike ended = elim ended [
   | inl rose ↦ inl (subst (Rises (empties_at first slice)) (sym (by_homes empty_answers)) rose)
@@ -270,22 +272,23 @@ module _ {H I : Type 0} where
         pushed zero = refl
         pushed (suc n) = ap (λ l. None ∷ l) (pushed n)
 
-        one_more : (xs : List (Option (FlowPlace H I))) (n : ℕ) → (xs ++ replicate n None) ++ None ∷ [] ≡ xs
-            ++ replicate (suc n) None
+        one_more : (xs : List (Option (FlowPlace H I))) (n : ℕ)
+            → (xs ++ replicate n None) ++ None ∷ [] ≡ xs ++ replicate (suc n) None
         one_more [] n = pushed n
         one_more (x ∷ xs) n = ap (λ l. x ∷ l) (one_more xs n)
 
 -- an admission in all
 pub admits_all : {H I : Type 0} (slot_of : H → ℕ) (item_slot : I → ℕ) (handled : H
     → List I) (s slice : ℕ) (moves : Bool) (half : H) (places grown entered new : List (Option (FlowPlace H I)))
-    (desks now : List (FlowDesk H I)) → Grown places grown → s < length grown → Enters s slice moves half grown entered
+    (desks now : List (FlowDesk H I)) → Grown places grown → s < length grown
+    → Enters s slice moves half grown entered
     → AtSlot (Served slot_of item_slot handled s) s entered new desks now
-        → Admits s slice moves half places new desks now
-admits_all {H} {I} slot_of item_slot handled s slice moves half places grown entered new desks now more within enters
-    at =
+    → Admits s slice moves half places new desks now
+admits_all {H} {I} slot_of item_slot handled s slice moves half places grown entered new desks now more within
+    enters at =
     let there : place_at entered s ≡ Some enters.now = at_new grown entered (Some enters.now) s within enters.is in
     let sends : ServesPlace s (Some enters.now) at.0 desks now = subst
-        (λ (p : Option (FlowPlace H I)). ServesPlace s p at.0 desks now) there at.3.sends in
+    (λ (p : Option (FlowPlace H I)). ServesPlace s p at.0 desks now) there at.3.sends in
     let accepted : accepted_at at.0 ≡ accepted_by enters.now = at.3.accepted ∙ ap accepted_at there in
     let moved : moved_at at.0 ≡ enters.now.moved = at.3.moved ∙ ap moved_at there in
     record {
@@ -306,7 +309,8 @@ module _ {H I : Type 0} where
   refused_met : (slice : ℕ) (old new : List (FlowDesk H I)) → Refused slice old new
       → room_at new slice ≤ sent_count new slice
   refused_met slice old new refused =
-      let a = at_now slice refused.before refused.now old new refused.desk (λ desk. (sender_lane desk.orders).room) 0 in
+      let a = at_now slice refused.before refused.now old new refused.desk
+      (λ desk. (sender_lane desk.orders).room) 0 in
       let b = at_now slice refused.before refused.now old new refused.desk order_count 0 in
       let c = refused.filled in
       let d = ap (λ lanes. lanes.0.room) refused.desk.lanes in
@@ -317,22 +321,22 @@ module _ {H I : Type 0} where
   refused_rises slice old new refused = rises_raised (fulls_at old slice) (fulls_at new slice)
       (refused_full slice old new refused)
 
-  sends_lasts : (half : H) (to : ℕ) (state : FlowState H) (old new : List (FlowDesk H I)) → Sends half to state old new
-      → (d : ℕ) → Lasts (fulls_at old d) (fulls_at new d)
+  sends_lasts : (half : H) (to : ℕ) (state : FlowState H) (old new : List (FlowDesk H I))
+      → Sends half to state old new → (d : ℕ) → Lasts (fulls_at old d) (fulls_at new d)
   sends_lasts half to state old new sends d = elim sends [
     | inl put ↦ inl (given_fulls to (Arrive half) old new put.1 d)
     | inr kept ↦ refused_fulls to old new kept.1 d
   ]
 
-  recalls_lasts : (s at to : ℕ) (state : FlowState H) (old new : List (FlowDesk H I)) → Recalls s at to state old new
-      → (d : ℕ) → Lasts (fulls_at old d) (fulls_at new d)
+  recalls_lasts : (s at to : ℕ) (state : FlowState H) (old new : List (FlowDesk H I))
+      → Recalls s at to state old new → (d : ℕ) → Lasts (fulls_at old d) (fulls_at new d)
   recalls_lasts s at to state old new recalls d = elim recalls [
     | inl put ↦ inl (given_fulls at (Leave s) old new put.1 d)
     | inr kept ↦ refused_fulls at old new kept.1 d
   ]
 
-  serves_lasts : (s : ℕ) (state new : FlowState H) (desks now : List (FlowDesk H I)) → Serves s state new desks now
-      → (d : ℕ) → Lasts (fulls_at desks d) (fulls_at now d)
+  serves_lasts : (s : ℕ) (state new : FlowState H) (desks now : List (FlowDesk H I))
+      → Serves s state new desks now → (d : ℕ) → Lasts (fulls_at desks d) (fulls_at now d)
   serves_lasts s (Front half to) new desks now serves d = sends_lasts half to new desks now serves d
   serves_lasts s (Placed at) new desks now serves d = inl (ap (λ l. fulls_at l d) serves.1)
   serves_lasts s (Recall at to) new desks now serves d = recalls_lasts s at to new desks now serves d
@@ -355,7 +359,7 @@ module _ {H I : Type 0} (slot_of : H → ℕ) (item_slot : I → ℕ) (handled :
   gave_full_place : (item : I) (refusal : FlowNo I) (s room : ℕ) (place new : Option (FlowPlace H I))
       (desks now : List (FlowDesk H I)) → is_admitted place ≡ true
       → parks_at place ≡ false → Gave slot_of item_slot handled s room item (Err refusal) place new desks now
-          → MetFull desks now
+      → MetFull desks now
   gave_full_place item refusal s room None new desks now admitted parks gave = absurd (true≢false (sym admitted))
   gave_full_place item refusal s room (Some before) new desks now admitted parks gave =
       let given = (gave.placed parks).1 in
@@ -365,20 +369,21 @@ module _ {H I : Type 0} (slot_of : H → ℕ) (item_slot : I → ℕ) (handled :
           full.0,
           then_rises (fulls_at desks full.0) (fulls_at delivers.mid full.0) (fulls_at now full.0)
               (serves_lasts s before.state given.0.state desks delivers.mid delivers.serves full.0)
-                  (refused_rises full.0 delivers.mid now full.2),
+              (refused_rises full.0 delivers.mid now full.2),
           refused_met full.0 delivers.mid now full.2,
         )
-        | inr front ↦ subst (MetFull desks) (sym front.3) (serves_full s before.state front.0 front.1 desks delivers.mid
+        | inr front ↦ subst (MetFull desks) (sym front.3) (serves_full s before.state front.0 front.1 desks
+            delivers.mid
             (subst (λ (x : FlowState H). Serves s before.state x desks delivers.mid) front.2 delivers.serves))
       ]
 
   pub gave_full : (item : I) (answer : Result (Unit {0}) (FlowNo I)) (s t room : ℕ)
       (places new : List (Option (FlowPlace H I))) (desks now : List (FlowDesk H I))
-      → s ≡ t → is_admitted (place_at places t) ≡ true
-          → AtSlot (Gave slot_of item_slot handled s room item answer) s places new desks now
+      → s ≡ t → is_admitted (place_at places t) ≡ true → AtSlot (Gave slot_of item_slot handled s room item answer)
+      s places new desks now
       → IfErr answer (λ refusal. parks_at (place_at places t) ≡ false → MetFull desks now)
   gave_full item (Ok u) s t room places new desks now same admitted at = tt
   gave_full item (Err refusal) s t room places new desks now same admitted at = λ parks.
       gave_full_place item refusal s room (place_at places s) at.0 desks now
-          (ap (λ n. is_admitted (place_at places n)) same ∙ admitted)
+      (ap (λ n. is_admitted (place_at places n)) same ∙ admitted)
       (ap (λ n. parks_at (place_at places n)) same ∙ parks) at.3

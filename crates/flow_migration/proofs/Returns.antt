@@ -34,15 +34,15 @@ module _ {H I : Type 0} (slot : H → ℕ) (handled : H → List I) where
   quiet s [] none d = refl
   quiet s (kept ∷ aside) none d = elim (nat_eq (slot kept.half) s) as (λ b. (b || is_lost slot s aside) ≡ false
       → cond b (cond (nat_eq kept.slice d) (handled kept.half ∷ asides_of slot handled s aside d)
-          (asides_of slot handled s aside d)) (asides_of slot handled s aside d) ≡ []) [
+      (asides_of slot handled s aside d)) (asides_of slot handled s aside d) ≡ []) [
         | true ↦ λ is. absurd (true≢false is)
         | false ↦ λ isnt. quiet s aside isnt d
       ] none
 
   asides_push : (s : ℕ) (aside : List (HalfAside H)) (kept : HalfAside H) (d : ℕ)
       → asides_of slot handled s (aside ++ kept ∷ []) d
-      ≡ asides_of slot handled s aside d
-          ++ cond (nat_eq (slot kept.half) s) (cond (nat_eq kept.slice d) (handled kept.half ∷ []) []) []
+      ≡ asides_of slot handled s aside d ++ cond (nat_eq (slot kept.half) s)
+      (cond (nat_eq kept.slice d) (handled kept.half ∷ []) []) []
   asides_push s [] kept d = elim (nat_eq (slot kept.half) s) as
       (λ b. cond b (cond (nat_eq kept.slice d) (handled kept.half ∷ []) []) []
       ≡ cond b (cond (nat_eq kept.slice d) (handled kept.half ∷ []) []) []) [
@@ -50,16 +50,16 @@ module _ {H I : Type 0} (slot : H → ℕ) (handled : H → List I) where
         | false ↦ refl
       ]
   asides_push s (x ∷ aside) kept d =
-      let more : List (List I) = cond (nat_eq (slot kept.half) s) (cond (nat_eq kept.slice d)
-          (handled kept.half ∷ []) []) [] in
+      let more : List (List I) = cond (nat_eq (slot kept.half) s)
+      (cond (nat_eq kept.slice d) (handled kept.half ∷ []) []) [] in
       let ih = asides_push s aside kept d in
-      elim (nat_eq (slot x.half) s) as (λ b. cond b (cond (nat_eq x.slice d) (handled x.half ∷ asides_of slot handled s
-          (aside ++ kept ∷ []) d)
+      elim (nat_eq (slot x.half) s) as (λ b. cond b (cond (nat_eq x.slice d)
+      (handled x.half ∷ asides_of slot handled s (aside ++ kept ∷ []) d)
       (asides_of slot handled s (aside ++ kept ∷ []) d)) (asides_of slot handled s (aside ++ kept ∷ []) d)
       ≡ cond b (cond (nat_eq x.slice d) (handled x.half ∷ asides_of slot handled s aside d)
-          (asides_of slot handled s aside d)) (asides_of slot handled s aside d) ++ more) [
-        | true ↦ elim (nat_eq x.slice d) as (λ b. cond b (handled x.half ∷ asides_of slot handled s (aside
-            ++ kept ∷ []) d)
+      (asides_of slot handled s aside d)) (asides_of slot handled s aside d) ++ more) [
+        | true ↦ elim (nat_eq x.slice d) as (λ b. cond b (handled x.half ∷ asides_of slot handled s
+            (aside ++ kept ∷ []) d)
             (asides_of slot handled s (aside ++ kept ∷ []) d)
             ≡ cond b (handled x.half ∷ asides_of slot handled s aside d) (asides_of slot handled s aside d) ++ more) [
               | true ↦ ap (λ l. handled x.half ∷ l) ih
@@ -105,8 +105,8 @@ module _ {H N I : Type 0} (name : H → N) (slot_at : N → ℕ) (item_slot : I 
 
   tells_foreign : (t slice : ℕ) (half : H) (place : Option (FlowPlace H I)) (desks now : List (FlowDesk H I))
       (aside later : List (HalfAside H))
-      → HomeCame slice half desks now → slot half ≢ t → ((d : ℕ) → asides_of slot handled t later d
-          ≡ asides_of slot handled t aside d)
+      → HomeCame slice half desks now → slot half ≢ t → ((d : ℕ)
+      → asides_of slot handled t later d ≡ asides_of slot handled t aside d)
       → Tells slot item_slot handled t place desks aside → Tells slot item_slot handled t place now later
   tells_foreign t slice half place desks now aside later came apart kept tells = record {
     stays = tells.stays;
@@ -114,9 +114,9 @@ module _ {H N I : Type 0} (name : H → N) (slot_at : N → ℕ) (item_slot : I 
     knows = knows_same slot item_slot handled t (sent_at desks) (sent_at now) (home_at desks) (home_at now)
         (asides_of slot handled t aside) (asides_of slot handled t later)
         tells.stays tells.half _ _ (λ d. ap (now_of slot item_slot handled t) (came.sents d))
-            (λ d. ap (gone_of slot item_slot handled t) (came.sents d))
+        (λ d. ap (gone_of slot item_slot handled t) (came.sents d))
         (lists_foreign slot item_slot handled t slice half (home_at desks) (home_at now) came.one apart) kept
-            tells.knows;
+        tells.knows;
     is = tells.is;
   }
 
@@ -124,13 +124,13 @@ module _ {H N I : Type 0} (name : H → N) (slot_at : N → ℕ) (item_slot : I 
   pub came_home : (places new : List (Option (FlowPlace H I))) (place : Option (FlowPlace H I)) (s slice : ℕ)
       (half : H) (aside : List (HalfAside H))
       (desks now : List (FlowDesk H I)) (room admitted asked : ℕ) → Side places aside desks room admitted asked
-          → s < length places
+      → s < length places
       → Taken slice half desks now → slot half ≡ s → is_lost slot s aside ≡ false → new ≡ set places s place
-          → Welcomes half slice (place_at places s) place None
+      → Welcomes half slice (place_at places s) place None
       → Side new aside now room admitted asked
   came_home places new place s slice half aside desks now room admitted asked side within took own none made w =
       subst (λ (l : List (Option (FlowPlace H I))). Side l aside now room admitted asked) (sym (made
-          ∙ ap (set places s) w.4)) home where
+      ∙ ap (set places s) w.4)) home where
         before : FlowPlace H I
         before = w.0
 
@@ -144,11 +144,11 @@ module _ {H N I : Type 0} (name : H → N) (slot_at : N → ℕ) (item_slot : I 
             → Tells slot item_slot handled s (Some after) now aside
         tells_home tells =
             let is = subst (λ (x : FlowState H). StateIs slot handled s x tells.half) w.9 tells.is in
-            let knows = knows_home slot item_slot handled s slice half (sent_at desks) (home_at desks) (home_at now)
-                (asides_of slot handled s aside) tells.stays
+            let knows = knows_home slot item_slot handled s slice half (sent_at desks) (home_at desks)
+            (home_at now) (asides_of slot handled s aside) tells.stays
             is.0 is.1 before.queue.items (accepted_by before) own came.one (quiet slot handled s aside none slice)
             (subst (λ (x : Where I). SlotKnows slot item_slot handled s (sent_at desks) (home_at desks)
-                (asides_of slot handled s aside) tells.stays x
+            (asides_of slot handled s aside) tells.stays x
             before.queue.items (accepted_by before)) is.2 tells.knows) in
             record {
               stays = tells.stays ++ (record { at = slice; came = is.0; items = is.1; back = handled half }) ∷ [];
@@ -156,7 +156,7 @@ module _ {H N I : Type 0} (name : H → N) (slot_at : N → ℕ) (item_slot : I 
               knows = subst (λ (p : (ℕ → List (FlowOrder H I)) × List I
                   × List I). SlotKnows slot item_slot handled s p.0 (home_at now) (asides_of slot handled s aside)
                   (tells.stays ++ (record { at = slice; came = is.0; items = is.1; back = handled half }) ∷ [])
-                      (AtFront (handled half)) p.1 p.2)
+                  (AtFront (handled half)) p.1 p.2)
                   (λ i. ((λ d. sym (came.sents d) i), sym w.5 i, sym w.6 i)) knows;
               is = subst (λ (x : FlowState H). StateIs slot handled s x (AtFront (handled half))) (sym w.10)
                   (refl, own);
@@ -169,12 +169,12 @@ module _ {H N I : Type 0} (name : H → N) (slot_at : N → ℕ) (item_slot : I 
             let fit = All-get_or (Fits (length desks) room) places s None within side.fits in
             let fit_was = subst (Fits (length desks) room) was fit in
             record {
-              known = at_each name slot_at item_slot handled (λ t p. ∥ Tells slot item_slot handled t p now aside ∥₁)
-                  places s (Some after) within
-                  (∥∥₁_map (subst (λ (p : Option (FlowPlace H I)). ∥ Tells slot item_slot handled s p desks aside ∥₁)
-                      was (side.known s)) tells_home)
-                  (λ t apart. ∥∥₁_map (side.known t) (tells_foreign t slice half (place_at places t) desks now aside
-                      aside came (λ e. apart (sym e ∙ own)) (λ d. refl)));
+              known = at_each name slot_at item_slot handled
+                  (λ t p. ∥ Tells slot item_slot handled t p now aside ∥₁) places s (Some after) within
+                  (∥∥₁_map (subst (λ (p : Option (FlowPlace H I)). ∥ Tells slot item_slot handled s p desks
+                  aside ∥₁) was (side.known s)) tells_home)
+                  (λ t apart. ∥∥₁_map (side.known t) (tells_foreign t slice half (place_at places t) desks now
+                  aside aside came (λ e. apart (sym e ∙ own)) (λ d. refl)));
               balanced = λ h.
                   let f : H → ℕ = λ half. h (name half) in
                   let named : Option (FlowPlace H I) → ℕ = λ x. weight_at h (name_at name x) in
@@ -189,10 +189,11 @@ module _ {H N I : Type 0} (name : H → N) (slot_at : N → ℕ) (item_slot : I 
                   let o = came.out f in let p = came.home f in
                   omega arith;
               slots = by_slot name slot_at item_slot handled (set places s (Some after))
-                  (at_each name slot_at item_slot handled (λ t p. slot_at_place slot_at t (name_at name p)
-                      ≡ t) places s (Some after) within
-                  (ap (λ a. slot_at (name a.value)) w.7 ∙ sym (ap (λ x. slot_at_place slot_at s (name_at name x)) was)
-                      ∙ at_slot name slot_at item_slot handled places side.slots s)
+                  (at_each name slot_at item_slot handled (λ t p. slot_at_place slot_at t (name_at name p) ≡ t)
+                  places s (Some after) within
+                  (ap (λ a. slot_at (name a.value)) w.7 ∙ sym
+                  (ap (λ x. slot_at_place slot_at s (name_at name x)) was)
+                  ∙ at_slot name slot_at item_slot handled places side.slots s)
                   (λ t apart. at_slot name slot_at item_slot handled places side.slots t));
               fits = subst (λ (n : ℕ). All (Fits n room) (set places s (Some after))) (sym came.long)
                   (All-set (Fits (length desks) room) places s (Some after) (
@@ -216,27 +217,26 @@ module _ {H N I : Type 0} (name : H → N) (slot_at : N → ℕ) (item_slot : I 
             }
 
   -- a half was kept aside
-  pub kept_aside : (places : List (Option (FlowPlace H I))) (slice : ℕ) (half : H) (aside later : List (HalfAside H))
-      (kept : HalfAside H)
+  pub kept_aside : (places : List (Option (FlowPlace H I))) (slice : ℕ) (half : H)
+      (aside later : List (HalfAside H)) (kept : HalfAside H)
       (desks now : List (FlowDesk H I)) (room admitted asked : ℕ) → Side places aside desks room admitted asked
-          → Taken slice half desks now
+      → Taken slice half desks now
       → kept.half ≡ half → kept.slice ≡ slice → later ≡ aside ++ kept ∷ [] → length aside < admitted
-          → Side places later now room admitted asked
+      → Side places later now room admitted asked
   kept_aside places slice half aside later kept desks now room admitted asked side took is at made few =
       let came = taken_came slice half desks now took in record {
         known = λ t. elim (nat_eq (slot half) t) as (λ b. nat_eq (slot half) t ≡ b
             → ∥ Tells slot item_slot handled t (place_at places t) now later ∥₁) [
-          | true ↦ λ e. ∥∥₁_map (side.known t) (tells_aside t came (eqb-true (slot half) t e))
-          | false ↦ λ e.
-              let apart : slot half ≢ t = eqb-false (slot half) t e in
-              ∥∥₁_map (side.known t) (tells_foreign t slice half (place_at places t) desks now aside later came apart
-                  (λ d.
-              ap (λ l. asides_of slot handled t l d) made ∙ asides_push slot handled t aside kept d
-              ∙ ap (λ b. asides_of slot handled t aside d
-                  ++ cond b (cond (nat_eq kept.slice d) (handled kept.half ∷ []) []) [])
-                  (ap (λ x. nat_eq (slot x) t) is ∙ e)
-              ∙ append-nil (asides_of slot handled t aside d)))
-        ] refl;
+              | true ↦ λ e. ∥∥₁_map (side.known t) (tells_aside t came (eqb-true (slot half) t e))
+              | false ↦ λ e.
+                  let apart : slot half ≢ t = eqb-false (slot half) t e in
+                  ∥∥₁_map (side.known t) (tells_foreign t slice half (place_at places t) desks now aside later came
+                  apart (λ d.
+                  ap (λ l. asides_of slot handled t l d) made ∙ asides_push slot handled t aside kept d
+                  ∙ ap (λ b. asides_of slot handled t aside d ++ cond b
+                  (cond (nat_eq kept.slice d) (handled kept.half ∷ []) []) []) (ap (λ x. nat_eq (slot x) t) is ∙ e)
+                  ∙ append-nil (asides_of slot handled t aside d)))
+            ] refl;
         balanced = λ h.
             let f : H → ℕ = λ half. h (name half) in
             let g : HalfAside H → ℕ = λ kept. h (name kept.half) in
@@ -263,21 +263,21 @@ module _ {H N I : Type 0} (name : H → N) (slot_at : N → ℕ) (item_slot : I 
               (accepted_at (place_at places t)))
               (λ i d. sym (came.sents d) i)
               (knows_aside slot item_slot handled t slice half (sent_at desks) (home_at desks) (home_at now)
-                  (asides_of slot handled t aside) (asides_of slot handled t later)
+              (asides_of slot handled t aside) (asides_of slot handled t later)
               tells.stays tells.half (queue_at (place_at places t)) (accepted_at (place_at places t)) own came.one
               (ap (λ l. asides_of slot handled t l slice) made ∙ asides_push slot handled t aside kept slice
-              ∙ ap (λ b. asides_of slot handled t aside slice
-                  ++ cond b (cond (nat_eq kept.slice slice) (handled kept.half ∷ []) []) []) (eq-eqb (slot kept.half) t
-                  (ap slot is ∙ own))
+              ∙ ap (λ b. asides_of slot handled t aside slice ++ cond b
+              (cond (nat_eq kept.slice slice) (handled kept.half ∷ []) []) [])
+              (eq-eqb (slot kept.half) t (ap slot is ∙ own))
               ∙ ap (λ b. asides_of slot handled t aside slice ++ cond b (handled kept.half ∷ []) [])
-                  (eq-eqb kept.slice slice at)
+              (eq-eqb kept.slice slice at)
               ∙ ap (λ x. asides_of slot handled t aside slice ++ handled x ∷ []) is)
               (λ d apart. ap (λ l. asides_of slot handled t l d) made ∙ asides_push slot handled t aside kept d
-              ∙ ap (λ b. asides_of slot handled t aside d
-                  ++ cond (nat_eq (slot kept.half) t) (cond b (handled kept.half ∷ []) []) [])
+              ∙ ap (λ b. asides_of slot handled t aside d ++ cond (nat_eq (slot kept.half) t)
+              (cond b (handled kept.half ∷ []) []) [])
               (ne_eqb kept.slice d (λ e. apart (sym e ∙ at)))
               ∙ ap (λ l. asides_of slot handled t aside d ++ l) (cond_none (nat_eq (slot kept.half) t))
-                  ∙ append-nil (asides_of slot handled t aside d))
+              ∙ append-nil (asides_of slot handled t aside d))
               tells.knows);
           is = tells.is;
         }
@@ -285,14 +285,13 @@ module _ {H N I : Type 0} (name : H → N) (slot_at : N → ℕ) (item_slot : I 
   -- none was there
   pub none_home : (places : List (Option (FlowPlace H I))) (slice : ℕ) (aside : List (HalfAside H))
       (desks now : List (FlowDesk H I)) (room admitted asked : ℕ)
-      → Side places aside desks room admitted asked → Empty slice desks now → Side places aside now room admitted asked
+      → Side places aside desks room admitted asked → Empty slice desks now
+      → Side places aside now room admitted asked
   none_home places slice aside desks now room admitted asked side none =
-      let sents : (d : ℕ) → sent_at now d
-          ≡ sent_at desks d = λ d. at_same slice none.before none.now desks now none.desk (λ desk. sent desk.orders) []
-          d (ap sent none.orders) in
-      let homes : (d : ℕ) → home_at now d
-          ≡ home_at desks d = λ d. at_same slice none.before none.now desks now none.desk
-          (λ desk. taken desk.home) [] d none.taken in
+      let sents : (d : ℕ) → sent_at now d ≡ sent_at desks d = λ d. at_same slice none.before none.now desks now
+      none.desk (λ desk. sent desk.orders) [] d (ap sent none.orders) in
+      let homes : (d : ℕ) → home_at now d ≡ home_at desks d = λ d. at_same slice none.before none.now desks now
+      none.desk (λ desk. taken desk.home) [] d none.taken in
       record {
         known = λ t. ∥∥₁_map (side.known t) (λ tells. record {
           stays = tells.stays;
@@ -300,7 +299,7 @@ module _ {H N I : Type 0} (name : H → N) (slot_at : N → ℕ) (item_slot : I 
           knows = knows_same slot item_slot handled t (sent_at desks) (sent_at now) (home_at desks) (home_at now)
               (asides_of slot handled t aside) (asides_of slot handled t aside)
               tells.stays tells.half _ _ (λ d. ap (now_of slot item_slot handled t) (sents d))
-                  (λ d. ap (gone_of slot item_slot handled t) (sents d))
+              (λ d. ap (gone_of slot item_slot handled t) (sents d))
               (λ d. ap (lists_of slot handled t) (homes d)) (λ d. refl) tells.knows;
           is = tells.is;
         });
@@ -312,8 +311,8 @@ module _ {H N I : Type 0} (name : H → N) (slot_at : N → ℕ) (item_slot : I 
             let d = changed_sum slice none.before none.now desks now none.desk (home_weight f) in
             let e = ap (sum_by f) none.taken in omega arith;
         slots = side.slots;
-        fits = subst (λ (n : ℕ). All (Fits n room) places)
-            (sym (changed_len slice none.before none.now desks now none.desk)) side.fits;
+        fits = subst (λ (n : ℕ). All (Fits n room) places) (sym
+            (changed_len slice none.before none.now desks now none.desk)) side.fits;
         short = side.short;
         room_few = side.room_few;
         few = let a = side.few in let b = changed_sum slice none.before none.now desks now none.desk
@@ -325,11 +324,11 @@ module _ {H N I : Type 0} (name : H → N) (slot_at : N → ℕ) (item_slot : I 
       }
 
 -- what stays of all places as a half comes home to one
-pub welcomed_lists : {H N I : Type 0} (name : H
-    → N) (half : H) (slice : ℕ) (places new : List (Option (FlowPlace H I))) (place : Option (FlowPlace H I)) (s : ℕ)
+pub welcomed_lists : {H N I : Type 0} (name : H → N) (half : H) (slice : ℕ)
+    (places new : List (Option (FlowPlace H I))) (place : Option (FlowPlace H I)) (s : ℕ)
     → new ≡ set places s place → Welcomes half slice (place_at places s) place None
     → (names_of name new ≡ names_of name places) × (map accepted_at new ≡ map accepted_at places)
-        × (map moved_at new ≡ map moved_at places)
+    × (map moved_at new ≡ map moved_at places)
 welcomed_lists name half slice places new place s made w = (
   kept (name_at name) (ap (λ a. Some (name a.value)) w.7),
   kept accepted_at w.6,

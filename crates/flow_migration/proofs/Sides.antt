@@ -31,7 +31,8 @@ use Rattle.flow_migration.proofs.Desks.{homes_sum}
 use Rattle.flow_migration.proofs.Slots.{by_index, knows_same, knows_nothing, stands_none, stands_here}
 
 -- an index of mapped items, where the default is mapped too
-pub index_map : {X Y : Type 0} (f : X → Y) (xs : List X) (k : ℕ) (d : X) → get_or (map f xs) k (f d) ≡ f (get_or xs k d)
+pub index_map : {X Y : Type 0} (f : X → Y) (xs : List X) (k : ℕ) (d : X)
+    → get_or (map f xs) k (f d) ≡ f (get_or xs k d)
 index_map f [] k d = refl
 index_map f (x ∷ xs) zero d = refl
 index_map f (x ∷ xs) (suc k) d = index_map f xs k d
@@ -52,14 +53,15 @@ pub record PlaceStep {H N I : Type 0} (name : H → N) (slot : H → ℕ) (item_
   pub long : length now ≡ length desks
   pub named : name_at name new ≡ name_at name old
   pub admitted : is_admitted new ≡ is_admitted old
-  pub weight : (h : H → ℕ) → front_at h new + sum_by (sent_weight h) now ≡ front_at h old + sum_by (sent_weight h) desks
-  pub orders : sum_by order_count now + pending_at new + accepted_count old ≤ sum_by order_count desks + pending_at old
-      + accepted_count new + spare
+  pub weight : (h : H → ℕ) → front_at h new + sum_by (sent_weight h) now ≡ front_at h old + sum_by (sent_weight h)
+      desks
+  pub orders : sum_by order_count now + pending_at new + accepted_count old ≤ sum_by order_count desks + pending_at
+      old + accepted_count new + spare
   pub fulls : (d : ℕ) → Lasts (fulls_at desks d) (fulls_at now d)
-  pub nows : (t : ℕ) → t ≢ s → (d : ℕ) → now_of slot item_slot handled t (sent_at now d)
-      ≡ now_of slot item_slot handled t (sent_at desks d)
-  pub gones : (t : ℕ) → t ≢ s → (d : ℕ) → gone_of slot item_slot handled t (sent_at now d)
-      ≡ gone_of slot item_slot handled t (sent_at desks d)
+  pub nows : (t : ℕ) → t ≢ s → (d : ℕ) → now_of slot item_slot handled t (sent_at now d) ≡ now_of slot item_slot
+      handled t (sent_at desks d)
+  pub gones : (t : ℕ) → t ≢ s → (d : ℕ) → gone_of slot item_slot handled t (sent_at now d) ≡ gone_of slot item_slot
+      handled t (sent_at desks d)
   pub tells : (aside : List (HalfAside H)) → Tells slot item_slot handled s old desks aside
       → Tells slot item_slot handled s new now aside
 
@@ -97,7 +99,7 @@ module _ {H N I : Type 0} (name : H → N) (slot : H → ℕ) (item_slot : I →
     gones = keeps.gones;
     tells = λ aside tells.
         let told = keeps.tells (home_at desks) (asides_of slot handled s aside)
-            (record { stays = tells.stays; half = tells.half; knows = tells.knows; is = tells.is }) in
+        (record { stays = tells.stays; half = tells.half; knows = tells.knows; is = tells.is }) in
         record {
           stays = told.stays;
           half = told.half;
@@ -114,8 +116,8 @@ module _ {H N I : Type 0} (name : H → N) (slot : H → ℕ) (item_slot : I →
   kept_step None new desks now keeps = subst (λ (p : Option (FlowPlace H I)
       × List (FlowDesk H I)). PlaceStep name slot item_slot handled s spare None p.0 desks p.1)
       (λ i. (sym keeps.0 i, sym keeps.1 i)) (none_step desks)
-  kept_step (Some before) new desks now keeps = subst (λ (p : Option (FlowPlace H I)). PlaceStep name slot item_slot
-      handled s spare (Some before) p desks now)
+  kept_step (Some before) new desks now keeps = subst (λ (p : Option (FlowPlace H I)). PlaceStep name slot
+      item_slot handled s spare (Some before) p desks now)
       (sym keeps.1) (some_step before keeps.0 desks now keeps.2 keeps.3)
 
 module _ {H N I : Type 0} (name : H → N) (slot_at : N → ℕ) (item_slot : I → ℕ) (handled : H → List I) where
@@ -150,18 +152,19 @@ module _ {H N I : Type 0} (name : H → N) (slot_at : N → ℕ) (item_slot : I 
   -- what is known of a slot whose place and orders stayed
   tells_other : (t : ℕ) (place : Option (FlowPlace H I)) (desks now : List (FlowDesk H I))
       (aside later : List (HalfAside H))
-      → ((d : ℕ) → now_of slot item_slot handled t (sent_at now d) ≡ now_of slot item_slot handled t (sent_at desks d))
-      → ((d : ℕ) → gone_of slot item_slot handled t (sent_at now d)
-          ≡ gone_of slot item_slot handled t (sent_at desks d))
-      → ((d : ℕ) → pick_home t now d ≡ pick_home t desks d) → ((d : ℕ) → asides_of slot handled t later d
-          ≡ asides_of slot handled t aside d)
+      → ((d : ℕ) → now_of slot item_slot handled t (sent_at now d) ≡ now_of slot item_slot handled t
+      (sent_at desks d))
+      → ((d : ℕ) → gone_of slot item_slot handled t (sent_at now d) ≡ gone_of slot item_slot handled t
+      (sent_at desks d))
+      → ((d : ℕ) → pick_home t now d ≡ pick_home t desks d) → ((d : ℕ)
+      → asides_of slot handled t later d ≡ asides_of slot handled t aside d)
       → Tells slot item_slot handled t place desks aside → Tells slot item_slot handled t place now later
   tells_other t place desks now aside later nows gones lists kept tells = record {
     stays = tells.stays;
     half = tells.half;
     knows = knows_same slot item_slot handled t (sent_at desks) (sent_at now) (home_at desks) (home_at now)
         (asides_of slot handled t aside) (asides_of slot handled t later) tells.stays tells.half (queue_at place)
-            (accepted_at place) nows gones lists kept tells.knows;
+        (accepted_at place) nows gones lists kept tells.knows;
     is = tells.is;
   }
 
@@ -169,7 +172,7 @@ module _ {H N I : Type 0} (name : H → N) (slot_at : N → ℕ) (item_slot : I 
       (aside : List (HalfAside H))
       (desks now : List (FlowDesk H I)) (room admitted asked new_asked : ℕ)
       → Side places aside desks room admitted asked → s < length places
-          → PlaceStep name slot item_slot handled s spare (place_at places s) place desks now
+      → PlaceStep name slot item_slot handled s spare (place_at places s) place desks now
       → Fits (length desks) room place → new_asked ≤ 2 ^ 48
       → 2 * asked + spare + 2 * accepted_count place ≤ 2 * new_asked + 2 * accepted_count (place_at places s)
       → Side (set places s place) aside now room admitted new_asked
@@ -179,7 +182,7 @@ module _ {H N I : Type 0} (name : H → N) (slot_at : N → ℕ) (item_slot : I 
         known = at_each (λ t p. ∥ Tells slot item_slot handled t p now aside ∥₁) places s place within
             (∥∥₁_map (side.known s) (step.tells aside))
             (λ t apart. ∥∥₁_map (side.known t) (tells_other t (place_at places t) desks now aside aside
-                (step.nows t apart) (step.gones t apart)
+            (step.nows t apart) (step.gones t apart)
             (λ d. ap (lists_of slot handled t) (step.homes d)) (λ d. refl)));
         balanced = λ h.
             let f : H → ℕ = λ half. h (name half) in
@@ -195,7 +198,7 @@ module _ {H N I : Type 0} (name : H → N) (slot_at : N → ℕ) (item_slot : I 
             omega arith;
         slots = by_slot new (at_each (λ t p. slot_at_place slot_at t (name_at name p) ≡ t) places s place within
             (ap (slot_at_place slot_at s) step.named ∙ at_slot places side.slots s)
-                (λ t apart. at_slot places side.slots t));
+            (λ t apart. at_slot places side.slots t));
         fits = subst (λ (n : ℕ). All (Fits n room) new) (sym step.long)
             (All-set (Fits (length desks) room) places s place fits side.fits);
         short = let a = side.short in let b = length-set places s place in omega arith;
@@ -207,7 +210,7 @@ module _ {H N I : Type 0} (name : H → N) (slot_at : N → ℕ) (item_slot : I 
         counted = let a = side.counted in
             let one : Option (FlowPlace H I) → ℕ = λ x. cond (is_admitted x) 1 0 in
             let b : ◌≡◌ {A = ℕ} (cond (is_admitted place) 1 0) (cond (is_admitted (place_at places s)) 1 0) = ap
-                (λ t. cond t 1 0) step.admitted in
+            (λ t. cond t 1 0) step.admitted in
             let c = sum_by-set one places s place None within in omega arith;
         aside_few = side.aside_few;
       }
@@ -215,29 +218,32 @@ module _ {H N I : Type 0} (name : H → N) (slot_at : N → ℕ) (item_slot : I 
   -- the law and the slot of what a slot may give
   tells_may : (s : ℕ) (place : Option (FlowPlace H I)) (desks : List (FlowDesk H I)) (aside : List (HalfAside H))
       → Tells slot item_slot handled s place desks aside → MayGiveAt slot item_slot s place desks
-          × All (λ x. item_slot x ≡ s) (queue_at place)
+      × All (λ x. item_slot x ≡ s) (queue_at place)
   tells_may s None desks aside tells = (tt, All-nil (λ x. item_slot x ≡ s))
-  tells_may s (Some place) desks aside tells = (by_state place.state tells.half tells.is tells.knows, owned
-      place.queue.items tells.knows.own) where
+  tells_may s (Some place) desks aside tells = (
+    by_state place.state tells.half tells.is tells.knows,
+    owned
+        place.queue.items tells.knows.own,
+  ) where
     by_state : (state : FlowState H) (half : Where I) → StateIs slot handled s state half
         → SlotKnows slot item_slot handled s (sent_at desks) (home_at desks) (asides_of slot handled s aside)
-            tells.stays half place.queue.items (accepted_by place)
+        tells.stays half place.queue.items (accepted_by place)
         → MayGive slot item_slot s state desks
     by_state (Front own to) half is knows = (
       is.1,
-      stands_none slot item_slot handled s (sent_at desks) (home_at desks) (asides_of slot handled s aside) tells.stays
-          half place.queue.items (accepted_by place)
+      stands_none slot item_slot handled s (sent_at desks) (home_at desks) (asides_of slot handled s aside)
+          tells.stays half place.queue.items (accepted_by place)
           to (ap (now_at to) is.0) knows,
     )
     by_state (Placed at) half is knows = stands_here slot item_slot handled s at (sent_at desks) (home_at desks)
         (asides_of slot handled s aside) tells.stays
-        is.0 is.1 place.queue.items (accepted_by place) (subst (λ (w : Where I). SlotKnows slot item_slot handled s
-            (sent_at desks) (home_at desks)
+        is.0 is.1 place.queue.items (accepted_by place) (subst
+        (λ (w : Where I). SlotKnows slot item_slot handled s (sent_at desks) (home_at desks)
         (asides_of slot handled s aside) tells.stays w place.queue.items (accepted_by place)) is.2 knows)
     by_state (Recall at to) half is knows = stands_here slot item_slot handled s at (sent_at desks) (home_at desks)
         (asides_of slot handled s aside) tells.stays
-        is.0 is.1 place.queue.items (accepted_by place) (subst (λ (w : Where I). SlotKnows slot item_slot handled s
-            (sent_at desks) (home_at desks)
+        is.0 is.1 place.queue.items (accepted_by place) (subst
+        (λ (w : Where I). SlotKnows slot item_slot handled s (sent_at desks) (home_at desks)
         (asides_of slot handled s aside) tells.stays w place.queue.items (accepted_by place)) is.2 knows)
     by_state (Leaving from to) half is knows = tt
 
@@ -259,14 +265,14 @@ module _ {H N I : Type 0} (name : H → N) (slot_at : N → ℕ) (item_slot : I 
   pub ready : (places : List (Option (FlowPlace H I))) (s : ℕ) (aside : List (HalfAside H))
       (desks : List (FlowDesk H I)) (room admitted asked : ℕ)
       → Side places aside desks room admitted asked → s < length places
-          → IsReady slot item_slot s (place_at places s) desks
+      → IsReady slot item_slot s (place_at places s) desks
   ready places s aside desks room admitted asked side within =
       let f = All-get_or (Fits (length desks) room) places s None within side.fits in
       record {
         at = f.0;
         to = f.1;
-        few = let a = side.few in let b = side.asked_few in let c = get_or-le-sum_by pending_at places s None within in
-            omega arith;
+        few = let a = side.few in let b = side.asked_few in let c = get_or-le-sum_by pending_at places s None
+            within in omega arith;
         law = ∥∥₁_elim (side.known s) (may_prop s (place_at places s) desks)
             (λ tells. (tells_may s (place_at places s) desks aside tells).0);
         own = ∥∥₁_elim (side.known s) (hlevel props) (λ tells. (tells_may s (place_at places s) desks aside tells).1);
@@ -275,41 +281,42 @@ module _ {H N I : Type 0} (name : H → N) (slot_at : N → ℕ) (item_slot : I 
   pub fits_here : (places : List (Option (FlowPlace H I))) (s : ℕ) (aside : List (HalfAside H))
       (desks : List (FlowDesk H I)) (room admitted asked : ℕ)
       → Side places aside desks room admitted asked → s < length places → Fits (length desks) room (place_at places s)
-  fits_here places s aside desks room admitted asked side within = All-get_or (Fits (length desks) room) places s None
-      within side.fits
+  fits_here places s aside desks room admitted asked side within = All-get_or (Fits (length desks) room) places s
+      None within side.fits
 
   pub admitted_within : (places : List (Option (FlowPlace H I))) (s : ℕ) → is_admitted (place_at places s) ≡ true
       → s < length places
   admitted_within places s admitted = elim (nat_lt s (length places)) as (λ b. nat_lt s (length places) ≡ b
       → s < length places) [
-    | true ↦ λ e. ltb-true s (length places) e
-    | false ↦ λ e. absurd (true≢false (sym admitted
-        ∙ ap is_admitted (get_or_past places s None (ltb-false s (length places) e))))
-  ] refl
+        | true ↦ λ e. ltb-true s (length places) e
+        | false ↦ λ e. absurd (true≢false (sym admitted ∙ ap is_admitted
+            (get_or_past places s None (ltb-false s (length places) e))))
+      ] refl
 
   -- a side that has just begun
-  pub new_side : (desks : List (FlowDesk H I)) (room : ℕ) → room ≤ 256 → All IsNewDesk desks → Side [] [] desks room 0 0
+  pub new_side : (desks : List (FlowDesk H I)) (room : ℕ) → room ≤ 256 → All IsNewDesk desks
+      → Side [] [] desks room 0 0
   new_side desks room few new = record {
     known = λ s. ∣ record {
       stays = [];
       half = AtFront [];
       knows = knows_nothing slot item_slot handled s (sent_at desks) (home_at desks) (asides_of slot handled s [])
           (λ d. new_lists (λ desk. sent desk.orders) (λ desk is. is.0) desks new d)
-              (λ d. new_lists (λ desk. taken desk.home) (λ desk is. is.1) desks new d) (λ d. refl);
+          (λ d. new_lists (λ desk. taken desk.home) (λ desk is. is.1) desks new d) (λ d. refl);
       is = refl;
     } ∣₁;
     balanced = λ h.
         let f : H → ℕ = λ half. h (name half) in
-        let a : sum_by (sent_weight {I = I} f) desks
-            ≡ 0 = new_sum (sent_weight f) (λ desk is. ap (λ l. sum_by f (halves_in l)) is.0) desks new in
-        let b : sum_by (home_weight {I = I} f) desks
-            ≡ 0 = new_sum (home_weight f) (λ desk is. ap (sum_by f) is.1) desks new in omega arith;
+        let a : sum_by (sent_weight {I = I} f) desks ≡ 0 = new_sum (sent_weight f)
+        (λ desk is. ap (λ l. sum_by f (halves_in l)) is.0) desks new in
+        let b : sum_by (home_weight {I = I} f) desks ≡ 0 = new_sum (home_weight f) (λ desk is. ap (sum_by f) is.1)
+        desks new in omega arith;
     slots = λ s. refl;
     fits = All-nil (Fits (length desks) room);
     short = omega arith;
     room_few = few;
-    few = let a : sum_by (order_count {H = H} {I = I}) desks
-        ≡ 0 = new_sum order_count (λ desk is. ap length is.0) desks new in omega arith;
+    few = let a : sum_by (order_count {H = H} {I = I}) desks ≡ 0 = new_sum order_count (λ desk is. ap length is.0)
+        desks new in omega arith;
     asked_few = omega arith;
     counted = refl;
     aside_few = omega arith;
@@ -334,8 +341,8 @@ module _ {H N I : Type 0} (name : H → N) (slot_at : N → ℕ) (item_slot : I 
   place_none (suc more) zero = refl
   place_none (suc more) (suc k) = place_none more k
 
-  pub place_grown : (places : List (Option (FlowPlace H I))) (more k : ℕ) → place_at (places ++ replicate more None) k
-      ≡ place_at places k
+  pub place_grown : (places : List (Option (FlowPlace H I))) (more k : ℕ)
+      → place_at (places ++ replicate more None) k ≡ place_at places k
   place_grown [] more k = place_none more k
   place_grown (place ∷ places) more zero = refl
   place_grown (place ∷ places) more (suc k) = place_grown places more k
@@ -350,8 +357,8 @@ module _ {H N I : Type 0} (name : H → N) (slot_at : N → ℕ) (item_slot : I 
   grown_side : (places : List (Option (FlowPlace H I))) (more : ℕ) (aside : List (HalfAside H))
       (desks : List (FlowDesk H I)) (room admitted asked : ℕ)
       → length (places ++ replicate more None) ≤ 65533
-      → Side places aside desks room admitted asked
-          → Side (places ++ replicate more None) aside desks room admitted asked
+      → Side places aside desks room admitted asked → Side (places ++ replicate more None) aside desks room
+      admitted asked
   grown_side places more aside desks room admitted asked short side =
       let new : List (Option (FlowPlace H I)) = places ++ replicate more None in
       record {
@@ -369,8 +376,8 @@ module _ {H N I : Type 0} (name : H → N) (slot_at : N → ℕ) (item_slot : I 
         slots = by_slot new (λ s. ap (λ x. slot_at_place slot_at s (name_at name x)) (place_grown places more s)
             ∙ at_slot places side.slots s);
         fits = All-append (Fits (length desks) room) places (replicate more None) side.fits
-            (All-replicate (Fits (length desks) room) more None (omega arith, omega arith, omega arith, λ rests.
-                (refl, refl)));
+            (All-replicate (Fits (length desks) room) more None
+            (omega arith, omega arith, omega arith, λ rests. (refl, refl)));
         short = short;
         room_few = side.room_few;
         few = let a = side.few in let c = grown_sum (pending_at {H = H} {I = I}) places more refl in
@@ -385,22 +392,22 @@ module _ {H N I : Type 0} (name : H → N) (slot_at : N → ℕ) (item_slot : I 
   pub roomy_side : (places new : List (Option (FlowPlace H I))) (aside later : List (HalfAside H))
       (desks : List (FlowDesk H I)) (room admitted asked : ℕ)
       → Side places aside desks room admitted asked → Grown places new → length new ≤ 65533 → later ≡ aside
-          → Side new later desks room admitted asked
+      → Side new later desks room admitted asked
   roomy_side places new aside later desks room admitted asked side grown short same =
       subst (λ (p : List (Option (FlowPlace H I)) × List (HalfAside H)). Side p.0 p.1 desks room admitted asked)
-          (λ i. (sym grown.1 i, sym same i))
+      (λ i. (sym grown.1 i, sym same i))
       (grown_side places grown.0 aside desks room admitted asked (let e = ap length grown.1 in omega arith) side)
 
   -- a half was admitted
   pub entered_side : (places new : List (Option (FlowPlace H I))) (s slice : ℕ) (moves : Bool) (half : H)
       (aside : List (HalfAside H)) (desks : List (FlowDesk H I)) (room admitted asked : ℕ)
       → Side places aside desks room admitted asked → s < length places → slot half ≡ s
-          → is_admitted (place_at places s) ≡ false → handled half ≡ [] → slice < length desks
+      → is_admitted (place_at places s) ≡ false → handled half ≡ [] → slice < length desks
       → asked < 2 ^ 48 → Enters s slice moves half places new → Side new aside desks room (admitted + 1) (asked + 1)
-  entered_side places new s slice moves half aside desks room admitted asked side within own fresh unhandled bound few
-      enters =
+  entered_side places new s slice moves half aside desks room admitted asked side within own fresh unhandled bound
+      few enters =
       subst (λ (l : List (Option (FlowPlace H I))). Side l aside desks room (admitted + 1) (asked + 1))
-          (sym enters.is) made where
+      (sym enters.is) made where
         now : FlowPlace H I
         now = enters.now
 
@@ -415,11 +422,14 @@ module _ {H N I : Type 0} (name : H → N) (slot_at : N → ℕ) (item_slot : I 
         tells_entered tells = record {
           stays = tells.stays;
           half = tells.half;
-          knows = subst (λ (p : List I × List I). SlotKnows slot item_slot handled s (sent_at desks) (home_at desks)
-              (asides_of slot handled s aside) tells.stays tells.half p.0 p.1)
+          knows = subst (λ (p : List I × List I). SlotKnows slot item_slot handled s (sent_at desks)
+              (home_at desks) (asides_of slot handled s aside) tells.stays tells.half p.0 p.1)
               (λ i. (sym enters.queue i, sym enters.accepted i)) tells.knows;
-          is = subst (λ (x : FlowState H). StateIs slot handled s x tells.half) (sym enters.state) (tells.is
-              ∙ ap AtFront (sym unhandled), own);
+          is = subst (λ (x : FlowState H). StateIs slot handled s x tells.half) (sym enters.state) (
+            tells.is
+                ∙ ap AtFront (sym unhandled),
+            own,
+          );
         }
 
         made : Side (set places s (Some now)) aside desks room (admitted + 1) (asked + 1)
@@ -428,8 +438,8 @@ module _ {H N I : Type 0} (name : H → N) (slot_at : N → ℕ) (item_slot : I 
             let q = ap length enters.queue in let l = ap length enters.accepted in
             record {
               known = at_each (λ t p. ∥ Tells slot item_slot handled t p desks aside ∥₁) places s (Some now) within
-                  (∥∥₁_map (subst (λ (p : Option (FlowPlace H I)). ∥ Tells slot item_slot handled s p desks aside ∥₁)
-                      was (side.known s)) tells_entered)
+                  (∥∥₁_map (subst (λ (p : Option (FlowPlace H I)). ∥ Tells slot item_slot handled s p desks
+                  aside ∥₁) was (side.known s)) tells_entered)
                   (λ t apart. side.known t);
               balanced = λ h.
                   let f : H → ℕ = λ half. h (name half) in
@@ -443,8 +453,8 @@ module _ {H N I : Type 0} (name : H → N) (slot_at : N → ℕ) (item_slot : I 
                   let e = sum_by-through (name_at name) (weight_at h) places in
                   let g = sum_by-through (name_at name) (weight_at h) new in
                   omega arith;
-              slots = by_slot new (at_each (λ t p. slot_at_place slot_at t (name_at name p)
-                  ≡ t) places s (Some now) within
+              slots = by_slot new (at_each (λ t p. slot_at_place slot_at t (name_at name p) ≡ t) places s
+                  (Some now) within
                   (ap slot enters.admitted ∙ own) (λ t apart. at_slot places side.slots t));
               fits = All-set (Fits (length desks) room) places s (Some now) (
                 (let a = ap at_end enters.state in omega arith),
@@ -474,8 +484,8 @@ fits_most n room places few fits = All-weaker (Fits n room) (Fits n 256)
 -- a half that was admitted stands at the front of its slot
 pub stands_at_front : {H I : Type 0} (slot slice : ℕ) (moves : Bool) (half : H)
     (places new : List (Option (FlowPlace H I))) (now : FlowPlace H I)
-    → new ≡ set places slot (Some now) → now.admitted.value ≡ half → now.moved ≡ moves → now.state ≡ Front half slice
-        → now.queue.items ≡ [] → accepted_by now ≡ []
+    → new ≡ set places slot (Some now) → now.admitted.value ≡ half → now.moved ≡ moves
+    → now.state ≡ Front half slice → now.queue.items ≡ [] → accepted_by now ≡ []
     → Enters slot slice moves half places new
 stands_at_front slot slice moves half places new now made admitted moved state queue accepted = record {
   now = now;

@@ -20,8 +20,8 @@ by_index P e here others d = elim (nat_eq d e) as (λ b. nat_eq d e ≡ b → P 
 ] refl
 
 module _ {I : Type 0} where
-  reaches-push : (d : ℕ) (stays : List (Stay I)) (y : Stay I) → reaches d (stays ++ y ∷ []) ≡ reaches d stays
-      ++ cond (nat_eq y.at d) (reach y ∷ []) []
+  reaches-push : (d : ℕ) (stays : List (Stay I)) (y : Stay I)
+      → reaches d (stays ++ y ∷ []) ≡ reaches d stays ++ cond (nat_eq y.at d) (reach y ∷ []) []
   reaches-push d [] y = refl
   reaches-push d (x ∷ stays) y = elim (nat_eq x.at d) as (λ b. cond b (reach x ∷ reaches d (stays ++ y ∷ []))
       (reaches d (stays ++ y ∷ []))
@@ -30,8 +30,8 @@ module _ {I : Type 0} where
         | false ↦ reaches-push d stays y
       ]
 
-  backs-push : (d : ℕ) (stays : List (Stay I)) (y : Stay I) → backs d (stays ++ y ∷ []) ≡ backs d stays
-      ++ cond (nat_eq y.at d) (y.back ∷ []) []
+  backs-push : (d : ℕ) (stays : List (Stay I)) (y : Stay I) → backs d (stays ++ y ∷ []) ≡ backs d stays ++ cond
+      (nat_eq y.at d) (y.back ∷ []) []
   backs-push d [] y = refl
   backs-push d (x ∷ stays) y = elim (nat_eq x.at d) as (λ b. cond b (x.back ∷ backs d (stays ++ y ∷ []))
       (backs d (stays ++ y ∷ []))
@@ -69,43 +69,46 @@ module _ {H I : Type 0} (slot : H → ℕ) (item_slot : I → ℕ) (handled : H 
   foreign_item x apart now = (ap (λ b. cond b (more now x) now) (ne_eqb (item_slot x) s apart), refl)
 
   pub foreign_leave : (t : ℕ) → t ≢ s → Foreign (Leave t)
-  foreign_leave t apart now = (ap (λ b. cond {A = Option (List I)} b None now) (ne_eqb t s apart), ap
-      (λ b. cond b (option_to_list now) []) (ne_eqb t s apart))
+  foreign_leave t apart now = (
+    ap (λ b. cond {A = Option (List I)} b None now) (ne_eqb t s apart),
+    ap
+        (λ b. cond b (option_to_list now) []) (ne_eqb t s apart),
+  )
 
-  module _ (e : ℕ) (order : FlowOrder H I) (orders new : ℕ
-      → List (FlowOrder H I)) (one : OneMore e order orders new) where
-    now_here : now_of slot item_slot handled s (new e)
-        ≡ now_after slot item_slot handled s (now_of slot item_slot handled s (orders e)) order
+  module _ (e : ℕ) (order : FlowOrder H I) (orders new : ℕ → List (FlowOrder H I))
+      (one : OneMore e order orders new) where
+    now_here : now_of slot item_slot handled s (new e) ≡ now_after slot item_slot handled s
+        (now_of slot item_slot handled s (orders e)) order
     now_here = ap (now_of slot item_slot handled s) one.here ∙ now_last slot item_slot handled s (orders e) order
 
     gone_here : gone_of slot item_slot handled s (new e)
-        ≡ gone_of slot item_slot handled s (orders e)
-            ++ gone_after slot item_slot handled s (now_of slot item_slot handled s (orders e)) order
+        ≡ gone_of slot item_slot handled s (orders e) ++ gone_after slot item_slot handled s
+        (now_of slot item_slot handled s (orders e)) order
     gone_here = ap (gone_of slot item_slot handled s) one.here ∙ gone_last slot item_slot handled s (orders e) order
 
-    pub now_foreign : Foreign order → (d : ℕ) → now_of slot item_slot handled s (new d)
-        ≡ now_of slot item_slot handled s (orders d)
-    now_foreign foreign = by_index (λ d. now_of slot item_slot handled s (new d)
-        ≡ now_of slot item_slot handled s (orders d)) e
+    pub now_foreign : Foreign order → (d : ℕ) → now_of slot item_slot handled s (new d) ≡ now_of slot item_slot
+        handled s (orders d)
+    now_foreign foreign = by_index (λ d. now_of slot item_slot handled s (new d) ≡ now_of slot item_slot handled s
+        (orders d)) e
         (now_here ∙ (foreign (now_of slot item_slot handled s (orders e))).0)
-            (λ d apart. ap (now_of slot item_slot handled s) (one.others d apart))
+        (λ d apart. ap (now_of slot item_slot handled s) (one.others d apart))
 
-    pub gone_foreign : Foreign order → (d : ℕ) → gone_of slot item_slot handled s (new d)
-        ≡ gone_of slot item_slot handled s (orders d)
-    gone_foreign foreign = by_index (λ d. gone_of slot item_slot handled s (new d)
-        ≡ gone_of slot item_slot handled s (orders d)) e
-        (gone_here ∙ ap (λ l. gone_of slot item_slot handled s (orders e)
-            ++ l) (foreign (now_of slot item_slot handled s (orders e))).1
+    pub gone_foreign : Foreign order → (d : ℕ) → gone_of slot item_slot handled s (new d) ≡ gone_of slot item_slot
+        handled s (orders d)
+    gone_foreign foreign = by_index (λ d. gone_of slot item_slot handled s (new d) ≡ gone_of slot item_slot handled
+        s (orders d)) e
+        (gone_here ∙ ap (λ l. gone_of slot item_slot handled s (orders e) ++ l)
+        (foreign (now_of slot item_slot handled s (orders e))).1
         ∙ append-nil (gone_of slot item_slot handled s (orders e)))
         (λ d apart. ap (gone_of slot item_slot handled s) (one.others d apart))
 
   pub lists_foreign : (e : ℕ) (half : H) (homes new : ℕ → List H) → OneHome e half homes new → slot half ≢ s
       → (d : ℕ) → lists_of slot handled s (new d) ≡ lists_of slot handled s (homes d)
-  lists_foreign e half homes new one apart = by_index (λ d. lists_of slot handled s (new d)
-      ≡ lists_of slot handled s (homes d)) e
+  lists_foreign e half homes new one apart = by_index (λ d. lists_of slot handled s (new d) ≡ lists_of slot handled
+      s (homes d)) e
       (ap (lists_of slot handled s) one.here ∙ lists-append slot handled s (homes e) (half ∷ [])
       ∙ ap (λ b. lists_of slot handled s (homes e) ++ cond b (handled half ∷ []) []) (ne_eqb (slot half) s apart)
-          ∙ append-nil (lists_of slot handled s (homes e)))
+      ∙ append-nil (lists_of slot handled s (homes e)))
       (λ d other. ap (lists_of slot handled s) (one.others d other))
 
   lists_own : (e : ℕ) (half : H) (homes new : ℕ → List H) → OneHome e half homes new → slot half ≡ s
@@ -114,17 +117,18 @@ module _ {H I : Type 0} (slot : H → ℕ) (item_slot : I → ℕ) (handled : H 
       ap (lists_of slot handled s) one.here ∙ lists-append slot handled s (homes e) (half ∷ [])
       ∙ ap (λ b. lists_of slot handled s (homes e) ++ cond b (handled half ∷ []) []) (eq-eqb (slot half) s is)
 
-  abbrev pub Known : (ℕ → List (FlowOrder H I)) → (ℕ → List H) → (ℕ → List (List I)) → List (Stay I) → Where I → List I
-      → List I → Type 0
-  Known orders homes asides stays half queue accepted = SlotKnows slot item_slot handled s orders homes asides stays
-      half queue accepted
+  abbrev pub Known : (ℕ → List (FlowOrder H I)) → (ℕ → List H) → (ℕ → List (List I)) → List (Stay I) → Where I
+      → List I → List I → Type 0
+  Known orders homes asides stays half queue accepted = SlotKnows slot item_slot handled s orders homes asides
+      stays half queue accepted
 
   -- nothing of the slot changed
   pub knows_same : (orders new : ℕ → List (FlowOrder H I)) (homes later : ℕ → List H) (asides now : ℕ
       → List (List I)) (stays : List (Stay I)) (half : Where I) (queue accepted : List I)
       → ((d : ℕ) → now_of slot item_slot handled s (new d) ≡ now_of slot item_slot handled s (orders d))
       → ((d : ℕ) → gone_of slot item_slot handled s (new d) ≡ gone_of slot item_slot handled s (orders d))
-      → ((d : ℕ) → lists_of slot handled s (later d) ≡ lists_of slot handled s (homes d)) → ((d : ℕ) → now d ≡ asides d)
+      → ((d : ℕ) → lists_of slot handled s (later d) ≡ lists_of slot handled s (homes d)) → ((d : ℕ)
+      → now d ≡ asides d)
       → Known orders homes asides stays half queue accepted → Known new later now stays half queue accepted
   knows_same orders new homes later asides now stays half queue accepted nows gones lists kept k = record {
     gone = λ d. gones d ∙ k.gone d;
@@ -153,17 +157,17 @@ module _ {H I : Type 0} (slot : H → ℕ) (item_slot : I → ℕ) (handled : H 
       → List (List I)) (stays : List (Stay I))
       (came queue accepted : List I) → slot half ≡ s → handled half ≡ came → OneMore e (Arrive half) orders new
       → Known orders homes asides stays (AtFront came) queue accepted
-          → Known new homes asides stays (Here e came []) queue accepted
+      → Known new homes asides stays (Here e came []) queue accepted
   knows_arrive e half orders new homes asides stays came queue accepted is handles one k = record {
     gone = by_index (λ d. gone_of slot item_slot handled s (new d) ≡ reaches d stays ++ []) e
-        (gone_here e (Arrive half) orders new one ∙ append-nil (gone_of slot item_slot handled s (orders e)) ∙ k.gone e)
+        (gone_here e (Arrive half) orders new one ∙ append-nil (gone_of slot item_slot handled s (orders e))
+        ∙ k.gone e)
         (λ d apart. ap (gone_of slot item_slot handled s) (one.others d apart) ∙ k.gone d);
     now = by_index (λ d. now_of slot item_slot handled s (new d) ≡ now_at d (Here e came [])) e
-        (now_here e (Arrive half) orders new one
-            ∙ ap (λ b. cond b (Some (handled half)) (now_of slot item_slot handled s (orders e)))
-            (eq-eqb (slot half) s is)
-        ∙ ap Some (handles ∙ sym (append-nil came)) ∙ ap (λ b. cond {A = Option (List I)} b (Some (came ++ [])) None)
-            (sym (eq-eqb e e refl)))
+        (now_here e (Arrive half) orders new one ∙ ap (λ b. cond b (Some (handled half))
+        (now_of slot item_slot handled s (orders e))) (eq-eqb (slot half) s is)
+        ∙ ap Some (handles ∙ sym (append-nil came)) ∙ ap (λ b. cond {A = Option (List I)} b (Some (came ++ []))
+        None) (sym (eq-eqb e e refl)))
         (λ d apart. ap (now_of slot item_slot handled s) (one.others d apart) ∙ k.now d
         ∙ ap (λ b. cond {A = Option (List I)} b (Some (came ++ [])) None) (sym (ne_eqb e d (λ q. apart (sym q)))));
     back = k.back;
@@ -177,25 +181,26 @@ module _ {H I : Type 0} (slot : H → ℕ) (item_slot : I → ℕ) (handled : H 
       → List (List I)) (stays : List (Stay I))
       (came items queue accepted : List I) → OneMore e (Item x) orders new
       → Known orders homes asides stays (Here e came items) (x ∷ queue) accepted
-          → Known new homes asides stays (Here e came (items ++ x ∷ [])) queue accepted
+      → Known new homes asides stays (Here e came (items ++ x ∷ [])) queue accepted
   knows_item e x orders new homes asides stays came items queue accepted one k =
       let is : item_slot x ≡ s = k.own.0 in
       record {
         gone = by_index (λ d. gone_of slot item_slot handled s (new d) ≡ reaches d stays ++ []) e
-            (gone_here e (Item x) orders new one ∙ append-nil (gone_of slot item_slot handled s (orders e)) ∙ k.gone e)
+            (gone_here e (Item x) orders new one ∙ append-nil (gone_of slot item_slot handled s (orders e))
+            ∙ k.gone e)
             (λ d apart. ap (gone_of slot item_slot handled s) (one.others d apart) ∙ k.gone d);
         now = by_index (λ d. now_of slot item_slot handled s (new d) ≡ now_at d (Here e came (items ++ x ∷ []))) e
             (now_here e (Item x) orders new one
-            ∙ ap (λ b. cond b (more (now_of slot item_slot handled s (orders e)) x) (now_of slot item_slot handled s
-                (orders e))) (eq-eqb (item_slot x) s is)
+            ∙ ap (λ b. cond b (more (now_of slot item_slot handled s (orders e)) x)
+            (now_of slot item_slot handled s (orders e))) (eq-eqb (item_slot x) s is)
             ∙ ap (λ o. more o x) (k.now e ∙ ap (λ b. cond {A = Option (List I)} b (Some (came ++ items)) None)
-                (eq-eqb e e refl))
+            (eq-eqb e e refl))
             ∙ ap Some (append_assoc came items (x ∷ []))
             ∙ ap (λ b. cond {A = Option (List I)} b (Some (came ++ (items ++ x ∷ []))) None) (sym (eq-eqb e e refl)))
             (λ d apart. ap (now_of slot item_slot handled s) (one.others d apart) ∙ k.now d
             ∙ ap (λ b. cond {A = Option (List I)} b (Some (came ++ items)) None) (ne_eqb e d (λ q. apart (sym q)))
             ∙ ap (λ b. cond {A = Option (List I)} b (Some (came ++ (items ++ x ∷ []))) None)
-                (sym (ne_eqb e d (λ q. apart (sym q)))));
+            (sym (ne_eqb e d (λ q. apart (sym q)))));
         back = k.back;
         chain = k.chain;
         all = k.all ∙ sym (ap (λ l. l ++ queue) (sym (append_assoc (stay_items stays) items (x ∷ [])))
@@ -208,23 +213,22 @@ module _ {H I : Type 0} (slot : H → ℕ) (item_slot : I → ℕ) (handled : H 
       → List (List I)) (stays : List (Stay I))
       (came items queue accepted : List I) → OneMore e (Leave s) orders new
       → Known orders homes asides stays (Here e came items) queue accepted
-          → Known new homes asides stays (Away e came items) queue accepted
+      → Known new homes asides stays (Away e came items) queue accepted
   knows_leave e orders new homes asides stays came items queue accepted one k =
       let stood : now_of slot item_slot handled s (orders e) ≡ Some (came ++ items) =
       k.now e ∙ ap (λ b. cond {A = Option (List I)} b (Some (came ++ items)) None) (eq-eqb e e refl) in
       record {
-        gone = by_index (λ d. gone_of slot item_slot handled s (new d) ≡ reaches d stays
-            ++ away_at d (Away e came items)) e
+        gone = by_index (λ d. gone_of slot item_slot handled s (new d) ≡ reaches d stays ++ away_at d
+            (Away e came items)) e
             (gone_here e (Leave s) orders new one
-            ∙ (λ i. (k.gone e ∙ append-nil (reaches e stays)) i
-                ++ cond (eq-eqb s s refl i) (option_to_list (stood i)) [])
+            ∙ (λ i. (k.gone e ∙ append-nil (reaches e stays)) i ++ cond (eq-eqb s s refl i)
+            (option_to_list (stood i)) [])
             ∙ ap (λ b. reaches e stays ++ cond b ((came ++ items) ∷ []) []) (sym (eq-eqb e e refl)))
             (λ d apart. ap (gone_of slot item_slot handled s) (one.others d apart) ∙ k.gone d
             ∙ ap (λ b. reaches d stays ++ cond b ((came ++ items) ∷ []) []) (sym (ne_eqb e d (λ q. apart (sym q)))));
         now = by_index (λ d. now_of slot item_slot handled s (new d) ≡ None) e
-            (now_here e (Leave s) orders new one
-                ∙ ap (λ b. cond {A = Option (List I)} b None (now_of slot item_slot handled s (orders e)))
-                (eq-eqb s s refl))
+            (now_here e (Leave s) orders new one ∙ ap (λ b. cond {A = Option (List I)} b None
+            (now_of slot item_slot handled s (orders e))) (eq-eqb s s refl))
             (λ d apart. ap (now_of slot item_slot handled s) (one.others d apart) ∙ k.now d
             ∙ ap (λ b. cond {A = Option (List I)} b (Some (came ++ items)) None) (ne_eqb e d (λ q. apart (sym q))));
         back = k.back;
@@ -238,8 +242,13 @@ module _ {H I : Type 0} (slot : H → ℕ) (item_slot : I → ℕ) (handled : H 
       → List (List I)) (stays : List (Stay I))
       (came items queue accepted : List I) → slot half ≡ s → OneHome e half homes new → asides e ≡ []
       → Known orders homes asides stays (Away e came items) queue accepted
-      → Known orders new asides (stays ++ (record { at = e; came = came; items = items; back = handled half }) ∷ [])
-          (AtFront (handled half)) queue accepted
+      → Known orders new asides (stays ++ (record {
+        at = e;
+        came = came;
+        items = items;
+        back = handled
+            half;
+      }) ∷ []) (AtFront (handled half)) queue accepted
   knows_home e half orders homes new asides stays came items queue accepted is one quiet k =
       let y : Stay I = record { at = e; came = came; items = items; back = handled half } in
       record {
@@ -248,35 +257,36 @@ module _ {H I : Type 0} (slot : H → ℕ) (item_slot : I → ℕ) (handled : H 
         back = by_index (λ d. lists_of slot handled s (new d) ≡ backs d (stays ++ y ∷ []) ++ asides d) e
             (lists_own e half homes new one is
             ∙ ap (λ l. l ++ handled half ∷ []) (k.back e ∙ ap (λ l. backs e stays ++ l) quiet
-                ∙ append-nil (backs e stays))
+            ∙ append-nil (backs e stays))
             ∙ ap (λ b. backs e stays ++ cond b (handled half ∷ []) []) (sym (eq-eqb e e refl))
             ∙ sym (ap (λ l. backs e (stays ++ y ∷ []) ++ l) quiet ∙ append-nil (backs e (stays ++ y ∷ []))
-                ∙ backs-push e stays y))
+            ∙ backs-push e stays y))
             (λ d apart. ap (lists_of slot handled s) (one.others d apart) ∙ k.back d
             ∙ ap (λ l. l ++ asides d) (sym (backs-push d stays y
             ∙ ap (λ b. backs d stays ++ cond b (handled half ∷ []) []) (ne_eqb e d (λ q. apart (sym q)))
-                ∙ append-nil (backs d stays))));
+            ∙ append-nil (backs d stays))));
         chain = chain-push [] stays y came k.chain refl;
-        all = k.all ∙ ap (λ l. l ++ queue) (sym (items-push stays y) ∙ sym (append-nil (stay_items (stays ++ y ∷ []))));
+        all = k.all ∙ ap (λ l. l ++ queue) (sym (items-push stays y)
+            ∙ sym (append-nil (stay_items (stays ++ y ∷ []))));
         own = k.own;
       }
 
   -- one came home that nobody awaits
-  pub knows_aside : (e : ℕ) (half : H) (orders : ℕ → List (FlowOrder H I)) (homes new : ℕ → List H) (asides now : ℕ
-      → List (List I)) (stays : List (Stay I))
-      (place : Where I) (queue accepted : List I) → slot half ≡ s → OneHome e half homes new → now e ≡ asides e
-          ++ handled half ∷ []
+  pub knows_aside : (e : ℕ) (half : H) (orders : ℕ → List (FlowOrder H I)) (homes new : ℕ
+      → List H) (asides now : ℕ → List (List I)) (stays : List (Stay I))
+      (place : Where I) (queue accepted : List I) → slot half ≡ s → OneHome e half homes new
+      → now e ≡ asides e ++ handled half ∷ []
       → ((d : ℕ) → d ≢ e → now d ≡ asides d) → Known orders homes asides stays place queue accepted
-          → Known orders new now stays place queue accepted
+      → Known orders new now stays place queue accepted
   knows_aside e half orders homes new asides now stays place queue accepted is one here others k = record {
     gone = k.gone;
     now = k.now;
     back = by_index (λ d. lists_of slot handled s (new d) ≡ backs d stays ++ now d) e
         (lists_own e half homes new one is ∙ ap (λ l. l ++ handled half ∷ []) (k.back e)
-            ∙ append_assoc (backs e stays) (asides e) (handled half ∷ [])
+        ∙ append_assoc (backs e stays) (asides e) (handled half ∷ [])
         ∙ ap (λ l. backs e stays ++ l) (sym here))
         (λ d apart. ap (lists_of slot handled s) (one.others d apart) ∙ k.back d
-            ∙ ap (λ l. backs d stays ++ l) (sym (others d apart)));
+        ∙ ap (λ l. backs d stays ++ l) (sym (others d apart)));
     chain = k.chain;
     all = k.all;
     own = k.own;
@@ -300,9 +310,9 @@ module _ {H I : Type 0} (slot : H → ℕ) (item_slot : I → ℕ) (handled : H 
   pub stands_none : (orders : ℕ → List (FlowOrder H I)) (homes : ℕ → List H) (asides : ℕ
       → List (List I)) (stays : List (Stay I)) (half : Where I) (queue accepted : List I)
       (d : ℕ) → now_at d half ≡ None → Known orders homes asides stays half queue accepted
-          → stands slot item_slot s (orders d) ≡ false
-  stands_none orders homes asides stays half queue accepted d none k = sym (standing slot item_slot handled s
-      (orders d)) ∙ ap is_some (k.now d ∙ none)
+      → stands slot item_slot s (orders d) ≡ false
+  stands_none orders homes asides stays half queue accepted d none k = sym
+      (standing slot item_slot handled s (orders d)) ∙ ap is_some (k.now d ∙ none)
 
   pub stands_here : (e : ℕ) (orders : ℕ → List (FlowOrder H I)) (homes : ℕ → List H) (asides : ℕ
       → List (List I)) (stays : List (Stay I)) (came items queue accepted : List I)

@@ -74,8 +74,17 @@ module _ {H I : Type 0} (slot : H → ℕ) (item_slot : I → ℕ) (handled : H 
         → Keeps slot item_slot handled s 0 (from (Front half to)) (till new)
     sends_keeps half to new own sends = elim sends [
       | inl put ↦ keeps_arrive slot item_slot handled s (from (Front half to)) (till new)
-          (record { half = half; to = to; own = own; was = refl; is = put.0; queue = refl; accepted = refl; given =
-              put.1 })
+          (record {
+            half = half;
+            to = to;
+            own = own;
+            was = refl;
+            is = put.0;
+            queue = refl;
+            accepted = refl;
+            given =
+                put.1;
+          })
       | inr kept ↦ keeps_refused slot item_slot handled s (from (Front half to)) (till new)
           (record { slice = to; is = kept.0; queue = refl; accepted = refl; refused = kept.1 })
     ]
@@ -122,29 +131,53 @@ module _ {H I : Type 0} (slot : H → ℕ) (item_slot : I → ℕ) (handled : H 
       let mid : Stand H I = record { state = state; queue = item ∷ []; accepted = later; desks = desks } in
       let new : Stand H I = record { state = state; queue = []; accepted = later; desks = now } in
       keeps_then slot item_slot handled s 0 0 old mid new
-      (keeps_park slot item_slot handled s old mid
-          (record { item = item; own = own; is = refl; queue = refl; accepted = accepts; desks = refl }))
-      (keeps_item slot item_slot handled s mid new
-          (record { at = lands.0; item = item; own = own; was = lands.1; is = lands.1; queue = refl; accepted = refl;
-          given = lands.2 }))
+      (keeps_park slot item_slot handled s old mid (record {
+        item = item;
+        own = own;
+        is = refl;
+        queue = refl;
+        accepted = accepts;
+        desks = refl;
+      }))
+      (keeps_item slot item_slot handled s mid new (record {
+        at = lands.0;
+        item = item;
+        own = own;
+        was = lands.1;
+        is = lands.1;
+        queue = refl;
+        accepted = refl;
+        given = lands.2;
+      }))
   lands_keeps item (Err refusal) state accepted later desks now own lands accepts =
       let old : Stand H I = record { state = state; queue = []; accepted = accepted; desks = desks } in
       let new : Stand H I = record { state = state; queue = []; accepted = later; desks = now } in
       elim lands.2 [
         | inl full ↦ keeps_refused slot item_slot handled s old new
             (record { slice = full.0; is = refl; queue = refl; accepted = accepts.0; refused = full.2 })
-        | inr front ↦ keeps_same old new
-            (λ i. record { state = state; queue = []; accepted = accepts.0 i; desks = front.3 i })
+        | inr front ↦ keeps_same old new (λ i. record {
+          state = state;
+          queue = [];
+          accepted = accepts.0 i;
+          desks =
+              front.3 i;
+        })
       ]
 
   pub delivers_keeps : (item : I) (answer : Result (Unit {0}) (FlowNo I)) (state new : FlowState H)
       (accepted later : List I) (desks now : List (FlowDesk H I))
       → item_slot item ≡ s → MayGive slot item_slot s state desks → Delivers s item answer state new desks now
-          → Accepts item answer accepted later
+      → Accepts item answer accepted later
       → Keeps slot item_slot handled s 0 (record { state = state; queue = []; accepted = accepted; desks = desks })
       (record { state = new; queue = []; accepted = later; desks = now })
   delivers_keeps item answer state new accepted later desks now own law delivers accepts =
-      keeps_then slot item_slot handled s 0 0 (record { state = state; queue = []; accepted = accepted; desks = desks })
+      keeps_then slot item_slot handled s 0 0 (record {
+        state = state;
+        queue = [];
+        accepted = accepted;
+        desks =
+            desks;
+      })
       (record { state = new; queue = []; accepted = accepted; desks = delivers.mid })
       (record { state = new; queue = []; accepted = later; desks = now })
       (serves_keeps [] accepted desks delivers.mid state new law delivers.serves)
@@ -152,8 +185,7 @@ module _ {H I : Type 0} (slot : H → ℕ) (item_slot : I → ℕ) (handled : H 
 
   -- so many items of a queue were sent
   pub record Emptying (at done : ℕ) (queue left : List I) (old new : List (FlowDesk H I)) : Type 0 where
-    pub keeps : (accepted : List I)
-        → Keeps slot item_slot handled s 0
+    pub keeps : (accepted : List I) → Keeps slot item_slot handled s 0
         (record { state = Placed at; queue = queue; accepted = accepted; desks = old })
         (record { state = Placed at; queue = left; accepted = accepted; desks = new })
     pub law : stands slot item_slot s (sent_at new at) ≡ true
@@ -186,11 +218,23 @@ module _ {H I : Type 0} (slot : H → ℕ) (item_slot : I → ℕ) (handled : H 
               (record { state = Placed at; queue = left; accepted = accepted; desks = mid })
               (record { state = Placed at; queue = rest; accepted = accepted; desks = new })
               (e.keeps accepted)
-              (keeps_item slot item_slot handled s
-                  (record { state = Placed at; queue = left; accepted = accepted; desks = mid })
+              (keeps_item slot item_slot handled s (record {
+                state = Placed at;
+                queue = left;
+                accepted = accepted;
+                desks = mid;
+              })
               (record { state = Placed at; queue = rest; accepted = accepted; desks = new })
-              (record { at = at; item = x; own = All-head (λ x. item_slot x
-                  ≡ s) x rest own; was = refl; is = refl; queue = first; accepted = refl; given = given }));
+              (record {
+                at = at;
+                item = x;
+                own = All-head (λ x. item_slot x ≡ s) x rest own;
+                was = refl;
+                is = refl;
+                queue = first;
+                accepted = refl;
+                given = given;
+              }));
           law = ap (stands slot item_slot s) (given_more at (Item x) mid new given).here
               ∙ stands_item slot item_slot s x false (sent_at mid at) ∙ e.law;
           own = All-tail (λ x. item_slot x ≡ s) x rest own;
@@ -204,11 +248,19 @@ module _ {H I : Type 0} (slot : H → ℕ) (item_slot : I → ℕ) (handled : H 
       keeps = λ accepted.
           let a : Stand H I = record { state = Placed at; queue = left; accepted = accepted; desks = mid } in
           let b : Stand H I = record { state = Placed at; queue = rest; accepted = accepted; desks = new } in
-          keeps_then slot item_slot handled s 0 0
-              (record { state = Placed at; queue = queue; accepted = accepted; desks = old }) a b (e.keeps accepted)
+          keeps_then slot item_slot handled s 0 0 (record {
+            state = Placed at;
+            queue = queue;
+            accepted = accepted;
+            desks = old;
+          }) a b (e.keeps accepted)
           (elim rests [
-            | inl none ↦ keeps_same a b
-                (λ i. record { state = Placed at; queue = same i; accepted = accepted; desks = none.1 i })
+            | inl none ↦ keeps_same a b (λ i. record {
+              state = Placed at;
+              queue = same i;
+              accepted = accepted;
+              desks = none.1 i;
+            })
             | inr refused ↦ keeps_refused slot item_slot handled s a b
                 (record { slice = at; is = refl; queue = same; accepted = refl; refused = refused })
           ]);
@@ -220,8 +272,8 @@ module _ {H I : Type 0} (slot : H → ℕ) (item_slot : I → ℕ) (handled : H 
       ];
     }
 
-    pub emptying_all : (done : ℕ) (left : List I) (new : List (FlowDesk H I)) → Emptying at done queue left old new
-        → done ≡ length queue
+    pub emptying_all : (done : ℕ) (left : List I) (new : List (FlowDesk H I))
+        → Emptying at done queue left old new → done ≡ length queue
         → Empties slot item_slot handled s at queue left old new
     emptying_all done left new e all = record {
       keeps = e.keeps;
@@ -260,16 +312,16 @@ module _ {H I : Type 0} (desks now : List (FlowDesk H I)) (s : ℕ) where
   goes_fit : (n slice : ℕ) (state new : FlowState H) → at_end state ≤ n → to_end state ≤ n → slice < n
       → Goes s slice state new desks now
       → (at_end new ≤ n) × (to_end new ≤ n)
-  goes_fit n slice (Front half to) new at there within goes = let a = ap at_end goes.0 in let b = ap to_end goes.0 in
-      (omega arith, omega arith)
+  goes_fit n slice (Front half to) new at there within goes = let a = ap at_end goes.0 in let b = ap to_end goes.0
+      in (omega arith, omega arith)
   goes_fit n slice (Placed e) new at there within goes = elim goes [
     | inl put ↦ let a = ap at_end put.0 in let b = ap to_end put.0 in (omega arith, omega arith)
     | inr kept ↦ let a = ap at_end kept.0 in let b = ap to_end kept.0 in (omega arith, omega arith)
   ]
   goes_fit n slice (Recall e to) new at there within goes = let a = ap at_end goes.0 in let b = ap to_end goes.0 in
       (omega arith, omega arith)
-  goes_fit n slice (Leaving e to) new at there within goes = let a = ap at_end goes.0 in let b = ap to_end goes.0 in
-      (omega arith, omega arith)
+  goes_fit n slice (Leaving e to) new at there within goes = let a = ap at_end goes.0 in let b = ap to_end goes.0
+      in (omega arith, omega arith)
 
   serves_again : (slice : ℕ) (state new : FlowState H) → Serves s state new desks now → waits_for new ≡ Some slice
       → Rises (fulls_at desks slice) (fulls_at now slice)
@@ -282,21 +334,22 @@ module _ {H I : Type 0} (desks now : List (FlowDesk H I)) (s : ℕ) where
     | inl put ↦ absurd (none_is_some slice (sym (ap waits_for put.0) ∙ waits))
     | inr kept ↦ full_there e slice kept.1 (sym (ap waits_for kept.0) ∙ waits)
   ]
-  serves_again slice (Leaving e to) new serves waits = absurd (none_is_some slice (sym (ap waits_for serves.0) ∙ waits))
+  serves_again slice (Leaving e to) new serves waits = absurd (none_is_some slice (sym (ap waits_for serves.0)
+      ∙ waits))
 
 -- an order more at the end
 stands_last : {H I : Type 0} (slot : H → ℕ) (item_slot : I → ℕ) (s : ℕ) (order : FlowOrder H I) (here : Bool)
     (orders : List (FlowOrder H I))
-    → stands_from slot item_slot s here (orders ++ order ∷ [])
-        ≡ stands_after slot item_slot s (stands_from slot item_slot s here orders) order
+    → stands_from slot item_slot s here (orders ++ order ∷ []) ≡ stands_after slot item_slot s
+    (stands_from slot item_slot s here orders) order
 stands_last slot item_slot s order here [] = refl
 stands_last slot item_slot s order here (first ∷ orders) = stands_last slot item_slot s order
     (stands_after slot item_slot s here first) orders
 
 module _ {H I : Type 0} (slot : H → ℕ) (item_slot : I → ℕ) (s : ℕ) (desks now : List (FlowDesk H I)) where
   -- the law allows what a state gives, also once its order was offered
-  pub serves_law : (state new : FlowState H) → MayGive slot item_slot s state desks → Serves s state new desks now
-      → MayGive slot item_slot s new now
+  pub serves_law : (state new : FlowState H) → MayGive slot item_slot s state desks
+      → Serves s state new desks now → MayGive slot item_slot s new now
   serves_law (Front half to) new law serves = elim serves [
     | inl put ↦ subst (λ (x : FlowState H). MayGive slot item_slot s x now) (sym put.0)
         (ap (stands slot item_slot s) (given_more to (Arrive half) desks now put.1).here
@@ -316,8 +369,8 @@ module _ {H I : Type 0} (slot : H → ℕ) (item_slot : I → ℕ) (s : ℕ) (de
       (sym serves.0) tt
 
 -- what is accepted after an answer
-module _ {I : Type 0} (item : I) (slot : ℕ) (before more later : List (I × ℕ)) (is : more ≡ before
-    ++ (item, slot) ∷ []) where
+module _ {I : Type 0} (item : I) (slot : ℕ) (before more later : List (I
+    × ℕ)) (is : more ≡ before ++ (item, slot) ∷ []) where
   abbrev firsts : List (I × ℕ) → List I
   firsts l = map (λ p. p.0) l
 
@@ -345,15 +398,15 @@ unparked : {H : Type 0} (moved : Bool) (state : FlowState H) (n : ℕ)
     → (moved ≡ false → (n ≡ 0) × (is_settled state ≡ true)) → (n ≡ 0) × (is_settled state ≡ true)
 unparked false state n isnt rests = rests refl
 unparked true state zero isnt rests = (refl, placed_settled state isnt) where
-  placed_settled : {H : Type 0} (state : FlowState H) → (true && (not (is_placed state) || not (nat_eq 0 0))) ≡ false
-      → is_settled state ≡ true
+  placed_settled : {H : Type 0} (state : FlowState H) → (true && (not (is_placed state) || not (nat_eq 0 0))) ≡
+      false → is_settled state ≡ true
   placed_settled (Front half to) isnt = refl
   placed_settled (Placed at) isnt = refl
   placed_settled (Recall at to) isnt = absurd (true≢false isnt)
   placed_settled (Leaving at to) isnt = absurd (true≢false isnt)
 unparked true state (suc n) isnt rests =
     absurd (true≢false (some_left (not (is_placed state)) (nat_eq (suc n) 0)
-        (ne_eqb (suc n) 0 (λ e. absurd (omega arith))) ∙ isnt)) where
+    (ne_eqb (suc n) 0 (λ e. absurd (omega arith))) ∙ isnt)) where
       some_left : (b t : Bool) → t ≡ false → true ≡ (true && (b || not t))
       some_left true t e = refl
       some_left false t e = sym (ap not e)
@@ -363,7 +416,7 @@ pub rests_there : {H I : Type 0} (n room : ℕ) (place : FlowPlace H I) → Fits
     → (place.queue.items ≡ []) × (is_settled place.state ≡ true)
 rests_there n room place fits isnt =
     let r = unparked place.moved place.state (length place.queue.items) isnt fits.3 in
-        (none_left place.queue.items r.0, r.1) where
+    (none_left place.queue.items r.0, r.1) where
       none_left : {A : Type 0} (xs : List A) → length xs ≡ 0 → xs ≡ []
       none_left [] e = refl
       none_left (x ∷ xs) e = absurd (omega arith)
@@ -372,10 +425,10 @@ rests_there n room place fits isnt =
 module _ {H I : Type 0} (slot : H → ℕ) (item_slot : I → ℕ) (handled : H
     → List I) (s : ℕ) (before after : FlowPlace H I) (desks now : List (FlowDesk H I))
     (ready : IsReady slot item_slot s (Some before) desks) where
-  place_keeps : (spare : ℕ) → after.admitted ≡ before.admitted → (queue accepted : List I) → queue ≡ after.queue.items
-      → accepted ≡ accepted_by after
+  place_keeps : (spare : ℕ) → after.admitted ≡ before.admitted → (queue accepted : List I)
+      → queue ≡ after.queue.items → accepted ≡ accepted_by after
       → Keeps slot item_slot handled s spare (stand_of before desks)
-          (record { state = after.state; queue = queue; accepted = accepted; desks = now })
+      (record { state = after.state; queue = queue; accepted = accepted; desks = now })
       → PlaceKeeps slot item_slot handled s spare (Some before) (Some after) desks now
   place_keeps spare admitted queue accepted q a keeps = (
     after,
@@ -385,22 +438,25 @@ module _ {H I : Type 0} (slot : H → ℕ) (item_slot : I → ℕ) (handled : H
         (λ i. record { state = after.state; queue = q i; accepted = a i; desks = now }) keeps,
   )
 
-  pub served_place : after.moved ≡ before.moved → after.queue.items ≡ before.queue.items → accepted_by after
-      ≡ accepted_by before → after.admitted ≡ before.admitted
-      → Serves s before.state after.state desks now
-          → Served slot item_slot handled s (Some before) (Some after) desks now
+  pub served_place : after.moved ≡ before.moved → after.queue.items ≡ before.queue.items
+      → accepted_by after ≡ accepted_by before → after.admitted ≡ before.admitted
+      → Serves s before.state after.state desks now → Served slot item_slot handled s (Some before) (Some after)
+      desks now
   served_place moved queue accepted admitted serves = record {
     keeps = place_keeps 0 admitted before.queue.items (accepted_by before) (sym queue) (sym accepted)
         (serves_keeps slot item_slot handled s before.queue.items (accepted_by before) desks now before.state
-            after.state ready.law serves);
+        after.state ready.law serves);
     fits = λ room fits.
         let f = serves_fit desks now s (length desks) before.state after.state fits.0 fits.1 serves in
         let n = ap length queue in (
           f.0,
           f.1,
           (let m = fits.2 in omega arith),
-          λ rests. let r = fits.3 (sym moved ∙ rests) in (n
-              ∙ r.0, serves_settled desks now s before.state after.state r.1 serves),
+          λ rests. let r = fits.3 (sym moved ∙ rests) in (
+            n ∙ r.0,
+            serves_settled desks now s before.state
+                after.state r.1 serves,
+          ),
         );
     accepted = accepted;
     moved = moved;
@@ -408,18 +464,23 @@ module _ {H I : Type 0} (slot : H → ℕ) (item_slot : I → ℕ) (handled : H
     sends = (after, refl, queue, admitted, serves);
   }
 
-  pub moved_place : (slice : ℕ) → slice < length desks → after.moved ≡ true → after.queue.items ≡ before.queue.items
-      → accepted_by after ≡ accepted_by before
+  pub moved_place : (slice : ℕ) → slice < length desks → after.moved ≡ true
+      → after.queue.items ≡ before.queue.items → accepted_by after ≡ accepted_by before
       → after.admitted ≡ before.admitted → Goes s slice before.state after.state desks now
-          → Moved slot item_slot handled s slice (Some before) (Some after) desks now
+      → Moved slot item_slot handled s slice (Some before) (Some after) desks now
   moved_place slice within moved queue accepted admitted goes = record {
     keeps = place_keeps 2 admitted before.queue.items (accepted_by before) (sym queue) (sym accepted)
         (goes_keeps slot item_slot handled s before.queue.items (accepted_by before) desks now slice before.state
-            after.state goes);
+        after.state goes);
     fits = λ room fits.
         let f = goes_fit desks now s (length desks) slice before.state after.state fits.0 fits.1 within goes in
-        let n = ap length queue in (f.0, f.1, (let m = fits.2 in omega arith), λ rests. absurd (true≢false (sym moved
-            ∙ rests)));
+        let n = ap length queue in (
+          f.0,
+          f.1,
+          (let m = fits.2 in omega arith),
+          λ rests. absurd
+              (true≢false (sym moved ∙ rests)),
+        );
     accepted = accepted;
     moves = (after, refl, moved, queue, admitted, goes);
   }
@@ -429,19 +490,34 @@ module _ {H I : Type 0} (slot : H → ℕ) (item_slot : I → ℕ) (handled : H
       → Keeps slot item_slot handled s 0 (record { state = state; queue = queue; accepted = accepted; desks = desks })
       (record { state = state; queue = left; accepted = accepted; desks = now }) × (length left ≤ length queue)
   empties_keeps (Front half to) accepted queue left e = (
-    keeps_same slot item_slot handled s _ _
-        (λ i. record { state = Front half to; queue = e.0 i; accepted = accepted; desks = e.1 i }),
+    keeps_same slot item_slot handled s _ _ (λ i. record {
+      state = Front half to;
+      queue = e.0 i;
+      accepted =
+          accepted;
+      desks = e.1 i;
+    }),
     (let n = ap length e.0 in omega arith),
   )
   empties_keeps (Placed at) accepted queue left e = (e.keeps accepted, e.short)
   empties_keeps (Recall at to) accepted queue left e = (
-    keeps_same slot item_slot handled s _ _
-        (λ i. record { state = Recall at to; queue = e.0 i; accepted = accepted; desks = e.1 i }),
+    keeps_same slot item_slot handled s _ _ (λ i. record {
+      state = Recall at to;
+      queue = e.0 i;
+      accepted =
+          accepted;
+      desks = e.1 i;
+    }),
     (let n = ap length e.0 in omega arith),
   )
   empties_keeps (Leaving at to) accepted queue left e = (
-    keeps_same slot item_slot handled s _ _
-        (λ i. record { state = Leaving at to; queue = e.0 i; accepted = accepted; desks = e.1 i }),
+    keeps_same slot item_slot handled s _ _ (λ i. record {
+      state = Leaving at to;
+      queue = e.0 i;
+      accepted =
+          accepted;
+      desks = e.1 i;
+    }),
     (let n = ap length e.0 in omega arith),
   )
 
@@ -449,13 +525,13 @@ module _ {H I : Type 0} (slot : H → ℕ) (item_slot : I → ℕ) (handled : H
       → EmptiesPlaced slot item_slot handled s state queue left desks now → (slice : ℕ)
       → placed_at state ≡ Some slice → 0 < length left → Rises (fulls_at desks slice) (fulls_at now slice)
   empties_again (Front half to) queue left e slice is some = absurd (none_is_some slice is)
-  empties_again (Placed at) queue left e slice is some = subst (λ (n : ℕ). Rises (fulls_at desks n) (fulls_at now n))
-      (ap number is) (e.again some)
+  empties_again (Placed at) queue left e slice is some = subst
+      (λ (n : ℕ). Rises (fulls_at desks n) (fulls_at now n)) (ap number is) (e.again some)
   empties_again (Recall at to) queue left e slice is some = absurd (none_is_some slice is)
   empties_again (Leaving at to) queue left e slice is some = absurd (none_is_some slice is)
 
-  pub drained_place : after.moved ≡ before.moved → after.state ≡ before.state → accepted_by after ≡ accepted_by before
-      → after.admitted ≡ before.admitted
+  pub drained_place : after.moved ≡ before.moved → after.state ≡ before.state
+      → accepted_by after ≡ accepted_by before → after.admitted ≡ before.admitted
       → EmptiesPlaced slot item_slot handled s before.state before.queue.items after.queue.items desks now
       → Drained slot item_slot handled s (Some before) (Some after) desks now
   drained_place moved state accepted admitted empties =
@@ -463,7 +539,8 @@ module _ {H I : Type 0} (slot : H → ℕ) (item_slot : I → ℕ) (handled : H
       let keeps : Keeps slot item_slot handled s 0 (stand_of before desks)
       (record { state = after.state; queue = after.queue.items; accepted = accepted_by before; desks = now }) =
       subst (λ (x : FlowState H). Keeps slot item_slot handled s 0 (stand_of before desks)
-      (record { state = x; queue = after.queue.items; accepted = accepted_by before; desks = now })) (sym state) k.0 in
+      (record { state = x; queue = after.queue.items; accepted = accepted_by before; desks = now })) (sym state)
+      k.0 in
       record {
         keeps = place_keeps 0 admitted after.queue.items (accepted_by before) refl (sym accepted) keeps;
         fits = λ room fits. let a = ap at_end state in let b = ap to_end state in let short = k.1 in (
@@ -482,15 +559,20 @@ module _ {H I : Type 0} (slot : H → ℕ) (item_slot : I → ℕ) (handled : H
   takes_keeps : (room : ℕ) (item : I) (answer : Result (Unit {0}) (FlowNo I)) (state : FlowState H)
       (accepted later queue left : List I) → item_slot item ≡ s
       → QueueTakes room item answer queue left → Accepts item answer accepted later → (mid : List (FlowDesk H I))
-          → mid ≡ desks
+      → mid ≡ desks
       → Keeps slot item_slot handled s 0 (record { state = state; queue = queue; accepted = accepted; desks = desks })
       (record { state = state; queue = left; accepted = later; desks = mid })
-  takes_keeps room item (Ok u) state accepted later queue left own takes accepts mid same = keeps_park slot item_slot
-      handled s _ _
+  takes_keeps room item (Ok u) state accepted later queue left own takes accepts mid same = keeps_park slot
+      item_slot handled s _ _
       (record { item = item; own = own; is = refl; queue = takes.0; accepted = accepts; desks = same })
   takes_keeps room item (Err refusal) state accepted later queue left own takes accepts mid same =
-      keeps_same slot item_slot handled s _ _
-          (λ i. record { state = state; queue = takes.0 i; accepted = accepts.0 i; desks = same i })
+      keeps_same slot item_slot handled s _ _ (λ i. record {
+        state = state;
+        queue = takes.0 i;
+        accepted = accepts.0
+            i;
+        desks = same i;
+      })
 
   takes_room : (room : ℕ) (item : I) (answer : Result (Unit {0}) (FlowNo I)) (queue left : List I)
       → QueueTakes room item answer queue left
@@ -506,7 +588,7 @@ module _ {H I : Type 0} (slot : H → ℕ) (item_slot : I → ℕ) (handled : H
   pub gave_parked : (room : ℕ) (item : I) (answer : Result (Unit {0}) (FlowNo I)) → item_slot item ≡ s
       → parks_at (Some before) ≡ true
       → after.moved ≡ before.moved → after.admitted ≡ before.admitted
-          → Accepts item answer (accepted_by before) (accepted_by after)
+      → Accepts item answer (accepted_by before) (accepted_by after)
       → now ≡ desks → after.state ≡ before.state → QueueTakes room item answer before.queue.items after.queue.items
       → Gave slot item_slot handled s room item answer (Some before) (Some after) desks now
   gave_parked room item answer own parks moved admitted accepts same state takes = record {
@@ -514,7 +596,7 @@ module _ {H I : Type 0} (slot : H → ℕ) (item_slot : I → ℕ) (handled : H
         (subst (λ (x : FlowState H). Keeps slot item_slot handled s 0 (stand_of before desks)
         (record { state = x; queue = after.queue.items; accepted = accepted_by after; desks = now })) (sym state)
         (takes_keeps room item answer before.state (accepted_by before) (accepted_by after) before.queue.items
-            after.queue.items own takes accepts now same));
+        after.queue.items own takes accepts now same));
     fits = λ fits. let a = ap at_end state in let b = ap to_end state in (
       (let m = fits.0 in omega arith),
       (let m = fits.1 in omega arith),
@@ -528,10 +610,11 @@ module _ {H I : Type 0} (slot : H → ℕ) (item_slot : I → ℕ) (handled : H
   }
 
   delivers_fit : (item : I) (answer : Result (Unit {0}) (FlowNo I))
-      → Delivers s item answer before.state after.state desks now → (room : ℕ) → Fits (length desks) room (Some before)
+      → Delivers s item answer before.state after.state desks now → (room : ℕ)
+      → Fits (length desks) room (Some before)
       → (at_end after.state ≤ length desks) × (to_end after.state ≤ length desks)
-  delivers_fit item answer delivers room fits = serves_fit desks delivers.mid s (length desks) before.state after.state
-      fits.0 fits.1 delivers.serves
+  delivers_fit item answer delivers room fits = serves_fit desks delivers.mid s (length desks) before.state
+      after.state fits.0 fits.1 delivers.serves
 
   pub gave_placed : (room : ℕ) (item : I) (answer : Result (Unit {0}) (FlowNo I)) → item_slot item ≡ s
       → Fits (length desks) room (Some before)
@@ -542,12 +625,12 @@ module _ {H I : Type 0} (slot : H → ℕ) (item_slot : I → ℕ) (handled : H
   gave_placed room item answer own fits parks moved admitted accepts queue delivers =
       let r = rests_there (length desks) room before fits parks in
       let keeps = delivers_keeps slot item_slot handled s item answer before.state after.state (accepted_by before)
-          (accepted_by after) desks now
+      (accepted_by after) desks now
       own ready.law delivers accepts in
       record {
         keeps = place_keeps 0 admitted before.queue.items (accepted_by after) (sym queue) refl
             (subst (λ (q : List I). Keeps slot item_slot handled s 0
-                (record { state = before.state; queue = q; accepted = accepted_by before; desks = desks })
+            (record { state = before.state; queue = q; accepted = accepted_by before; desks = desks })
             (record { state = after.state; queue = q; accepted = accepted_by after; desks = now })) (sym r.0) keeps);
         fits = λ fits. let f = delivers_fit item answer delivers room fits in let n = ap length queue in (
           f.0,
@@ -568,15 +651,15 @@ module _ {H I : Type 0} (slot : H → ℕ) (item_slot : I → ℕ) (handled : H
   pub gave_any : (room : ℕ) (item : I) (answer : Result (Unit {0}) (FlowNo I)) → item_slot item ≡ s
       → Fits (length desks) room (Some before)
       → after.moved ≡ before.moved → after.admitted ≡ before.admitted
-          → Accepts item answer (accepted_by before) (accepted_by after)
+      → Accepts item answer (accepted_by before) (accepted_by after)
       → (parks_at (Some before) ≡ true → (now ≡ desks) × (after.state ≡ before.state)
-          × QueueTakes room item answer before.queue.items after.queue.items)
+      × QueueTakes room item answer before.queue.items after.queue.items)
       → (parks_at (Some before) ≡ false → (after.queue.items ≡ before.queue.items)
-          × Delivers s item answer before.state after.state desks now)
+      × Delivers s item answer before.state after.state desks now)
       → Gave slot item_slot handled s room item answer (Some before) (Some after) desks now
   gave_any room item answer own fits moved admitted accepts parked placed =
       elim (parks_at (Some before)) as (λ b. parks_at (Some before) ≡ b
-          → Gave slot item_slot handled s room item answer (Some before) (Some after) desks now) [
+      → Gave slot item_slot handled s room item answer (Some before) (Some after) desks now) [
         | true ↦ λ e. let p = parked e in gave_parked room item answer own e moved admitted accepts p.0 p.1 p.2
         | false ↦ λ e. let p = placed e in gave_placed room item answer own fits e moved admitted accepts p.0 p.1
       ] refl
@@ -585,8 +668,8 @@ module _ {H I : Type 0} (slot : H → ℕ) (item_slot : I → ℕ) (handled : H
 module _ {H I : Type 0} (half : H) (slice : ℕ) where
   pub homed_place : (before after : FlowPlace H I) (back : Option H) → after.moved ≡ before.moved
       → after.queue ≡ before.queue → after.admitted ≡ before.admitted
-      → after.accepted ≡ before.accepted → after.state ≡ after.state → Homes half slice before.state after.state back
-          → Welcomes half slice (Some before) (Some after) back
+      → after.accepted ≡ before.accepted → after.state ≡ after.state
+      → Homes half slice before.state after.state back → Welcomes half slice (Some before) (Some after) back
   homed_place before after None moved queue admitted accepted same homes = (
     before,
     after,
@@ -602,14 +685,20 @@ module _ {H I : Type 0} (half : H) (slice : ℕ) where
   )
   homed_place before after (Some back) moved queue admitted accepted same homes = (
     homes.0,
-    λ i. Some (record { moved = moved i; state = homes.1 i; queue = queue i; admitted = admitted i; accepted = accepted
-        i }),
+    λ i. Some (record {
+      moved = moved i;
+      state = homes.1 i;
+      queue = queue i;
+      admitted = admitted i;
+      accepted =
+          accepted i;
+    }),
   )
 
-  pub welcomed_at : (slot_of : H → ℕ) (s : ℕ) (aside : List (HalfAside H)) (places new : List (Option (FlowPlace H I)))
-      (place : Option (FlowPlace H I)) (back : Option H)
+  pub welcomed_at : (slot_of : H → ℕ) (s : ℕ) (aside : List (HalfAside H))
+      (places new : List (Option (FlowPlace H I))) (place : Option (FlowPlace H I)) (back : Option H)
       → s < length places → is_lost slot_of s aside ≡ false → new ≡ set places s place
-          → Welcomes half slice (place_at places s) place back
+      → Welcomes half slice (place_at places s) place back
       → WelcomesAt slot_of half slice s aside places new back
   welcomed_at slot_of s aside places new place None within none is welcomes = (place, within, none, is, welcomes)
   welcomed_at slot_of s aside places new place (Some back) within none is welcomes =

@@ -56,8 +56,8 @@ module _ {H I : Type 0} where
   home_weight h desk = sum_by h (taken desk.home)
 
 -- the desk of one slice changed, and its lanes are those it had
-pub record DeskChanged {H I : Type 0} (slice : ℕ) (before now : FlowDesk H I) (old new : List (FlowDesk H I)) : Type 0
-    where
+pub record DeskChanged {H I : Type 0} (slice : ℕ) (before now : FlowDesk H I) (old new : List (FlowDesk H I)) :
+    Type 0 where
   pub within : slice < length old
   pub there : before ≡ slice_index_or old slice before
   pub changed : new ≡ slice_set old slice now

@@ -19,14 +19,19 @@ pub record Stand (H I : Type 0) : Type 0 where
   pub desks : List (FlowDesk H I)
 
 abbrev pub stand_of : {H I : Type 0} → FlowPlace H I → List (FlowDesk H I) → Stand H I
-stand_of place desks = record { state = place.state; queue = place.queue.items; accepted = accepted_by place; desks =
-    desks }
+stand_of place desks = record {
+  state = place.state;
+  queue = place.queue.items;
+  accepted = accepted_by place;
+  desks = desks;
+}
 
 -- what a state says of where the half is
 abbrev pub StateIs : {H I : Type 0} → (H → ℕ) → (H → List I) → ℕ → FlowState H → Where I → Type 0
 StateIs slot handled s (Front half to) place = (place ≡ AtFront (handled half)) × (slot half ≡ s)
 StateIs {H} {I} slot handled s (Placed at) place = (came : List I) × (items : List I) × (place ≡ Here at came items)
-StateIs {H} {I} slot handled s (Recall at to) place = (came : List I) × (items : List I) × (place ≡ Here at came items)
+StateIs {H} {I} slot handled s (Recall at to) place = (came : List I) × (items : List I)
+    × (place ≡ Here at came items)
 StateIs {H} {I} slot handled s (Leaving from to) place = (came : List I) × (items : List I)
     × (place ≡ Away from came items)
 
@@ -46,17 +51,17 @@ pub record Keeps {H I : Type 0} (slot : H → ℕ) (item_slot : I → ℕ) (hand
   pub ends : homes_of new.desks ≡ homes_of old.desks
   pub homes : (d : ℕ) → home_at new.desks d ≡ home_at old.desks d
   pub long : length new.desks ≡ length old.desks
-  pub weight : (h : H → ℕ) → front_weight h new.state + sum_by (sent_weight h) new.desks ≡ front_weight h old.state
-      + sum_by (sent_weight h) old.desks
+  pub weight : (h : H → ℕ) → front_weight h new.state + sum_by (sent_weight h) new.desks ≡ front_weight h
+      old.state + sum_by (sent_weight h) old.desks
   pub orders : sum_by order_count new.desks + pending new.state + length new.queue + length old.accepted
       ≤ sum_by order_count old.desks + pending old.state + length old.queue + length new.accepted + spare
   pub fulls : (d : ℕ) → Lasts (fulls_at old.desks d) (fulls_at new.desks d)
-  pub nows : (t : ℕ) → t ≢ s → (d : ℕ) → now_of slot item_slot handled t (sent_at new.desks d)
-      ≡ now_of slot item_slot handled t (sent_at old.desks d)
-  pub gones : (t : ℕ) → t ≢ s → (d : ℕ) → gone_of slot item_slot handled t (sent_at new.desks d)
-      ≡ gone_of slot item_slot handled t (sent_at old.desks d)
-  pub tells : (lists : ℕ → List H) (asides : ℕ → List (List I)) → StandTells slot item_slot handled s lists asides old
-      → StandTells slot item_slot handled s lists asides new
+  pub nows : (t : ℕ) → t ≢ s → (d : ℕ) → now_of slot item_slot handled t (sent_at new.desks d) ≡ now_of slot
+      item_slot handled t (sent_at old.desks d)
+  pub gones : (t : ℕ) → t ≢ s → (d : ℕ) → gone_of slot item_slot handled t (sent_at new.desks d) ≡ gone_of slot
+      item_slot handled t (sent_at old.desks d)
+  pub tells : (lists : ℕ → List H) (asides : ℕ → List (List I))
+      → StandTells slot item_slot handled s lists asides old → StandTells slot item_slot handled s lists asides new
 
 -- the same of a place
 abbrev pub PlaceKeeps : {H I : Type 0} → (H → ℕ) → (I → ℕ) → (H → List I) → ℕ → ℕ → Option (FlowPlace H I)
@@ -69,7 +74,8 @@ PlaceKeeps {H} {I} slot item_slot handled s spare (Some before) new desks now =
 
 -- the law of the lane allows the order that a state gives, and items where the half is placed
 abbrev pub MayGive : {H I : Type 0} → (H → ℕ) → (I → ℕ) → ℕ → FlowState H → List (FlowDesk H I) → Type 0
-MayGive slot item_slot s (Front half to) desks = (slot half ≡ s) × (stands slot item_slot s (sent_at desks to) ≡ false)
+MayGive slot item_slot s (Front half to) desks = (slot half ≡ s)
+    × (stands slot item_slot s (sent_at desks to) ≡ false)
 MayGive slot item_slot s (Placed at) desks = stands slot item_slot s (sent_at desks at) ≡ true
 MayGive slot item_slot s (Recall at to) desks = stands slot item_slot s (sent_at desks at) ≡ true
 MayGive slot item_slot s (Leaving from to) desks = Unit {0}
@@ -78,10 +84,10 @@ abbrev pub MayGiveAt : {H I : Type 0} → (H → ℕ) → (I → ℕ) → ℕ �
 MayGiveAt slot item_slot s None desks = Unit {0}
 MayGiveAt slot item_slot s (Some place) desks = MayGive slot item_slot s place.state desks
 
--- the slices of a state are those of the desks, these have room, the law allows its order, and the queue has items of
--- the slot
-pub record IsReady {H I : Type 0} (slot : H → ℕ) (item_slot : I → ℕ) (s : ℕ) (place : Option (FlowPlace H I))
-    (desks : List (FlowDesk H I)) : Type 0 where
+-- the slices of a state are those of the desks, these have room, the law allows its order, and the queue has items
+-- of the slot
+pub record IsReady {H I : Type 0} (slot : H → ℕ) (item_slot : I
+    → ℕ) (s : ℕ) (place : Option (FlowPlace H I)) (desks : List (FlowDesk H I)) : Type 0 where
   pub at : at_end_at place ≤ length desks
   pub to : to_end_at place ≤ length desks
   pub few : sum_by order_count desks + pending_at place + 2 < 2 ^ 50

@@ -123,8 +123,8 @@ module _ {H I : Type 0} where
   is_settled_at None = true
   is_settled_at (Some place) = is_settled place.state
 
-  -- the slices of a place are below a number, its queue has at most so many items, and where its slot didn't move none
-  -- waits
+  -- the slices of a place are below a number, its queue has at most so many items, and where its slot didn't move
+  -- none waits
   abbrev pub Fits : ℕ → ℕ → Option (FlowPlace H I) → Type 0
   Fits slices room place = (at_end_at place ≤ slices) × (to_end_at place ≤ slices) × (length (queue_at place) ≤ room)
       × (moved_at place ≡ false → (length (queue_at place) ≡ 0) × (is_settled_at place ≡ true))

@@ -23,8 +23,9 @@ module _ {H I : Type 0} (slot : H → ℕ) (handled : H → List I) where
   -- what the halves of a slot handled that were kept aside as they came from a slice
   abbrev pub asides_of : ℕ → List (HalfAside H) → ℕ → List (List I)
   asides_of s [] d = []
-  asides_of s (kept ∷ aside) d = if slot kept.half == s then (if kept.slice == d then handled kept.half ∷ asides_of s
-      aside d else asides_of s aside d) else asides_of s aside d
+  asides_of s (kept ∷ aside) d = if slot kept.half == s then
+      (if kept.slice == d then handled kept.half ∷ asides_of s aside d else asides_of s aside d) else asides_of s
+      aside d
 
 module _ {H I : Type 0} (slot : H → ℕ) (item_slot : I → ℕ) (handled : H → List I) where
   abbrev pub PlaceIs : ℕ → Option (FlowPlace H I) → Where I → Type 0
@@ -65,7 +66,7 @@ BySlot slot_at names = (slot : ℕ) → slot_at_place slot_at slot (slice_index_
 -- orders
 pub record IsFlowSide {H N I : Type 0} (name : H → N) (slot_at : N → ℕ) (item_slot : I → ℕ) (handled : H → List I)
     (places : List (Option (FlowPlace H I))) (aside : List (HalfAside H)) (desks : List (FlowDesk H I))
-        (room admitted asked : ℕ) : Type 0 where
+    (room admitted asked : ℕ) : Type 0 where
   pub known : AllKnown (λ half. slot_at (name half)) item_slot handled places desks aside
   pub balanced : Balanced name places aside desks
   pub slots : BySlot slot_at (names_of name places)
@@ -78,14 +79,14 @@ pub record IsFlowSide {H N I : Type 0} (name : H → N) (slot_at : N → ℕ) (i
   pub aside_few : length aside ≤ admitted
 
 -- each slot that still waits for a slice met a full lane there
-abbrev pub AllMetFull : {H I : Type 0} → List (Option (FlowPlace H I)) → List (FlowDesk H I) → List (FlowDesk H I)
-    → Type 0
+abbrev pub AllMetFull : {H I : Type 0} → List (Option (FlowPlace H I)) → List (FlowDesk H I)
+    → List (FlowDesk H I) → Type 0
 AllMetFull places old new = (slot slice : ℕ) → waits_at (place_at places slot) ≡ Some slice
     → Rises (fulls_at old slice) (fulls_at new slice)
 
 -- each placed slot whose queue has items left met a full lane at its slice
-abbrev pub QueuesMetFull : {H I : Type 0} → List (Option (FlowPlace H I)) → List (FlowDesk H I) → List (FlowDesk H I)
-    → Type 0
+abbrev pub QueuesMetFull : {H I : Type 0} → List (Option (FlowPlace H I)) → List (FlowDesk H I)
+    → List (FlowDesk H I) → Type 0
 QueuesMetFull places old new = (slot slice : ℕ) → queues_for (place_at places slot) ≡ Some slice
     → 0 < length (queue_at (place_at places slot))
     → Rises (fulls_at old slice) (fulls_at new slice)

@@ -37,7 +37,8 @@ module _ {I : Type 0} where
   stay_items [] = []
   stay_items (stay ∷ stays) = stay.items ++ stay_items stays
 
-  -- each stay began with what the one before came home with, the first with these items, and the half is now with these
+  -- each stay began with what the one before came home with, the first with these items, and the half is now with
+  -- these
   abbrev pub Chain : List I → List (Stay I) → List I → Type 0
   Chain first [] last = first ≡ last
   Chain first (stay ∷ stays) last = (stay.came ≡ first) × Chain stay.back stays last
@@ -68,9 +69,9 @@ abbrev pub Owned : {I : Type 0} → (I → ℕ) → ℕ → List I → Type 0
 Owned item_slot s [] = Unit {0}
 Owned item_slot s (x ∷ xs) = (item_slot x ≡ s) × Owned item_slot s xs
 
--- what is known of one slot: the orders that were sent to each slice are those of its stays, the halves that came home
--- are those that left, each stay began where the one before ended, and the accepted items are those sent for it, stay
--- by stay, and then its queue
+-- what is known of one slot: the orders that were sent to each slice are those of its stays, the halves that came
+-- home are those that left, each stay began where the one before ended, and the accepted items are those sent for
+-- it, stay by stay, and then its queue
 pub record SlotKnows {H I : Type 0} (slot : H → ℕ) (item_slot : I → ℕ) (handled : H → List I) (s : ℕ)
     (orders : ℕ → List (FlowOrder H I)) (homes : ℕ → List H) (asides : ℕ → List (List I))
     (stays : List (Stay I)) (half : Where I) (queue accepted : List I) : Type 0 where

@@ -18,8 +18,8 @@ use Rattle.flow_migration.specs.Keeps.{Keeps, PlaceKeeps}
 module _ {H I : Type 0} where
   -- a half was sent to a slice, or is at the front since that lane was full
   abbrev pub Sends : H → ℕ → FlowState H → List (FlowDesk H I) → List (FlowDesk H I) → Type 0
-  Sends half to state old new = ((state ≡ Placed to) × Given to (Arrive half) old new)
-      ⊎ ((state ≡ Front half to) × Refused to old new)
+  Sends half to state old new = ((state ≡ Placed to) × Given to (Arrive half) old new) ⊎ ((state ≡ Front half to)
+      × Refused to old new)
 
   -- a slice was told that the half of a slot is to leave, or will be, since that lane was full
   abbrev pub Recalls : ℕ → ℕ → ℕ → FlowState H → List (FlowDesk H I) → List (FlowDesk H I) → Type 0
@@ -84,11 +84,12 @@ QueueTakes room item (Err refusal) old new = (new ≡ old) × (no_item refusal �
 module _ {H I : Type 0} where
   -- an item was sent to the slice where its half is placed; or it comes back, since that lane was full or its half
   -- couldn't be sent before it
-  abbrev pub Lands : I → FlowState H → Result (Unit {0}) (FlowNo I) → List (FlowDesk H I) → List (FlowDesk H I) → Type 0
+  abbrev pub Lands : I → FlowState H → Result (Unit {0}) (FlowNo I) → List (FlowDesk H I) → List (FlowDesk H I)
+      → Type 0
   Lands item state (Ok _) old new = (at : ℕ) × (state ≡ Placed at) × Given at (Item item) old new
   Lands item state (Err refusal) old new = (no_item refusal ≡ item) × (is_full refusal ≡ true)
       × (((at : ℕ) × (state ≡ Placed at) × Refused at old new) ⊎ ((half : H) × (to : ℕ) × (state ≡ Front half to)
-          × (new ≡ old)))
+      × (new ≡ old)))
 
   -- the order that its slot waits to give is offered first
   pub record Delivers (slot : ℕ) (item : I) (answer : Result (Unit {0}) (FlowNo I)) (was is : FlowState H)
@@ -117,10 +118,10 @@ module _ {H I : Type 0} where
   GoesPlace slot slice (Some before) new_place old new = (after : FlowPlace H I) × (new_place ≡ Some after)
       × (after.moved ≡ true)
       × (after.queue.items ≡ before.queue.items) × (after.admitted ≡ before.admitted)
-          × Goes slot slice before.state after.state old new
+      × Goes slot slice before.state after.state old new
 
-  abbrev pub DeliversPlace : ℕ → I → Result (Unit {0}) (FlowNo I) → Option (FlowPlace H I) → Option (FlowPlace H I)
-      → List (FlowDesk H I) → List (FlowDesk H I) → Type 0
+  abbrev pub DeliversPlace : ℕ → I → Result (Unit {0}) (FlowNo I) → Option (FlowPlace H I)
+      → Option (FlowPlace H I) → List (FlowDesk H I) → List (FlowDesk H I) → Type 0
   DeliversPlace slot item answer None new_place old new = Unit {0}
   DeliversPlace slot item answer (Some before) new_place old new =
       (after : FlowPlace H I) × (new_place ≡ Some after) × Delivers slot item answer before.state after.state old new
@@ -157,31 +158,33 @@ module _ {H I : Type 0} (slot_of : H → ℕ) (item_slot : I → ℕ) (handled :
         → Rises (fulls_at old slice) (fulls_at new slice)
 
   -- it moved to a slice
-  pub record Moved (slice : ℕ) (place new_place : Option (FlowPlace H I)) (old new : List (FlowDesk H I)) : Type 0 where
-    pub keeps : PlaceKeeps slot_of item_slot handled slot 2 place new_place old new
-    pub fits : (room : ℕ) → Fits (length old) room place → Fits (length old) room new_place
-    pub accepted : accepted_at new_place ≡ accepted_at place
-    pub moves : GoesPlace slot slice place new_place old new
+  pub record Moved (slice : ℕ) (place new_place : Option (FlowPlace H I)) (old new : List (FlowDesk H I)) : Type 0
+    where
+      pub keeps : PlaceKeeps slot_of item_slot handled slot 2 place new_place old new
+      pub fits : (room : ℕ) → Fits (length old) room place → Fits (length old) room new_place
+      pub accepted : accepted_at new_place ≡ accepted_at place
+      pub moves : GoesPlace slot slice place new_place old new
 
   -- an item was given to it
-  pub record Gave (room : ℕ) (item : I) (answer : Result (Unit {0}) (FlowNo I)) (place new_place : Option
-      (FlowPlace H I)) (old new : List (FlowDesk H I)) : Type 0 where
+  pub record Gave (room : ℕ) (item : I) (answer : Result (Unit {0}) (FlowNo I))
+      (place new_place : Option (FlowPlace H I)) (old new : List (FlowDesk H I)) : Type 0 where
     pub keeps : PlaceKeeps slot_of item_slot handled slot 0 place new_place old new
     pub fits : Fits (length old) room place → Fits (length old) room new_place
     pub accepted : Accepts item answer (accepted_at place) (accepted_at new_place)
     pub moved : moved_at new_place ≡ moved_at place
-    pub parked : parks_at place ≡ true → (new ≡ old) × QueueTakes room item answer (queue_at place) (queue_at new_place)
+    pub parked : parks_at place ≡ true → (new ≡ old) × QueueTakes room item answer (queue_at place)
+        (queue_at new_place)
     pub placed : parks_at place ≡ false → (queue_at new_place ≡ queue_at place)
         × DeliversPlace slot item answer place new_place old new
 
 -- the place of a slot is a new one, and no other changed
 abbrev pub AtSlot : {H I : Type 0} → (Option (FlowPlace H I) → Option (FlowPlace H I) → List (FlowDesk H I)
     → List (FlowDesk H I) → Type 0)
-    → ℕ → List (Option (FlowPlace H I)) → List (Option (FlowPlace H I)) → List (FlowDesk H I) → List (FlowDesk H I)
-        → Type 0
+    → ℕ → List (Option (FlowPlace H I)) → List (Option (FlowPlace H I)) → List (FlowDesk H I)
+    → List (FlowDesk H I) → Type 0
 AtSlot {H} {I} Step slot places new_places old new =
     (place : Option (FlowPlace H I)) × (slot < length places) × (new_places ≡ slice_set places slot place)
-        × Step (place_at places slot) place old new
+    × Step (place_at places slot) place old new
 
 -- a list of places with some more that are free
 abbrev pub Grown : {H I : Type 0} → List (Option (FlowPlace H I)) → List (Option (FlowPlace H I)) → Type 0
@@ -199,7 +202,7 @@ module _ {H I : Type 0} where
   Welcomes half slice place new_place None =
       (before : FlowPlace H I) × (after : FlowPlace H I) × (to : ℕ) × (place ≡ Some before) × (new_place ≡ Some after)
       × (after.queue.items ≡ before.queue.items) × (accepted_by after ≡ accepted_by before)
-          × (after.admitted ≡ before.admitted) × (after.moved ≡ before.moved)
+      × (after.admitted ≡ before.admitted) × (after.moved ≡ before.moved)
       × (before.state ≡ Leaving slice to) × (after.state ≡ Front half to)
 
   -- the same at the place of a slot, unless a half of it is kept aside
@@ -208,5 +211,5 @@ module _ {H I : Type 0} where
   WelcomesAt slot_of half slice slot aside places new (Some back) = (back ≡ half) × (new ≡ places)
   WelcomesAt slot_of half slice slot aside places new None =
       (place : Option (FlowPlace H I)) × (slot < length places) × (is_lost slot_of slot aside ≡ false)
-          × (new ≡ slice_set places slot place)
+      × (new ≡ slice_set places slot place)
       × Welcomes half slice (place_at places slot) place None

@@ -70,7 +70,8 @@ abbrev pub MetFull : {H I : Type 0} → List (FlowDesk H I) → List (FlowDesk H
 MetFull old new = (slice : ℕ) × Rises (fulls_at old slice) (fulls_at new slice)
     × (room_at new slice ≤ sent_count new slice)
 
--- a look at the lane home of a slice: a half was taken, or none, since the lane was empty or no more may be kept aside
+-- a look at the lane home of a slice: a half was taken, or none, since the lane was empty or no more may be kept
+-- aside
 pub record TookOne {H I : Type 0} (went : Bool) (slice admitted : ℕ) (aside new_aside : List (HalfAside H))
     (old new : List (FlowDesk H I)) : Type 0 where
   pub others : (other : ℕ) → other ≢ slice → (home_count new other ≡ home_count old other)
@@ -91,8 +92,8 @@ pub record TookFrom {H I : Type 0} (slice admitted : ℕ) (aside new_aside : Lis
   pub fulls : (other : ℕ) → fulls_at new other ≡ fulls_at old other
 
 -- a half that was admitted stands at the front of its slot, and no other slot changed
-pub record Enters {H I : Type 0} (slot slice : ℕ) (moves : Bool) (half : H) (places new_places : List
-    (Option (FlowPlace H I))) : Type 0 where
+pub record Enters {H I : Type 0} (slot slice : ℕ) (moves : Bool) (half : H)
+    (places new_places : List (Option (FlowPlace H I))) : Type 0 where
   pub now : FlowPlace H I
   pub is : new_places ≡ slice_set places slot (Some now)
   pub admitted : now.admitted.value ≡ half
@@ -102,8 +103,8 @@ pub record Enters {H I : Type 0} (slot slice : ℕ) (moves : Bool) (half : H) (p
   pub accepted : accepted_by now ≡ []
 
 -- a half was admitted at its slot, and sent to a slice or kept at the front, and no other slot changed
-pub record Admits {H I : Type 0} (slot slice : ℕ) (moves : Bool) (half : H) (places new_places : List
-    (Option (FlowPlace H I)))
+pub record Admits {H I : Type 0} (slot slice : ℕ) (moves : Bool) (half : H)
+    (places new_places : List (Option (FlowPlace H I)))
     (old new : List (FlowDesk H I)) : Type 0 where
   pub now : FlowPlace H I
   pub more : ℕ

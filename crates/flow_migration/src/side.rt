@@ -34,8 +34,8 @@ pub struct FlowSide<H: Flow> {
     admitted: usize,
     asked: u64,
     refused: u64,
-    ghost laid: { IsFlowSide H.name H.slot_at H.item_slot H.handled places.items aside.items desks.items room admitted
-        asked },
+    ghost laid: { IsFlowSide H.name H.slot_at H.item_slot H.handled places.items aside.items desks.items
+        room admitted asked },
     ghost aside_room: { admitted ≤ vec_capacity aside },
 }
 
@@ -46,7 +46,8 @@ pub struct FlowEnded<H: Flow> {
     /// By slot.
     pub places: Vec<Option<FlowPlace<H>>>,
     pub aside: Vec<HalfAside<H>>,
-    pub ghost known: { AllKnown (λ half. H.slot_at (H.name half)) H.item_slot H.handled places.items desks.items aside.items },
+    pub ghost known: { AllKnown (λ half. H.slot_at (H.name half)) H.item_slot H.handled places.items desks.items
+        aside.items },
     pub ghost balanced: { Balanced H.name places.items aside.items desks.items },
     pub ghost slots: { BySlot H.slot_at (names_of H.name places.items) },
     pub ghost fits: { All (Fits (length desks.items) 256) places.items },

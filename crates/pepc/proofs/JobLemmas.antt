@@ -7,9 +7,11 @@ use Rattle.trace_lines.specs.Line.{Line}
 use Rattle.trace_maker.specs.Generated.{made}
 use Rattle.pepc.specs.declared.status.Status.{Status}
 use Rattle.pepc.specs.declared.status.Status.TheVariants as status
+use Rattle.pepc.specs.Audit.{audit_job}
 use Rattle.pepc.specs.Jobs.{Completes, Does}
 use Rattle.pepc.specs.Make.{IsMakeFront, Made, Makes}
 use Rattle.pepc.specs.Report.{IsDone}
+use Rattle.pepc.proofs.AuditReports.{audit_complete, nothing_audited, nothing_settles}
 use Rattle.pepc.proofs.ExportReports.{export_complete, nothing_exported}
 use Rattle.pepc.proofs.ImportReports.{import_complete, nothing_imported}
 use Rattle.pepc.proofs.ReportLemmas.{complete, nothing_runs}
@@ -32,6 +34,8 @@ nothing_done (Some (job.Make seed subs lines summary)) source_failed start old =
     (refl, nothing_made seed subs lines summary old)
 nothing_done (Some job.Import) source_failed start old = nothing_imported source_failed start old
 nothing_done (Some job.Export) source_failed start old = nothing_exported source_failed start old
+nothing_done (Some (job.Audit solo slices room lane)) source_failed start old =
+    nothing_audited (audit_job solo slices room lane) start old
 
 pub nothing_completes : (asked : Option Job) (start : Option (List ℕ)) → Completes asked status.NoMemory start
 nothing_completes None start = tt
@@ -39,6 +43,7 @@ nothing_completes (Some job.Solo) start = λ octets is stop. inr refl
 nothing_completes (Some (job.Make seed subs lines summary)) start = inr refl
 nothing_completes (Some job.Import) start = λ octets is stop. inr refl
 nothing_completes (Some job.Export) start = λ octets is stop. inr refl
+nothing_completes (Some (job.Audit solo slices room lane)) start = λ octets is stop found finds. nothing_settles found
 
 make_complete : (ending : Status) (sink_failed : Type 0) (summary : Bool) (lines : List Line) (text : List ℕ)
     → (sink_failed → ⊥) → (ending ≡ status.WriteFault → sink_failed) → Made ending summary lines text
@@ -51,6 +56,7 @@ make_complete status.NoMemory sink_failed summary lines text no_sink write is = 
 make_complete status.BadLine sink_failed summary lines text no_sink write is = absurd is
 make_complete status.LineLong sink_failed summary lines text no_sink write is = absurd is
 make_complete status.TooLong sink_failed summary lines text no_sink write is = absurd is
+make_complete status.Refuted sink_failed summary lines text no_sink write is = absurd is
 make_complete status.BadCapture sink_failed summary lines text no_sink write is = absurd is
 
 -- a job that ends with this status, where nothing failed
@@ -71,3 +77,8 @@ job_completes job.Import ending source_failed sink_failed start left old new no_
 job_completes job.Export ending source_failed sink_failed start left old new no_source no_sink read write usage does =
     λ octets is stop.
     export_complete ending source_failed sink_failed octets start left old new is stop no_source no_sink read write does
+job_completes (job.Audit solo slices room lane) ending source_failed sink_failed start left old new no_source no_sink
+    read write usage does =
+    λ octets is stop found finds.
+    audit_complete (audit_job solo slices room lane) ending source_failed sink_failed octets start left old new found is
+    stop no_source no_sink read write finds does

@@ -21,3 +21,4 @@ pub mod JobLemmas
 pub mod ExportLemmas
 pub mod ExportReports
 pub mod ImportReports
+pub mod AuditReports

@@ -277,6 +277,7 @@ complete ending source_failed sink_failed octets start left old new is stop no_f
     by_status status.LineLong l text reports read write usage = absurd (no_long (input_of octets).stop stop reports.0)
     by_status status.TooLong l text reports read write usage =
         absurd (not_big (sym stop ∙ reports.0))
+    by_status status.Refuted l text reports read write usage = absurd reports
     by_status status.BadCapture l text reports read write usage = absurd reports
 
     by_left : (l : Option (List ℕ)) → WhereTold (Some octets) l

@@ -40,6 +40,7 @@ ExportReports status.NoMemory octets left text = IsFirstExport octets text
 ExportReports status.BadLine octets left text = IsBad (input_of octets).stop × (text ≡ input_export octets)
 ExportReports status.LineLong octets left text = IsLong (input_of octets).stop × (text ≡ input_export octets)
 ExportReports status.TooLong octets left text = ((input_of octets).stop ≡ big) × (text ≡ input_export octets)
+ExportReports status.Refuted octets left text = ⊥
 ExportReports status.BadCapture octets left text = ⊥
 
 -- octets were appended to what a sink tells, and they are the capture of what a source told

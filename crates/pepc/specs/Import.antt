@@ -27,6 +27,7 @@ ImportReports status.NoMemory octets left text = IsFirstText octets text
 ImportReports status.BadLine octets left text = ⊥
 ImportReports status.LineLong octets left text = ⊥
 ImportReports status.TooLong octets left text = (stop_of octets ≡ big) × (text ≡ input_text octets)
+ImportReports status.Refuted octets left text = ⊥
 ImportReports status.BadCapture octets left text = (stop_of octets ≡ bad) × (text ≡ input_text octets)
 
 -- octets were appended to what a sink tells, and they are the trace of what a source told

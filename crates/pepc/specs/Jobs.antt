@@ -5,6 +5,9 @@ use Rattle.command_words.specs.declared.jobs.Job.TheVariants as job
 use Rattle.pcap_form.specs.Capture as capture
 use Rattle.trace_lines.specs.Input.{ended, input_of}
 use Rattle.pepc.specs.declared.status.Status.{Status}
+use Rattle.audit_run.specs.Findings.{Finds}
+use Rattle.audit_run.specs.Texts as texts
+use Rattle.pepc.specs.Audit.{Audits, Settles, audit_job}
 use Rattle.pepc.specs.Export.{Exports}
 use Rattle.pepc.specs.Import.{Imports}
 use Rattle.pepc.specs.Make.{Makes}
@@ -20,6 +23,8 @@ Does (Some (job.Make seed subs lines summary)) ending source_failed start left o
     (left ≡ start) × Makes seed subs lines summary ending old new
 Does (Some job.Import) ending source_failed start left old new = Imports ending source_failed start left old new
 Does (Some job.Export) ending source_failed start left old new = Exports ending source_failed start left old new
+Does (Some (job.Audit solo slices room lane)) ending source_failed start left old new =
+    Audits (audit_job solo slices room lane) ending start left old new
 
 -- Where nothing failed and the octets end as they should, a job is done, unless memory ran out.
 abbrev pub Completes : Option Job → Status → Option (List ℕ) → Type 0
@@ -31,3 +36,6 @@ Completes (Some job.Import) ending start =
     (octets : List ℕ) → start ≡ Some octets → capture.stop_of octets ≡ capture.ended → IsDone ending
 Completes (Some job.Export) ending start =
     (octets : List ℕ) → start ≡ Some octets → (input_of octets).stop ≡ ended → IsDone ending
+Completes (Some (job.Audit solo slices room lane)) ending start =
+    (octets : List ℕ) → start ≡ Some octets → (texts.texts_of octets).stop ≡ texts.ended → (found : Option ℕ)
+    → Finds (audit_job solo slices room lane) (texts.texts_of octets).lines found → Settles found ending

@@ -10,6 +10,7 @@ pub mod Cut
 pub mod Make
 pub mod Next
 pub mod Progress
+pub mod Audit
 pub mod Jobs
 pub mod Export
 pub mod ExportProgress

@@ -54,6 +54,7 @@ Made status.NoMemory summary lines text = IsMakeFront summary lines text
 Made status.BadLine summary lines text = ⊥
 Made status.LineLong summary lines text = ⊥
 Made status.TooLong summary lines text = ⊥
+Made status.Refuted summary lines text = ⊥
 Made status.BadCapture summary lines text = ⊥
 
 -- a run of `make` that ended with this status: the sink before and after

@@ -94,6 +94,7 @@ Reports status.NoMemory source_failed octets left text = IsEpochsText (input_of 
 Reports status.BadLine source_failed octets left text = IsBad (input_of octets).stop × IsText (input_of octets) text
 Reports status.LineLong source_failed octets left text = IsLong (input_of octets).stop × IsText (input_of octets) text
 Reports status.TooLong source_failed octets left text = ((input_of octets).stop ≡ big) × IsText (input_of octets) text
+Reports status.Refuted source_failed octets left text = ⊥
 Reports status.BadCapture source_failed octets left text = ⊥
 
 -- octets were appended to what a sink tells, and they are the report of what a source told

@@ -12,6 +12,7 @@ code_of status.NoMemory = 5
 code_of status.BadLine = 6
 code_of status.LineLong = 7
 code_of status.TooLong = 8
+code_of status.Refuted = 9
 code_of status.BadCapture = 10
 
 abbrev pub fault_text_of : Status → List ℕ
@@ -23,4 +24,5 @@ fault_text_of status.NoMemory = codes "pepc: no memory"
 fault_text_of status.BadLine = codes "pepc: bad line"
 fault_text_of status.LineLong = codes "pepc: line too long"
 fault_text_of status.TooLong = codes "pepc: input too long"
+fault_text_of status.Refuted = codes "pepc: report refuted"
 fault_text_of status.BadCapture = codes "pepc: bad capture"

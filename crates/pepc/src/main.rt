@@ -2,6 +2,7 @@
 //! hands it the command line and the standard streams, and tells its status.
 #![tactic(auto)]
 
+mod audit;
 mod entry_text;
 mod epoch;
 mod export;

@@ -5,11 +5,13 @@ ghost use Rattle.command_words.specs.Job.{IsInRange, job_of};
 ghost use Rattle.pc_outside.specs.Faults.{Rises};
 ghost use Rattle.pepc.specs.Jobs.{Completes, Does};
 
+use crate::audit::audit;
 use crate::export::export;
 use crate::import::import;
 use crate::make::make;
 use crate::run::solo;
 use crate::status::Status;
+use audit_reading::Rule;
 use command_words::{Job, job};
 use pc_outside::{Sink, Source};
 use std::alloc::{AllocError, Global};
@@ -37,12 +39,27 @@ fn do_job<S: Source, K: Sink>(alloc: Global, asked: Job, source: &mut S, sink: &
         } => make(alloc, seed, subs, lines, summary, sink),
         Job::Import => import(alloc, source, sink),
         Job::Export => export(alloc, source, sink),
+        Job::Audit {
+            solo,
+            slices,
+            room,
+            lane,
+        } => {
+            let rule = Rule {
+                solo,
+                slices,
+                room,
+                lane,
+            };
+            audit(alloc, &rule, source, sink)
+        }
     }
 }
 
 /// Does what the words say, without the program's name. `solo` reads a trace from the source and writes
 /// its report to the sink, epoch by epoch; `make` writes a generated trace, or the summary of its report;
-/// `import` makes a trace of a capture, and `export` a capture of a trace. Other words are Usage.
+/// `import` makes a trace of a capture, and `export` a capture of a trace; `audit` reads a trace and a report of it, and
+/// writes whether the report is a lawful one. Other words are Usage.
 pub fn run_plain<S: Source, K: Sink>(
     alloc: Global,
     words: &[String],

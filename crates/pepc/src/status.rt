@@ -21,6 +21,8 @@ pub enum Status {
     LineLong,
     /// The input has 2^40 octets or more; the report of the lines before was written.
     TooLong,
+    /// The report is no lawful one of the trace; `no` was written, and the number of what refutes it.
+    Refuted,
     /// The octets are no capture from some place on; the trace of the records before was written.
     BadCapture,
 }
@@ -39,6 +41,7 @@ impl Status {
             Status::BadLine => 6,
             Status::LineLong => 7,
             Status::TooLong => 8,
+            Status::Refuted => 9,
             Status::BadCapture => 10,
         }
     }
@@ -57,6 +60,7 @@ pub fn fault_text(status: Status) -> &'static str
         Status::BadLine => "pepc: bad line",
         Status::LineLong => "pepc: line too long",
         Status::TooLong => "pepc: input too long",
+        Status::Refuted => "pepc: report refuted",
         Status::BadCapture => "pepc: bad capture",
     }
 }

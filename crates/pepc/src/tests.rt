@@ -86,6 +86,7 @@ fn statuses(rt: HostRuntime) {
         (Status::BadLine, 6, "pepc: bad line"),
         (Status::LineLong, 7, "pepc: line too long"),
         (Status::TooLong, 8, "pepc: input too long"),
+        (Status::Refuted, 9, "pepc: report refuted"),
         (Status::BadCapture, 10, "pepc: bad capture"),
     ];
     for (status, code, text) in rows {

@@ -11,5 +11,7 @@ returns c =
     ∙ ap₂ with_subcommand one c.in_ok-make.ensures.shape in
     let three = c.in_ok-subcommand-3.ensures.shape c.new-2.ensures.local
     ∙ ap₂ with_subcommand two (ap (λ (app : App). app.top) c.new-2.ensures.app) in
-    IfOk-weaker c.subcommand-4.result _ _ (λ program adds. adds.shape c.new-3.ensures.local
-    ∙ ap₂ with_subcommand three (ap (λ (app : App). app.top) c.new-3.ensures.app)) c.subcommand-4.ensures
+    let four = c.in_ok-subcommand-4.ensures.shape c.new-3.ensures.local
+    ∙ ap₂ with_subcommand three (ap (λ (app : App). app.top) c.new-3.ensures.app) in
+    IfOk-weaker c.subcommand-5.result _ _ (λ program adds. adds.shape c.in_ok-audit.ensures.local
+    ∙ ap₂ with_subcommand four c.in_ok-audit.ensures.shape) c.subcommand-5.ensures

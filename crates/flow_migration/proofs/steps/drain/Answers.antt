@@ -8,32 +8,32 @@ use Rattle.flow_migration.proofs.steps.drain.Goals as goal
 pub emptied-queue-requires-clause-fits : goal.emptied-queue-requires-clause-fits
 emptied-queue-requires-clause-fits g c = λ κs within.
     let was : c.args.place.now ≡ Some c.in-Some.place_was = search rules in
-    let ready = subst (λ p. IsReady (λ half. g.H.Flow.slot_at (g.H.Flow.name half)) g.H.Flow.item_slot c.args.slot p
-        c.args.desks.now.items) was c.requires.ready in
+    let ready = subst (λ p. IsReady (λ half. g.H.Flow.slot_at (g.H.Flow.name half)) g.H.Flow.item_slot c.args.slot
+    p c.args.desks.now.items) was c.requires.ready in
     let len = c.args.desks.now.ok in
     let a = ready.at in omega arith
 
 pub emptied-queue-requires-clause-few : goal.emptied-queue-requires-clause-few
 emptied-queue-requires-clause-few g c = λ κs within.
     let was : c.args.place.now ≡ Some c.in-Some.place_was = search rules in
-    let ready = subst (λ p. IsReady (λ half. g.H.Flow.slot_at (g.H.Flow.name half)) g.H.Flow.item_slot c.args.slot p
-        c.args.desks.now.items) was c.requires.ready in
+    let ready = subst (λ p. IsReady (λ half. g.H.Flow.slot_at (g.H.Flow.name half)) g.H.Flow.item_slot c.args.slot
+    p c.args.desks.now.items) was c.requires.ready in
     let len = c.args.desks.now.ok in
     let a = ready.few in omega arith
 
 pub emptied-queue-requires-clause-law : goal.emptied-queue-requires-clause-law
 emptied-queue-requires-clause-law g c = λ κs within.
     let was : c.args.place.now ≡ Some c.in-Some.place_was = search rules in
-    let ready = subst (λ p. IsReady (λ half. g.H.Flow.slot_at (g.H.Flow.name half)) g.H.Flow.item_slot c.args.slot p
-        c.args.desks.now.items) was c.requires.ready in
+    let ready = subst (λ p. IsReady (λ half. g.H.Flow.slot_at (g.H.Flow.name half)) g.H.Flow.item_slot c.args.slot
+    p c.args.desks.now.items) was c.requires.ready in
     let len = c.args.desks.now.ok in
     ready.law
 
 pub emptied-queue-requires-clause-own : goal.emptied-queue-requires-clause-own
 emptied-queue-requires-clause-own g c = λ κs within.
     let was : c.args.place.now ≡ Some c.in-Some.place_was = search rules in
-    let ready = subst (λ p. IsReady (λ half. g.H.Flow.slot_at (g.H.Flow.name half)) g.H.Flow.item_slot c.args.slot p
-        c.args.desks.now.items) was c.requires.ready in
+    let ready = subst (λ p. IsReady (λ half. g.H.Flow.slot_at (g.H.Flow.name half)) g.H.Flow.item_slot c.args.slot
+    p c.args.desks.now.items) was c.requires.ready in
     let len = c.args.desks.now.ok in
     ready.own
 
@@ -41,13 +41,19 @@ pub returns : goal.returns
 returns g c =
     let slot : g.row.H.Denot → _ = λ half. g.H.Flow.slot_at (g.H.Flow.name half) in
     let was : c.args.place.now ≡ Some c.in-Some.place_was = search rules in
-    let ready = subst (λ p. IsReady slot g.H.Flow.item_slot c.args.slot p c.args.desks.now.items) was c.requires.ready
-        in
+    let ready = subst (λ p. IsReady slot g.H.Flow.item_slot c.args.slot p c.args.desks.now.items) was
+    c.requires.ready in
     let before = c.in-Some.place_was in
-    let after : FlowPlace _ _ = record { moved = before.moved; state = before.state; queue = c.emptied-queue.result;
-        admitted = before.admitted; accepted = before.accepted } in
+    let after : FlowPlace _ _ = record {
+      moved = before.moved;
+      state = before.state;
+      queue =
+          c.emptied-queue.result;
+      admitted = before.admitted;
+      accepted = before.accepted;
+    } in
     subst (λ p. Drained slot g.H.Flow.item_slot g.H.Flow.handled c.args.slot p (Some after) c.args.desks.now.items
-        c.emptied-queue.new.desks.items) (sym was)
+    c.emptied-queue.new.desks.items) (sym was)
     (drained_place slot g.H.Flow.item_slot g.H.Flow.handled c.args.slot before after c.args.desks.now.items
-        c.emptied-queue.new.desks.items ready
+    c.emptied-queue.new.desks.items ready
     refl refl refl refl c.emptied-queue.ensures.empties)

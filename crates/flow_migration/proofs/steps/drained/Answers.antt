@@ -13,7 +13,7 @@ loop-init g c = (
 pub send_first-requires-clause-few : goal.send_first-requires-clause-few
 send_first-requires-clause-few g c = λ κs within.
     let e = emptying_few (λ half. g.H.Flow.slot_at (g.H.Flow.name half)) g.H.Flow.item_slot g.H.Flow.handled
-        c.args.slot c.args.at c.args.queue.items c.args.desks.now.items
+    c.args.slot c.args.at c.args.queue.items c.args.desks.now.items
     _ _ _ c.loop.invariant.0 in
     let r = c.requires.few in omega arith
 
@@ -36,11 +36,11 @@ pub returns-then-not-send_first-clause-empties : goal.returns-then-not-send_firs
 returns-then-not-send_first-clause-empties g c =
     let rests = c.send_first.ensures.refused (search rules) in
     emptying_ends (λ half. g.H.Flow.slot_at (g.H.Flow.name half)) g.H.Flow.item_slot g.H.Flow.handled c.args.slot
-        c.args.at c.args.queue.items c.args.desks.now.items
+    c.args.at c.args.queue.items c.args.desks.now.items
     _ _ _ _ _ c.loop.invariant.0 rests.0 rests.1
 
 pub returns-clause-empties : goal.returns-clause-empties
 returns-clause-empties g c =
     emptying_all (λ half. g.H.Flow.slot_at (g.H.Flow.name half)) g.H.Flow.item_slot g.H.Flow.handled c.args.slot
-        c.args.at c.args.queue.items c.args.desks.now.items
+    c.args.at c.args.queue.items c.args.desks.now.items
     c.loop.counter _ _ c.loop.invariant.0 (search rules)

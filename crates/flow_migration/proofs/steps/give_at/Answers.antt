@@ -8,34 +8,35 @@ use Rattle.flow_migration.proofs.steps.give_at.Goals as goal
 pub give-requires-clause-admitted : goal.give-requires-clause-admitted
 give-requires-clause-admitted g c = λ κs within.
     let there : c.index_mut.result.now ≡ get_or c.args.places.now.items c.args.slot c.index_mut.result.now = search
-        rules in
+    rules in
     let is = there ∙ same_default c.args.places.now.items c.args.slot c.index_mut.result.now None c.requires.within in
     ap is_admitted is ∙ c.requires.admitted
 
 pub give-requires-clause-fits : goal.give-requires-clause-fits
 give-requires-clause-fits g c = λ κs within.
     let there : c.index_mut.result.now ≡ get_or c.args.places.now.items c.args.slot c.index_mut.result.now = search
-        rules in
+    rules in
     let is = there ∙ same_default c.args.places.now.items c.args.slot c.index_mut.result.now None c.requires.within in
     subst (Fits (length c.args.desks.now.items) c.args.room) (sym is) c.requires.fits
 
 pub give-requires-clause-ready : goal.give-requires-clause-ready
 give-requires-clause-ready g c = λ κs within.
     let there : c.index_mut.result.now ≡ get_or c.args.places.now.items c.args.slot c.index_mut.result.now = search
-        rules in
+    rules in
     let is = there ∙ same_default c.args.places.now.items c.args.slot c.index_mut.result.now None c.requires.within in
     subst (λ p. IsReady (λ half. g.H.Flow.slot_at (g.H.Flow.name half)) g.H.Flow.item_slot c.args.slot p
-        c.args.desks.now.items) (sym is) c.requires.ready
+    c.args.desks.now.items) (sym is) c.requires.ready
 
 pub returns : goal.returns
 returns g c =
     let there : c.index_mut.result.now ≡ get_or c.args.places.now.items c.args.slot c.index_mut.result.now = search
-        rules in
-    let is = there ∙ same_default c.args.places.now.items c.args.slot c.index_mut.result.now None c.requires.within in (
+    rules in
+    let is = there ∙ same_default c.args.places.now.items c.args.slot c.index_mut.result.now None c.requires.within
+    in (
       c.give.new.place,
       c.requires.within,
       search rules,
-      subst (λ p. Gave (λ half. g.H.Flow.slot_at (g.H.Flow.name half)) g.H.Flow.item_slot g.H.Flow.handled c.args.slot
-          c.args.room c.args.item c.give.result p c.give.new.place
+      subst (λ p. Gave (λ half. g.H.Flow.slot_at (g.H.Flow.name half)) g.H.Flow.item_slot g.H.Flow.handled
+          c.args.slot c.args.room c.args.item c.give.result p c.give.new.place
           c.args.desks.now.items c.give.new.desks.items) is c.give.ensures,
     )

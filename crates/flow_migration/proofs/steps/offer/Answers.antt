@@ -10,15 +10,15 @@ pub offer-requires-clause-follows : goal.offer-requires-clause-follows
 offer-requires-clause-follows g c = λ κs within.
     let laws = g.met.H.Flow g.world.𝓛 g.world.𝓜 g.world.𝓡 ((λ s x. x), (λ x. x), (λ x. x), λ x. x) in
     let slots : g.row.H.Denot → _ = λ half. g.H.Flow.slot_at (g.H.Flow.name half) in
-    let at : c.index_mut.result.now ≡ get_or c.args.desks.now.items c.args.slice c.index_mut.result.now = search rules
-        in
+    let at : c.index_mut.result.now ≡ get_or c.args.desks.now.items c.args.slice c.index_mut.result.now = search
+    rules in
     let there = get_or-map (λ desk. sent desk.orders) c.args.desks.now.items c.args.slice c.index_mut.result.now []
-        (let a = c.args.desks.now.ok in let b = c.requires.within in omega arith) in
-    law_of slots g.H.FlowKind.slot_of_half g.H.Flow.item_slot g.H.FlowKind.slot_of_item (λ x. sym (laws.half_slots x))
-        (λ x. sym (laws.item_slots x))
+    (let a = c.args.desks.now.ok in let b = c.requires.within in omega arith) in
+    law_of slots g.H.FlowKind.slot_of_half g.H.Flow.item_slot g.H.FlowKind.slot_of_item
+    (λ x. sym (laws.half_slots x)) (λ x. sym (laws.item_slots x))
     (sent c.index_mut.result.now.orders) c.args.order
     (subst (λ l. MayFollow slots g.H.Flow.item_slot l c.args.order) (there
-        ∙ ap (λ desk. sent desk.orders) (sym at)) c.requires.law)
+    ∙ ap (λ desk. sent desk.orders) (sym at)) c.requires.law)
 
 pub returns-clause-given : goal.returns-clause-given
 returns-clause-given g c =

@@ -7,16 +7,20 @@ use Rattle.flow_migration.proofs.steps.serve_at.Goals as goal
 pub serve-requires-clause-ready : goal.serve-requires-clause-ready
 serve-requires-clause-ready g c = λ κs within.
     let there : c.index_mut.result.now ≡ get_or c.args.places.now.items c.args.slot c.index_mut.result.now = search
-        rules in
+    rules in
     let is = there ∙ same_default c.args.places.now.items c.args.slot c.index_mut.result.now None c.requires.within in
-    search (rules, subst (λ p. IsReady (λ half. g.H.Flow.slot_at (g.H.Flow.name half)) g.H.Flow.item_slot c.args.slot p
-        c.args.desks.now.items) (sym is) c.requires.ready)
+    search (
+      rules,
+      subst (λ p. IsReady (λ half. g.H.Flow.slot_at (g.H.Flow.name half)) g.H.Flow.item_slot
+          c.args.slot p c.args.desks.now.items) (sym is) c.requires.ready,
+    )
 
 pub returns : goal.returns
 returns g c =
     let there : c.index_mut.result.now ≡ get_or c.args.places.now.items c.args.slot c.index_mut.result.now = search
-        rules in
-    let is = there ∙ same_default c.args.places.now.items c.args.slot c.index_mut.result.now None c.requires.within in (
+    rules in
+    let is = there ∙ same_default c.args.places.now.items c.args.slot c.index_mut.result.now None c.requires.within
+    in (
       c.serve.new.place,
       c.requires.within,
       search rules,

@@ -5,10 +5,10 @@ use Rattle.flow_home.proofs.parts.FlowParts.again.Goals as goal
 pub returns-in-Ok-clause-each : goal.returns-in-Ok-clause-each
 returns-in-Ok-clause-each g c =
     subst (λ l. AtSlots g.H.Flow.name g.H.Flow.slot_at l c.sorted.result.items) c.collect.ensures.same
-        c.sorted.ensures.each
+    c.sorted.ensures.each
 
 pub returns-in-Ok-clause-items : goal.returns-in-Ok-clause-items
 returns-in-Ok-clause-items g c =
     subst (λ l. ComeToAccepted g.H.Flow.name g.H.Flow.slot_at g.H.Flow.handled l c.sorted.result.items)
-        c.collect.ensures.same
+    c.collect.ensures.same
     c.sorted.ensures.items

@@ -11,5 +11,5 @@ returns-clause-home g c =
     let none : length now.hand.found.items ≡ 0 = let a = now.hand.found.ok in omega arith in
     all_are_home g.H.Flow.name g.H.Flow.slot_at g.H.Flow.item_slot g.H.Flow.handled _ now.desks.items now.homes.items
     (coded_list g.row.H-Item.coded) now.places.items now.aside.items now.hand now.opened kept.2.0 kept.4 kept.2.1
-        kept.2.2 now.laid
+    kept.2.2 now.laid
     (nil_from_length now.hand.found.items none) kept.3

@@ -10,7 +10,7 @@ invariant_of-self g c =
       laid = home_all g.H.Flow.name g.H.Flow.slot_at g.H.Flow.item_slot g.H.Flow.handled _ _ _
           (coded_list g.row.H-Item.coded) _ _ _ _
           c.requires.closed.0 c.requires.empty.1 c.requires.closed.1 c.requires.closed.2 c.args.self.now.laid
-              c.bring_home.result _ _
+          c.bring_home.result _ _
           (record { item = refl; left = refl; waiting = refl }) refl
           (record { item = emptied.item; left = emptied.left; held = emptied.held; waiting = emptied.waiting })
           c.bring_home.ensures.ok c.bring_home.ensures.err;

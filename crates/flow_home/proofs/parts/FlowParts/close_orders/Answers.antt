@@ -19,7 +19,7 @@ invariant_of-self g c =
     let last : c.args.self.now.desks.items ≡ c.pop.new.self.items ++ c.in-Some.desk ∷ [] = search rules in
     let final : c.args.self.now.ends.items ≡ c.pop-2.new.self.items ++ c.in-Some-pop.end ∷ [] = search rules in
     let turned : reverse c.reversed.result.items ≡ c.in-Ok.left.items = ap reverse c.reversed.ensures
-        ∙ reverse-reverse c.in-Ok.left.items in
+    ∙ reverse-reverse c.in-Ok.left.items in
     record {
       laid = closes_all g.H.Flow.name g.H.Flow.slot_at g.H.Flow.item_slot g.H.Flow.handled
           (coded_list g.row.H-Item.coded)
@@ -35,7 +35,7 @@ invariant_of-self g c =
           (taken c.in-Some-pop.end.orders) c.in-Ok.left.items (sent c.in-Some-pop.end.home)
           c.requires.empty.1 last c.requires.empty.0 refl refl c.in-Ok.ensures.rest turned
           (lawful_by g.H.FlowKind.slot_of_half (λ half. g.H.Flow.slot_at (g.H.Flow.name half))
-              g.H.FlowKind.slot_of_item g.H.Flow.item_slot
+          g.H.FlowKind.slot_of_item g.H.Flow.item_slot
           laws.half_slots laws.item_slots (sent c.in-Some.desk.orders) c.in-Ok.ensures.lawful)
           c.in-Some-pop.end.names c.in-Some-pop.end.holds c.in-Some-pop.end.sends c.in-Some-pop.end.stands parts.laid;
       slots = parts.slots;
@@ -51,10 +51,10 @@ invariant_of-push_reserved g c =
       names = λ h. ap (λ l. weight g.H.Flow.name h (halves_in l)) same ∙ was.names h;
       holds = λ s h. was.holds s h
           ∙ ap (λ l. sum_by h (option_to_list (now_of (λ half. g.H.Flow.slot_at (g.H.Flow.name half))
-              g.H.Flow.item_slot g.H.Flow.handled s l))) (sym same);
+          g.H.Flow.item_slot g.H.Flow.handled s l))) (sym same);
       sends = λ s f. was.sends s f
           ∙ ap (λ l. f (gone_of (λ half. g.H.Flow.slot_at (g.H.Flow.name half)) g.H.Flow.item_slot g.H.Flow.handled s
-              l)) (sym same);
+          l)) (sym same);
       stands = λ x is. ap (λ l. is_some (now_of (λ half. g.H.Flow.slot_at (g.H.Flow.name half)) g.H.Flow.item_slot
           g.H.Flow.handled
           (g.H.Flow.item_slot x) l)) same ∙ was.stands x is;

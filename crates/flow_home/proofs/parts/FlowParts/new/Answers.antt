@@ -13,8 +13,15 @@ invariant_of-result g c =
       laid = begins_all g.H.Flow.name g.H.Flow.slot_at g.H.Flow.item_slot g.H.Flow.handled
           c.of-admitted.result.value.items
           side.places.items side.aside.items
-          (record { found = c.new.result; lefts = c.new-2.result; item = None; left = c.new-3.result; held =
-              c.new-4.result; waiting = None })
+          (record {
+            found = c.new.result;
+            lefts = c.new-2.result;
+            item = None;
+            left = c.new-3.result;
+            held =
+                c.new-4.result;
+            waiting = None;
+          })
           side.desks.items c.new-5.result.items same c.new-5.ensures.items
           (record {
             found = c.new.ensures.items;

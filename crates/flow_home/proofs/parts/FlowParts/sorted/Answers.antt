@@ -10,10 +10,10 @@ use Rattle.flow_home.proofs.parts.FlowParts.sorted.Goals as goal
 pub returns-clause-home : goal.returns-clause-home
 returns-clause-home g c =
     by_slot g.row.H-Name.coded (λ (home : Home g.row.H.Denot g.row.H-Item.Denot). g.H.Flow.name home.half)
-        g.H.Flow.slot_at _ _
+    g.H.Flow.slot_at _ _
     c.args.self.slots c.sort.ensures.sorted
     (λ h. sum_by-IsPermutation (λ (home : Home g.row.H.Denot g.row.H-Item.Denot). h (g.H.Flow.name home.half)) _ _
-        c.sort.ensures.same
+    c.sort.ensures.same
     ∙ c.requires.names h)
 
 pub returns-clause-each : goal.returns-clause-each
@@ -25,6 +25,6 @@ pub returns-clause-items : goal.returns-clause-items
 returns-clause-items g c =
     each_comes g.H.Flow.name g.H.Flow.slot_at g.H.Flow.handled (coded_list g.row.H-Item.coded) _ _ (λ s h.
     let f : Home g.row.H.Denot g.row.H-Item.Denot
-        → ℕ = λ home. cond (nat_eq (g.H.Flow.slot_at (g.H.Flow.name home.half)) s)
+    → ℕ = λ home. cond (nat_eq (g.H.Flow.slot_at (g.H.Flow.name home.half)) s)
     (h (g.H.Flow.handled home.half ++ home.left.items)) 0 in
     let e = sum_by-IsPermutation f _ _ c.sort.ensures.same ∙ c.requires.lists s h in omega arith)

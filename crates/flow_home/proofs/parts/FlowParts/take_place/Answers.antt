@@ -7,8 +7,13 @@ invariant_of-self g c =
     record {
       laid = place_all g.H.Flow.name g.H.Flow.slot_at g.H.Flow.item_slot g.H.Flow.handled _ _ _ _ _ _ _ _ _
           c.requires.closed.0
-          c.requires.closed.2 (record { item = emptied.item; left = emptied.left; held = emptied.held; waiting =
-              emptied.waiting })
+          c.requires.closed.2 (record {
+            item = emptied.item;
+            left = emptied.left;
+            held = emptied.held;
+            waiting =
+                emptied.waiting;
+          })
           c.take_place.ensures.halves c.take_place.ensures.items c.args.self.now.laid;
       slots = c.args.self.now.slots;
       ends_of = c.args.self.now.ends_of;

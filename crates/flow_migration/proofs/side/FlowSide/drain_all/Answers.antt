@@ -17,8 +17,8 @@ loop-slot-init g c = (
 pub loop-slot-preserved : goal.loop-slot-preserved
 loop-slot-preserved g c =
     let at = c.drain.ensures.drained in
-    let s = drained_still g.H.Flow.name g.H.Flow.slot_at g.H.Flow.item_slot g.H.Flow.handled _ _ c.loop-slot.slot _ _ _
-        _ _ _ c.loop-slot.self.laid at in (
+    let s = drained_still g.H.Flow.name g.H.Flow.slot_at g.H.Flow.item_slot g.H.Flow.handled _ _
+    c.loop-slot.slot _ _ _ _ _ _ c.loop-slot.self.laid at in (
       c.drain.ensures.roll ∙ c.loop-slot.invariant.0,
       c.drain.ensures.aside ∙ c.loop-slot.invariant.1,
       c.drain.ensures.homes ∙ c.loop-slot.invariant.2,
@@ -31,8 +31,8 @@ loop-slot-preserved g c =
 
 pub returns-clause-queues : goal.returns-clause-queues
 returns-clause-queues g c = λ slot slice is some.
-    meets_all Queues _ _ _ c.loop-slot.slot (let a = c.loop-slot.self.places.ok in search (rules, arith)) queues_not
-        c.loop-slot.invariant.5 slot slice (is, some)
+    meets_all Queues _ _ _ c.loop-slot.slot (let a = c.loop-slot.self.places.ok in search (rules, arith))
+    queues_not c.loop-slot.invariant.5 slot slice (is, some)
 
 pub returns-clause-waits : goal.returns-clause-waits
 returns-clause-waits g c = c.loop-slot.invariant.6
@@ -42,5 +42,5 @@ returns-clause-lasts g c = c.loop-slot.invariant.4
 
 pub invariant_of-drain : goal.invariant_of-drain
 invariant_of-drain g c =
-    let a = c.args.self.now.laid.short in let b = c.args.self.now.places.ok in let d = c.loop-slot-test.true in let e =
-        c.len-slot-end.ensures in search (rules, arith)
+    let a = c.args.self.now.laid.short in let b = c.args.self.now.places.ok in let d = c.loop-slot-test.true in let
+    e = c.len-slot-end.ensures in search (rules, arith)

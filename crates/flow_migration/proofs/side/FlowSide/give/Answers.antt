@@ -10,63 +10,65 @@ pub give_at-answer-requires-clause-within : goal.give_at-answer-requires-clause-
 give_at-answer-requires-clause-within g c = λ κs within.
     let laws = g.met.H.Flow g.world.𝓛 g.world.𝓜 g.world.𝓡 ((λ s x. x), (λ x. x), (λ x. x), λ x. x) in
     let same : c.slot_of-slot.result ≡ g.H.Flow.item_slot c.args.item = c.slot_of-slot.ensures
-        ∙ sym (laws.item_slots c.args.item) in
-    let admitted = subst (λ s. is_admitted (place_at c.args.self.now.places.items s)
-        ≡ true) (sym same) c.requires.admitted in
+    ∙ sym (laws.item_slots c.args.item) in
+    let admitted = subst (λ s. is_admitted (place_at c.args.self.now.places.items s) ≡ true) (sym same)
+    c.requires.admitted in
     let within = admitted_within g.H.Flow.name g.H.Flow.slot_at g.H.Flow.item_slot g.H.Flow.handled
-        c.args.self.now.places.items c.slot_of-slot.result admitted in
+    c.args.self.now.places.items c.slot_of-slot.result admitted in
     within
 
 pub give_at-answer-requires-clause-admitted : goal.give_at-answer-requires-clause-admitted
 give_at-answer-requires-clause-admitted g c = λ κs within.
     let laws = g.met.H.Flow g.world.𝓛 g.world.𝓜 g.world.𝓡 ((λ s x. x), (λ x. x), (λ x. x), λ x. x) in
     let same : c.slot_of-slot.result ≡ g.H.Flow.item_slot c.args.item = c.slot_of-slot.ensures
-        ∙ sym (laws.item_slots c.args.item) in
-    let admitted = subst (λ s. is_admitted (place_at c.args.self.now.places.items s)
-        ≡ true) (sym same) c.requires.admitted in
+    ∙ sym (laws.item_slots c.args.item) in
+    let admitted = subst (λ s. is_admitted (place_at c.args.self.now.places.items s) ≡ true) (sym same)
+    c.requires.admitted in
     let within = admitted_within g.H.Flow.name g.H.Flow.slot_at g.H.Flow.item_slot g.H.Flow.handled
-        c.args.self.now.places.items c.slot_of-slot.result admitted in
+    c.args.self.now.places.items c.slot_of-slot.result admitted in
     admitted
 
 pub give_at-answer-requires-clause-own : goal.give_at-answer-requires-clause-own
 give_at-answer-requires-clause-own g c = λ κs within.
     let laws = g.met.H.Flow g.world.𝓛 g.world.𝓜 g.world.𝓡 ((λ s x. x), (λ x. x), (λ x. x), λ x. x) in
     let same : c.slot_of-slot.result ≡ g.H.Flow.item_slot c.args.item = c.slot_of-slot.ensures
-        ∙ sym (laws.item_slots c.args.item) in
+    ∙ sym (laws.item_slots c.args.item) in
     sym same
 
 pub give_at-answer-requires-clause-fits : goal.give_at-answer-requires-clause-fits
 give_at-answer-requires-clause-fits g c = λ κs within.
     let laws = g.met.H.Flow g.world.𝓛 g.world.𝓜 g.world.𝓡 ((λ s x. x), (λ x. x), (λ x. x), λ x. x) in
     let same : c.slot_of-slot.result ≡ g.H.Flow.item_slot c.args.item = c.slot_of-slot.ensures
-        ∙ sym (laws.item_slots c.args.item) in
-    let admitted = subst (λ s. is_admitted (place_at c.args.self.now.places.items s)
-        ≡ true) (sym same) c.requires.admitted in
+    ∙ sym (laws.item_slots c.args.item) in
+    let admitted = subst (λ s. is_admitted (place_at c.args.self.now.places.items s) ≡ true) (sym same)
+    c.requires.admitted in
     let within = admitted_within g.H.Flow.name g.H.Flow.slot_at g.H.Flow.item_slot g.H.Flow.handled
-        c.args.self.now.places.items c.slot_of-slot.result admitted in
+    c.args.self.now.places.items c.slot_of-slot.result admitted in
     fits_here g.H.Flow.name g.H.Flow.slot_at g.H.Flow.item_slot g.H.Flow.handled c.args.self.now.places.items
-        c.slot_of-slot.result c.args.self.now.aside.items c.args.self.now.desks.items _ _ _ c.args.self.now.laid within
+    c.slot_of-slot.result c.args.self.now.aside.items c.args.self.now.desks.items _ _ _ c.args.self.now.laid
+    within
 
 pub give_at-answer-requires-clause-ready : goal.give_at-answer-requires-clause-ready
 give_at-answer-requires-clause-ready g c = λ κs within.
     let laws = g.met.H.Flow g.world.𝓛 g.world.𝓜 g.world.𝓡 ((λ s x. x), (λ x. x), (λ x. x), λ x. x) in
     let same : c.slot_of-slot.result ≡ g.H.Flow.item_slot c.args.item = c.slot_of-slot.ensures
-        ∙ sym (laws.item_slots c.args.item) in
-    let admitted = subst (λ s. is_admitted (place_at c.args.self.now.places.items s)
-        ≡ true) (sym same) c.requires.admitted in
+    ∙ sym (laws.item_slots c.args.item) in
+    let admitted = subst (λ s. is_admitted (place_at c.args.self.now.places.items s) ≡ true) (sym same)
+    c.requires.admitted in
     let within = admitted_within g.H.Flow.name g.H.Flow.slot_at g.H.Flow.item_slot g.H.Flow.handled
-        c.args.self.now.places.items c.slot_of-slot.result admitted in
+    c.args.self.now.places.items c.slot_of-slot.result admitted in
     ready g.H.Flow.name g.H.Flow.slot_at g.H.Flow.item_slot g.H.Flow.handled c.args.self.now.places.items
-        c.slot_of-slot.result c.args.self.now.aside.items c.args.self.now.desks.items _ _ _ c.args.self.now.laid within
+    c.slot_of-slot.result c.args.self.now.aside.items c.args.self.now.desks.items _ _ _ c.args.self.now.laid
+    within
 
 pub invariant_of-self : goal.invariant_of-self
 invariant_of-self g c = record {
   laid = subst (λ n. IsFlowSide g.H.Flow.name g.H.Flow.slot_at g.H.Flow.item_slot g.H.Flow.handled
       c.give_at-answer.new.places.items c.args.self.now.aside.items c.give_at-answer.new.desks.items
       c.args.self.now.room c.args.self.now.admitted n) (sym c.asked_now-self.ensures)
-          (gave_still g.H.Flow.name g.H.Flow.slot_at g.H.Flow.item_slot g.H.Flow.handled c.args.item
-          c.give_at-answer.result _ _ c.slot_of-slot.result _ _ _ _ _ _ c.args.self.now.laid c.requires.asked
-          c.give_at-answer.ensures).side;
+      (gave_still g.H.Flow.name g.H.Flow.slot_at g.H.Flow.item_slot g.H.Flow.handled c.args.item
+      c.give_at-answer.result _ _ c.slot_of-slot.result _ _ _ _ _ _ c.args.self.now.laid c.requires.asked
+      c.give_at-answer.ensures).side;
   aside_room = search rules;
 }
 
@@ -74,26 +76,26 @@ pub returns-clause-gives : goal.returns-clause-gives
 returns-clause-gives g c =
     let laws = g.met.H.Flow g.world.𝓛 g.world.𝓜 g.world.𝓡 ((λ s x. x), (λ x. x), (λ x. x), λ x. x) in
     let same : c.slot_of-slot.result ≡ g.H.Flow.item_slot c.args.item = c.slot_of-slot.ensures
-        ∙ sym (laws.item_slots c.args.item) in
+    ∙ sym (laws.item_slots c.args.item) in
     subst (λ s. AtSlot (Gave (λ half. g.H.Flow.slot_at (g.H.Flow.name half)) g.H.Flow.item_slot g.H.Flow.handled s
-        c.args.self.now.room c.args.item c.give_at-answer.result) s
+    c.args.self.now.room c.args.item c.give_at-answer.result) s
     c.args.self.now.places.items c.give_at-answer.new.places.items c.args.self.now.desks.items
-        c.give_at-answer.new.desks.items) same c.give_at-answer.ensures
+    c.give_at-answer.new.desks.items) same c.give_at-answer.ensures
 
 pub returns-clause-names : goal.returns-clause-names
-returns-clause-names g c = (gave_still g.H.Flow.name g.H.Flow.slot_at g.H.Flow.item_slot g.H.Flow.handled c.args.item
-    c.give_at-answer.result _ _ c.slot_of-slot.result _ _ _ _ _ _ c.args.self.now.laid c.requires.asked
+returns-clause-names g c = (gave_still g.H.Flow.name g.H.Flow.slot_at g.H.Flow.item_slot g.H.Flow.handled
+    c.args.item c.give_at-answer.result _ _ c.slot_of-slot.result _ _ _ _ _ _ c.args.self.now.laid c.requires.asked
     c.give_at-answer.ensures).names
 
 pub returns-clause-lanes : goal.returns-clause-lanes
-returns-clause-lanes g c = (gave_still g.H.Flow.name g.H.Flow.slot_at g.H.Flow.item_slot g.H.Flow.handled c.args.item
-    c.give_at-answer.result _ _ c.slot_of-slot.result _ _ _ _ _ _ c.args.self.now.laid c.requires.asked
+returns-clause-lanes g c = (gave_still g.H.Flow.name g.H.Flow.slot_at g.H.Flow.item_slot g.H.Flow.handled
+    c.args.item c.give_at-answer.result _ _ c.slot_of-slot.result _ _ _ _ _ _ c.args.self.now.laid c.requires.asked
     c.give_at-answer.ensures).lanes
 
 pub returns-clause-full : goal.returns-clause-full
 returns-clause-full g c =
     let laws = g.met.H.Flow g.world.𝓛 g.world.𝓜 g.world.𝓡 ((λ s x. x), (λ x. x), (λ x. x), λ x. x) in
     let same : c.slot_of-slot.result ≡ g.H.Flow.item_slot c.args.item = c.slot_of-slot.ensures
-        ∙ sym (laws.item_slots c.args.item) in
+    ∙ sym (laws.item_slots c.args.item) in
     gave_full (λ half. g.H.Flow.slot_at (g.H.Flow.name half)) g.H.Flow.item_slot g.H.Flow.handled c.args.item
-        c.give_at-answer.result _ _ _ _ _ _ _ same c.requires.admitted c.give_at-answer.ensures
+    c.give_at-answer.result _ _ _ _ _ _ _ same c.requires.admitted c.give_at-answer.ensures

@@ -7,10 +7,10 @@ use Rattle.flow_migration.proofs.side.FlowSide.new.Goals as goal
 
 pub invariant_of-result : goal.invariant_of-result
 invariant_of-result g c = record {
-  laid = subst (λ (p : List (Option (FlowPlace _ _)) × List (HalfAside _)). IsFlowSide g.H.Flow.name g.H.Flow.slot_at
-      g.H.Flow.item_slot g.H.Flow.handled p.0 p.1 c.args.desks.items c.args.room 0 0)
+  laid = subst (λ (p : List (Option (FlowPlace _ _)) × List (HalfAside _)). IsFlowSide g.H.Flow.name
+      g.H.Flow.slot_at g.H.Flow.item_slot g.H.Flow.handled p.0 p.1 c.args.desks.items c.args.room 0 0)
       (λ i. (sym c.new.ensures.items i, sym c.new-2.ensures.items i))
       (new_side g.H.Flow.name g.H.Flow.slot_at g.H.Flow.item_slot g.H.Flow.handled c.args.desks.items c.args.room
-          c.requires.room.1 c.requires.new);
+      c.requires.room.1 c.requires.new);
   aside_room = omega arith;
 }

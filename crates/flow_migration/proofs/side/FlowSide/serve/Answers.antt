@@ -6,24 +6,24 @@ use Rattle.flow_migration.proofs.side.FlowSide.serve.Goals as goal
 
 pub serve_at-requires-clause-ready : goal.serve_at-requires-clause-ready
 serve_at-requires-clause-ready g c = λ κs within.
-    ready g.H.Flow.name g.H.Flow.slot_at g.H.Flow.item_slot g.H.Flow.handled c.args.self.now.places.items c.args.slot
-        c.args.self.now.aside.items c.args.self.now.desks.items _ _ _ c.args.self.now.laid
+    ready g.H.Flow.name g.H.Flow.slot_at g.H.Flow.item_slot g.H.Flow.handled c.args.self.now.places.items
+    c.args.slot c.args.self.now.aside.items c.args.self.now.desks.items _ _ _ c.args.self.now.laid
     (let a = c.args.self.now.places.ok in let b = c.requires in omega arith)
 
 pub invariant_of-self : goal.invariant_of-self
 invariant_of-self g c = record {
-  laid = (served_still g.H.Flow.name g.H.Flow.slot_at g.H.Flow.item_slot g.H.Flow.handled _ _ c.args.slot _ _ _ _ _ _
-      c.args.self.now.laid c.serve_at.ensures).side;
+  laid = (served_still g.H.Flow.name g.H.Flow.slot_at g.H.Flow.item_slot g.H.Flow.handled _ _
+      c.args.slot _ _ _ _ _ _ c.args.self.now.laid c.serve_at.ensures).side;
   aside_room = search rules;
 }
 
 pub returns-clause-roll : goal.returns-clause-roll
 returns-clause-roll g c =
-    let s = served_still g.H.Flow.name g.H.Flow.slot_at g.H.Flow.item_slot g.H.Flow.handled _ _ c.args.slot _ _ _ _ _ _
-        c.args.self.now.laid c.serve_at.ensures in
+    let s = served_still g.H.Flow.name g.H.Flow.slot_at g.H.Flow.item_slot g.H.Flow.handled _ _
+    c.args.slot _ _ _ _ _ _ c.args.self.now.laid c.serve_at.ensures in
     let at = c.serve_at.ensures in
     roll_same _ _ _ _ _ _ _ _ _ _ _ s.names (lists_set accepted_at _ _ at.0 c.args.slot at.2 at.3.accepted)
-        (lists_set moved_at _ _ at.0 c.args.slot at.2 at.3.moved) s.lanes
+    (lists_set moved_at _ _ at.0 c.args.slot at.2 at.3.moved) s.lanes
 
 pub returns-clause-homes : goal.returns-clause-homes
 returns-clause-homes g c = (served_still g.H.Flow.name g.H.Flow.slot_at g.H.Flow.item_slot g.H.Flow.handled _ _

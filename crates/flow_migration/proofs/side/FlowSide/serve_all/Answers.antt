@@ -16,8 +16,8 @@ loop-slot-init g c = (
 pub loop-slot-preserved : goal.loop-slot-preserved
 loop-slot-preserved g c =
     let at = c.serve.ensures.served in
-    let s = served_still g.H.Flow.name g.H.Flow.slot_at g.H.Flow.item_slot g.H.Flow.handled _ _ c.loop-slot.slot _ _ _
-        _ _ _ c.loop-slot.self.laid at in (
+    let s = served_still g.H.Flow.name g.H.Flow.slot_at g.H.Flow.item_slot g.H.Flow.handled _ _
+    c.loop-slot.slot _ _ _ _ _ _ c.loop-slot.self.laid at in (
       c.serve.ensures.roll ∙ c.loop-slot.invariant.0,
       c.serve.ensures.aside ∙ c.loop-slot.invariant.1,
       c.serve.ensures.homes ∙ c.loop-slot.invariant.2,
@@ -28,13 +28,13 @@ loop-slot-preserved g c =
     )
 
 pub returns-clause-full : goal.returns-clause-full
-returns-clause-full g c = meets_all Waits _ _ _ c.loop-slot.slot (let a = c.loop-slot.self.places.ok in search
-    (rules, arith)) waits_not c.loop-slot.invariant.5
+returns-clause-full g c = meets_all Waits _ _ _ c.loop-slot.slot
+    (let a = c.loop-slot.self.places.ok in search (rules, arith)) waits_not c.loop-slot.invariant.5
 
 pub returns-clause-lasts : goal.returns-clause-lasts
 returns-clause-lasts g c = c.loop-slot.invariant.4
 
 pub invariant_of-serve : goal.invariant_of-serve
 invariant_of-serve g c =
-    let a = c.args.self.now.laid.short in let b = c.args.self.now.places.ok in let d = c.loop-slot-test.true in let e =
-        c.len-slot-end.ensures in search (rules, arith)
+    let a = c.args.self.now.laid.short in let b = c.args.self.now.places.ok in let d = c.loop-slot-test.true in let
+    e = c.len-slot-end.ensures in search (rules, arith)

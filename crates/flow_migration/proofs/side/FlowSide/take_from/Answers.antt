@@ -13,12 +13,14 @@ pub loop-preserved : goal.loop-preserved
 loop-preserved g c = (
   c.take_one.ensures.roll ∙ c.loop.invariant.0,
   c.take_one.ensures.len ∙ c.loop.invariant.1,
-  taking_more c.args.slice _ _ c.take_one.result _ _ _ _ _ _ c.loop.invariant.2 (search rules) c.take_one.ensures.took,
+  taking_more c.args.slice _ _ c.take_one.result _ _ _ _ _ _ c.loop.invariant.2 (search rules)
+      c.take_one.ensures.took,
 )
 
 pub returns-then-not-take_one-clause-took : goal.returns-then-not-take_one-clause-took
 returns-then-not-take_one-clause-took g c =
-    taking_ends c.args.slice _ _ c.take_one.result _ _ _ _ _ _ c.loop.invariant.2 (search rules) c.take_one.ensures.took
+    taking_ends c.args.slice _ _ c.take_one.result _ _ _ _ _ _ c.loop.invariant.2 (search rules)
+    c.take_one.ensures.took
 
 pub returns-clause-took : goal.returns-clause-took
 returns-clause-took g c =

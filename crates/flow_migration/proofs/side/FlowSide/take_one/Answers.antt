@@ -29,10 +29,10 @@ invariant_of-self-in-Some-welcome_at g c = record {
   laid = subst (λ (l : List (Option (FlowPlace _ _))). IsFlowSide g.H.Flow.name g.H.Flow.slot_at g.H.Flow.item_slot
       g.H.Flow.handled l c.push_reserved.new.self.items c.take_home.new.desks.items
       c.args.self.now.room c.args.self.now.admitted c.args.self.now.asked) (sym c.in-Some-welcome_at.ensures.1)
-      (kept_aside g.H.Flow.name g.H.Flow.slot_at g.H.Flow.item_slot g.H.Flow.handled _ c.args.slice c.in-Some.half _ _
-          _ _ _ _ _ _ c.args.self.now.laid c.in-Some.ensures.taken
+      (kept_aside g.H.Flow.name g.H.Flow.slot_at g.H.Flow.item_slot g.H.Flow.handled _ c.args.slice
+      c.in-Some.half _ _ _ _ _ _ _ _ c.args.self.now.laid c.in-Some.ensures.taken
       c.in-Some-welcome_at.ensures.0 refl c.push_reserved.ensures.items
-          (let a = c.args.self.now.aside.ok in omega arith));
+      (let a = c.args.self.now.aside.ok in omega arith));
   aside_room = search rules;
 }
 
@@ -42,11 +42,12 @@ invariant_of-self-in-None g c =
     let laws = g.met.H.Flow g.world.𝓛 g.world.𝓜 g.world.𝓡 ((λ s x. x), (λ x. x), (λ x. x), λ x. x) in
     let same : c.deref.result.now ≡ c.args.self.now.aside.items = search rules in
     record {
-      laid = came_home g.H.Flow.name g.H.Flow.slot_at g.H.Flow.item_slot g.H.Flow.handled c.args.self.now.places.items
-          _ w.0 c.slot-slot.result c.args.slice c.in-Some.half _ _ _ _ _ _ c.args.self.now.laid
+      laid = came_home g.H.Flow.name g.H.Flow.slot_at g.H.Flow.item_slot g.H.Flow.handled
+          c.args.self.now.places.items _ w.0 c.slot-slot.result c.args.slice c.in-Some.half _ _ _ _ _ _
+          c.args.self.now.laid
           w.1 c.in-Some.ensures.taken (laws.half_slots c.in-Some.half ∙ sym c.slot-slot.ensures)
           (ap (λ f. is_lost f c.slot-slot.result c.args.self.now.aside.items) (λ i x. laws.half_slots x i)
-              ∙ ap (is_lost g.H.FlowKind.slot_of_half c.slot-slot.result) (sym same) ∙ w.2) w.3 w.4;
+          ∙ ap (is_lost g.H.FlowKind.slot_of_half c.slot-slot.result) (sym same) ∙ w.2) w.3 w.4;
       aside_room = search rules;
     }
 
@@ -55,7 +56,7 @@ returns-in-Some-welcome_at-clause-roll g c =
     let took = c.in-Some.ensures.taken in
     let same = c.in-Some-welcome_at.ensures.1 in
     roll_same _ _ _ _ _ _ _ _ _ _ _ (ap (names_of g.H.Flow.name) same) (ap (λ l. map accepted_at l) same)
-        (ap (λ l. map moved_at l) same)
+    (ap (λ l. map moved_at l) same)
     (changed_lanes c.args.slice took.before took.now _ _ took.desk)
 
 pub returns-in-Some-welcome_at-clause-took : goal.returns-in-Some-welcome_at-clause-took
@@ -67,8 +68,9 @@ returns-in-None-clause-roll g c =
     let took = c.in-Some.ensures.taken in
     let w = c.in-None.ensures in
     let same = welcomed_lists g.H.Flow.name c.in-Some.half c.args.slice c.args.self.now.places.items _ w.0
-        c.slot-slot.result w.3 w.4 in
-    roll_same _ _ _ _ _ _ _ _ _ _ _ same.0 same.1 same.2 (changed_lanes c.args.slice took.before took.now _ _ took.desk)
+    c.slot-slot.result w.3 w.4 in
+    roll_same _ _ _ _ _ _ _ _ _ _ _ same.0 same.1 same.2 (changed_lanes c.args.slice took.before took.now _ _
+    took.desk)
 
 pub returns-in-None-clause-took : goal.returns-in-None-clause-took
 returns-in-None-clause-took g c =

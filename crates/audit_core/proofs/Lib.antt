@@ -1,0 +1,10 @@
+pub mod ShareLemmas
+pub mod AnswerLemmas
+pub mod EpochLemmas
+pub mod PlayerLemmas
+pub mod ReplayLemmas
+pub mod RunLemmas
+pub mod FoundLemmas
+pub mod InRangeLemmas
+pub mod AuditLemmas
+pub mod HoldsLemmas

@@ -1,0 +1,99 @@
+-- Lines have one finding.
+use Rattle.std.proofs.Common.{◌≡◌, ℕ, zero, suc, ◌<◌, List, [], ◌∷◌, map, All, inl, inr, Option, None, Some, refl, sym, ap, ap₂, ◌∙◌, subst, arith, length}
+use Rattle.std.proofs.lemmas.List.Elements.{All-contains, All-cons, All-head, All-nil, All-tail}
+use Rattle.report_lines.specs.Ranges.{IsEntry}
+use Rattle.report_lines.specs.Text.{entry_text}
+use Rattle.report_lines.specs.declared.entry.Entry.{Entry}
+use Rattle.report_lines.proofs.TextLemmas.{text_tells}
+use Rattle.demux.specs.Trace.{book_of}
+use Rattle.lawful_run.specs.Job.{Job, slices_of}
+use Rattle.lawful_run.specs.Trace.{epochs_told}
+use Rattle.audit_sentences.proofs.HavingLines.{traces_have_lines}
+use Rattle.audit_sentences.proofs.LawLemmas.{sentences_are_the_run}
+use Rattle.audit_run.specs.Findings.{Breaks, Confirmed, Finds, IsOf, Refuted}
+use Rattle.audit_run.specs.Said.{AreEntries, HasNoEntry, report_texts, trace_said}
+use Rattle.audit_run.specs.Texts.{Text}
+use Rattle.trace_lines.specs.Input.{Input}
+
+-- texts belong to one list of entries
+same_entries : (one other : List Entry) → All IsEntry one → All IsEntry other
+    → map entry_text one ≡ map entry_text other → one ≡ other
+same_entries [] [] are also same = refl
+same_entries [] (y ∷ other) are also same = cc
+same_entries (x ∷ one) [] are also same = cc
+same_entries (x ∷ one) (y ∷ other) are also same =
+    let first : entry_text x ≡ entry_text y = cc in
+    let rest : map entry_text one ≡ map entry_text other = cc in
+    ap₂ (λ e es. e ∷ es)
+    (text_tells x y (All-head IsEntry x one are) (All-head IsEntry y other also) first)
+    (same_entries one other (All-tail IsEntry x one are) (All-tail IsEntry y other also) rest)
+
+pub one_list : (texts : List Text) (one other : List Entry) → AreEntries texts one → AreEntries texts other
+    → one ≡ other
+one_list texts one other are also = same_entries one other are.ranges also.ranges (sym are.same ∙ also.same)
+
+-- the text is an entry's
+abbrev IsSome : Text → Type 0
+IsSome text = (entry : Entry) × IsEntry entry × (text ≡ entry_text entry)
+
+all_some : (entries : List Entry) → All IsEntry entries → All IsSome (map entry_text entries)
+all_some [] are = All-nil IsSome
+all_some (entry ∷ entries) are =
+    All-cons IsSome (entry_text entry) (map entry_text entries) (entry, All-head IsEntry entry entries are, refl)
+    (all_some entries (All-tail IsEntry entry entries are))
+
+-- so none of the lines of entries is none
+no_other : (texts : List Text) (entries : List Entry) → AreEntries texts entries → HasNoEntry texts → ⊥
+no_other texts entries are has =
+    let one : IsSome has.text = All-contains IsSome texts has.text
+    (subst (All IsSome) (sym are.same) (all_some entries are.ranges)) has.stands in
+    has.none one.0 one.1 one.2
+
+-- a lawful run breaks no sentence
+no_break : (job : Job) (trace : Input) (entries : List Entry) (k : ℕ) → IsOf job trace entries
+    → Breaks job trace entries k → ⊥
+no_break job trace entries k lawful breaks =
+    breaks.0.broken ((sentences_are_the_run job (length (book_of trace.lines)) (epochs_told (slices_of job) trace) entries
+    (traces_have_lines (slices_of job) trace)).1 lawful k)
+
+same_number : (k j : ℕ) → (k < j → ⊥) → (j < k → ⊥) → k ≡ j
+same_number zero zero less more = refl
+same_number zero (suc j) less more = absurd (less (omega arith))
+same_number (suc k) zero less more = absurd (more (omega arith))
+same_number (suc k) (suc j) less more =
+    ap suc (same_number k j (λ is. less (omega (arith, is))) (λ is. more (omega (arith, is))))
+
+-- there is one first sentence that is broken
+one_break : (job : Job) (trace : Input) (entries : List Entry) (k j : ℕ) → Breaks job trace entries k
+    → Breaks job trace entries j → k ≡ j
+one_break job trace entries k j one other =
+    same_number k j (λ less. one.0.broken (other.0.before k less)) (λ more. other.0.broken (one.0.before j more))
+
+confirmed_refuted : (job : Job) (texts : List Text) (k : ℕ) → Confirmed job texts → Refuted job texts k → ⊥
+confirmed_refuted job texts k one other =
+    no_break job (trace_said texts) one.entries k one.lawful
+    (subst (λ entries. Breaks job (trace_said texts) entries k)
+    (one_list (report_texts texts) other.entries one.entries other.are one.are) other.broken)
+
+confirmed_clash : (job : Job) (texts : List Text) (k : ℕ) → Confirmed job texts → Finds job texts (Some k) → ⊥
+confirmed_clash job texts k one (inl other) = no_other (report_texts texts) one.entries one.are other.1
+confirmed_clash job texts k one (inr other) = confirmed_refuted job texts k one other
+
+both_refuted : (job : Job) (texts : List Text) (k j : ℕ) → Refuted job texts k → Refuted job texts j → k ≡ j
+both_refuted job texts k j one other =
+    one_break job (trace_said texts) one.entries k j one.broken
+    (subst (λ entries. Breaks job (trace_said texts) entries j)
+    (one_list (report_texts texts) other.entries one.entries other.are one.are) other.broken)
+
+both_some : (job : Job) (texts : List Text) (k j : ℕ) → Finds job texts (Some k) → Finds job texts (Some j) → k ≡ j
+both_some job texts k j (inl one) (inl other) = one.0 ∙ sym other.0
+both_some job texts k j (inl one) (inr other) = absurd (no_other (report_texts texts) other.entries other.are one.1)
+both_some job texts k j (inr one) (inl other) = absurd (no_other (report_texts texts) one.entries one.are other.1)
+both_some job texts k j (inr one) (inr other) = both_refuted job texts k j one other
+
+pub one_finding : (job : Job) (texts : List Text) (one other : Option ℕ) → Finds job texts one → Finds job texts other
+    → one ≡ other
+one_finding job texts None None finds also = refl
+one_finding job texts None (Some j) finds also = absurd (confirmed_clash job texts j finds also)
+one_finding job texts (Some k) None finds also = absurd (confirmed_clash job texts k also finds)
+one_finding job texts (Some k) (Some j) finds also = ap Some (both_some job texts k j finds also)

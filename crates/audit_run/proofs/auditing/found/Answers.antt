@@ -1,0 +1,23 @@
+use Rattle.std.proofs.Common.{inl, refl}
+use Rattle.audit_reading.specs.Rules.{job_of}
+use Rattle.audit_run.proofs.FoundLemmas.{broken_by, confirmed_by}
+use Rattle.audit_run.proofs.HeardLemmas.{outside_heard}
+use Rattle.audit_run.proofs.auditing.found.Goals as goal
+
+pub returns-then-heard-clause-finds : goal.returns-then-heard-clause-finds
+returns-then-heard-clause-finds c = λ texts hears.
+    inl (refl, outside_heard c.args.heard.now texts hears c.if-heard.true)
+
+pub returns-in-Yes-clause-finds : goal.returns-in-Yes-clause-finds
+returns-in-Yes-clause-finds c = λ texts hears.
+    confirmed_by (job_of c.args.rule.now) c.args.heard.now texts c.as_slice.result.now c.as_slice-2.result.now
+    c.if-heard.false c.as_slice.ensures.value c.as_slice-2.ensures.value (c.in_ok-audit.ensures.yes.0 c.in-Yes.is) hears
+
+pub returns-in-No-clause-finds : goal.returns-in-No-clause-finds
+returns-in-No-clause-finds c = λ texts hears.
+    broken_by (job_of c.args.rule.now) c.args.heard.now texts c.as_slice.result.now c.as_slice-2.result.now c.in-No.k
+    c.if-heard.false c.as_slice.ensures.value c.as_slice-2.ensures.value ((c.in_ok-audit.ensures.no c.in-No.k).0
+    c.in-No.is) hears
+
+pub returns-in-No-clause-few : goal.returns-in-No-clause-few
+returns-in-No-clause-few c = ((c.in_ok-audit.ensures.no c.in-No.k).0 c.in-No.is).2

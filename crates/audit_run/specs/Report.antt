@@ -1,0 +1,53 @@
+-- What an audit wrote, by how it ended.
+use Rattle.std.specs.Prelude.{◌≡◌, ℕ, List, [], ◌++◌, Option, None, Some}
+use Rattle.std.specs.Io.KnownBytes.{Appends}
+use Rattle.lawful_run.specs.Job.{Job}
+use Rattle.audit_run.specs.Findings.{Finds, finding_text}
+use Rattle.audit_run.specs.Texts.{big, ended, long, texts_of}
+use Rattle.audit_run.specs.declared.auditing.Audited.{Audited}
+use Rattle.audit_run.specs.declared.auditing.Audited.TheVariants as audited
+
+-- This holds of the octets that a source had and of those that it has left. A source that told the former tells
+-- the latter too; of one that didn't nothing is said.
+abbrev pub WhereTold : Option (List ℕ) → Option (List ℕ) → (List ℕ → List ℕ → Type 0) → Type 0
+WhereTold None now holds = Unit {0}
+WhereTold (Some octets) None holds = ⊥
+WhereTold (Some octets) (Some left) holds = holds octets left
+
+-- all octets were read, and they end as they should
+abbrev pub IsReadWhole : List ℕ → List ℕ → Type 0
+IsReadWhole octets left = ((texts_of octets).stop ≡ ended) × (left ≡ [])
+
+-- the text says what is found
+pub record SaysWhole (job : Job) (octets text : List ℕ) (found : Option ℕ) : Type 0 where
+  pub finds : Finds job (texts_of octets).lines found
+  pub says : text ≡ finding_text found
+
+-- it is a front of that
+pub record SaysPart (job : Job) (octets text : List ℕ) : Type 0 where
+  pub found : Option ℕ
+  pub finds : Finds job (texts_of octets).lines found
+  pub more : List ℕ
+  pub says : finding_text found ≡ text ++ more
+
+-- what was taken before a source failed has no line that is too long, and is less than what is looked at
+pub record IsTaken (octets left : List ℕ) : Type 0 where
+  pub taken : List ℕ
+  pub parts : octets ≡ taken ++ left
+  pub stop : (texts_of taken).stop ≡ ended
+
+abbrev pub Reports : Audited → Job → List ℕ → List ℕ → List ℕ → Type 0
+Reports audited.Confirmed job octets left text = IsReadWhole octets left × SaysWhole job octets text None
+Reports audited.Refuted job octets left text =
+    IsReadWhole octets left × ((k : ℕ) × SaysWhole job octets text (Some k))
+Reports audited.ReadFault job octets left text = IsTaken octets left × (text ≡ [])
+Reports audited.WriteFault job octets left text = IsReadWhole octets left × SaysPart job octets text
+Reports audited.NoMemory job octets left text = text ≡ []
+Reports audited.LineLong job octets left text = ((texts_of octets).stop ≡ long) × (text ≡ [])
+Reports audited.TooLong job octets left text = ((texts_of octets).stop ≡ big) × (text ≡ [])
+
+-- octets were appended to what a sink tells, and they say what is found of those that a source told
+pub record Audits (ending : Audited) (job : Job) (start left old new : Option (List ℕ)) : Type 0 where
+  pub text : List ℕ
+  pub written : Appends old new text
+  pub report : WhereTold start left (λ octets rest. Reports ending job octets rest text)

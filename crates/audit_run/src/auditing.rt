@@ -1,0 +1,185 @@
+//! An audit from its input to its finding.
+ghost use Rattle.std.specs.Prelude.{◌≡◌, ◌+◌, ◌<◌, ◌≤◌, ◌^◌, ℕ, List, [], Option, vec_len, false, IfOk, IfSome, OnOk, OnErr, Ok};
+ghost use Rattle.std.specs.Io.KnownBytes.{Appends};
+ghost use Rattle.pc_outside.specs.Faults.{Rises};
+ghost use Rattle.pc_outside.specs.Fronts.{AppendsFront};
+ghost use Rattle.audit_reading.specs.Rules.{IsRule, job_of};
+ghost use Rattle.audit_run.specs.Findings.{Finds, finding_text};
+ghost use Rattle.audit_run.specs.Heard.{HasHeard};
+ghost use Rattle.audit_run.specs.Progress.{Ends, Reached, ending_as};
+ghost use Rattle.audit_run.specs.Report.{Audits, WhereTold};
+ghost use Rattle.audit_run.specs.Texts.{Text};
+
+use crate::heard::Heard;
+use audit_core::Finding;
+use audit_reading::Rule;
+use pc_outside::{LineBuf, LineRead, Sink, Source, WriteFault, read_line, write_whole};
+use std::alloc::{AllocError, Global};
+
+/// How an audit ended.
+#[derive(Clone, Copy, Debug, PartialEq, Eq)]
+pub enum Audited {
+    /// The report is a lawful one of the trace; `yes` was written.
+    Confirmed,
+    /// It is refuted; `no` was written, and the number of what refutes it.
+    Refuted,
+    /// The source failed; nothing was written.
+    ReadFault,
+    /// The sink failed; a front of what is found was written.
+    WriteFault,
+    /// Memory ran out; nothing was written.
+    NoMemory,
+    /// A line has more than 132,000 octets; nothing was written.
+    LineLong,
+    /// The input has 2^40 octets or more; nothing was written.
+    TooLong,
+}
+
+// Why no more lines come.
+#[derive(Clone, Copy)]
+enum Stopped {
+    Ended,
+    ReadFault,
+    LineLong,
+    TooLong,
+}
+
+// Hears the lines of an input until no more come.
+fn hear<S: Source>(
+    alloc: Global,
+    source: &mut S,
+    buf: &mut LineBuf,
+    heard: &mut Heard,
+) -> Result<Stopped, AllocError>
+    requires fresh { buf.old ≡ record { line = []; last = false; front = []; room = 2 ^ 40 } }
+    requires nothing { HasHeard heard.old [] }
+    requires none { vec_len heard.old.lines ≡ 0 }
+
+    ensures ended { IfOk result (λ stop. Ends stop (S.left source.old) (S.left source.new) heard.new) }
+
+    // A source that told its octets tells what is left.
+    ensures told { WhereTold (S.left source.old) (S.left source.new) (λ octets rest. Unit {0}) }
+
+    ensures later { S.faults source.old ≤ S.faults source.new }
+    ensures fault { result ≡ Ok Stopped.ReadFault → Rises (S.faults source.old) (S.faults source.new) }
+{
+    loop {
+        match read_line(source, buf) {
+            LineRead::Line => {
+                heard.take(alloc, buf.line())?;
+                if buf.is_last() {
+                    return Ok(Stopped::Ended);
+                }
+            }
+            LineRead::End => return Ok(Stopped::Ended),
+            LineRead::LineLong => return Ok(Stopped::LineLong),
+            LineRead::TooLong => return Ok(Stopped::TooLong),
+            LineRead::ReadFault => return Ok(Stopped::ReadFault),
+        }
+    }
+}
+
+// What is found of what was heard: nothing to refute, or the number of what refutes the report.
+fn found(alloc: Global, rule: &Rule, heard: &Heard) -> Result<Option<u8>, AllocError>
+    requires rule { IsRule rule.now }
+    requires few { vec_len heard.now.lines + 1 < 2 ^ 40 }
+    ensures finds { (texts : List Text) → HasHeard heard.now texts
+        → IfOk result (λ found. Finds (job_of rule.now) texts found) }
+    ensures few { IfOk result (λ found. IfSome found (λ k. k ≤ 6)) }
+{
+    if heard.outside {
+        return Ok(Some(0));
+    }
+    match audit_core::audit(
+        alloc,
+        rule,
+        heard.lines.as_slice(),
+        heard.bad,
+        heard.entries.as_slice(),
+    )? {
+        Finding::Yes => Ok(None),
+        Finding::No(k) => Ok(Some(k)),
+    }
+}
+
+// Writes what is found.
+fn tell<K: Sink>(found: Option<u8>, sink: &mut K) -> Result<(), WriteFault>
+    requires { IfSome found (λ k. k ≤ 6) }
+    ensures whole { OnOk result (Appends (K.written sink.old) (K.written sink.new) (finding_text found)) }
+    ensures cut { OnErr result (AppendsFront (K.written sink.old) (K.written sink.new) (finding_text found)) }
+    ensures later { K.faults sink.old ≤ K.faults sink.new }
+    ensures fault { OnErr result (Rises (K.faults sink.old) (K.faults sink.new)) }
+{
+    match found {
+        None => write_whole(sink, b"yes\n"),
+        Some(k) => write_whole(sink, &[b'n', b'o', b' ', b'0' + k, b'\n']),
+    }
+}
+
+// What an audit comes to, by what is found and whether it was written.
+fn ending_of(found: Option<u8>, written: Result<(), WriteFault>) -> Audited
+    ensures { result ≡ ending_as found written }
+{
+    match written {
+        Err(WriteFault) => Audited::WriteFault,
+        Ok(()) => match found {
+            None => Audited::Confirmed,
+            Some(_) => Audited::Refuted,
+        },
+    }
+}
+
+// Writes what is found of what was heard.
+fn judge<K: Sink>(alloc: Global, rule: &Rule, heard: &Heard, sink: &mut K) -> Audited
+    requires rule { IsRule rule.now }
+    requires few { vec_len heard.now.lines + 1 < 2 ^ 40 }
+    ensures audits { (start left : Option (List ℕ)) (texts : List Text) → HasHeard heard.now texts
+        → WhereTold start left (λ octets rest. Reached Stopped.Ended octets rest texts)
+        → Audits result (job_of rule.now) start left (K.written sink.old) (K.written sink.new) }
+    ensures read_fault { result ≡ Audited.ReadFault → ⊥ }
+    ensures later { K.faults sink.old ≤ K.faults sink.new }
+    ensures write_fault { result ≡ Audited.WriteFault → Rises (K.faults sink.old) (K.faults sink.new) }
+{
+    match found(alloc, rule, heard) {
+        Ok(found) => ending_of(found, tell(found, sink)),
+        Err(AllocError) => Audited::NoMemory,
+    }
+}
+
+/// Reads a trace and its report from the source, and writes to the sink whether the report is a lawful one under the
+/// rule: `yes`; or `no` and the number of the first sentence of the lawful run that it breaks, 1 to 6, or 0 where a
+/// line of it is no entry.
+pub fn audit<S: Source, K: Sink>(
+    alloc: Global,
+    rule: &Rule,
+    source: &mut S,
+    sink: &mut K,
+) -> Audited
+    requires { IsRule rule.now }
+
+    // What is written is what is found, where source and sink tell their octets.
+    ensures audits { Audits result (job_of rule.now) (S.left source.old) (S.left source.new) (K.written sink.old)
+        (K.written sink.new) }
+
+    // Faults are those of the source and the sink.
+    ensures source_later { S.faults source.old ≤ S.faults source.new }
+    ensures sink_later { K.faults sink.old ≤ K.faults sink.new }
+    ensures read_fault { result ≡ Audited.ReadFault → Rises (S.faults source.old) (S.faults source.new) }
+    ensures write_fault { result ≡ Audited.WriteFault → Rises (K.faults sink.old) (K.faults sink.new) }
+{
+    let mut buf = match LineBuf::new(alloc) {
+        Ok(buf) => buf,
+        Err(AllocError) => return Audited::NoMemory,
+    };
+    let mut heard = Heard::new(alloc);
+    let stop = match hear(alloc, source, &mut buf, &mut heard) {
+        Ok(stop) => stop,
+        Err(AllocError) => return Audited::NoMemory,
+    };
+    match stop {
+        Stopped::Ended => judge(alloc, rule, &heard, sink),
+        Stopped::ReadFault => Audited::ReadFault,
+        Stopped::LineLong => Audited::LineLong,
+        Stopped::TooLong => Audited::TooLong,
+    }
+}

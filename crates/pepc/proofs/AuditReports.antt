@@ -1,0 +1,88 @@
+-- What an audit wrote, by its status.
+use Rattle.std.proofs.Common.{◌≡◌, ℕ, inl, inr, List, [], Option, None, Some, refl, sym, ◌∙◌, subst}
+use Rattle.std.proofs.KnownBytes.{Appends-nil}
+use Rattle.lawful_run.specs.Job.{Job}
+use Rattle.audit_run.specs.Findings.{Finds}
+use Rattle.audit_run.specs.Report.{Reports}
+use Rattle.audit_run.specs.Report.{Audits as AuditsThere, WhereTold as WhereToldThere}
+use Rattle.audit_run.specs.Texts.{big, ended, long, texts_of}
+use Rattle.audit_run.specs.declared.auditing.Audited.{Audited}
+use Rattle.audit_run.specs.declared.auditing.Audited.TheVariants as audited
+use Rattle.audit_run.proofs.OneFinding.{one_finding}
+use Rattle.pepc.specs.Audit.{AuditReports, Audits, Settles, status_of}
+use Rattle.pepc.specs.declared.status.Status.{Status}
+use Rattle.pepc.specs.declared.status.Status.TheVariants as status
+use Rattle.pepc.specs.Told.{WhereTold}
+
+reports_are : (one : Audited) (job : Job) (octets left text : List ℕ) → Reports one job octets left text
+    → AuditReports (status_of one) job octets left text
+reports_are audited.Confirmed job octets left text reports = reports
+reports_are audited.Refuted job octets left text reports = reports
+reports_are audited.ReadFault job octets left text reports = reports
+reports_are audited.WriteFault job octets left text reports = reports
+reports_are audited.NoMemory job octets left text reports = reports
+reports_are audited.LineLong job octets left text reports = reports
+reports_are audited.TooLong job octets left text reports = reports
+
+told_are : (start left : Option (List ℕ)) (P Q : List ℕ → List ℕ → Type 0)
+    → ((octets rest : List ℕ) → P octets rest → Q octets rest)
+    → WhereToldThere start left P → WhereTold start left Q
+told_are None left P Q follows told = tt
+told_are (Some octets) None P Q follows told = absurd told
+told_are (Some octets) (Some rest) P Q follows told = follows octets rest told
+
+pub audits_are : (job : Job) (one : Audited) (start left old new : Option (List ℕ))
+    → AuditsThere one job start left old new → Audits job (status_of one) start left old new
+audits_are job one start left old new audits = record {
+  text = audits.text;
+  written = audits.written;
+  report = told_are start left (λ octets rest. Reports one job octets rest audits.text)
+      (λ octets rest. AuditReports (status_of one) job octets rest audits.text)
+      (λ octets rest reports. reports_are one job octets rest audits.text reports) audits.report;
+}
+
+-- memory ran out before anything was read
+pub nothing_audited : (job : Job) (start sink : Option (List ℕ)) → Audits job status.NoMemory start start sink sink
+nothing_audited job start sink = record { text = []; written = Appends-nil sink; report = told start }
+  where
+    told : (start : Option (List ℕ)) → WhereTold start start
+        (λ octets rest. AuditReports status.NoMemory job octets rest [])
+    told None = tt
+    told (Some octets) = refl
+
+pub nothing_settles : (found : Option ℕ) → Settles found status.NoMemory
+nothing_settles None = inr refl
+nothing_settles (Some k) = inr refl
+
+-- Where the input ends with its last line and nothing failed, the status is that of what is found, unless memory ran out.
+pub audit_complete : (job : Job) (ending : Status) (source_failed sink_failed : Type 0) (octets : List ℕ)
+    (start left old new : Option (List ℕ)) (found : Option ℕ) → start ≡ Some octets
+    → (texts_of octets).stop ≡ ended → (source_failed → ⊥) → (sink_failed → ⊥)
+    → (ending ≡ status.ReadFault → source_failed) → (ending ≡ status.WriteFault → sink_failed)
+    → Finds job (texts_of octets).lines found
+    → Audits job ending start left old new → Settles found ending
+audit_complete job ending source_failed sink_failed octets start left old new found is stop no_fault no_sink read_fault
+    write_fault finds runs =
+    by_left left (subst (λ s. WhereTold s left (λ o l. AuditReports ending job o l runs.text)) is runs.report)
+  where
+    by_status : (s : Status) (l text : List ℕ) → AuditReports s job octets l text
+        → (s ≡ status.ReadFault → source_failed) → (s ≡ status.WriteFault → sink_failed) → Settles found s
+    by_status status.Ok l text reports read write =
+        subst (λ f. Settles f status.Ok) (one_finding job (texts_of octets).lines None found reports.1.finds finds)
+        (inl refl)
+    by_status status.Usage l text reports read write = absurd reports
+    by_status status.ReadFault l text reports read write = absurd (no_fault (read refl))
+    by_status status.WriteFault l text reports read write = absurd (no_sink (write refl))
+    by_status status.NoMemory l text reports read write = nothing_settles found
+    by_status status.BadLine l text reports read write = absurd reports
+    by_status status.LineLong l text reports read write = let clash : ended ≡ long = sym stop ∙ reports.0 in cc
+    by_status status.TooLong l text reports read write = let clash : ended ≡ big = sym stop ∙ reports.0 in cc
+    by_status status.Refuted l text reports read write =
+        subst (λ f. Settles f status.Refuted)
+        (one_finding job (texts_of octets).lines (Some reports.1.0) found reports.1.1.finds finds) (inl refl)
+    by_status status.BadCapture l text reports read write = absurd reports
+
+    by_left : (l : Option (List ℕ)) → WhereTold (Some octets) l (λ o rest. AuditReports ending job o rest runs.text)
+        → Settles found ending
+    by_left None told = absurd told
+    by_left (Some rest) told = by_status ending rest runs.text told read_fault write_fault
