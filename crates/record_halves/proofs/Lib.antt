@@ -1,3 +1,4 @@
+pub mod Accepting
 pub mod Orders
 pub mod Lists
 pub mod Lanes

@@ -14,8 +14,3 @@ abbrev pub AreNumbered : ℕ → ℕ → List FlowItem → Type 0
 AreNumbered slot number [] = Unit {0}
 AreNumbered slot number (item ∷ items) =
     (item.slot ≡ slot) × (item.number ≡ number) × (item.packet.number ≡ number) × AreNumbered slot (number + 1) items
-
--- commands, numbered from a count on
-abbrev pub AreCounted : ℕ → List CommandItem → Type 0
-AreCounted number [] = Unit {0}
-AreCounted number (item ∷ items) = (item.number ≡ number) × AreCounted (number + 1) items
