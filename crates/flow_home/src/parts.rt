@@ -76,7 +76,8 @@ impl<H: Flow> FlowParts<H> {
         ensures home { IfOk result (λ homes. map (λ home. H.name home.half) homes.items
             ≡ somes (names_of H.name (admitted_of self))) }
         ensures each { IfOk result (λ homes. AtSlots H.name H.slot_at (admitted_of self) homes.items) }
-        ensures items { IfOk result (λ homes. ComeToAccepted H.name H.slot_at H.handled (admitted_of self) homes.items) }
+        ensures items { IfOk result
+            (λ homes. ComeToAccepted H.name H.slot_at H.handled (admitted_of self) homes.items) }
         ensures parts { IfErr result (λ parts. admitted_of parts ≡ admitted_of self) }
     {
         match self.collect(rt) {
