@@ -1,4 +1,6 @@
 //! Audits that end in each way.
+ghost use Rattle.audit_reading.specs.Rules.{IsRule};
+
 use crate::{Audited, NoMemory, audit};
 use audit_reading::Rule;
 use pc_outside::{MemSink, MemSource};
@@ -95,7 +97,9 @@ R 0 1 6 1 0 0 28 0 1 80 80 gone
 
 const OPEN_AT_LAST: &[u8] = b"O 1 0 5 9 0 20 20 1 1\n";
 
-fn sliced(room: u32) -> Rule {
+fn sliced(room: u32) -> Rule
+    ensures { IsRule result }
+{
     Rule {
         solo: false,
         slices: 2,
@@ -121,9 +125,7 @@ fn ends(
     fails: (Vec<u64>, Vec<u64>),
     ending: Audited,
     text: &[u8],
-) -> Result<(), Fail>
-    requires { (1 ≤ room) × (room ≤ 256) }
-{
+) -> Result<(), Fail> {
     let mut source = MemSource::new(octets, 50, fails.0)?;
     let mut sink = MemSink::new(alloc, 1000, 2, fails.1)?;
     let rule = sliced(room);
