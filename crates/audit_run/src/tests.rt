@@ -306,7 +306,7 @@ fn failing_ends(rt: HostRuntime) -> Result<(), Fail> {
         b"",
     )?;
     let mut second = Vec::new(alloc);
-    second.push(2)?;
+    second.push(1)?;
     let right = joined(alloc, &[TRACE, REPORT, OPEN])?;
     ends(
         &rt,
