@@ -1,13 +1,20 @@
 //! Reads lines of outside reports, and says of each file how many of them are entries that are written
 //! again as they were.
 #![tactic(auto)]
+ghost use Rattle.std.specs.Prelude.{◌≡◌, ◌≢◌, true, false, IfOk};
+ghost use Rattle.report_lines.specs.declared.entry.Entry.{Entry};
+ghost use Rattle.report_lines.specs.Text.{entry_text};
+ghost use Rattle.report_lines.specs.Ranges.{IsEntry};
 
 use report_lines::{NoMemory, read, text};
 use std::alloc::Global;
 use std::{fs, io};
 
 /// Whether the line is read as an entry, and is the entry's text.
-fn is_entry(alloc: Global, line: &[u8]) -> Result<bool, NoMemory> {
+fn is_entry(alloc: Global, line: &[u8]) -> Result<bool, NoMemory>
+    ensures entry { IfOk result (λ is. is ≡ true → (entry : Entry) × (line.now ≡ entry_text entry)) }
+    ensures none { IfOk result (λ is. is ≡ false → (entry : Entry) → IsEntry entry → line.now ≢ entry_text entry) }
+{
     let Some(entry) = read(alloc, line)? else {
         return Ok(false);
     };
