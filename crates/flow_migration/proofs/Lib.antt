@@ -2,6 +2,7 @@ pub mod Desks
 pub mod Homes
 pub mod Keeps
 pub mod Passes
+pub mod Pumps
 pub mod Returns
 pub mod Sides
 pub mod Slots

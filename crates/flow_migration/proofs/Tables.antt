@@ -18,7 +18,7 @@ use Rattle.flow_migration.specs.declared.place.FlowNo.{FlowNo}
 use Rattle.flow_migration.specs.declared.place.HalfAside.{HalfAside}
 use Rattle.flow_migration.specs.Sides.{is_lost}
 use Rattle.flow_migration.specs.Desks.{sent_at, order_count, fulls_at, Given, Refused}
-use Rattle.flow_migration.specs.Places.{is_settled, waits_for, placed_at, at_end, to_end, accepted_by, place_at, parks_at, is_placed, Fits}
+use Rattle.flow_migration.specs.Places.{is_settled, waits_for, leaves, placed_at, at_end, to_end, accepted_by, place_at, parks_at, is_placed, Fits}
 use Rattle.flow_migration.specs.Keeps.{Stand, stand_of, Keeps, PlaceKeeps, MayGive, IsReady}
 use Rattle.flow_migration.specs.Steps.{Sends, Recalls, Serves, Goes, QueueRests, Empties, EmptiesPlaced, QueueTakes, Lands, Delivers, Accepts, no_item, Served, Drained, Moved, Gave, Homes, Welcomes, WelcomesAt}
 use Rattle.flow_migration.proofs.Desks.{given_more, refused_full, refused_sent}
@@ -552,6 +552,7 @@ module _ {H I : Type 0} (slot : H → ℕ) (item_slot : I → ℕ) (handled : H
         accepted = accepted;
         moved = moved;
         waits = ap waits_for state;
+        state = ap Some state;
         again = λ slice is some. empties_again before.state before.queue.items after.queue.items empties slice
             (sym (ap placed_at state) ∙ is) some;
       }
@@ -664,6 +665,14 @@ module _ {H I : Type 0} (slot : H → ℕ) (item_slot : I → ℕ) (handled : H
         | false ↦ λ e. let p = placed e in gave_placed room item answer own fits e moved admitted accepts p.0 p.1
       ] refl
 
+-- a state that isn't leaving a slice
+not_leaving : {H : Type 0} (slice : ℕ) (state : FlowState H) → ((to : ℕ) → state ≡ Leaving slice to → ⊥)
+    → leaves (Some state) ≡ Some slice → ⊥
+not_leaving slice (Front half to) never is = none_is_some slice is
+not_leaving slice (Placed at) never is = none_is_some slice is
+not_leaving slice (Recall at to) never is = none_is_some slice is
+not_leaving slice (Leaving from to) never is = never to (ap (λ n. Leaving n to) (ap number is))
+
 -- a half that came home, and its place
 module _ {H I : Type 0} (half : H) (slice : ℕ) where
   pub homed_place : (before after : FlowPlace H I) (back : Option H) → after.moved ≡ before.moved
@@ -693,6 +702,7 @@ module _ {H I : Type 0} (half : H) (slice : ℕ) where
       accepted =
           accepted i;
     }),
+    not_leaving slice before.state homes.2,
   )
 
   pub welcomed_at : (slot_of : H → ℕ) (s : ℕ) (aside : List (HalfAside H))
@@ -702,4 +712,4 @@ module _ {H I : Type 0} (half : H) (slice : ℕ) where
       → WelcomesAt slot_of half slice s aside places new back
   welcomed_at slot_of s aside places new place None within none is welcomes = (place, within, none, is, welcomes)
   welcomed_at slot_of s aside places new place (Some back) within none is welcomes =
-      (welcomes.0, is ∙ ap (set places s) welcomes.1 ∙ set-get_or places s None)
+      (welcomes.0, is ∙ ap (set places s) welcomes.1 ∙ set-get_or places s None, inl welcomes.2)

@@ -20,6 +20,19 @@ module _ {H : Type 0} where
   is_settled (Recall _ _) = false
   is_settled (Leaving _ _) = false
 
+  -- the slice that a half was told to leave
+  abbrev pub leaves : Option (FlowState H) → Option ℕ
+  leaves None = None
+  leaves (Some (Front _ _)) = None
+  leaves (Some (Placed _)) = None
+  leaves (Some (Recall _ _)) = None
+  leaves (Some (Leaving from _)) = Some from
+
+  -- no half is to come home
+  abbrev pub rests : Option (FlowState H) → Bool
+  rests None = true
+  rests (Some state) = is_settled state
+
   -- how many orders a state has still to give before its half rests at a slice
   abbrev pub pending : FlowState H → ℕ
   pending (Front _ _) = 1
@@ -65,6 +78,10 @@ module _ {H : Type 0} where
 module _ {H I : Type 0} where
   abbrev pub place_at : List (Option (FlowPlace H I)) → ℕ → Option (FlowPlace H I)
   place_at places slot = slice_index_or places slot None
+
+  abbrev pub state_at : Option (FlowPlace H I) → Option (FlowState H)
+  state_at None = None
+  state_at (Some place) = Some place.state
 
   -- the items that were accepted for a place, in order
   abbrev pub accepted_by : FlowPlace H I → List I

@@ -11,7 +11,7 @@ use Rattle.flow_migration.specs.declared.place.FlowState.TheVariants.{Front, Pla
 use Rattle.flow_migration.specs.declared.place.FlowNo.{FlowNo}
 use Rattle.flow_migration.specs.declared.place.FlowNo.TheVariants.{Full, NoMemory}
 use Rattle.flow_migration.specs.Desks.{fulls_at, Given, Refused}
-use Rattle.flow_migration.specs.Places.{place_at, accepted_by, parks_at, waits_at, queues_for, queue_at, moved_at, accepted_at, Fits}
+use Rattle.flow_migration.specs.Places.{place_at, accepted_by, parks_at, waits_at, queues_for, queue_at, moved_at, accepted_at, state_at, leaves, Fits}
 use Rattle.flow_migration.specs.declared.place.HalfAside.{HalfAside}
 use Rattle.flow_migration.specs.Sides.{is_lost}
 use Rattle.flow_migration.specs.Keeps.{Keeps, PlaceKeeps}
@@ -155,6 +155,7 @@ module _ {H I : Type 0} (slot_of : H → ℕ) (item_slot : I → ℕ) (handled :
     pub accepted : accepted_at new_place ≡ accepted_at place
     pub moved : moved_at new_place ≡ moved_at place
     pub waits : waits_at new_place ≡ waits_at place
+    pub state : state_at new_place ≡ state_at place
     pub again : (slice : ℕ) → queues_for new_place ≡ Some slice → 0 < length (queue_at new_place)
         → Rises (fulls_at old slice) (fulls_at new slice)
 
@@ -200,6 +201,7 @@ module _ {H I : Type 0} where
   -- the same of a place
   abbrev pub Welcomes : H → ℕ → Option (FlowPlace H I) → Option (FlowPlace H I) → Option H → Type 0
   Welcomes half slice place new_place (Some back) = (back ≡ half) × (new_place ≡ place)
+      × (leaves (state_at place) ≡ Some slice → ⊥)
   Welcomes half slice place new_place None =
       (before : FlowPlace H I) × (after : FlowPlace H I) × (to : ℕ) × (place ≡ Some before) × (new_place ≡ Some after)
       × (after.queue.items ≡ before.queue.items) × (accepted_by after ≡ accepted_by before)
@@ -210,6 +212,7 @@ module _ {H I : Type 0} where
   abbrev pub WelcomesAt : (H → ℕ) → H → ℕ → ℕ → List (HalfAside H) → List (Option (FlowPlace H I))
       → List (Option (FlowPlace H I)) → Option H → Type 0
   WelcomesAt slot_of half slice slot aside places new (Some back) = (back ≡ half) × (new ≡ places)
+      × ((leaves (state_at (place_at places slot)) ≡ Some slice → ⊥) ⊎ (is_lost slot_of slot aside ≡ true))
   WelcomesAt slot_of half slice slot aside places new None =
       (place : Option (FlowPlace H I)) × (slot < length places) × (is_lost slot_of slot aside ≡ false)
       × (new ≡ slice_set places slot place)

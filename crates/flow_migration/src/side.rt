@@ -57,8 +57,9 @@ pub struct FlowEnded<H: Flow> {
 impl<H: Flow> FlowSide<H> {
     ghost use Rattle.flow_migration.specs.Desks.{lanes_of, homes_of, fulls_at, order_count};
     ghost use Rattle.flow_core.specs.Counts.{Lasts};
-    ghost use Rattle.flow_migration.specs.Places.{place_at, is_admitted, parks_at, waits_at, accepted_count};
+    ghost use Rattle.flow_migration.specs.Places.{place_at, is_admitted, parks_at, waits_at, state_at, accepted_count};
     ghost use Rattle.flow_migration.specs.Steps.{Served, Drained, Moved, Gave, AtSlot, Grown};
+    ghost use Rattle.flow_migration.specs.Pumps.{EachState, Pumps, IsOffered, KeepsAside, TakesHome};
     ghost use Rattle.flow_migration.specs.Sides.{AllMetFull, QueuesMetFull, HomeEnded};
     ghost use Rattle.flow_migration.specs.Words.{desks_of, places_of, aside_of, queue_room_of, admitted_of, asked_of};
     ghost use Rattle.flow_migration.specs.Words.{refused_of, roll_of, accepts_of, moves_of, MetFull, Enters, Admits, TookOne};
@@ -137,6 +138,13 @@ impl<H: Flow> FlowSide<H> {
     /// and then sends what waits in the queues of placed slots, by slot.
     pub fn pump<R: Wait>(&mut self, rt: &R)
         ensures roll { roll_of H.name self.new ≡ roll_of H.name self.old }
+
+        // A half that its slot waited for stands at the front or was sent on, and only others are kept aside.
+        ensures states { EachState Pumps (places_of self.old) (places_of self.new) }
+        ensures aside { KeepsAside (λ half. H.slot_at (H.name half)) (places_of self.old) (places_of self.new)
+            (aside_of self.old) (aside_of self.new) }
+
+        // What waits on met a full lane, and no more came home than may at once.
         ensures full { AllMetFull (places_of self.new) (desks_of self.old) (desks_of self.new) }
         ensures queues { QueuesMetFull (places_of self.new) (desks_of self.old) (desks_of self.new) }
         ensures home { (slice : ℕ) → slice < length (desks_of self.old)
@@ -304,6 +312,7 @@ impl<H: Flow> FlowSide<H> {
         ensures roll { roll_of H.name self.new ≡ roll_of H.name self.old }
         ensures aside { aside_of self.new ≡ aside_of self.old }
         ensures homes { homes_of (desks_of self.new) ≡ homes_of (desks_of self.old) }
+        ensures states { EachState IsOffered (places_of self.old) (places_of self.new) }
         ensures full { AllMetFull (places_of self.new) (desks_of self.old) (desks_of self.new) }
         ensures lasts { (slice : ℕ) → Lasts (fulls_at (desks_of self.old) slice) (fulls_at (desks_of self.new) slice) }
     {
@@ -317,6 +326,8 @@ impl<H: Flow> FlowSide<H> {
         ensures roll { roll_of H.name self.new ≡ roll_of H.name self.old }
         ensures aside { aside_of self.new ≡ aside_of self.old }
         ensures homes { homes_of (desks_of self.new) ≡ homes_of (desks_of self.old) }
+        ensures states { (slot : ℕ) → state_at (place_at (places_of self.new) slot)
+            ≡ state_at (place_at (places_of self.old) slot) }
         ensures waits { (slot : ℕ) → waits_at (place_at (places_of self.new) slot)
             ≡ waits_at (place_at (places_of self.old) slot) }
         ensures queues { QueuesMetFull (places_of self.new) (desks_of self.old) (desks_of self.new) }
@@ -330,6 +341,8 @@ impl<H: Flow> FlowSide<H> {
     // Takes home what came, from each slice.
     fn take_all<R: Wait>(&mut self, rt: &R)
         ensures roll { roll_of H.name self.new ≡ roll_of H.name self.old }
+        ensures takes { TakesHome (λ half. H.slot_at (H.name half)) (places_of self.old)
+            (places_of self.new) (aside_of self.old) (aside_of self.new) }
         ensures home { (slice : ℕ) → slice < length (desks_of self.old)
             → HomeEnded (length (aside_of self.new)) (admitted_of self.new) slice (desks_of self.old)
             (desks_of self.new) }
@@ -344,6 +357,8 @@ impl<H: Flow> FlowSide<H> {
     fn take_from<R: Wait>(&mut self, rt: &R, slice: usize)
         requires { slice < vec_len self.old.desks }
         ensures roll { roll_of H.name self.new ≡ roll_of H.name self.old }
+        ensures takes { TakesHome (λ half. H.slot_at (H.name half)) (places_of self.old)
+            (places_of self.new) (aside_of self.old) (aside_of self.new) }
         ensures len { vec_len self.new.desks ≡ vec_len self.old.desks }
         ensures took { TookFrom slice (admitted_of self.new) (aside_of self.old) (aside_of self.new)
             (desks_of self.old) (desks_of self.new) }
@@ -359,6 +374,8 @@ impl<H: Flow> FlowSide<H> {
     fn take_one<R: Wait>(&mut self, rt: &R, slice: usize) -> bool
         requires { slice < vec_len self.old.desks }
         ensures roll { roll_of H.name self.new ≡ roll_of H.name self.old }
+        ensures takes { TakesHome (λ half. H.slot_at (H.name half)) (places_of self.old)
+            (places_of self.new) (aside_of self.old) (aside_of self.new) }
         ensures len { vec_len self.new.desks ≡ vec_len self.old.desks }
         ensures took { TookOne result slice (admitted_of self.new) (aside_of self.old) (aside_of self.new)
             (desks_of self.old) (desks_of self.new) }

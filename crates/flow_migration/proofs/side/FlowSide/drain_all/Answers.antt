@@ -1,6 +1,7 @@
 use Rattle.std.proofs.Common.{rules, ◌∙◌, inl, refl, arith}
 use Rattle.flow_core.proofs.Changes.{lasts_then}
 use Rattle.flow_migration.proofs.Passes.{Queues, meets_none, meets_more, meets_all, queues_not, waits_kept, drained_still}
+use Rattle.flow_migration.proofs.Pumps.{states_kept}
 use Rattle.flow_migration.proofs.side.FlowSide.drain_all.Goals as goal
 
 pub loop-slot-init : goal.loop-slot-init
@@ -11,6 +12,7 @@ loop-slot-init g c = (
   refl,
   λ slice. inl refl,
   meets_none Queues _ _,
+  λ slot. refl,
   λ slot. refl,
 )
 
@@ -27,6 +29,7 @@ loop-slot-preserved g c =
       meets_more Queues c.loop-slot.slot _ _ at.0 _ _ _ at.1 at.2 c.loop-slot.invariant.4 s.lasts
           (λ slice is. at.3.again slice is.0 is.1) c.loop-slot.invariant.5,
       λ slot. waits_kept _ _ at.0 c.loop-slot.slot at.1 at.2 at.3.waits slot ∙ c.loop-slot.invariant.6 slot,
+      λ slot. states_kept _ _ at.0 c.loop-slot.slot at.1 at.2 at.3.state slot ∙ c.loop-slot.invariant.7 slot,
     )
 
 pub returns-clause-queues : goal.returns-clause-queues
@@ -36,6 +39,9 @@ returns-clause-queues g c = λ slot slice is some.
 
 pub returns-clause-waits : goal.returns-clause-waits
 returns-clause-waits g c = c.loop-slot.invariant.6
+
+pub returns-clause-states : goal.returns-clause-states
+returns-clause-states g c = c.loop-slot.invariant.7
 
 pub returns-clause-lasts : goal.returns-clause-lasts
 returns-clause-lasts g c = c.loop-slot.invariant.4

@@ -1,7 +1,20 @@
-use Rattle.std.proofs.Common.{◌∙◌, ap}
+use Rattle.std.proofs.Common.{◌∙◌, ap, sym, subst}
+use Rattle.flow_migration.specs.Pumps.{KeepsAside}
 use Rattle.flow_migration.specs.Words.{Roll}
 use Rattle.flow_migration.proofs.Passes.{met_in_all, queues_in_all, ended_since}
+use Rattle.flow_migration.proofs.Pumps.{each_pumped, keeps_on}
 use Rattle.flow_migration.proofs.side.FlowSide.pump.Goals as goal
+
+pub returns-clause-states : goal.returns-clause-states
+returns-clause-states g c = each_pumped _ _ _ _ c.take_all.ensures.takes.states c.serve_all.ensures.states
+    c.drain_all.ensures.states
+
+pub returns-clause-aside : goal.returns-clause-aside
+returns-clause-aside g c = subst (KeepsAside (λ half. g.H.Flow.slot_at (g.H.Flow.name half))
+    c.args.self.now.places.items c.drain_all.new.self.places.items c.args.self.now.aside.items)
+    (sym (c.drain_all.ensures.aside ∙ c.serve_all.ensures.aside))
+    (keeps_on (λ half. g.H.Flow.slot_at (g.H.Flow.name half)) _ _ _ _ _ _ c.take_all.ensures.takes.states
+    c.serve_all.ensures.states c.drain_all.ensures.states c.take_all.ensures.takes.keeps)
 
 pub returns-clause-full : goal.returns-clause-full
 returns-clause-full g c = met_in_all _ _ _ _ _ _ c.take_all.ensures.fulls c.serve_all.ensures.full

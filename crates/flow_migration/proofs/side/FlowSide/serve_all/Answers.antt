@@ -1,6 +1,7 @@
 use Rattle.std.proofs.Common.{rules, ◌∙◌, inl, refl, arith}
 use Rattle.flow_core.proofs.Changes.{lasts_then}
 use Rattle.flow_migration.proofs.Passes.{Waits, meets_none, meets_more, meets_all, waits_not, served_still}
+use Rattle.flow_migration.proofs.Pumps.{each_offered_same, each_offered_then, each_served}
 use Rattle.flow_migration.proofs.side.FlowSide.serve_all.Goals as goal
 
 pub loop-slot-init : goal.loop-slot-init
@@ -10,6 +11,7 @@ loop-slot-init g c = (
   refl,
   refl,
   λ slice. inl refl,
+  each_offered_same _,
   meets_none Waits _ _,
 )
 
@@ -23,13 +25,18 @@ loop-slot-preserved g c =
       c.serve.ensures.homes ∙ c.loop-slot.invariant.2,
       search rules,
       λ slice. lasts_then _ _ _ (c.loop-slot.invariant.4 slice) (s.lasts slice),
+      each_offered_then _ _ _ c.loop-slot.invariant.5 (each_served (λ half. g.H.Flow.slot_at (g.H.Flow.name half))
+          g.H.Flow.item_slot g.H.Flow.handled _ _ at.0 c.loop-slot.slot _ _ at.1 at.2 at.3),
       meets_more Waits c.loop-slot.slot _ _ at.0 _ _ _ at.1 at.2 c.loop-slot.invariant.4 s.lasts at.3.again
-          c.loop-slot.invariant.5,
+          c.loop-slot.invariant.6,
     )
 
 pub returns-clause-full : goal.returns-clause-full
 returns-clause-full g c = meets_all Waits _ _ _ c.loop-slot.slot
-    (let a = c.loop-slot.self.places.ok in search (rules, arith)) waits_not c.loop-slot.invariant.5
+    (let a = c.loop-slot.self.places.ok in search (rules, arith)) waits_not c.loop-slot.invariant.6
+
+pub returns-clause-states : goal.returns-clause-states
+returns-clause-states g c = c.loop-slot.invariant.5
 
 pub returns-clause-lasts : goal.returns-clause-lasts
 returns-clause-lasts g c = c.loop-slot.invariant.4

@@ -1,6 +1,7 @@
 use Rattle.std.proofs.Common.{◌≡◌, ℕ, vec_len}
 use Rattle.flow_core.specs.Counts.{Lasts}
 use Rattle.flow_migration.specs.Desks.{homes_of, fulls_at}
+use Rattle.flow_migration.specs.Pumps.{EachState, IsOffered}
 use Rattle.flow_migration.specs.Words.{roll_of}
 use Rattle.flow_migration.proofs.Passes.{MeetsBelow, Waits}
 use Rattle.flow_migration.proofs.side.FlowSide.serve_all.Given as goal
@@ -12,4 +13,5 @@ invariant-loop-slot g l =
     × (homes_of l.self.desks.items ≡ homes_of l.fn.self.desks.items)
     × (vec_len l.self.places ≡ vec_len l.fn.self.places)
     × ((slice : ℕ) → Lasts (fulls_at l.fn.self.desks.items slice) (fulls_at l.self.desks.items slice))
+    × EachState IsOffered l.fn.self.places.items l.self.places.items
     × MeetsBelow Waits l.slot l.self.places.items l.fn.self.desks.items l.self.desks.items

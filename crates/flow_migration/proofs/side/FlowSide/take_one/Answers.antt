@@ -1,11 +1,13 @@
-use Rattle.std.proofs.Common.{rules, ◌≡◌, ◌∙◌, List, Option, refl, sym, ap, subst, map, arith}
+use Rattle.std.proofs.Common.{rules, ◌≡◌, ◌∙◌, inl, inr, List, Option, Some, refl, sym, ap, subst, map, arith}
 use Rattle.flow_migration.specs.declared.place.FlowPlace.{FlowPlace}
-use Rattle.flow_migration.specs.Places.{accepted_at, moved_at, names_of}
+use Rattle.flow_migration.specs.Places.{place_at, state_at, leaves, accepted_at, moved_at, names_of}
+use Rattle.flow_migration.specs.Pumps.{TakesHome}
 use Rattle.flow_migration.specs.Sides.{is_lost, IsFlowSide}
 use Rattle.flow_migration.proofs.Desks.{changed_lanes}
 use Rattle.flow_migration.proofs.Homes.{took_half, took_none, took_full}
 use Rattle.flow_migration.proofs.Returns.{came_home, kept_aside, none_home, welcomed_lists}
 use Rattle.flow_migration.proofs.Passes.{roll_same}
+use Rattle.flow_migration.proofs.Pumps.{takes_none, takes_welcome, takes_aside}
 use Rattle.flow_migration.proofs.side.FlowSide.take_one.Goals as goal
 
 pub invariant_of-self-in_default : goal.invariant_of-self-in_default
@@ -79,3 +81,33 @@ returns-in-None-clause-took g c =
 pub returns-then-len-self-clause-took : goal.returns-then-len-self-clause-took
 returns-then-len-self-clause-took g c = took_full c.args.slice _ _ _
     (let a = c.args.self.now.aside.ok in let b = c.args.self.now.laid.aside_few in search (rules, arith))
+
+pub returns-in_default-clause-takes : goal.returns-in_default-clause-takes
+returns-in_default-clause-takes g c = takes_none (λ half. g.H.Flow.slot_at (g.H.Flow.name half)) _ _
+
+pub returns-then-len-self-clause-takes : goal.returns-then-len-self-clause-takes
+returns-then-len-self-clause-takes g c = takes_none (λ half. g.H.Flow.slot_at (g.H.Flow.name half)) _ _
+
+pub returns-in-None-clause-takes : goal.returns-in-None-clause-takes
+returns-in-None-clause-takes g c =
+    let w = c.in-None.ensures in
+    takes_welcome (λ half. g.H.Flow.slot_at (g.H.Flow.name half)) _ _ w.0 c.slot-slot.result c.args.slice c.in-Some.half
+    _ w.1 w.3 w.4
+
+pub returns-in-Some-welcome_at-clause-takes : goal.returns-in-Some-welcome_at-clause-takes
+returns-in-Some-welcome_at-clause-takes g c =
+    let slot_of : g.row.H.Denot → _ = λ half. g.H.Flow.slot_at (g.H.Flow.name half) in
+    let w = c.in-Some-welcome_at.ensures in
+    let laws = g.met.H.Flow g.world.𝓛 g.world.𝓜 g.world.𝓡 ((λ s x. x), (λ x. x), (λ x. x), λ x. x) in
+    let same : c.deref.result.now ≡ c.args.self.now.aside.items = search rules in
+    let at = ap slot_of w.0 ∙ laws.half_slots c.in-Some.half ∙ sym c.slot-slot.ensures in
+    subst (λ (l : List (Option (FlowPlace _ _))). TakesHome slot_of c.args.self.now.places.items l
+    c.args.self.now.aside.items c.push_reserved.new.self.items) (sym w.1)
+    (takes_aside slot_of c.args.self.now.places.items _ c.args.self.now.aside.items _
+    (elim w.2 [
+      | inl never ↦ inl (λ is. never (subst (λ s. leaves (state_at (place_at c.args.self.now.places.items s))
+          ≡ Some c.args.slice) at is))
+      | inr another ↦ inr (ap (λ s. is_lost slot_of s c.args.self.now.aside.items) at
+          ∙ ap (λ f. is_lost f c.slot-slot.result c.args.self.now.aside.items) (λ i x. laws.half_slots x i)
+          ∙ ap (is_lost g.H.FlowKind.slot_of_half c.slot-slot.result) (sym same) ∙ another)
+    ]) c.push_reserved.ensures.items)

@@ -1,0 +1,67 @@
+-- What pumping makes of the state of each slot, and which halves it keeps aside.
+use Rattle.std.specs.Prelude.{◌≡◌, ℕ, ◌⊎◌, true, List, [], ◌∷◌, ◌++◌, Option, Some, None}
+use Rattle.flow_migration.specs.declared.place.FlowPlace.{FlowPlace}
+use Rattle.flow_migration.specs.declared.place.FlowState.{FlowState}
+use Rattle.flow_migration.specs.declared.place.FlowState.TheVariants.{Front, Placed, Recall, Leaving}
+use Rattle.flow_migration.specs.declared.place.HalfAside.{HalfAside}
+use Rattle.flow_migration.specs.Places.{place_at, state_at, leaves, rests}
+use Rattle.flow_migration.specs.Sides.{is_lost}
+
+module _ {H : Type 0} where
+  -- a half came home to a slot that was leaving a slice, or the state is as it was
+  abbrev pub ComesHome : FlowState H → FlowState H → Type 0
+  ComesHome (Front half to) now = now ≡ Front half to
+  ComesHome (Placed at) now = now ≡ Placed at
+  ComesHome (Recall at to) now = now ≡ Recall at to
+  ComesHome (Leaving from to) now = (now ≡ Leaving from to) ⊎ ((half : H) × (now ≡ Front half to))
+
+  -- the order that a state waits to give was sent, or the state is as it was
+  abbrev pub IsOffered : FlowState H → FlowState H → Type 0
+  IsOffered (Front half to) now = (now ≡ Front half to) ⊎ (now ≡ Placed to)
+  IsOffered (Placed at) now = now ≡ Placed at
+  IsOffered (Recall at to) now = (now ≡ Recall at to) ⊎ (now ≡ Leaving at to)
+  IsOffered (Leaving from to) now = now ≡ Leaving from to
+
+  -- what pumping makes of a state: no slot gets another destination, and none is told to leave that wasn't to
+  abbrev pub Pumps : FlowState H → FlowState H → Type 0
+  Pumps (Front half to) now = (now ≡ Front half to) ⊎ (now ≡ Placed to)
+  Pumps (Placed at) now = now ≡ Placed at
+  Pumps (Recall at to) now = (now ≡ Recall at to) ⊎ (now ≡ Leaving at to)
+  Pumps (Leaving from to) now = (now ≡ Leaving from to) ⊎ ((half : H) × (now ≡ Front half to)) ⊎ (now ≡ Placed to)
+
+  -- the same where there is a place
+  abbrev pub AtState : (FlowState H → FlowState H → Type 0) → Option (FlowState H) → Option (FlowState H) → Type 0
+  AtState Step None new = new ≡ None
+  AtState Step (Some state) new = (now : FlowState H) × (new ≡ Some now) × Step state now
+
+module _ {H I : Type 0} where
+  -- the same of each slot
+  abbrev pub EachState : (FlowState H → FlowState H → Type 0) → List (Option (FlowPlace H I))
+      → List (Option (FlowPlace H I)) → Type 0
+  EachState Step places new = (slot : ℕ) → AtState Step (state_at (place_at places slot)) (state_at (place_at new slot))
+
+module _ {H I : Type 0} (slot_of : H → ℕ) (places new_places : List (Option (FlowPlace H I))) where
+  -- a half that is kept aside behind others: where its slot was leaving the slice that it came from, one came home
+  -- before it; or one of its slot is among the others
+  abbrev pub IsUnawaited : List (HalfAside H) → HalfAside H → Type 0
+  IsUnawaited others kept =
+      (leaves (state_at (place_at places (slot_of kept.half))) ≡ Some kept.slice
+      → rests (state_at (place_at new_places (slot_of kept.half))) ≡ true)
+      ⊎ (is_lost slot_of (slot_of kept.half) others ≡ true)
+
+  -- the same of each of these, one after another
+  abbrev pub AreUnawaited : List (HalfAside H) → List (HalfAside H) → Type 0
+  AreUnawaited others [] = Unit {0}
+  AreUnawaited others (kept ∷ more) = IsUnawaited others kept × AreUnawaited (others ++ kept ∷ []) more
+
+  -- no half that its slot waited for was kept aside
+  pub record KeepsAside (aside new_aside : List (HalfAside H)) : Type 0 where
+    pub more : List (HalfAside H)
+    pub kept : new_aside ≡ aside ++ more
+    pub unawaited : AreUnawaited aside more
+
+-- halves came home, and no order was offered
+pub record TakesHome {H I : Type 0} (slot_of : H → ℕ) (places new_places : List (Option (FlowPlace H I)))
+    (aside new_aside : List (HalfAside H)) : Type 0 where
+  pub states : EachState ComesHome places new_places
+  pub keeps : KeepsAside slot_of places new_places aside new_aside
