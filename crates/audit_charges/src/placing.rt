@@ -1,6 +1,7 @@
 //! In which epoch an effect or a charging record stands: in that of the last entry of a line before it in the
 //! report, and in the first one where there is none.
-ghost use Rattle.std.specs.Prelude.{◌≡◌, ℕ, ◌++◌, ◌<◌, ◌^◌, ◌∷◌, [], All, List, length, map, filter_map, IfOk, OnOk};
+ghost use Rattle.std.specs.Prelude.{◌≡◌, ℕ, ◌++◌, ◌<◌, ◌^◌, ◌∷◌, [], All, List, length, map};
+ghost use Rattle.std.specs.Prelude.{filter_map, IfOk, OnOk};
 ghost use Rattle.demux.specs.Trace.{Meaning};
 ghost use Rattle.audit_lines.specs.Meant.{lines_of};
 ghost use Rattle.audit_sentences.specs.Entries.{line_of, epoch_at, epoch_behind, effect_in, row_in, effects_told, rows_told, opens_told};

@@ -1,11 +1,13 @@
 -- All epochs, one after another.
-use Rattle.std.specs.Prelude.{◌≡◌, ℕ, ◌+◌, ◌<◌, ◌≤◌, ◌^◌, ◌↔◌, Bool, IsTrue, All, List, [], ◌++◌, length, map}
+use Rattle.std.specs.Prelude.{◌≡◌, ℕ, ◌+◌, ◌<◌, ◌≤◌, ◌^◌, ◌↔◌, Bool, IsTrue, All, List, []}
+use Rattle.std.specs.Prelude.{◌++◌, length, map}
 use Rattle.lawful_run.specs.Order.{Histories}
 use Rattle.lawful_run.specs.Run.{no_events}
 use Rattle.lawful_run.specs.LinesTold.{LineTold}
 use Rattle.audit_lines.specs.Meant.{lines_of}
 use Rattle.audit_lines.specs.declared.told.Told.{Told}
-use Rattle.audit_sentences.specs.Sentences.{AreNumbered, CountsAreLawful, AreOfTheGateway, WaitsAreLawful, EachEpoch, behind_epochs, made_epochs}
+use Rattle.audit_sentences.specs.Sentences.{AreNumbered, CountsAreLawful, AreOfTheGateway, WaitsAreLawful, EachEpoch}
+use Rattle.audit_sentences.specs.Sentences.{behind_epochs, made_epochs}
 use Rattle.audit_charges.specs.Agreeing.{IsBySlot}
 use Rattle.audit_charges.specs.Made.{epoch_made, meanings, meanings_made}
 use Rattle.audit_reading.specs.Holding.{AreKnownTold}

@@ -1,5 +1,6 @@
 //! The sentences of the lawful run, epoch after epoch.
-ghost use Rattle.std.specs.Prelude.{◌≡◌, ℕ, ◌+◌, ◌<◌, ◌≤◌, ◌^◌, ◌∷◌, ◌++◌, ◌↔◌, List, length, map, IfOk, OnOk};
+ghost use Rattle.std.specs.Prelude.{◌≡◌, ℕ, ◌+◌, ◌<◌, ◌≤◌, ◌^◌, ◌∷◌, ◌++◌, ◌↔◌};
+ghost use Rattle.std.specs.Prelude.{List, length, map, IfOk, OnOk};
 ghost use Rattle.demux.specs.Trace.{Meaning, book_of};
 ghost use Rattle.lawful_run.specs.Job.{slices_of};
 ghost use Rattle.lawful_run.specs.LinesTold.{LineTold};

@@ -1,5 +1,6 @@
 //! A slot in an epoch: what its lines tell, held against what its events lead to.
-ghost use Rattle.std.specs.Prelude.{◌≡◌, ℕ, ◌+◌, ◌<◌, ◌^◌, ◌++◌, ◌∷◌, ◌↔◌, [], List, filter_map, length, IfOk, IsTrue, OnOk};
+ghost use Rattle.std.specs.Prelude.{◌≡◌, ℕ, ◌+◌, ◌<◌, ◌^◌, ◌++◌, ◌∷◌, ◌↔◌, [], List};
+ghost use Rattle.std.specs.Prelude.{filter_map, length, IfOk, IsTrue, OnOk};
 ghost use Rattle.gate_model.specs.declared.event.Event.{Event};
 ghost use Rattle.lawful_run.specs.Accepted.{commands_before};
 ghost use Rattle.lawful_run.specs.LinesTold.{EachLine, LineTold};

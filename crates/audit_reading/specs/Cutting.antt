@@ -1,5 +1,6 @@
 -- How the lines of a trace are read, one after another, and cut into epochs.
-use Rattle.std.specs.Prelude.{◌≡◌, ℕ, ◌<◌, ◌==◌, true, false, if◌then◌else◌, All, List, [], ◌++◌, length, flat_map, get_or}
+use Rattle.std.specs.Prelude.{◌≡◌, ℕ, ◌<◌, ◌==◌, true, false, if◌then◌else◌, All, List, [], ◌++◌}
+use Rattle.std.specs.Prelude.{length, flat_map, get_or}
 use Rattle.trace_lines.specs.Epochs.{epochs_behind, epochs_of, octets_in}
 use Rattle.trace_lines.specs.Line.{Line}
 use Rattle.demux.specs.Texts.{move_note}

@@ -1,5 +1,6 @@
 -- What may wait behind the lines of an epoch, counted from line to line.
-use Rattle.std.specs.Prelude.{◌≡◌, ℕ, ◌+◌, ◌*◌, ◌<◌, ◌≤◌, ◌==◌, ◌&&◌, ◌||◌, nat_le, Bool, true, false, if◌then◌else◌, List, length, filter_map, get_or}
+use Rattle.std.specs.Prelude.{◌≡◌, ℕ, ◌+◌, ◌*◌, ◌<◌, ◌≤◌, ◌==◌, ◌&&◌, ◌||◌, nat_le}
+use Rattle.std.specs.Prelude.{Bool, true, false, if◌then◌else◌, List, length, filter_map, get_or}
 use Rattle.std.specs.List.{list_any}
 use Rattle.demux.specs.Trace.{Meaning, command, packet, move, note}
 use Rattle.report_lines.specs.declared.entry.LineEntry.{LineEntry}

@@ -1,5 +1,6 @@
 //! The first sentence: each line has one entry, in its words.
-ghost use Rattle.std.specs.Prelude.{◌≡◌, ℕ, ◌+◌, ◌<◌, ◌^◌, ◌↔◌, [], List, drop, length, IfOk, IfSome, IsSome, option_map};
+ghost use Rattle.std.specs.Prelude.{◌≡◌, ℕ, ◌+◌, ◌<◌, ◌^◌, ◌↔◌, [], List, drop, length, IfOk};
+ghost use Rattle.std.specs.Prelude.{IfSome, IsSome, option_map};
 ghost use Rattle.report_lines.specs.declared.entry.LineEntry.{LineEntry};
 ghost use Rattle.audit_lines.specs.Meant.{lines_of, meaning_of};
 ghost use Rattle.audit_reading.specs.Answering.{answers, is_note, is_refusal, matched_all, matched_on};

@@ -1,5 +1,6 @@
 //! What the lines of a trace mean, epoch by epoch.
-ghost use Rattle.std.specs.Prelude.{◌≡◌, ℕ, ◌+◌, ◌≤◌, ◌<◌, ◌^◌, ◌∷◌, ◌++◌, [], if◌then◌else◌, IfOk, OnOk, List, codes, length, get_or, set};
+ghost use Rattle.std.specs.Prelude.{◌≡◌, ℕ, ◌+◌, ◌≤◌, ◌<◌, ◌^◌, ◌∷◌, ◌++◌, []};
+ghost use Rattle.std.specs.Prelude.{if◌then◌else◌, IfOk, OnOk, List, codes, length, get_or, set};
 ghost use Rattle.trace_lines.specs.Epochs.{ends_epoch};
 ghost use Rattle.trace_lines.specs.Line.{Line};
 ghost use Rattle.trace_lines.specs.Text.{line_text};

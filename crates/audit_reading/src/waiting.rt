@@ -1,5 +1,6 @@
 //! Of the sixth sentence: where a line may be refused.
-ghost use Rattle.std.specs.Prelude.{◌≡◌, ℕ, ◌+◌, ◌<◌, ◌≤◌, ◌^◌, ◌∷◌, ◌++◌, ◌↔◌, [], IfOk, IsTrue, List, length};
+ghost use Rattle.std.specs.Prelude.{◌≡◌, ℕ, ◌+◌, ◌<◌, ◌≤◌, ◌^◌, ◌∷◌, ◌++◌, ◌↔◌, []};
+ghost use Rattle.std.specs.Prelude.{IfOk, IsTrue, List, length};
 ghost use Rattle.lawful_run.specs.Answers.{Answers};
 ghost use Rattle.lawful_run.specs.LinesTold.{EachLine, LineTold};
 ghost use Rattle.lawful_run.specs.Refusals.{RefusedAs, RefusedWhereFull};
@@ -7,7 +8,8 @@ ghost use Rattle.audit_lines.specs.Meant.{line_told, lines_of};
 ghost use Rattle.audit_lines.specs.OfSlot.{AreAnswered};
 ghost use Rattle.audit_reading.specs.Holding.{AreKnownTold, IsKnown};
 ghost use Rattle.audit_reading.specs.Rules.{job_of};
-ghost use Rattle.audit_reading.specs.Waiting.{AllWait, AreWaiting, SlotWaits, load_by, may_refuse, one_new, one_taken, refused_well, waiting_by};
+ghost use Rattle.audit_reading.specs.Waiting.{AllWait, AreWaiting, SlotWaits, load_by, may_refuse, one_new, one_taken};
+ghost use Rattle.audit_reading.specs.Waiting.{refused_well, waiting_by};
 
 use crate::NoMemory;
 use crate::rule::Rule;

@@ -1,6 +1,7 @@
 //! A slot that is replayed: the events of an epoch in the order that its packets' counts tell, through the plain
 //! gateway.
-ghost use Rattle.std.specs.Prelude.{◌≡◌, ◌==◌, ℕ, ◌+◌, ◌-◌, ◌<◌, ◌≤◌, ◌^◌, ◌∷◌, ◌++◌, [], List, length, map, min, find, filter_map, option_copied, IfOk, OnOk};
+ghost use Rattle.std.specs.Prelude.{◌≡◌, ◌==◌, ℕ, ◌+◌, ◌-◌, ◌<◌, ◌≤◌, ◌^◌, ◌∷◌};
+ghost use Rattle.std.specs.Prelude.{◌++◌, [], List, length, map, min, find, filter_map, option_copied, IfOk, OnOk};
 ghost use Rattle.charging_book.specs.Rows.{Counters};
 ghost use Rattle.gate_model.specs.declared.event.Event.{Event};
 ghost use Rattle.gate_model.specs.SlotPast.{records_made};
@@ -9,7 +10,8 @@ ghost use Rattle.lawful_run.specs.Outcomes.{effect_entry, open_counters};
 ghost use Rattle.pc_base.specs.declared.effect.Effect.{Effect};
 ghost use Rattle.pc_base.specs.declared.packet.Verdict.{Verdict};
 ghost use Rattle.pc_base.specs.declared.reply.Reply.{Reply};
-ghost use Rattle.audit_replay.specs.Playing.{CanGoOn, CanPlay, HasPlayed, IsBehind, IsLedTo, Notes, Plays, commands_lent, counters_of, effects_made, events_of, placed_lent};
+ghost use Rattle.audit_replay.specs.Playing.{CanGoOn, CanPlay, HasPlayed, IsBehind, IsLedTo, Notes, Plays, commands_lent};
+ghost use Rattle.audit_replay.specs.Playing.{counters_of, effects_made, events_of, placed_lent};
 
 use bearer_state::ActiveBearer;
 use charging_book::{Book, ChargeRow, Open};

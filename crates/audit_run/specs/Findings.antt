@@ -1,5 +1,6 @@
 -- What an audit finds.
-use Rattle.std.specs.Prelude.{◌≡◌, ℕ, ◌+◌, ◌≤◌, ◌⊎◌, List, [], ◌∷◌, ◌++◌, length, Option, None, Some, codes}
+use Rattle.std.specs.Prelude.{◌≡◌, ℕ, ◌+◌, ◌≤◌, ◌⊎◌, List, [], ◌∷◌, ◌++◌, length, Option}
+use Rattle.std.specs.Prelude.{None, Some, codes}
 use Rattle.pc_outside.specs.Limits.{newline}
 use Rattle.demux.specs.Trace.{book_of}
 use Rattle.report_lines.specs.declared.entry.Entry.{Entry}

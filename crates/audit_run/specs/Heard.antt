@@ -1,5 +1,6 @@
 -- What was heard of the lines of an input.
-use Rattle.std.specs.Prelude.{◌≡◌, ℕ, ◌+◌, Bool, true, false, List, [], ◌∷◌, ◌++◌, length, All, Option, None, Some, bytes_eq, if◌then◌else◌}
+use Rattle.std.specs.Prelude.{◌≡◌, ℕ, ◌+◌, Bool, true, false, List, [], ◌∷◌, ◌++◌, length, All, Option}
+use Rattle.std.specs.Prelude.{None, Some, bytes_eq, if◌then◌else◌}
 use Rattle.report_lines.specs.declared.entry.Entry.{Entry}
 use Rattle.trace_lines.specs.Input.{after_lines}
 use Rattle.trace_lines.specs.Line.{Line}

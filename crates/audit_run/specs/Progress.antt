@@ -1,5 +1,6 @@
 -- How far an input was read.
-use Rattle.std.specs.Prelude.{◌≡◌, ℕ, ◌+◌, ◌<◌, ◌≤◌, ◌^◌, List, [], ◌++◌, length, Option, None, Some, Result, Ok, Err, vec_len}
+use Rattle.std.specs.Prelude.{◌≡◌, ℕ, ◌+◌, ◌<◌, ◌≤◌, ◌^◌, List, [], ◌++◌, length, Option, None}
+use Rattle.std.specs.Prelude.{Some, Result, Ok, Err, vec_len}
 use Rattle.pc_outside.specs.declared.writing.WriteFault.{WriteFault}
 use Rattle.audit_run.specs.Heard.{HasHeard}
 use Rattle.audit_run.specs.Report.{IsReadWhole, IsTaken, WhereTold}

@@ -1,5 +1,6 @@
 //! An audit from its input to its finding.
-ghost use Rattle.std.specs.Prelude.{◌≡◌, ◌+◌, ◌<◌, ◌≤◌, ◌^◌, ℕ, List, [], Option, vec_len, false, IfOk, IfSome, OnOk, OnErr, Ok};
+ghost use Rattle.std.specs.Prelude.{◌≡◌, ◌+◌, ◌<◌, ◌≤◌, ◌^◌, ℕ, List, [], Option, vec_len, false};
+ghost use Rattle.std.specs.Prelude.{IfOk, IfSome, OnOk, OnErr, Ok};
 ghost use Rattle.std.specs.Io.KnownBytes.{Appends};
 ghost use Rattle.pc_outside.specs.Faults.{Rises};
 ghost use Rattle.pc_outside.specs.Fronts.{AppendsFront};

@@ -23,7 +23,8 @@ pub(crate) struct Heard {
 }
 
 impl Heard {
-    ghost use Rattle.std.specs.Prelude.{◌≡◌, ◌+◌, ◌<◌, ◌≤◌, ◌^◌, ◌⊎◌, ◌++◌, ◌∷◌, [], List, vec_len, length, bytes_eq, Some, Err, OnOk, OnErr, true, false};
+    ghost use Rattle.std.specs.Prelude.{◌≡◌, ◌+◌, ◌<◌, ◌≤◌, ◌^◌, ◌⊎◌, ◌++◌, ◌∷◌, []};
+    ghost use Rattle.std.specs.Prelude.{List, vec_len, length, bytes_eq, Some, Err, OnOk, OnErr, true, false};
     ghost use Rattle.trace_lines.specs.declared.bad.LineBad.TheVariants.{NoMemory};
     ghost use Rattle.audit_run.specs.Heard.{HasHeard, StopsAt};
     ghost use Rattle.audit_run.specs.Said.{marker};

@@ -1,6 +1,7 @@
 -- The six sentences of the lawful run, over the entries of a report as they were read. Each is read only where those
 -- before it hold.
-use Rattle.std.specs.Prelude.{◌≡◌, ℕ, zero, suc, ◌+◌, ◌==◌, ◌<◌, List, [], ◌∷◌, length, map, filter, All, Contains}
+use Rattle.std.specs.Prelude.{◌≡◌, ℕ, zero, suc, ◌+◌, ◌==◌, ◌<◌, List, [], ◌∷◌, length, map, filter}
+use Rattle.std.specs.Prelude.{All, Contains}
 use Rattle.demux.specs.Trace.{Meaning}
 use Rattle.gate_model.specs.Events.{commands_of, packets_of}
 use Rattle.report_lines.specs.Records.{Effected}

@@ -33,14 +33,16 @@ impl Model for Bearers {
 }
 
 impl Bearers {
-    ghost use Rattle.std.specs.Prelude.{◌≡◌, ◌≢◌, ◌<◌, false, [], ◌∷◌, map, OnOk, OnErr, IfOk, IfSome, IfNone, Some, None, length, ◌≤◌};
+    ghost use Rattle.std.specs.Prelude.{◌≡◌, ◌≢◌, ◌<◌, false, [], ◌∷◌, map, OnOk, OnErr, IfOk, IfSome};
+    ghost use Rattle.std.specs.Prelude.{IfNone, Some, None, length, ◌≤◌};
     ghost use Rattle.std.specs.List.{AllByRecursion, find};
     ghost use Rattle.std.specs.Option.{option_copied};
     ghost use Rattle.bearer_state.specs.declared.bearer.Bearer.{Bearer};
     ghost use Rattle.bearer_state.specs.Ask.{AreAsks};
     ghost use Rattle.bearer_state.specs.Bearer.{AreBearers, IsBearer, IsEbi, index_of, is_active, is_asked};
     ghost use Rattle.bearer_state.specs.Qos.{IsQos};
-    ghost use Rattle.bearer_state.specs.Lookup.{at_index, least_free, has_index, has_active, has_dedicated, has_asked, is_dedicated, active_index, default_of};
+    ghost use Rattle.bearer_state.specs.Lookup.{at_index, least_free, has_index, has_active, has_dedicated, has_asked};
+    ghost use Rattle.bearer_state.specs.Lookup.{is_dedicated, active_index, default_of};
     ghost use Rattle.bearer_state.specs.Changes.{placed, with_first, without_first, unbound, rebound_bearer, filtered, granted_bearer};
 
     /// No bearers.

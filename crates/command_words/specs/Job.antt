@@ -1,5 +1,6 @@
 -- The job that words ask for.
-use Rattle.std.specs.Prelude.{◌≡◌, ℕ, ◌≤◌, Bool, true, false, IsTrue, List, [], ◌∷◌, find, Option, Some, None, is_some, ◌||◌, option_and_then, option_map, if◌then◌else◌, codes}
+use Rattle.std.specs.Prelude.{◌≡◌, ℕ, ◌≤◌, Bool, true, false, IsTrue, List, [], ◌∷◌, find, Option, Some}
+use Rattle.std.specs.Prelude.{None, is_some, ◌||◌, option_and_then, option_map, if◌then◌else◌, codes}
 use Rattle.std.specs.Option.{option_map_or}
 use Rattle.std.specs.Str.{bytes_eq}
 use Rattle.text_fields.specs.Number.{number_in}
@@ -92,4 +93,5 @@ IsInRange (job.Make seed subs lines summary) = (1 ≤ subs) × (subs ≤ 65533) 
 IsInRange job.Import = Unit {0}
 IsInRange job.Export = Unit {0}
 IsInRange (job.Audit solo slices room lane) =
-    (1 ≤ slices) × (slices ≤ 64) × (IsTrue solo → slices ≡ 64) × (1 ≤ room) × (room ≤ 256) × (1 ≤ lane) × (lane ≤ 16384)
+    (1 ≤ slices) × (slices ≤ 64) × (IsTrue solo → slices ≡ 64) × (1 ≤ room) × (room ≤ 256) × (1 ≤ lane)
+    × (lane ≤ 16384)

@@ -1,5 +1,6 @@
 -- Which of the items that were taken are applied: all but the one that is kept at the head.
-use Rattle.std.specs.Prelude.{◌≡◌, ℕ, ◌+◌, ◌≤◌, ◌<◌, ◌^◌, Option, Some, None, List, [], ◌∷◌, ◌++◌, length}
+use Rattle.std.specs.Prelude.{◌≡◌, ℕ, ◌+◌, ◌≤◌, ◌<◌, ◌^◌, Option, Some, None, List, [], ◌∷◌}
+use Rattle.std.specs.Prelude.{◌++◌, length}
 use Rattle.std.specs.Prelude.{option_to_list}
 use Rattle.pc_base.specs.declared.numbered.Numbered.{Ghosts}
 use Rattle.bearer_state.specs.Session.{SessionState, HasRoom}

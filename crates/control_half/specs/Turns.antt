@@ -1,5 +1,6 @@
 -- What a turn came to, and why it stopped.
-use Rattle.std.specs.Prelude.{◌≡◌, ◌≢◌, ℕ, Bool, true, false, ◌+◌, ◌<◌, ◌≤◌, ◌⊎◌, Option, Some, None, List, [], ◌∷◌}
+use Rattle.std.specs.Prelude.{◌≡◌, ◌≢◌, ℕ, Bool, true, false, ◌+◌, ◌<◌, ◌≤◌, ◌⊎◌, Option}
+use Rattle.std.specs.Prelude.{Some, None, List, [], ◌∷◌}
 use Rattle.std.specs.Prelude.{◌++◌, length}
 use Rattle.lane_core.specs.declared.did.Did.{Did}
 use Rattle.lane_core.specs.declared.did.Did.TheVariants.{Idle, Held, Worked}

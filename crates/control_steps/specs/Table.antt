@@ -20,11 +20,17 @@ use Rattle.bearer_state.specs.Changes as changes
 use Rattle.bearer_state.specs.Lookup.{least_free, default_of}
 use Rattle.bearer_state.specs.Session.{SessionState}
 use Rattle.control_steps.specs.declared.command.CommandKind.{CommandKind}
-use Rattle.control_steps.specs.declared.command.CommandKind.TheVariants.{Attach, Create, Modify, Release, Delete, AddBearer, Filters, Drop, Ambr, CreateAns}
-use Rattle.control_steps.specs.declared.cause.TheConstants.{REQUEST_ACCEPTED, CONTEXT_NOT_FOUND, PREFERRED_PDN_TYPE_NOT_SUPPORTED, REQUEST_REJECTED}
+use Rattle.control_steps.specs.declared.command.CommandKind.TheVariants.{Attach, Create, Modify, Release, Delete, AddBearer}
+use Rattle.control_steps.specs.declared.command.CommandKind.TheVariants.{Filters, Drop, Ambr, CreateAns}
+use Rattle.control_steps.specs.declared.cause.TheConstants.{REQUEST_ACCEPTED, CONTEXT_NOT_FOUND}
+use Rattle.control_steps.specs.declared.cause.TheConstants.{PREFERRED_PDN_TYPE_NOT_SUPPORTED, REQUEST_REJECTED}
 use Rattle.control_steps.specs.Command.{request_of}
-use Rattle.control_steps.specs.Messages.{cause_alone, create_session_response, modify_bearer_response, create_bearer_request, update_bearer_request, delete_bearer_request}
-use Rattle.control_steps.specs.Row.{Row, repeated, pdn_refused, class_refused, created, attached, no_session, no_bearer, modified, released, deleted, not_asked, asked, not_refiltered, refiltered, not_dropped, dropped, not_rerated, rerated, unasked, granted, denied, noted, filters_given, filters_made, row_of}
+use Rattle.control_steps.specs.Messages.{cause_alone, create_session_response, modify_bearer_response, create_bearer_request}
+use Rattle.control_steps.specs.Messages.{update_bearer_request, delete_bearer_request}
+use Rattle.control_steps.specs.Row.{Row, repeated, pdn_refused, class_refused, created, attached, no_session, no_bearer}
+use Rattle.control_steps.specs.Row.{modified, released, deleted, not_asked, asked, not_refiltered, refiltered, not_dropped}
+use Rattle.control_steps.specs.Row.{dropped, not_rerated, rerated, unasked, granted, denied, noted, filters_given}
+use Rattle.control_steps.specs.Row.{filters_made, row_of}
 
 -- the default bearer of an ordered attach: EBI 5, class 9, priority level 9 with both flags of pre-emption 0
 abbrev pub ordered_ebi : ℕ

@@ -1,5 +1,6 @@
 //! Versions are learnt, and packets handled.
-ghost use Rattle.std.specs.Prelude.{◌≡◌, ◌+◌, ◌<◌, ◌≤◌, ◌⊎◌, [], ◌∷◌, ◌++◌, true, false, None, length, map, IfOk, OnOk, OnErr, IsTrue, IsFalse};
+ghost use Rattle.std.specs.Prelude.{◌≡◌, ◌+◌, ◌<◌, ◌≤◌, ◌⊎◌, [], ◌∷◌, ◌++◌, true, false};
+ghost use Rattle.std.specs.Prelude.{None, length, map, IfOk, OnOk, OnErr, IsTrue, IsFalse};
 ghost use Rattle.lane_core.specs.Ends.{taken, empty_answers, raised};
 ghost use Rattle.flow_core.specs.Counts.{learns_after};
 ghost use Rattle.control_half.specs.Turns.{size as left_in};

@@ -1,5 +1,6 @@
 //! One version more, and one packet more.
-ghost use Rattle.std.specs.Prelude.{◌≡◌, ℕ, ◌+◌, ◌<◌, ◌≤◌, ◌^◌, [], ◌∷◌, ◌++◌, true, false, length, map, IfOk, IfSome, OnOk, OnErr};
+ghost use Rattle.std.specs.Prelude.{◌≡◌, ℕ, ◌+◌, ◌<◌, ◌≤◌, ◌^◌, [], ◌∷◌, ◌++◌, true};
+ghost use Rattle.std.specs.Prelude.{false, length, map, IfOk, IfSome, OnOk, OnErr};
 ghost use Rattle.packet_steps.specs.Past.{Past};
 ghost use Rattle.packet_steps.specs.Verdicts.{judged};
 ghost use Rattle.packet_steps.specs.Standing.{StandsFor, AreFew, last_of};

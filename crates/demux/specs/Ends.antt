@@ -1,5 +1,6 @@
 -- Whose a TEID and an address of the gateway are: the way back from what a slot was given.
-use Rattle.std.specs.Prelude.{ℕ, ◌-◌, ◌/◌, ◌%◌, ◌==◌, ◌&&◌, Bool, nat_lt, nat_le, if◌then◌else◌, Option, Some, None}
+use Rattle.std.specs.Prelude.{ℕ, ◌-◌, ◌/◌, ◌%◌, ◌==◌, ◌&&◌, Bool, nat_lt, nat_le, if◌then◌else◌}
+use Rattle.std.specs.Prelude.{Option, Some, None}
 
 -- sixteen TEIDs are a slot's, from 16 on
 abbrev pub is_given : ℕ → Bool

@@ -1,10 +1,12 @@
 -- What octets of the MME ask (S11, TS 29.274).
-use Rattle.std.specs.Prelude.{ℕ, ◌==◌, ◌||◌, if◌then◌else◌, Option, Some, None, option_map, option_and_then, List, [], ◌∷◌, codes}
+use Rattle.std.specs.Prelude.{ℕ, ◌==◌, ◌||◌, if◌then◌else◌, Option, Some, None, option_map, option_and_then}
+use Rattle.std.specs.Prelude.{List, [], ◌∷◌, codes}
 use Rattle.tft_codec.specs.Reading.{◌>>=◌}
 use Rattle.gtpv2_ie.specs.declared.cause_value.TheConstants.{ALL_DYNAMIC_ADDRESSES_ARE_OCCUPIED}
 use Rattle.gtpv2_ie.specs.declared.value.IeValue.TheVariants as values
 use Rattle.gtpv2_msg.specs.declared.fault.CBad.{CBad}
-use Rattle.gtpv2_msg.specs.declared.kind.TheConstants.{ECHO_REQUEST, ECHO_RESPONSE, CREATE_SESSION_REQUEST, DOWNLINK_DATA_NOTIFICATION_ACKNOWLEDGE}
+use Rattle.gtpv2_msg.specs.declared.kind.TheConstants.{ECHO_REQUEST, ECHO_RESPONSE, CREATE_SESSION_REQUEST}
+use Rattle.gtpv2_msg.specs.declared.kind.TheConstants.{DOWNLINK_DATA_NOTIFICATION_ACKNOWLEDGE}
 use Rattle.gtpv2_msg.specs.Kinds.{is_request}
 use Rattle.gtpv2_msg.specs.Message.{Message}
 use Rattle.gtpv2_msg.specs.Refusal.{first_fault, refusal_of}

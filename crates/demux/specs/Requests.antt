@@ -1,6 +1,7 @@
 -- What a message of the MME asks, by its elements (TS 29.274, 7.2). Of those that are repeated the first counts, and
 -- of a Bearer Context the first F-TEID of the eNodeB's interface.
-use Rattle.std.specs.Prelude.{ℕ, ◌==◌, not, Bool, if◌then◌else◌, Option, Some, None, option_map, option_and_then, List, [], ◌∷◌, ◌++◌, filter, find}
+use Rattle.std.specs.Prelude.{ℕ, ◌==◌, not, Bool, if◌then◌else◌, Option, Some, None, option_map, option_and_then}
+use Rattle.std.specs.Prelude.{List, [], ◌∷◌, ◌++◌, filter, find}
 use Rattle.std.specs.List.{filter_map, list_any}
 use Rattle.tft_codec.specs.Reading.{◌>>=◌}
 use Rattle.pc_base.specs.declared.packet.Peer.{Peer}
@@ -13,7 +14,9 @@ use Rattle.gtpv2_ie.specs.declared.value.IeValue.TheVariants as values
 use Rattle.gtpv2_ie.specs.Element.{Element}
 use Rattle.gtpv2_msg.specs.Lookup.{first_value, context_value, first_context, contexts_of}
 use Rattle.gtpv2_msg.specs.Message.{Message}
-use Rattle.gtpv2_msg.specs.declared.kind.TheConstants.{MODIFY_BEARER_REQUEST, DELETE_SESSION_REQUEST, RELEASE_ACCESS_BEARERS_REQUEST, CREATE_BEARER_RESPONSE, UPDATE_BEARER_RESPONSE, DELETE_BEARER_RESPONSE}
+use Rattle.gtpv2_msg.specs.declared.kind.TheConstants.{MODIFY_BEARER_REQUEST, DELETE_SESSION_REQUEST}
+use Rattle.gtpv2_msg.specs.declared.kind.TheConstants.{RELEASE_ACCESS_BEARERS_REQUEST, CREATE_BEARER_RESPONSE}
+use Rattle.gtpv2_msg.specs.declared.kind.TheConstants.{UPDATE_BEARER_RESPONSE, DELETE_BEARER_RESPONSE}
 use Rattle.bearer_state.specs.declared.ask.Ask.{Ask}
 use Rattle.bearer_state.specs.declared.qos.Qos.{Qos}
 use Rattle.control_steps.specs.declared.command.CommandKind.{CommandKind}

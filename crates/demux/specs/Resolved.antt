@@ -1,5 +1,6 @@
 -- What a line means by the book behind the lines before it: which IMSI has which slot, in the order of admission.
-use Rattle.std.specs.Prelude.{◌≡◌, ℕ, ◌<◌, ◌≤◌, nat_lt, if◌then◌else◌, Option, Some, None, option_map, option_and_then, List, [], ◌∷◌, ◌++◌, length, codes, All, Result, Ok, Err}
+use Rattle.std.specs.Prelude.{◌≡◌, ℕ, ◌<◌, ◌≤◌, nat_lt, if◌then◌else◌, Option, Some, None, option_map}
+use Rattle.std.specs.Prelude.{option_and_then, List, [], ◌∷◌, ◌++◌, length, codes, All, Result, Ok, Err}
 use Rattle.address_book.specs.Book.{slot_in, admitted}
 use Rattle.tft_codec.specs.declared.tft.Tft.{Tft}
 use Rattle.trace_lines.specs.Line.{Line}

@@ -5,7 +5,8 @@ ghost use Rattle.gtpv2_msg.specs.Refusal.{IsRefusal};
 ghost use Rattle.gtpv2_msg.specs.Spelling.{spelling};
 ghost use Rattle.control_steps.specs.Kinds.{IsAnswered};
 ghost use Rattle.control_steps.specs.Messages.{cause_alone};
-ghost use Rattle.demux.specs.Mme.{echo_response, echo_note, pool_note, no_context_reply, no_context_note, create_or_unexpected, session_or_unexpected, message_asked, mme_asked};
+ghost use Rattle.demux.specs.Mme.{echo_response, echo_note, pool_note, no_context_reply, no_context_note};
+ghost use Rattle.demux.specs.Mme.{create_or_unexpected, session_or_unexpected, message_asked, mme_asked};
 ghost use Rattle.demux.specs.Resolved.{controller_in, resolved};
 
 use crate::booking::{in_book, whose};

@@ -1,5 +1,6 @@
 -- Counts that rise.
-use Rattle.std.specs.Prelude.{◌≡◌, ℕ, ◌-◌, ◌^◌, ◌<◌, ◌≤◌, ◌⊎◌, if◌then◌else◌, Bool, List, map, slice_index, Result, Ok, Err}
+use Rattle.std.specs.Prelude.{◌≡◌, ℕ, ◌-◌, ◌^◌, ◌<◌, ◌≤◌, ◌⊎◌, if◌then◌else◌, Bool}
+use Rattle.std.specs.Prelude.{List, map, slice_index, Result, Ok, Err}
 use Rattle.lane_core.specs.Ends.{raised}
 
 -- a count of what was learnt, after one more call that learnt something or not

@@ -1,5 +1,6 @@
 //! A worker of a slice's lane: the halves that it holds, and the ends of its two lanes.
-ghost use Rattle.std.specs.Prelude.{◌≡◌, ◌≢◌, ◌≤◌, ◌<◌, ◌+◌, ◌++◌, ◌⊎◌, [], None, true, false, Ok, vec_len, length, OnOk, OnErr, IfOk};
+ghost use Rattle.std.specs.Prelude.{◌≡◌, ◌≢◌, ◌≤◌, ◌<◌, ◌+◌, ◌++◌, ◌⊎◌, [], None, true};
+ghost use Rattle.std.specs.Prelude.{false, Ok, vec_len, length, OnOk, OnErr, IfOk};
 ghost use Rattle.std.specs.Option.{option_to_list};
 ghost use Rattle.lane_core.specs.Ends.{sender_lane, receiver_lane, sent, taken, full_answers, empty_answers, raised};
 ghost use Rattle.lane_core.specs.Order.{Lawful};

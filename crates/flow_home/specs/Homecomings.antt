@@ -1,5 +1,6 @@
 -- Where halves and items are that are still to be found, and which are found.
-use Rattle.std.specs.Prelude.{◌≡◌, ℕ, ◌+◌, ◌<◌, ◌≤◌, ◌==◌, nat_lt, if◌then◌else◌, List, [], ◌∷◌, ◌++◌, map, reverse, length, slice_index_or, Option, Some, None, Vec}
+use Rattle.std.specs.Prelude.{◌≡◌, ℕ, ◌+◌, ◌<◌, ◌≤◌, ◌==◌, nat_lt, if◌then◌else◌, List, []}
+use Rattle.std.specs.Prelude.{◌∷◌, ◌++◌, map, reverse, length, slice_index_or, Option, Some, None, Vec}
 use Rattle.std.specs.List.{sum_by, All}
 use Rattle.std.specs.Option.{option_to_list}
 use Rattle.lane_core.specs.Ends.{sent, taken}
@@ -17,7 +18,8 @@ use Rattle.flow_migration.specs.declared.place.HalfAside.{HalfAside}
 use Rattle.flow_migration.specs.Desks.{sent_at, home_at, sent_weight, home_weight}
 use Rattle.flow_migration.specs.Places.{place_at, queue_at, accepted_by, accepted_at, front_at, names_of}
 use Rattle.flow_migration.specs.Sides.{weight_at, PlaceIs, asides_of}
-use Rattle.flow_migration.specs.Stays.{Stay, Where, AtFront, Here, Away, reaches, backs, stay_items, Chain, came_of, since_of, now_at, away_at}
+use Rattle.flow_migration.specs.Stays.{Stay, Where, AtFront, Here, Away, reaches, backs, stay_items, Chain, came_of, since_of}
+use Rattle.flow_migration.specs.Stays.{now_at, away_at}
 use Rattle.flow_home.specs.declared.hand.Hand.{Hand}
 use Rattle.flow_home.specs.declared.home_lane.HomeLane.{HomeLane}
 use Rattle.flow_home.specs.declared.home.Home.{Home}

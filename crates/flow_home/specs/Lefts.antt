@@ -1,5 +1,6 @@
 -- The items of one slot that are left: those that are found, the kept one, and those of orders that were not taken.
-use Rattle.std.specs.Prelude.{ℕ, ◌==◌, if◌then◌else◌, List, [], ◌∷◌, ◌++◌, map, slice_index_or, Option, Some, None, Vec}
+use Rattle.std.specs.Prelude.{ℕ, ◌==◌, if◌then◌else◌, List, [], ◌∷◌, ◌++◌, map, slice_index_or, Option}
+use Rattle.std.specs.Prelude.{Some, None, Vec}
 use Rattle.flow_core.specs.declared.order.FlowOrder.{FlowOrder}
 use Rattle.flow_core.specs.declared.order.FlowOrder.TheVariants.{Arrive, Item, Leave}
 

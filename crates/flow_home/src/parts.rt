@@ -1,5 +1,6 @@
 //! What is left of a side and its workers, until each half is home.
-ghost use Rattle.std.specs.Prelude.{◌≡◌, ◌≤◌, ◌<◌, ◌+◌, ◌++◌, ℕ, [], None, Some, length, map, reverse, vec_len, All, OnOk, OnErr, IfOk, IfErr};
+ghost use Rattle.std.specs.Prelude.{◌≡◌, ◌≤◌, ◌<◌, ◌+◌, ◌++◌, ℕ, [], None, Some, length, map};
+ghost use Rattle.std.specs.Prelude.{reverse, vec_len, All, OnOk, OnErr, IfOk, IfErr};
 ghost use Rattle.gather_home.specs.Homecomings.{somes};
 ghost use Rattle.flow_migration.specs.Places.{names_of};
 ghost use Rattle.flow_migration.specs.Sides.{BySlot};

@@ -1,12 +1,15 @@
 -- The facts that a side keeps.
-use Rattle.std.specs.Prelude.{◌≡◌, ℕ, ◌+◌, ◌*◌, ◌^◌, ◌<◌, ◌≤◌, ◌⊎◌, ◌==◌, if◌then◌else◌, Bool, List, [], ◌∷◌, length, slice_index_or, count_by, Option, Some, None}
+use Rattle.std.specs.Prelude.{◌≡◌, ℕ, ◌+◌, ◌*◌, ◌^◌, ◌<◌, ◌≤◌, ◌⊎◌, ◌==◌}
+use Rattle.std.specs.Prelude.{if◌then◌else◌, Bool, List, [], ◌∷◌, length, slice_index_or, count_by, Option, Some}
+use Rattle.std.specs.Prelude.{None}
 use Rattle.std.specs.List.{sum_by, All, list_any}
 use Rattle.flow_core.specs.declared.pairing.FlowDesk.{FlowDesk}
 use Rattle.flow_core.specs.Counts.{Rises}
 use Rattle.flow_migration.specs.declared.place.FlowPlace.{FlowPlace}
 use Rattle.flow_migration.specs.declared.place.HalfAside.{HalfAside}
 use Rattle.flow_migration.specs.Desks.{sent_at, home_at, order_count, sent_weight, home_weight, fulls_at, empties_at, home_count}
-use Rattle.flow_migration.specs.Places.{place_at, accepted_at, accepted_count, queue_at, is_admitted, pending_at, front_at, Fits, waits_at, queues_for, names_of}
+use Rattle.flow_migration.specs.Places.{place_at, accepted_at, accepted_count, queue_at, is_admitted, pending_at, front_at}
+use Rattle.flow_migration.specs.Places.{Fits, waits_at, queues_for, names_of}
 use Rattle.flow_migration.specs.Stays.{Stay, Where, AtFront, SlotKnows}
 use Rattle.flow_migration.specs.Keeps.{StateIs}
 

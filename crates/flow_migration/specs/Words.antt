@@ -1,5 +1,6 @@
 -- Parts of a side that clauses speak of.
-use Rattle.std.specs.Prelude.{◌≡◌, ◌≢◌, ℕ, ◌+◌, ◌<◌, ◌≤◌, ◌⊎◌, Bool, true, false, List, map, length, Option, Some, None, slice_set, replicate, [], ◌++◌}
+use Rattle.std.specs.Prelude.{◌≡◌, ◌≢◌, ℕ, ◌+◌, ◌<◌, ◌≤◌, ◌⊎◌, Bool, true, false, List, map}
+use Rattle.std.specs.Prelude.{length, Option, Some, None, slice_set, replicate, [], ◌++◌}
 use Rattle.worker_core.specs.Workers.{Lanes}
 use Rattle.flow_core.specs.declared.pairing.FlowDesk.{FlowDesk}
 use Rattle.flow_core.specs.declared.flow.Flow.{Ghosts}

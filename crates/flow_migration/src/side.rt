@@ -1,5 +1,6 @@
 //! A side: the desks of its workers, and the place of each slot.
-ghost use Rattle.std.specs.Prelude.{◌≡◌, ◌≤◌, ◌<◌, ◌+◌, ◌*◌, ◌^◌, ◌⊎◌, ℕ, All, true, false, [], length, vec_len, vec_capacity, count_by, OnOk, OnErr, IfErr};
+ghost use Rattle.std.specs.Prelude.{◌≡◌, ◌≤◌, ◌<◌, ◌+◌, ◌*◌, ◌^◌, ◌⊎◌, ℕ, All, true};
+ghost use Rattle.std.specs.Prelude.{false, [], length, vec_len, vec_capacity, count_by, OnOk, OnErr, IfErr};
 ghost use Rattle.std.specs.List.{sum_by};
 ghost use Rattle.flow_core.specs.Workers.{IsNewDesk};
 ghost use Rattle.flow_migration.specs.Places.{names_of, Fits};
@@ -59,7 +60,9 @@ impl<H: Flow> FlowSide<H> {
     ghost use Rattle.flow_migration.specs.Places.{place_at, is_admitted, parks_at, waits_at, accepted_count};
     ghost use Rattle.flow_migration.specs.Steps.{Served, Drained, Moved, Gave, AtSlot, Grown};
     ghost use Rattle.flow_migration.specs.Sides.{AllMetFull, QueuesMetFull, HomeEnded};
-    ghost use Rattle.flow_migration.specs.Words.{desks_of, places_of, aside_of, queue_room_of, admitted_of, asked_of, refused_of, roll_of, accepts_of, moves_of, MetFull, Enters, Admits, TookOne, TookFrom};
+    ghost use Rattle.flow_migration.specs.Words.{desks_of, places_of, aside_of, queue_room_of, admitted_of, asked_of};
+    ghost use Rattle.flow_migration.specs.Words.{refused_of, roll_of, accepts_of, moves_of, MetFull, Enters, Admits, TookOne};
+    ghost use Rattle.flow_migration.specs.Words.{TookFrom};
 
     /// A side with these desks, one for each slice in order, no slot, and queues of at most so many
     /// items, 1 to 256.

@@ -1,15 +1,20 @@
 //! Steps at one slot: an order is offered, an item is accepted, and a half comes home.
-ghost use Rattle.std.specs.Prelude.{◌≡◌, ◌≤◌, ◌<◌, ◌+◌, ◌^◌, cond, true, false, [], ◌∷◌, ◌++◌, ℕ, Some, None, List, length, vec_len, vec_capacity, slice_set, OnOk, OnErr, IfErr, MatchOption};
+ghost use Rattle.std.specs.Prelude.{◌≡◌, ◌≤◌, ◌<◌, ◌+◌, ◌^◌, cond, true, false, [], ◌∷◌};
+ghost use Rattle.std.specs.Prelude.{◌++◌, ℕ, Some, None, List, length, vec_len, vec_capacity, slice_set, OnOk, OnErr};
+ghost use Rattle.std.specs.Prelude.{IfErr, MatchOption};
 ghost use Rattle.std.specs.List.{sum_by, All};
 ghost use Rattle.flow_core.specs.declared.order.FlowOrder.TheVariants.{Arrive, Item, Leave};
 ghost use Rattle.flow_core.specs.Orders.{MayFollow, stands};
 ghost use Rattle.flow_core.specs.Counts.{Rises};
 ghost use Rattle.flow_migration.specs.declared.place.FlowState.TheVariants.{Placed};
 ghost use Rattle.flow_migration.specs.Desks.{Given, Refused, Taken, Empty, order_count, sent_at, fulls_at};
-ghost use Rattle.flow_migration.specs.Places.{at_end, to_end, is_placed, is_settled, parks_at, place_at, is_admitted, Fits, placed_at, queue_at, accepted_by};
+ghost use Rattle.flow_migration.specs.Places.{at_end, to_end, is_placed, is_settled, parks_at, place_at, is_admitted, Fits};
+ghost use Rattle.flow_migration.specs.Places.{placed_at, queue_at, accepted_by};
 ghost use Rattle.flow_migration.specs.Keeps.{Keeps, MayGive, IsReady};
 ghost use Rattle.flow_migration.specs.Sides.{is_lost};
-ghost use Rattle.flow_migration.specs.Steps.{Sends, Recalls, Serves, Goes, SentFirst, QueueRests, Empties, EmptiesPlaced, QueueTakes, Lands, Delivers, Accepts, Served, Drained, Moved, Gave, AtSlot, Grown, Homes, Welcomes, WelcomesAt};
+ghost use Rattle.flow_migration.specs.Steps.{Sends, Recalls, Serves, Goes, SentFirst, QueueRests, Empties, EmptiesPlaced};
+ghost use Rattle.flow_migration.specs.Steps.{QueueTakes, Lands, Delivers, Accepts, Served, Drained, Moved, Gave, AtSlot};
+ghost use Rattle.flow_migration.specs.Steps.{Grown, Homes, Welcomes, WelcomesAt};
 
 use crate::place::{FlowNo, FlowPlace, FlowState, HalfAside};
 use flow_core::{Flow, FlowDesk, FlowKind, FlowOrder};

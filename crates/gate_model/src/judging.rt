@@ -4,7 +4,8 @@ ghost use Rattle.std.specs.Option.{option_copied};
 ghost use Rattle.ipv4_packet.specs.Packet.{IsPacket};
 ghost use Rattle.bearer_state.specs.Bearer.{IsEbi};
 ghost use Rattle.bearer_state.specs.Version.{bearer_at};
-ghost use Rattle.packet_steps.specs.Verdicts.{bearer_for, is_packet, notice, judged, judged_now, judged_up, judged_down, judged_to, judged_waiting};
+ghost use Rattle.packet_steps.specs.Verdicts.{bearer_for, is_packet, notice, judged, judged_now, judged_up, judged_down};
+ghost use Rattle.packet_steps.specs.Verdicts.{judged_to, judged_waiting};
 ghost use Rattle.gate_model.specs.Memory.{past_at};
 
 use crate::NoMemory;

@@ -1,5 +1,6 @@
 //! What holds of every past of a slot.
-ghost use Rattle.gate_model.specs.Versions.{SessionsAreOfCommands, VersionsAreOfCommands, EachVersionFollows, OpenLivesAreActive, CommandsAreLearnt, PacketsAreJudged};
+ghost use Rattle.gate_model.specs.Versions.{SessionsAreOfCommands, VersionsAreOfCommands, EachVersionFollows};
+ghost use Rattle.gate_model.specs.Versions.{OpenLivesAreActive, CommandsAreLearnt, PacketsAreJudged};
 ghost use Rattle.gate_model.specs.Rates.{LivesArePoliced, SharesArePoliced};
 ghost use Rattle.gate_model.specs.Holding.{EachHeldPacketOnce};
 ghost use Rattle.gate_model.specs.Ledger.{ForwardedIsTold, EachPacketInOnePiece, RecordsAreAdded};

@@ -157,7 +157,8 @@ impl Memory {
     ) -> Result<bool, NoMemory>
         ensures passes { IfOk result (λ fits. fits ≡ passes (past_at version.now self.old) bearer.now up octets) }
         ensures past { IfOk result (λ fits. past_at version.now self.new
-            ≡ (if fits then with_row (past_at version.now self.old) (row_for (past_at version.now self.old) bearer.now up octets) else past_at version.now self.old)) }
+            ≡ (if fits then with_row (past_at version.now self.old)
+            (row_for (past_at version.now self.old) bearer.now up octets) else past_at version.now self.old)) }
     {
         if !self.passes(version, bearer, up, octets)? {
             return Ok(false);

@@ -1,6 +1,8 @@
 -- The exact ledger of a report: what was forwarded is what is charged.
-use Rattle.std.specs.Prelude.{◌≡◌, ℕ, ◌+◌, ◌<◌, ◌==◌, Bool, not, Option, Some, None, List, [], ◌++◌, map, filter, sum_by, count_by, if◌then◌else◌, filter_map, flat_map, IsPermutation}
-use Rattle.charging_book.specs.Ledger.{rows_for, opens_for, TellPieces, TellLast, charged_octets, open_octets, charged_packets, open_packets}
+use Rattle.std.specs.Prelude.{◌≡◌, ℕ, ◌+◌, ◌<◌, ◌==◌, Bool, not, Option, Some, None, List, [], ◌++◌}
+use Rattle.std.specs.Prelude.{map, filter, sum_by, count_by, if◌then◌else◌, filter_map, flat_map, IsPermutation}
+use Rattle.charging_book.specs.Ledger.{rows_for, opens_for, TellPieces, TellLast, charged_octets, open_octets}
+use Rattle.charging_book.specs.Ledger.{charged_packets, open_packets}
 use Rattle.charging_book.specs.Pieces.{Forwarded, Finished}
 use Rattle.charging_book.specs.Rows.{Counters, Charged}
 use Rattle.demux.specs.Trace.{Meaning}

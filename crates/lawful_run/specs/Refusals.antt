@@ -1,5 +1,6 @@
 -- Where a command or packet may be refused: only where its queue or lane could be full.
-use Rattle.std.specs.Prelude.{ℕ, ◌+◌, ◌*◌, ◌==◌, ◌≤◌, ◌⊎◌, Bool, true, false, if◌then◌else◌, IsTrue, Option, Some, None, List, [], ◌∷◌, ◌++◌, length, count_by, filter_map}
+use Rattle.std.specs.Prelude.{ℕ, ◌+◌, ◌*◌, ◌==◌, ◌≤◌, ◌⊎◌, Bool, true, false, if◌then◌else◌}
+use Rattle.std.specs.Prelude.{IsTrue, Option, Some, None, List, [], ◌∷◌, ◌++◌, length, count_by, filter_map}
 use Rattle.std.specs.List.{list_any}
 use Rattle.demux.specs.Trace.{Meaning, command, packet, move, note}
 use Rattle.report_lines.specs.declared.entry.LineEntry.{LineEntry}

@@ -21,7 +21,9 @@ abbrev pub attach : ℕ → Meaning
 attach slot = command slot (order.Attach (record { teid = 0xa01; addr = 0xc633_6407 }) 1000 1000)
 
 abbrev pub octets : List ℕ
-octets = 0x45 ∷ 0 ∷ 0 ∷ 20 ∷ 0 ∷ 0 ∷ 0 ∷ 0 ∷ 0x40 ∷ 0xfd ∷ 0 ∷ 0 ∷ 10 ∷ 45 ∷ 0 ∷ 2 ∷ 203 ∷ 0 ∷ 113 ∷ 9 ∷ []
+octets =
+    0x45 ∷ 0 ∷ 0 ∷ 20 ∷ 0 ∷ 0 ∷ 0 ∷ 0 ∷ 0x40 ∷ 0xfd ∷ 0 ∷ 0 ∷ 10 ∷ 45 ∷ 0 ∷ 2 ∷ 203 ∷
+    0 ∷ 113 ∷ 9 ∷ []
 
 abbrev pub uplink : Meaning
 uplink = packet 0 (record { moment = 5; way = way.Up 0; ip = octets })

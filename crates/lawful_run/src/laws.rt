@@ -2,7 +2,8 @@
 ghost use Rattle.std.specs.Prelude.{◌≡◌, ℕ, ◌+◌, ◌≤◌, List, [], ◌∷◌, ◌++◌, length, flat_map, false};
 ghost use Rattle.demux.specs.Trace.{Meaning};
 ghost use Rattle.gate_model.specs.declared.event.Event.{Event};
-ghost use Rattle.lawful_run.specs.AnsweredRun.{answered_run, answered_from, answered_epoch, behind_epochs, behind_lines, entries_from, entry_after, events_after, with_line, brought, brings};
+ghost use Rattle.lawful_run.specs.AnsweredRun.{answered_run, answered_from, answered_epoch, behind_epochs, behind_lines};
+ghost use Rattle.lawful_run.specs.AnsweredRun.{entries_from, entry_after, events_after, with_line, brought, brings};
 ghost use Rattle.lawful_run.specs.AtOnce.{AnswersAtOnce};
 ghost use Rattle.lawful_run.specs.Job.{Job, solo};
 ghost use Rattle.lawful_run.specs.Ledger.{ReportsArePartitions, EachOctetCharged, EachPacketCharged};

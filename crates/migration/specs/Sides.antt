@@ -1,11 +1,13 @@
 -- The facts that a side keeps, and what a clause says of it.
-use Rattle.std.specs.Prelude.{◌≡◌, ℕ, ◌+◌, ◌*◌, ◌^◌, ◌<◌, ◌≤◌, ◌⊎◌, ◌-◌, List, length, slice_index_or, count_by, Option, Some, None}
+use Rattle.std.specs.Prelude.{◌≡◌, ℕ, ◌+◌, ◌*◌, ◌^◌, ◌<◌, ◌≤◌, ◌⊎◌, ◌-◌, List, length}
+use Rattle.std.specs.Prelude.{slice_index_or, count_by, Option, Some, None}
 use Rattle.std.specs.List.{sum_by, All}
 use Rattle.worker_core.specs.declared.pairing.Desk.{Desk}
 use Rattle.worker_core.specs.Names.{weight}
 use Rattle.migration.specs.declared.place.Place.{Place}
 use Rattle.migration.specs.Desks.{sent_weight, home_weight, order_count, fulls_at, empties_at, home_count}
-use Rattle.migration.specs.Places.{place_at, names_of, front_at, weight_at, wait_weight, pending_at, is_admitted, waits_at, PlaceFits, IsOwnAt}
+use Rattle.migration.specs.Places.{place_at, names_of, front_at, weight_at, wait_weight, pending_at, is_admitted, waits_at}
+use Rattle.migration.specs.Places.{PlaceFits, IsOwnAt}
 
 -- each name that was admitted or came home is at the front, is kept aside there, or was sent to a slice, as often
 abbrev pub Balanced : {H N : Type 0} → (H → N) → List (Option (Place H)) → List H → List (Desk H) → Type 0

@@ -1,5 +1,6 @@
 -- What one step does to the state of one slot, and which order it gives.
-use Rattle.std.specs.Prelude.{◌≡◌, ℕ, ◌+◌, ◌<◌, ◌⊎◌, Bool, false, cond, List, ◌++◌, length, replicate, slice_set, Option, Some, None}
+use Rattle.std.specs.Prelude.{◌≡◌, ℕ, ◌+◌, ◌<◌, ◌⊎◌, Bool, false, cond, List, ◌++◌, length}
+use Rattle.std.specs.Prelude.{replicate, slice_set, Option, Some, None}
 use Rattle.worker_core.specs.declared.pairing.Desk.{Desk}
 use Rattle.worker_core.specs.declared.order.Order.TheVariants.{Arrive, Leave}
 use Rattle.migration.specs.declared.place.Place.{Place}

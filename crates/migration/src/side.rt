@@ -1,5 +1,6 @@
 //! A side: the desks of its workers, and the state of each slot.
-ghost use Rattle.std.specs.Prelude.{◌≡◌, ◌≤◌, ◌<◌, ◌+◌, ◌*◌, ◌^◌, ◌⊎◌, ℕ, All, true, false, [], length, reverse, vec_len, vec_capacity, IsTrue, IsFalse, OnOk, OnErr, IfErr};
+ghost use Rattle.std.specs.Prelude.{◌≡◌, ◌≤◌, ◌<◌, ◌+◌, ◌*◌, ◌^◌, ◌⊎◌, ℕ, All, true};
+ghost use Rattle.std.specs.Prelude.{false, [], length, reverse, vec_len, vec_capacity, IsTrue, IsFalse, OnOk, OnErr, IfErr};
 ghost use Rattle.worker_core.specs.Workers.{IsNewDesk};
 ghost use Rattle.migration.specs.Places.{names_of};
 ghost use Rattle.migration.specs.Sides.{Balanced, BySlot, IsSide};
@@ -54,7 +55,8 @@ impl<H: Traveller> Side<H> {
     ghost use Rattle.migration.specs.Sides.{AllMetFull, HomeEnded};
     ghost use Rattle.migration.specs.Passes.{Passes};
     ghost use Rattle.migration.specs.Pumps.{TakesHome, LinedUp, ServesEach, PumpsBySlot};
-    ghost use Rattle.migration.specs.Words.{desks_of, places_of, aside_of, waiting_of, serving_of, admitted_of, asked_of, roll_of, TookOne, TookFrom, ServedNext};
+    ghost use Rattle.migration.specs.Words.{desks_of, places_of, aside_of, waiting_of, serving_of, admitted_of, asked_of};
+    ghost use Rattle.migration.specs.Words.{roll_of, TookOne, TookFrom, ServedNext};
 
     /// A side with these desks, one for each slice in order, and no slot.
     pub fn new(alloc: Global, desks: Vec<Desk<H>>) -> Side<H>

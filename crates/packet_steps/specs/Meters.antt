@@ -1,5 +1,6 @@
 -- The buckets of a subscriber: which bucket polices what, and what it stands for.
-use Rattle.std.specs.Prelude.{◌≡◌, ℕ, ◌≤◌, nat_lt, Bool, true, false, not, ◌&&◌, if◌then◌else◌, List, length, filter, fold, slice_set, IsTrue}
+use Rattle.std.specs.Prelude.{◌≡◌, ℕ, ◌≤◌, nat_lt, Bool, true, false, not, ◌&&◌, if◌then◌else◌, List}
+use Rattle.std.specs.Prelude.{length, filter, fold, slice_set, IsTrue}
 use Rattle.std.specs.List.{slice_index_or, Contains}
 use Rattle.rate_policer.specs.Buckets as bucket
 use Rattle.bearer_state.specs.declared.version.ActiveBearer.{ActiveBearer}

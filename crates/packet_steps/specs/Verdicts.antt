@@ -1,5 +1,6 @@
 -- What becomes of a packet, by its subscriber's past.
-use Rattle.std.specs.Prelude.{ℕ, ◌==◌, ◌&&◌, nat_le, Bool, true, false, if◌then◌else◌, List, length, Option, Some, None, is_none}
+use Rattle.std.specs.Prelude.{ℕ, ◌==◌, ◌&&◌, nat_le, Bool, true, false, if◌then◌else◌, List, length, Option}
+use Rattle.std.specs.Prelude.{Some, None, is_none}
 use Rattle.std.specs.Option.{option_map, option_and_then}
 use Rattle.pc_base.specs.Addresses.{addr_of}
 use Rattle.pc_base.specs.declared.packet.Packet.{Packet}

@@ -2,7 +2,8 @@
 ghost use Rattle.std.specs.Prelude.{◌≡◌, [], ◌++◌, map, filter, IfOk, OnOk, if◌then◌else◌};
 ghost use Rattle.std.specs.Option.{option_copied};
 ghost use Rattle.charging_book.specs.Postings.{happening_of};
-ghost use Rattle.packet_steps.specs.Change.{has_life, bearer_of, enb_of, same_peer, shares_ambr, shared_with, lacking_in, marks, marks_between, marker_between, markers};
+ghost use Rattle.packet_steps.specs.Change.{has_life, bearer_of, enb_of, same_peer, shares_ambr, shared_with, lacking_in};
+ghost use Rattle.packet_steps.specs.Change.{marks, marks_between, marker_between, markers};
 
 use crate::NoMemory;
 use crate::messages::end_marker;

@@ -1,5 +1,6 @@
 -- A capture as a function of its octets: its records, and how it ends.
-use Rattle.std.specs.Prelude.{ℕ, suc, zero, ◌^◌, Bool, true, false, List, [], ◌∷◌, ◌++◌, length, take, drop, nat_lt, nat_le, if◌then◌else◌, Option, None, Some}
+use Rattle.std.specs.Prelude.{ℕ, suc, zero, ◌^◌, Bool, true, false, List, [], ◌∷◌, ◌++◌, length, take, drop}
+use Rattle.std.specs.Prelude.{nat_lt, nat_le, if◌then◌else◌, Option, None, Some}
 use Rattle.pcap_form.specs.declared.head.CaptureHead.{CaptureHead}
 use Rattle.pcap_form.specs.Head.{head_len, head_of}
 use Rattle.pcap_form.specs.Record.{Record, Front, nothing, part, wrong, whole, front_of}

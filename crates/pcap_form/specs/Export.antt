@@ -1,5 +1,6 @@
 -- The capture of lines: a header, and a record for each line that is kept.
-use Rattle.std.specs.Prelude.{ℕ, ◌+◌, ◌-◌, ◌/◌, ◌%◌, ◌==◌, ◌&&◌, Bool, List, [], ◌∷◌, ◌++◌, length, flat_map, is_none, nat_le, if◌then◌else◌, Option, None, Some}
+use Rattle.std.specs.Prelude.{ℕ, ◌+◌, ◌-◌, ◌/◌, ◌%◌, ◌==◌, ◌&&◌, Bool, List, [], ◌∷◌}
+use Rattle.std.specs.Prelude.{◌++◌, length, flat_map, is_none, nat_le, if◌then◌else◌, Option, None, Some}
 use Rattle.wire_octets.specs.Numbers.{be16_octets, be32_octets}
 use Rattle.ipv4_packet.specs.Fields.{total_length}
 use Rattle.ipv4_packet.specs.Refusal.{first_fault}
@@ -12,7 +13,8 @@ use Rattle.pcap_form.specs.Trace.{Stamped}
 -- magic of microseconds, version 2.4, two words of 0, a snapshot length of 262,144, and packets without a link header
 abbrev pub header : List ℕ
 header =
-    0xa1 ∷ 0xb2 ∷ 0xc3 ∷ 0xd4 ∷ 0 ∷ 2 ∷ 0 ∷ 4 ∷ 0 ∷ 0 ∷ 0 ∷ 0 ∷ 0 ∷ 0 ∷ 0 ∷ 0 ∷ 0 ∷ 4 ∷ 0 ∷ 0 ∷ 0 ∷ 0 ∷ 0 ∷ 0x65 ∷ []
+    0xa1 ∷ 0xb2 ∷ 0xc3 ∷ 0xd4 ∷ 0 ∷ 2 ∷ 0 ∷ 4 ∷ 0 ∷ 0 ∷ 0 ∷ 0 ∷ 0 ∷ 0 ∷ 0 ∷ 0 ∷ 0 ∷ 4 ∷
+    0 ∷ 0 ∷ 0 ∷ 0 ∷ 0 ∷ 0x65 ∷ []
 
 -- the most octets of a message that go into one packet
 abbrev pub message_max : ℕ
@@ -21,7 +23,8 @@ message_max = 65507
 -- a message in UDP from 192.0.2.2 to 192.0.2.1, with one port for both; no checksums, time to live 64
 unfoldable pub wrapped_head : ℕ → ℕ → List ℕ
 wrapped_head port len =
-    0x45 ∷ 0 ∷ be16_octets (28 + len) ++ 0 ∷ 0 ∷ 0 ∷ 0 ∷ 0x40 ∷ 17 ∷ 0 ∷ 0 ∷ 192 ∷ 0 ∷ 2 ∷ 2 ∷ 192 ∷ 0 ∷ 2 ∷ 1 ∷ []
+    0x45 ∷ 0 ∷ be16_octets (28 + len) ++ 0 ∷ 0 ∷ 0 ∷ 0 ∷ 0x40 ∷ 17 ∷ 0 ∷ 0 ∷ 192 ∷ 0 ∷ 2 ∷ 2 ∷
+    192 ∷ 0 ∷ 2 ∷ 1 ∷ []
     ++ be16_octets port ++ be16_octets port ++ be16_octets (8 + len) ++ 0 ∷ 0 ∷ []
 
 abbrev pub wrapped : ℕ → List ℕ → List ℕ

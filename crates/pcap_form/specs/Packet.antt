@@ -1,5 +1,6 @@
 -- What a packet says as a line of a trace: a message to the gateway, or a packet to a user.
-use Rattle.std.specs.Prelude.{ℕ, ◌-◌, ◌%◌, ◌^◌, ◌==◌, ◌&&◌, Bool, true, false, List, length, drop, take, nat_le, nat_lt, is_none, if◌then◌else◌, Option, None, Some}
+use Rattle.std.specs.Prelude.{ℕ, ◌-◌, ◌%◌, ◌^◌, ◌==◌, ◌&&◌, Bool, true, false, List, length, drop, take}
+use Rattle.std.specs.Prelude.{nat_le, nat_lt, is_none, if◌then◌else◌, Option, None, Some}
 use Rattle.wire_octets.specs.Numbers.{be16_at}
 use Rattle.ipv4_packet.specs.Fields.{protocol_of, destination_of}
 use Rattle.ipv4_packet.specs.Packet.{packet_of}

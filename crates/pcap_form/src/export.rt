@@ -1,6 +1,7 @@
 //! The record that a line gives.
 ghost use Rattle.std.specs.Prelude.{◌≡◌, ◌++◌, ◌&&◌, ◌≤◌, length, IfOk, OnOk};
-ghost use Rattle.pcap_form.specs.Export.{captured, framed, is_packet, message_in, message_max, packet_in, record_head, record_of, wrapped, wrapped_head};
+ghost use Rattle.pcap_form.specs.Export.{captured, framed, is_packet, message_in, message_max, packet_in, record_head};
+ghost use Rattle.pcap_form.specs.Export.{record_of, wrapped, wrapped_head};
 ghost use Rattle.pcap_form.specs.Packet.{is_for_user};
 
 use crate::import::is_for_user;

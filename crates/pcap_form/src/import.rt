@@ -3,7 +3,8 @@ ghost use Rattle.std.specs.Prelude.{◌≡◌, ◌%◌, ◌^◌, ◌==◌, not, 
 ghost use Rattle.wire_octets.specs.Numbers.{be16_at};
 ghost use Rattle.ipv4_packet.specs.Payload.{payload_of};
 ghost use Rattle.pcap_form.specs.Lent.{kind_of, said_by};
-ghost use Rattle.pcap_form.specs.Packet.{frame_kind, ip_kind, is_datagram, is_ipv4_frame, is_for_user, kind_in, message_kind, message_of, packet_kind, port_of};
+ghost use Rattle.pcap_form.specs.Packet.{frame_kind, ip_kind, is_datagram, is_ipv4_frame, is_for_user, kind_in, message_kind};
+ghost use Rattle.pcap_form.specs.Packet.{message_of, packet_kind, port_of};
 
 use crate::{CaptureHead, LentKind, NoMemory};
 use ipv4_packet::{Ip4, UDP};

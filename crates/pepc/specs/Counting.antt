@@ -1,5 +1,6 @@
 -- The lines of a made trace are answered, and the text of each whole epoch is counted.
-use Rattle.std.specs.Prelude.{◌≡◌, ℕ, ◌+◌, ◌-◌, ◌^◌, ◌≤◌, Bool, true, false, List, [], ◌++◌, length, None, Some}
+use Rattle.std.specs.Prelude.{◌≡◌, ℕ, ◌+◌, ◌-◌, ◌^◌, ◌≤◌, Bool, true, false, List, [], ◌++◌}
+use Rattle.std.specs.Prelude.{length, None, Some}
 use Rattle.entry_counts.specs.Counts.{Counts as EntryCounts, all_held, counts_of, plus}
 use Rattle.trace_lines.specs.Line.{Line}
 use Rattle.trace_maker.specs.Order.{AreInOrder}

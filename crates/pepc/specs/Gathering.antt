@@ -1,5 +1,6 @@
 -- What waits for the end of an epoch, as entries by slot.
-use Rattle.std.specs.Prelude.{◌≡◌, ℕ, ◌<◌, ◌==◌, if◌then◌else◌, false, All, Option, Some, None, List, [], ◌∷◌, ◌++◌, map, flat_map, find}
+use Rattle.std.specs.Prelude.{◌≡◌, ℕ, ◌<◌, ◌==◌, if◌then◌else◌, false, All, Option, Some, None, List}
+use Rattle.std.specs.Prelude.{[], ◌∷◌, ◌++◌, map, flat_map, find}
 use Rattle.demux.specs.Trace.{Meaning}
 use Rattle.charging_book.specs.Rows.{Counters}
 use Rattle.report_lines.specs.Records.{Effected}

@@ -1,5 +1,6 @@
 -- What is next in an input, by what the octets say from a line on.
-use Rattle.std.specs.Prelude.{◌≡◌, ℕ, ◌+◌, ◌<◌, ◌≤◌, List, [], ◌∷◌, ◌++◌, length, Bool, Option, if◌then◌else◌}
+use Rattle.std.specs.Prelude.{◌≡◌, ℕ, ◌+◌, ◌<◌, ◌≤◌, List, [], ◌∷◌, ◌++◌, length, Bool}
+use Rattle.std.specs.Prelude.{Option, if◌then◌else◌}
 use Rattle.pc_outside.specs.Limits.{line_max, newline}
 use Rattle.trace_lines.specs.Input.{bad, long, big, ended, stopped, after_lines, input_within}
 use Rattle.trace_lines.specs.Line.{Line}

@@ -1,5 +1,6 @@
 -- How far a run has come.
-use Rattle.std.specs.Prelude.{◌≡◌, ℕ, ◌+◌, ◌≤◌, ◌^◌, Bool, true, false, List, [], ◌∷◌, ◌++◌, length, map, Option, flat_map}
+use Rattle.std.specs.Prelude.{◌≡◌, ℕ, ◌+◌, ◌≤◌, ◌^◌, Bool, true, false, List, [], ◌∷◌, ◌++◌}
+use Rattle.std.specs.Prelude.{length, map, Option, flat_map}
 use Rattle.std.specs.Io.KnownBytes.{Appends}
 use Rattle.trace_lines.specs.Input.{Input, Stop, bad, long, big, ended, after_lines, input_of, input_within}
 use Rattle.trace_lines.specs.Line.{Line}
@@ -83,7 +84,8 @@ pub record IsClosed (gateway : Solo) (size : Size) (old new : Option (List ℕ))
   pub written : Appends old new (text ++ end_text story)
   pub emptied : waiting ≡ []
 
-abbrev pub Takes : Bool → Solo → Size → Option (List ℕ) → Option (List ℕ) → List ℕ → List ℕ → Story → List Line → Type 0
+abbrev pub Takes : Bool → Solo → Size → Option (List ℕ) → Option (List ℕ) → List ℕ → List ℕ → Story
+    → List Line → Type 0
 Takes false gateway size old new text waiting story open_ = GoesOn gateway size old new text waiting story open_
 Takes true gateway size old new text waiting story open_ = IsClosed gateway size old new text waiting story
 

@@ -1,5 +1,6 @@
 -- The report of a trace, and what a status says of it.
-use Rattle.std.specs.Prelude.{◌≡◌, ℕ, ◌+◌, ◌^◌, ◌<◌, ◌≤◌, ◌⊎◌, false, List, [], ◌∷◌, ◌++◌, length, Option, flat_map}
+use Rattle.std.specs.Prelude.{◌≡◌, ℕ, ◌+◌, ◌^◌, ◌<◌, ◌≤◌, ◌⊎◌, false, List, [], ◌∷◌}
+use Rattle.std.specs.Prelude.{◌++◌, length, Option, flat_map}
 use Rattle.std.specs.Io.KnownBytes.{Appends}
 use Rattle.pc_outside.specs.Line.{NoNewline}
 use Rattle.pc_outside.specs.Limits.{newline, line_max}

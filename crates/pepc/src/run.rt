@@ -1,5 +1,6 @@
 //! A run of `solo`: line after line is read and answered, and the report written epoch by epoch.
-ghost use Rattle.std.specs.Prelude.{◌≡◌, ◌+◌, ◌<◌, ◌≤◌, ◌^◌, ◌∷◌, ◌++◌, ◌↔◌, [], ℕ, List, Option, Some, length, map, Ok, Err, OnOk, OnErr, IfOk, IfErr, true, false};
+ghost use Rattle.std.specs.Prelude.{◌≡◌, ◌+◌, ◌<◌, ◌≤◌, ◌^◌, ◌∷◌, ◌++◌, ◌↔◌, [], ℕ};
+ghost use Rattle.std.specs.Prelude.{List, Option, Some, length, map, Ok, Err, OnOk, OnErr, IfOk, IfErr, true, false};
 ghost use Rattle.std.specs.Io.KnownBytes.{Appends};
 ghost use Rattle.pc_outside.specs.Faults.{Rises};
 ghost use Rattle.pc_outside.specs.Fronts.{AppendsFront};

@@ -1,5 +1,6 @@
 //! The gateway on one thread: each line is answered at once.
-ghost use Rattle.std.specs.Prelude.{◌≡◌, ℕ, ◌≤◌, ◌<◌, ◌^◌, ◌==◌, ◌∷◌, ◌++◌, [], List, flat_map, length, map, find, None, OnOk, IfOk};
+ghost use Rattle.std.specs.Prelude.{◌≡◌, ℕ, ◌≤◌, ◌<◌, ◌^◌, ◌==◌, ◌∷◌, ◌++◌, [], List};
+ghost use Rattle.std.specs.Prelude.{flat_map, length, map, find, None, OnOk, IfOk};
 ghost use Rattle.std.specs.Option.{option_copied};
 ghost use Rattle.bearer_state.specs.declared.version.ActiveBearer.{ActiveBearer};
 ghost use Rattle.charging_book.specs.Rows.{Counters};
@@ -15,7 +16,8 @@ ghost use Rattle.lawful_run.specs.Outcomes.{opens};
 ghost use Rattle.lawful_run.specs.Run.{by_slot, no_events};
 ghost use Rattle.trace_lines.specs.Line.{Line};
 ghost use Rattle.pepc.specs.Gathering.{charges_text, closing_text, open_for};
-ghost use Rattle.pepc.specs.Standing.{BringsNothing, HasRoom, IsInBook, IsLate, Stands, Story, entry_line, events_of, meant_next, story_of, with_end, with_book, with_meaning, with_move, with_packet};
+ghost use Rattle.pepc.specs.Standing.{BringsNothing, HasRoom, IsInBook, IsLate, Stands, Story, entry_line, events_of};
+ghost use Rattle.pepc.specs.Standing.{meant_next, story_of, with_end, with_book, with_meaning, with_move, with_packet};
 
 use crate::entry_text::{push_answer, push_handled, push_move, push_note, push_open};
 use crate::gathered::Gathered;

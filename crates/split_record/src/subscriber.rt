@@ -36,7 +36,8 @@ impl Model for Subscriber {
 }
 
 impl Subscriber {
-    ghost use Rattle.std.specs.Prelude.{◌≡◌, ℕ, ◌≤◌, List, [], ◌∷◌, ◌++◌, length, drop, IfOk, IfSome, OnOk, OnErr, None, Some};
+    ghost use Rattle.std.specs.Prelude.{◌≡◌, ℕ, ◌≤◌, List, [], ◌∷◌, ◌++◌, length, drop, IfOk, IfSome};
+    ghost use Rattle.std.specs.Prelude.{OnOk, OnErr, None, Some};
     ghost use Rattle.gate_model.specs.declared.event.Event.{Event};
     ghost use Rattle.gate_model.specs.declared.event.Event.TheVariants as event;
     ghost use Rattle.gate_model.specs.SlotPast.{reply_after, effects_after, verdict_after, records_after, opens_after, version_after};

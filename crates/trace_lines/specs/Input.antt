@@ -1,5 +1,6 @@
 -- What a trace says: its lines, and why it stops.
-use Rattle.std.specs.Prelude.{ℕ, ◌+◌, ◌==◌, Bool, List, [], ◌∷◌, ◌++◌, length, take, nat_lt, nat_le, if◌then◌else◌, Result, Ok, Err}
+use Rattle.std.specs.Prelude.{ℕ, ◌+◌, ◌==◌, Bool, List, [], ◌∷◌, ◌++◌, length, take, nat_lt, nat_le}
+use Rattle.std.specs.Prelude.{if◌then◌else◌, Result, Ok, Err}
 use Rattle.std.specs.List.{slice_split}
 use Rattle.pc_outside.specs.Limits.{newline, line_max, input_max}
 use Rattle.trace_lines.specs.declared.bad.LineBad.{LineBad}

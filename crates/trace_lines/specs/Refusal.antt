@@ -1,5 +1,6 @@
 -- Why a text is no line: the first reason, in the order in which they are looked for.
-use Rattle.std.specs.Prelude.{ℕ, ◌^◌, ◌-◌, Bool, true, false, List, [], ◌∷◌, codes, nat_lt, if◌then◌else◌, Option, Some, None, is_none, is_some, unwrap_or}
+use Rattle.std.specs.Prelude.{ℕ, ◌^◌, ◌-◌, Bool, true, false, List, [], ◌∷◌, codes, nat_lt}
+use Rattle.std.specs.Prelude.{if◌then◌else◌, Option, Some, None, is_none, is_some, unwrap_or}
 use Rattle.std.specs.Str.{bytes_eq}
 use Rattle.text_fields.specs.Fields.{fields_of, has_empty_field}
 use Rattle.text_fields.specs.Number.{number_in}

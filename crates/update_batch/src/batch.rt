@@ -1,5 +1,6 @@
 //! Versions with one floor, whose numbers follow one another.
-ghost use Rattle.std.specs.Prelude.{◌≡◌, ◌<◌, ◌≤◌, ◌↔◌, [], ◌∷◌, ◌++◌, length, vec_len, vec_capacity, IsOk, OnOk, IfOk, IfErr, MatchOption};
+ghost use Rattle.std.specs.Prelude.{◌≡◌, ◌<◌, ◌≤◌, ◌↔◌, [], ◌∷◌, ◌++◌, length, vec_len};
+ghost use Rattle.std.specs.Prelude.{vec_capacity, IsOk, OnOk, IfOk, IfErr, MatchOption};
 ghost use Rattle.update_batch.specs.Consecutive.{AreConsecutive, IsNext};
 
 use lane_core::{Carried, NoMemory};

@@ -1,5 +1,6 @@
 -- What a turn of a worker does: it takes an order, sends a half home, or turns halves until one has worked.
-use Rattle.std.specs.Prelude.{◌≡◌, ℕ, ◌+◌, ◌-◌, if◌then◌else◌, nat_lt, Option, Some, List, [], ◌∷◌, ◌++◌, length, map, slice_get}
+use Rattle.std.specs.Prelude.{◌≡◌, ℕ, ◌+◌, ◌-◌, if◌then◌else◌, nat_lt, Option, Some, List, []}
+use Rattle.std.specs.Prelude.{◌∷◌, ◌++◌, length, map, slice_get}
 use Rattle.std.specs.List.{position, remove}
 use Rattle.worker_core.specs.declared.order.Order.{Order}
 use Rattle.worker_core.specs.declared.order.Order.TheVariants.{Arrive, Leave}
@@ -7,7 +8,8 @@ use Rattle.worker_core.specs.declared.worker.Leaving.{Leaving}
 use Rattle.worker_core.specs.Leaves.{is_due, IsNoted, SameElsewhere}
 use Rattle.worker_core.specs.Turns.{WorkedRound}
 
--- what a worker has: the orders that it took and the halves that it sent home; those that it holds, in the order in which they came; which are to leave; and where its next turn begins
+-- what a worker has: the orders that it took and the halves that it sent home; those that it holds, in the order in
+-- which they came; which are to leave; and where its next turn begins
 pub record View (H : Type 0) : Type 0 where
   pub took : List (Order H)
   pub gone : List H

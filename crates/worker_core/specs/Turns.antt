@@ -1,5 +1,6 @@
 -- Which halves were turned, and which of them worked.
-use Rattle.std.specs.Prelude.{◌≡◌, ◌≢◌, ℕ, ◌+◌, ◌-◌, ◌<◌, ◌≤◌, ◌⊎◌, if◌then◌else◌, nat_le, List, length, map, slice_index, slice_index_or, Result, Ok, Err}
+use Rattle.std.specs.Prelude.{◌≡◌, ◌≢◌, ℕ, ◌+◌, ◌-◌, ◌<◌, ◌≤◌, ◌⊎◌, if◌then◌else◌}
+use Rattle.std.specs.Prelude.{nat_le, List, length, map, slice_index, slice_index_or, Result, Ok, Err}
 use Rattle.lane_core.specs.declared.did.Did.{Did}
 use Rattle.lane_core.specs.declared.did.Did.TheVariants.{Idle, Held, Worked}
 use Rattle.lane_core.specs.Ends.{raised}
@@ -36,7 +37,8 @@ pub record WorkedAlone {H : Type 0} (works : H → ℕ) (at : ℕ) (old new : Li
 abbrev pub steps_to : ℕ → ℕ → ℕ → ℕ
 steps_to cursor len k = if nat_le cursor k then k - cursor else k + (len - cursor)
 
--- from the cursor round, the halves up to the one at an index were turned at this place, that one worked alone, and those behind it weren't touched
+-- from the cursor round, the halves up to the one at an index were turned at this place, that one worked alone, and
+-- those behind it weren't touched
 pub record WorkedRound {H : Type 0} (turns works : H → ℕ) (turned_at : H → ℕ
     → Type 0) (place cursor at : ℕ) (old new : List H) : Type 0 where
   pub worked : WorkedAlone works at old new
