@@ -44,6 +44,18 @@ struct Bench {
     ghost moved: { front.hop ≡ moves },
 }
 
+// No packets, with room for those of a trace.
+fn new_left(alloc: Global) -> Result<Vec<FlowItem>, NoMemory>
+    ensures { IfOk result (λ made. made.items ≡ []) }
+{
+    for _ in 0..2 {
+        if let Ok(left) = Vec::with_capacity(alloc, 16) {
+            return Ok(left);
+        }
+    }
+    Vec::with_capacity(alloc, 16)
+}
+
 fn new_record(alloc: Global) -> Result<Record, NoMemory>
     ensures stands { IfOk result (λ made. StandsFor made 0 [] 0) }
     ensures last { IfOk result (λ made. last_of made ≡ None) }
@@ -77,7 +89,7 @@ fn new_parts(alloc: Global) -> Result<(FrontEnd, ControlHalf, FlowHalf), Stop>
 impl Bench {
     // A new subscriber, over lanes of that room.
     fn new(alloc: Global) -> Result<Bench, Stop> {
-        let left = again(|| Vec::with_capacity(alloc, 16))?;
+        let left = new_left(alloc)?;
         let (front, control, flow) = new_parts(alloc)?;
         Ok(Bench {
             front,

@@ -46,12 +46,13 @@ fn words_given<R: Env + AllocGlobal>(rt: &R) -> io::Result<Vec<String>> {
 
 /// An order over a trace, from the split to what is printed of it.
 fn play<R: Wait>(rt: &R, alloc: Global, trace: &Trace, order: &str) -> Result<Vec<u8>, Stop> {
-    let lines = again(|| lines_of(alloc, trace.text))?;
+    let read = again(|| lines_of(alloc, trace.text))?;
+    let lines = read.as_slice();
     if lines.len() > 100 {
         return Err(Stop::Trace);
     }
-    let finished = ended(rt, alloc, lines.as_slice(), order)?;
-    Ok(again(|| { told(alloc, trace.name, order, lines.as_slice(), &finished) })?)
+    let finished = ended(rt, alloc, lines, order)?;
+    Ok(again(|| told(alloc, trace.name, order, lines, &finished))?)
 }
 
 fn play_both<R: Wait, W: Write>(

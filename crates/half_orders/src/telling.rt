@@ -1,5 +1,6 @@
 //! What is printed of an order: its report, and what an audit finds of it.
 ghost use Rattle.std.specs.Prelude.{◌+◌, ◌<◌, ◌^◌, length};
+ghost use Rattle.audit_reading.specs.Rules.{IsRule};
 
 use crate::bench::{ROOM, SLICES};
 use crate::report::{entries_of, report_of};
@@ -10,17 +11,21 @@ use std::alloc::Global;
 use trace_lines::TraceLine;
 
 // A gateway of slices.
-const RULE: Rule = Rule {
-    solo: false,
-    slices: SLICES,
-    room: ROOM,
-    lane: 16,
-};
+fn rule() -> Rule
+    ensures { IsRule result }
+{
+    Rule {
+        solo: false,
+        slices: SLICES,
+        room: ROOM,
+        lane: 16,
+    }
+}
 
 fn found(alloc: Global, lines: &[TraceLine], entries: &[Entry]) -> Result<String, NoMemory>
     requires { length lines.now + 1 < 2 ^ 40 }
 {
-    match audit(alloc, &RULE, lines, None, entries)? {
+    match audit(alloc, &rule(), lines, None, entries)? {
         Finding::Yes => format!(in alloc; "yes"),
         Finding::No(k) => format!(in alloc; "no {k}"),
     }

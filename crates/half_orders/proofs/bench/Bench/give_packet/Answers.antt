@@ -44,4 +44,5 @@ invariant_of-self-2 c =
           (All-weaker (λ (i : FlowItem). i.packet.moment ≤ old.last)
           (λ (i : FlowItem). i.packet.moment ≤ c.packet.inside.0.1.0.0)
           (λ i low. omega (arith, low, high, at, carried)) items old.late) (omega (arith, at, carried)));
+      moved = c.accepted.ensures.hop ∙ old.moved;
     }
