@@ -4,11 +4,10 @@ use Rattle.bearer_state.specs.Session.{SessionState, new_session}
 use Rattle.control_steps.specs.declared.command.CommandKind.{CommandKind}
 use Rattle.control_steps.specs.Rise.{CountsRise}
 use Rattle.control_steps.specs.Table.{controlled}
-use Rattle.gate_model.specs.declared.event.Event.{Event}
 use Rattle.gate_model.specs.Events.{commands_of}
 use Rattle.gate_model.specs.Versions.{SessionsAreOfCommands, controlled_by}
 use Rattle.split_record.specs.Standing.{SubscriberState, StandsFor, HasRoom, commands_met}
-use Rattle.split_record.proofs.CountLemmas.{all_counted, counts_are_few}
+use Rattle.split_record.proofs.CountLemmas.{counts_are_few}
 use Rattle.record_halves.specs.Rejoined.{unbound}
 
 rise_by : CountsRise → (session : SessionState) (commands : List CommandKind)
@@ -54,9 +53,3 @@ room_unbound start room = (
 -- a new subscriber may be split
 pub new_room : (start : SubscriberState) (slot : ℕ) → StandsFor start slot [] 0 → HasRoom start
 new_room start slot stands = (slot, [], 0, stands, omega arith)
-
--- few commands and packets are few events
-pub room_of : (start : SubscriberState) (slot : ℕ) (events : List Event) (taken : ℕ) → StandsFor start slot events taken
-    → commands_met start ≤ 100 → start.packets ≤ 100 → HasRoom start
-room_of start slot events taken stands commands packets =
-    (slot, events, taken, stands, omega (arith, all_counted events, stands.commands, stands.packets, commands, packets))

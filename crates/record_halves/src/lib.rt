@@ -18,6 +18,3 @@ pub use parts::Parts;
 pub use record::Record;
 pub use splitting::split;
 pub use std::alloc::AllocError as NoMemory;
-
-#[cfg(test)]
-mod tests;

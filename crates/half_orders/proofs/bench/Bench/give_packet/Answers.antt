@@ -6,7 +6,7 @@ use Rattle.counter_half.specs.Half.{handled_by}
 use Rattle.counter_half.specs.declared.items.FlowItem.{FlowItem}
 use Rattle.record_halves.specs.Rejoined.{unbound, AreAccepted}
 use Rattle.record_halves.proofs.Accepting.{accepted_packet}
-use Rattle.record_halves.proofs.tests.bench.Bench.give_packet.Goals as goal
+use Rattle.half_orders.proofs.bench.Bench.give_packet.Goals as goal
 
 pub invariant_of-self-2 : goal.invariant_of-self-2
 invariant_of-self-2 c =
@@ -44,4 +44,5 @@ invariant_of-self-2 c =
           (All-weaker (λ (i : FlowItem). i.packet.moment ≤ old.last)
           (λ (i : FlowItem). i.packet.moment ≤ c.packet.inside.0.1.0.0)
           (λ i low. omega (arith, low, high, at, carried)) items old.late) (omega (arith, at, carried)));
+      moved = c.accepted.ensures.hop ∙ old.moved;
     }
