@@ -1,6 +1,7 @@
 //! Reads lines of outside reports, and says of each file how many of them are entries that are written
 //! again as they were.
 #![tactic(auto)]
+
 ghost use Rattle.std.specs.Prelude.{◌≡◌, ◌≢◌, true, false, IfOk};
 ghost use Rattle.report_lines.specs.declared.entry.Entry.{Entry};
 ghost use Rattle.report_lines.specs.Text.{entry_text};
