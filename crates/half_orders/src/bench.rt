@@ -36,7 +36,7 @@ struct Bench {
     flow: FlowHalf,
     left: Vec<FlowItem>,
     last: u64,
-    moves: u64,
+    moves: u8,
     ghost one: { AreOfOneSplit front control flow },
     ghost accepted: { AreAccepted front (handled_by flow ++ left.items) } by { accepted_prop front (handled_by flow ++ left.items) },
     ghost begun: { unwrap_or (last_of (start_of front)) 0 ≤ last },
@@ -166,7 +166,7 @@ impl Bench {
         match step {
             't' => self.turn(rt),
             'a' => {
-                self.control.arrive(self.moves);
+                self.control.arrive(u64::from(self.moves));
                 Ok(())
             }
             'l' => self.learn(rt),
