@@ -1,13 +1,15 @@
 -- What a clause says of a counter half.
-use Rattle.std.specs.Prelude.{ℕ, ◌-◌, ◌<◌, ◌≤◌, ◌^◌, ◌&&◌, nat_le, nat_lt, Bool, Option, Some, None, List, length}
+use Rattle.std.specs.Prelude.{ℕ, ◌-◌, ◌<◌, ◌≤◌, ◌^◌, ◌&&◌, nat_le, nat_lt, Bool, Option, Some, None, List, length, map}
 use Rattle.lane_core.specs.Ends.{receiver_lane, taken}
 use Rattle.pc_base.specs.declared.numbered.Numbered.{Ghosts}
+use Rattle.pc_base.specs.declared.packet.Place.{Place}
 use Rattle.bearer_state.specs.Version.{VersionState}
 use Rattle.update_batch.specs.declared.batch.Batch.{Batch}
 use Rattle.update_batch.specs.Batch.{floor_of}
 use Rattle.counter_half.specs.declared.half.FlowHalf.{FlowHalf}
 use Rattle.counter_half.specs.declared.making.FlowRest.{FlowRest}
 use Rattle.counter_half.specs.declared.items.FlowItem.{FlowItem}
+use Rattle.counter_half.specs.declared.items.PacketDone.{PacketDone}
 use Rattle.counter_half.specs.Handled.{items_in}
 use Rattle.counter_half.specs.Named.{Named}
 
@@ -20,6 +22,10 @@ rest_name rest = record { started = rest.state.started; versions = receiver_lane
 -- the items that it handled, in order
 abbrev pub handled_by : FlowHalf → List FlowItem
 handled_by half = items_in half.state.handled.items
+
+-- where it handled each of them
+abbrev pub places_of : FlowHalf → List Place
+places_of half = map (λ (done : PacketDone). done.place) half.state.notes.items
 
 -- it has learnt as many commands as the item's floor, and handled fewer than 2^50 packets
 abbrev pub may_take : FlowHalf → FlowItem → Bool

@@ -1,5 +1,7 @@
 //! The half as one that stands on a slice's lane.
 ghost use Rattle.std.specs.Prelude.{refl};
+ghost use Rattle.std.proofs.Common.{◌∙◌, ap, sym};
+ghost use Rattle.std.proofs.lemmas.List.{length-map};
 ghost use Rattle.counter_half.specs.Named.{slot_of};
 
 use crate::half::FlowHalf;
@@ -28,7 +30,9 @@ impl FlowKind for FlowHalf {
 }
 
 impl Flow for FlowHalf {
-    ghost use Rattle.counter_half.specs.Half.{name_of, handled_by, may_take};
+    ghost use Rattle.std.specs.Prelude.{length};
+    ghost use Rattle.counter_half.specs.Handled.{note_of, noted};
+    ghost use Rattle.counter_half.specs.Half.{name_of, handled_by, places_of, may_take};
 
     type Name = FlowName;
 
@@ -39,6 +43,8 @@ impl Flow for FlowHalf {
     ghost item_slot = { λ item. item.slot };
 
     ghost handled = { handled_by };
+
+    ghost places = { places_of };
 
     ghost takes = { may_take };
 
@@ -57,6 +63,10 @@ impl Flow for FlowHalf {
     fn item(&mut self, place: SliceNo, item: &FlowItem) -> Result<(), NoMemory> {
         self.handle(place, item)
     }
+
+    ghost each_placed = { λ half. length-map half.state.notes.items (λ done. done.place)
+        ∙ sym (length-map half.state.notes.items noted) ∙ ap length half.state.handles.notes_are
+        ∙ length-map half.state.handled.items note_of ∙ sym (length-map half.state.handled.items (λ handled. handled.0)) };
 
     ghost half_slots = { λ half. refl };
 

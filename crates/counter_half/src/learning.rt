@@ -1,11 +1,10 @@
 //! Versions are learnt, and packets handled.
 ghost use Rattle.std.specs.Prelude.{◌≡◌, ◌+◌, ◌<◌, ◌≤◌, ◌⊎◌, [], ◌∷◌, ◌++◌, true, false};
-ghost use Rattle.std.specs.Prelude.{None, length, map, IfOk, OnOk, OnErr, IsTrue, IsFalse};
+ghost use Rattle.std.specs.Prelude.{None, length, IfOk, OnOk, OnErr, IsTrue, IsFalse};
 ghost use Rattle.lane_core.specs.Ends.{taken, empty_answers, raised};
 ghost use Rattle.flow_core.specs.Counts.{learns_after};
 ghost use Rattle.control_half.specs.Turns.{size as left_in};
 ghost use Rattle.pc_base.specs.declared.packet.Place.TheVariants as places;
-ghost use Rattle.counter_half.specs.declared.items.PacketDone.{PacketDone};
 
 use crate::half::FlowHalf;
 use crate::{FlowItem, NoMemory};
@@ -16,7 +15,8 @@ use std::sync::Wait;
 const MOST_PACKETS: usize = 0x4_0000_0000_0000;
 
 impl FlowHalf {
-    ghost use Rattle.counter_half.specs.Half.{name_of, handled_by, may_take, batches_learnt, IsReady, Waits};
+    ghost use Rattle.counter_half.specs.Half.{name_of, handled_by, places_of, may_take, batches_learnt};
+    ghost use Rattle.counter_half.specs.Half.{IsReady, Waits};
 
     /// Learns at most so many batches, as long as they come and their floors are met. Tells whether it
     /// learnt one. Where memory is wanting, what was learnt stays learnt, and nothing is lost.
@@ -25,6 +25,7 @@ impl FlowHalf {
 
         ensures name { name_of self.new ≡ name_of self.old }
         ensures handled { handled_by self.new ≡ handled_by self.old }
+        ensures places { places_of self.new ≡ places_of self.old }
         ensures asks { self.new.asks ≡ raised self.old.asks }
         ensures learns { self.new.learns ≡ learns_after result self.old.learns }
         ensures done { self.new.state.done ≡ self.old.state.done }
@@ -58,9 +59,9 @@ impl FlowHalf {
 
         ensures name { name_of self.new ≡ name_of self.old }
         ensures ok { OnOk result (handled_by self.new ≡ handled_by self.old ++ item.now ∷ []) }
-        ensures place { OnOk result (map (λ (d : PacketDone). d.place) self.new.state.notes.items
-            ≡ map (λ (d : PacketDone). d.place) self.old.state.notes.items ++ places.At place ∷ []) }
+        ensures place { OnOk result (places_of self.new ≡ places_of self.old ++ places.At place ∷ []) }
         ensures err { OnErr result (handled_by self.new ≡ handled_by self.old) }
+        ensures no_place { OnErr result (places_of self.new ≡ places_of self.old) }
         ensures met { self.new.state.met ≡ self.old.state.met }
         ensures counts { (self.new.asks ≡ self.old.asks) × (self.new.learns ≡ self.old.learns) }
     {
@@ -73,6 +74,7 @@ impl FlowHalf {
 
         ensures name { name_of self.new ≡ name_of self.old }
         ensures handled { self.new.state.handled.items ≡ self.old.state.handled.items }
+        ensures notes { self.new.state.notes.items ≡ self.old.state.notes.items }
         ensures done { self.new.state.done ≡ self.old.state.done }
         ensures counts { (self.new.asks ≡ self.old.asks) × (self.new.learns ≡ self.old.learns) }
         ensures learnt { IfOk result (λ learnt. learnt ≡ true → batches_learnt self.old < batches_learnt self.new) }
@@ -96,6 +98,7 @@ impl FlowHalf {
     fn learn_next<R: Wait>(&mut self, rt: &R) -> Result<bool, NoMemory>
         ensures name { name_of self.new ≡ name_of self.old }
         ensures handled { self.new.state.handled.items ≡ self.old.state.handled.items }
+        ensures notes { self.new.state.notes.items ≡ self.old.state.notes.items }
         ensures done { self.new.state.done ≡ self.old.state.done }
         ensures counts { (self.new.asks ≡ self.old.asks) × (self.new.learns ≡ self.old.learns) }
         ensures learnt { IfOk result (λ learnt. learnt ≡ true → batches_learnt self.new ≡ batches_learnt self.old + 1) }
@@ -149,6 +152,7 @@ impl FlowHalf {
 
         ensures name { name_of self.new ≡ name_of self.old }
         ensures handled { self.new.state.handled.items ≡ self.old.state.handled.items }
+        ensures notes { self.new.state.notes.items ≡ self.old.state.notes.items }
         ensures done { self.new.state.done ≡ self.old.state.done }
         ensures versions { self.new.versions ≡ self.old.versions }
         ensures counts { (self.new.asks ≡ self.old.asks) × (self.new.learns ≡ self.old.learns) }
@@ -165,6 +169,7 @@ impl FlowHalf {
 
         ensures name { name_of self.new ≡ name_of self.old }
         ensures handled { self.new.state.handled.items ≡ self.old.state.handled.items }
+        ensures notes { self.new.state.notes.items ≡ self.old.state.notes.items }
         ensures done { self.new.state.done ≡ self.old.state.done }
         ensures versions { self.new.versions ≡ self.old.versions }
         ensures counts { (self.new.asks ≡ self.old.asks) × (self.new.learns ≡ self.old.learns) }

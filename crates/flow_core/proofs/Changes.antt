@@ -1,11 +1,14 @@
 -- What one changed half changes in all.
-use Rattle.std.proofs.Common.{◌≡◌, ◌≢◌, ℕ, ◌+◌, ◌-◌, ◌^◌, ◌<◌, ◌≤◌, ◌⊎◌, inl, inr, Bool, true, false, true≢false, List, [], ◌∷◌, ◌++◌, length, map, set, get_or, refl, sym, ap, ◌∙◌, subst, arith}
+use Rattle.std.proofs.Common.{◌≡◌, ◌≢◌, ℕ, ◌+◌, ◌-◌, ◌^◌, ◌<◌, ◌≤◌, ◌⊎◌, inl, inr, Bool, true, false, true≢false, cond, List, [], ◌∷◌, ◌++◌, length, map, set, get_or, refl, sym, ap, ◌∙◌, subst, arith}
 use Rattle.std.specs.Prelude.{nat_eq, nat_lt}
 use Rattle.std.proofs.lemmas.List.{length-map, length-set, map-set, get_or-map, get_or-set_same, get_or-set_other}
 use Rattle.std.proofs.Math.Seq.{map-set_same}
-use Rattle.std.proofs.lemmas.Bool.{eqb-true, eqb-false, ltb-true, ltb-false}
+use Rattle.std.proofs.lemmas.Bool.{eqb-true, eqb-false, eq-eqb, ltb-true, ltb-false}
 use Rattle.lane_core.specs.Ends.{raised}
 use Rattle.flow_core.specs.Counts.{Rises, Lasts, count_at, learnt_count}
+use Rattle.pc_base.specs.declared.packet.Place.{Place}
+use Rattle.pc_base.specs.declared.packet.Place.TheVariants.{At}
+use Rattle.flow_core.specs.Places.{with_place, before_here, brought}
 use Rattle.flow_core.specs.Steps.{ChangedAt}
 
 pub rises_raised : (old new : ℕ) → new ≡ raised old → Rises old new
@@ -101,3 +104,20 @@ read_same f k old new none same within =
     let long : length new ≡ length old = sym (length-map new f) ∙ ap length same ∙ length-map old f in
     sym (get_or-map f new k none (f none) within) ∙ ap (λ l. get_or l k (f none)) same ∙ get_or-map f old k none
     (f none) (omega arith)
+
+-- an item more that is handled here
+pub stays_here : (here : ℕ) (places : List Place) → before_here here (places ++ At here ∷ []) ≡ before_here here places
+stays_here here [] = ap (λ b. cond b [] (At here ∷ [])) (eq-eqb here here refl)
+stays_here here (place ∷ places) = ap (with_place here place) (stays_here here places)
+
+-- a half that changed here brings what it brought
+pub changed_brings : {H N : Type 0} (name : H → N) (places : H → List Place) (here at : ℕ) (before after : H)
+    (old new : List H) → ChangedAt name at before after old new
+    → before_here here (places after) ≡ before_here here (places before)
+    → ChangedAt (brought name places here) at before after old new
+changed_brings name places here at before after old new change same = record {
+  within = change.within;
+  there = change.there;
+  changed = change.changed;
+  named = λ i. (change.named i, same i);
+}

@@ -1,5 +1,7 @@
 //! What stands on a slice's lane, and what a worker asks of a half there.
-ghost use Rattle.std.specs.Prelude.{◌≡◌, ◌≤◌, [], ◌∷◌, ◌++◌, ℕ, Bool, true, false, List, Ok, OnOk, OnErr};
+ghost use Rattle.std.specs.Prelude.{◌≡◌, ◌≤◌, [], ◌∷◌, ◌++◌, ℕ, Bool, true, false, List, length, Ok, OnOk, OnErr};
+ghost use Rattle.pc_base.specs.declared.packet.Place.{Place};
+ghost use Rattle.pc_base.specs.declared.packet.Place.TheVariants.{At};
 ghost use Rattle.lane_core.specs.Ends.{raised};
 ghost use Rattle.flow_core.specs.Counts.{learns_after};
 
@@ -35,6 +37,9 @@ pub trait Flow: FlowKind {
     /// The items that it handled, in order.
     ghost handled: { Self → List Self.Item };
 
+    /// Where it handled each of them.
+    ghost places: { Self → List Place };
+
     /// Whether it may handle an item now.
     ghost takes: { Self → Self.Item → Bool };
 
@@ -48,6 +53,7 @@ pub trait Flow: FlowKind {
         requires { 1 ≤ most }
         ensures name { name self.new ≡ name self.old }
         ensures handled { handled self.new ≡ handled self.old }
+        ensures places { places self.new ≡ places self.old }
         ensures asks { asks self.new ≡ raised (asks self.old) }
         ensures learns { learns self.new ≡ learns_after result (learns self.old) }
         ensures takes { result ≡ Ok false → (item : Self.Item) → takes self.new item ≡ takes self.old item };
@@ -61,10 +67,15 @@ pub trait Flow: FlowKind {
         requires { takes self.old item.now ≡ true }
         ensures name { name self.new ≡ name self.old }
         ensures ok { OnOk result (handled self.new ≡ handled self.old ++ item.now ∷ []) }
+        ensures place { OnOk result (places self.new ≡ places self.old ++ At place ∷ []) }
         ensures err { OnErr result (handled self.new ≡ handled self.old) }
+        ensures no_place { OnErr result (places self.new ≡ places self.old) }
         ensures counts { (asks self.new ≡ asks self.old) × (learns self.new ≡ learns self.old) };
 
-    /// The name's slot is the half's, an item has one slot, and any half may go home after any others.
+    /// Each item was handled at one place. The name's slot is the half's, an item has one slot, and any half may go home
+    /// after any others.
+    ghost each_placed: { (half : Self) → length (places half) ≡ length (handled half) };
+
     ghost half_slots: { (half : Self) → slot_at (name half) ≡ Self.slot_of_half half };
 
     ghost item_slots: { (item : Self.Item) → item_slot item ≡ Self.slot_of_item item };

@@ -1,6 +1,7 @@
 //! What a worker does with one half, and what the steps of its turn come to.
 ghost use Rattle.std.specs.Prelude.{◌≡◌, ◌≢◌, ◌≤◌, ◌<◌, ◌+◌, ◌⊎◌, ◌∷◌, [], ◌++◌};
 ghost use Rattle.std.specs.Prelude.{true, false, Ok, OnErr, IfOk, vec_len};
+ghost use Rattle.flow_core.specs.Places.{before_here};
 ghost use Rattle.flow_core.specs.Turns.{wrapped, cursor_without};
 ghost use Rattle.flow_core.specs.Steps.{ChangedAt, Asks, Handed};
 
@@ -92,10 +93,12 @@ pub fn hand_at<H: Flow, R: Wait>(
     ensures len { vec_len held.new ≡ vec_len held.old }
     ensures changed { IfOk result (λ tried. (before : H) × (after : H)
         × ChangedAt H.name at before after held.old.items held.new.items
-        × Handed H.handled H.takes H.asks H.learns tried item.now before after) }
+        × Handed H.handled H.takes H.asks H.learns tried item.now before after
+        × (before_here place (H.places after) ≡ before_here place (H.places before))) }
     ensures err { OnErr result ((before : H) × (after : H)
         × ChangedAt H.name at before after held.old.items held.new.items
-        × (H.handled after ≡ H.handled before)) }
+        × (H.handled after ≡ H.handled before)
+        × (before_here place (H.places after) ≡ before_here place (H.places before))) }
 {
     hand(rt, &mut held[at], place, item)
 }
@@ -110,6 +113,7 @@ fn hand<H: Flow, R: Wait>(
     ensures name { H.name half.new ≡ H.name half.old }
     ensures handed { IfOk result (λ tried. Handed H.handled H.takes H.asks H.learns tried item.now half.old half.new) }
     ensures err { OnErr result (H.handled half.new ≡ H.handled half.old) }
+    ensures here { before_here place (H.places half.new) ≡ before_here place (H.places half.old) }
 {
     let learnt = half.learn(rt, BATCHES)?;
     if !half.may(item) {
@@ -124,7 +128,8 @@ pub fn learn_at<H: Flow, R: Wait>(rt: &R, held: &mut Vec<H>, at: usize) -> Resul
     requires { at < vec_len held.old }
     ensures len { vec_len held.new ≡ vec_len held.old }
     ensures changed { (before : H) × (after : H) × ChangedAt H.name at before after held.old.items held.new.items
-        × Asks H.handled H.takes H.asks H.learns result before after }
+        × Asks H.handled H.takes H.asks H.learns result before after
+        × (H.places after ≡ H.places before) }
 {
     held[at].learn(rt, BATCHES)
 }

@@ -1,10 +1,10 @@
 //! Workers of slices' lanes, with a half that waits for lessons.
-ghost use Rattle.std.specs.Prelude.{◌≡◌, [], IfOk, nat_le, refl};
+ghost use Rattle.std.specs.Prelude.{◌≡◌, [], IfOk, length, nat_le, refl};
 ghost use Rattle.lane_core.specs.Ends.{sent};
 
 use crate::{Flow, FlowKind, FlowOrder, flow_pair};
 use lane_core::{Carried, Did, NoMemory, Receiver, Sender, lane};
-use pc_base::{SliceNo, Slot};
+use pc_base::{Place, SliceNo, Slot};
 use std::alloc::Global;
 use std::process::Abort;
 use std::sync::Wait;
@@ -34,9 +34,10 @@ struct Pupil {
     /// Whether memory is wanting at its next item.
     short: bool,
     handled: Vec<Task>,
-    places: Vec<u8>,
+    places: Vec<Place>,
     asks: u64,
     learns: u64,
+    ghost each: { length places.items ≡ length handled.items },
 }
 
 impl Carried for Pupil {}
@@ -68,6 +69,8 @@ impl Flow for Pupil {
 
     ghost handled = { λ pupil. pupil.handled.items };
 
+    ghost places = { λ pupil. pupil.places.items };
+
     ghost takes = { λ pupil task. nat_le task.floor pupil.known };
 
     ghost asks = { λ pupil. pupil.asks };
@@ -95,10 +98,13 @@ impl Flow for Pupil {
             self.short = false;
             return Err(NoMemory);
         }
-        self.places.push(place.0)?;
-        self.handled.push(*item)?;
+        self.handled.reserve(1)?;
+        self.places.push(Place::At(place))?;
+        self.handled.push_reserved(*item);
         Ok(())
     }
+
+    ghost each_placed = { λ pupil. pupil.each };
 
     ghost half_slots = { λ pupil. refl };
 
@@ -168,7 +174,7 @@ fn item_waits_for_its_lesson(rt: HostRuntime) -> Result<(), Fail> {
         return Err("the half is home".into());
     };
     assert_eq!(rt; home.handled.as_slice(), [make_task()].as_slice());
-    assert_eq!(rt; home.places.as_slice(), [3].as_slice());
+    assert_eq!(rt; home.places.as_slice(), [Place::At(PLACE)].as_slice());
     assert_eq!(rt; (home.asks, home.learns, home.known), (5, 1, 1));
     assert_eq!(rt; worker.turn(&rt), Ok(Did::Idle), "nothing is left");
     Ok(())

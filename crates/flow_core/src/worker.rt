@@ -5,6 +5,7 @@ ghost use Rattle.std.specs.Option.{option_to_list};
 ghost use Rattle.lane_core.specs.Ends.{sender_lane, receiver_lane, sent, taken, full_answers, empty_answers, raised};
 ghost use Rattle.lane_core.specs.Order.{Lawful};
 ghost use Rattle.flow_core.specs.declared.serving.Tried.{Tried};
+ghost use Rattle.flow_core.specs.Places.{brought};
 ghost use Rattle.flow_core.specs.Stays.{NamesKept, Holds, Sends, KeptStands};
 
 use crate::seen::Seen;
@@ -37,6 +38,9 @@ pub struct FlowWorker<H: Flow> {
     orders: Receiver<FlowOrder<H>>,
     home: Sender<H>,
     pub ghost names: { NamesKept H.name (taken orders) held.items (sent home ++ option_to_list waiting) },
+    // All that a half handles here it handles at this place.
+    pub ghost here: { NamesKept (brought H.name H.places place) (taken orders) held.items
+        (sent home ++ option_to_list waiting) },
     pub ghost holds: { Holds (λ half. H.slot_at (H.name half)) H.item_slot H.handled (taken orders) held.items kept },
     pub ghost sends: { Sends (λ half. H.slot_at (H.name half)) H.item_slot H.handled (taken orders)
         (sent home ++ option_to_list waiting) },
@@ -54,6 +58,9 @@ pub struct FlowEnd<H: Flow> {
     pub orders: Receiver<FlowOrder<H>>,
     pub home: Sender<H>,
     pub ghost names: { NamesKept H.name (taken orders) held.items (sent home ++ option_to_list waiting) },
+    // All that a half handles here it handles at this place.
+    pub ghost here: { NamesKept (brought H.name H.places place) (taken orders) held.items
+        (sent home ++ option_to_list waiting) },
     pub ghost holds: { Holds (λ half. H.slot_at (H.name half)) H.item_slot H.handled (taken orders) held.items kept },
     pub ghost sends: { Sends (λ half. H.slot_at (H.name half)) H.item_slot H.handled (taken orders)
         (sent home ++ option_to_list waiting) },

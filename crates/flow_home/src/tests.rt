@@ -1,5 +1,5 @@
 //! Halves and items on slices' lanes, on one thread: all come home.
-ghost use Rattle.std.specs.Prelude.{◌≡◌, ◌≤◌, [], ◌∷◌, nat_le, refl};
+ghost use Rattle.std.specs.Prelude.{◌≡◌, ◌≤◌, [], ◌∷◌, length, nat_le, refl};
 ghost use Rattle.flow_core.specs.Workers.{worker_lanes};
 ghost use Rattle.flow_migration.specs.Desks.{lanes_of};
 ghost use Rattle.flow_migration.specs.Words.{desks_of};
@@ -8,7 +8,7 @@ use crate::{Home, gather_flow};
 use flow_core::{Flow, FlowKind, FlowWorker, flow_pair};
 use flow_migration::{FlowNo, FlowSide};
 use lane_core::{Carried, Did, NoMemory};
-use pc_base::{SliceNo, Slot};
+use pc_base::{Place, SliceNo, Slot};
 use std::alloc::Global;
 use std::process::Abort;
 use std::sync::Wait;
@@ -32,6 +32,8 @@ struct Pupil {
     known: u64,
     short: bool,
     handled: Vec<Task>,
+    places: Vec<Place>,
+    ghost each: { length places.items ≡ length handled.items },
 }
 
 impl Carried for Pupil {}
@@ -63,6 +65,8 @@ impl Flow for Pupil {
 
     ghost handled = { λ pupil. pupil.handled.items };
 
+    ghost places = { λ pupil. pupil.places.items };
+
     ghost takes = { λ pupil task. nat_le task.floor pupil.known };
 
     ghost asks = { λ pupil. pupil.asks };
@@ -83,14 +87,18 @@ impl Flow for Pupil {
         item.floor <= self.known
     }
 
-    fn item(&mut self, _place: SliceNo, item: &Task) -> Result<(), NoMemory> {
+    fn item(&mut self, place: SliceNo, item: &Task) -> Result<(), NoMemory> {
         if self.short {
             self.short = false;
             return Err(NoMemory);
         }
-        self.handled.push(*item)?;
+        self.handled.reserve(1)?;
+        self.places.push(Place::At(place))?;
+        self.handled.push_reserved(*item);
         Ok(())
     }
+
+    ghost each_placed = { λ pupil. pupil.each };
 
     ghost half_slots = { λ pupil. refl };
 
@@ -110,6 +118,7 @@ fn make_pupil(alloc: Global, slot: Slot, short: bool) -> Pupil
         known: 0,
         short,
         handled: Vec::new(alloc),
+        places: Vec::new(alloc),
     }
 }
 

@@ -1,10 +1,10 @@
 //! A side and its workers on one thread, with a half that notes its items.
-ghost use Rattle.std.specs.Prelude.{◌≡◌, ◌≤◌, [], true, refl};
+ghost use Rattle.std.specs.Prelude.{◌≡◌, ◌≤◌, [], length, true, refl};
 
 use crate::{FlowNo, FlowSide};
 use flow_core::{Flow, FlowKind, FlowWorker, flow_pair};
 use lane_core::{Carried, Did, NoMemory};
-use pc_base::{SliceNo, Slot};
+use pc_base::{Place, SliceNo, Slot};
 use std::alloc::Global;
 use std::sync::Wait;
 use std::test::Fail;
@@ -23,6 +23,8 @@ struct Pupil {
     slot: Slot,
     asks: u64,
     handled: Vec<Task>,
+    places: Vec<Place>,
+    ghost each: { length places.items ≡ length handled.items },
 }
 
 impl Carried for Pupil {}
@@ -54,6 +56,8 @@ impl Flow for Pupil {
 
     ghost handled = { λ pupil. pupil.handled.items };
 
+    ghost places = { λ pupil. pupil.places.items };
+
     ghost takes = { λ pupil task. true };
 
     ghost asks = { λ pupil. pupil.asks };
@@ -69,10 +73,14 @@ impl Flow for Pupil {
         true
     }
 
-    fn item(&mut self, _place: SliceNo, item: &Task) -> Result<(), NoMemory> {
-        self.handled.push(*item)?;
+    fn item(&mut self, place: SliceNo, item: &Task) -> Result<(), NoMemory> {
+        self.handled.reserve(1)?;
+        self.places.push(Place::At(place))?;
+        self.handled.push_reserved(*item);
         Ok(())
     }
+
+    ghost each_placed = { λ pupil. pupil.each };
 
     ghost half_slots = { λ pupil. refl };
 
@@ -90,6 +98,7 @@ fn make_pupil(alloc: Global, slot: Slot) -> Pupil
         slot,
         asks: 0,
         handled: Vec::new(alloc),
+        places: Vec::new(alloc),
     }
 }
 

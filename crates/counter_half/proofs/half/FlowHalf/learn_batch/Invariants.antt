@@ -7,6 +7,7 @@ abbrev pub invariant-loop : goal.invariant-loop
 invariant-loop l = record {
   name : name_of l.self ≡ name_of l.fn.self;
   handled : l.self.state.handled.items ≡ l.fn.self.state.handled.items;
+  notes : l.self.state.notes.items ≡ l.fn.self.state.notes.items;
   done : l.self.state.done ≡ l.fn.self.state.done;
   versions : l.self.versions ≡ l.fn.self.versions;
   asks : l.self.asks ≡ l.fn.self.asks;

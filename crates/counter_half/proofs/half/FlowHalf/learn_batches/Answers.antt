@@ -9,6 +9,7 @@ loop-learnt-preserved g c =
     record {
       name = step.name ∙ kept.name;
       handled = step.handled ∙ kept.handled;
+      notes = step.notes ∙ kept.notes;
       done = step.done ∙ kept.done;
       asks = step.counts.0 ∙ kept.asks;
       learns = step.counts.1 ∙ kept.learns;

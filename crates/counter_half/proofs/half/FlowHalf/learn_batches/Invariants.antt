@@ -7,6 +7,7 @@ abbrev pub invariant-loop-learnt : goal.invariant-loop-learnt
 invariant-loop-learnt g l = record {
   name : name_of l.self ≡ name_of l.fn.self;
   handled : l.self.state.handled.items ≡ l.fn.self.state.handled.items;
+  notes : l.self.state.notes.items ≡ l.fn.self.state.notes.items;
   done : l.self.state.done ≡ l.fn.self.state.done;
   asks : l.self.asks ≡ l.fn.self.asks;
   learns : l.self.learns ≡ l.fn.self.learns;

@@ -1,6 +1,8 @@
-use Rattle.std.proofs.Common.{rules, ◌++◌}
+use Rattle.std.proofs.Common.{rules, ◌++◌, ap}
 use Rattle.std.specs.Option.{option_to_list}
 use Rattle.lane_core.specs.Ends.{sent, taken}
+use Rattle.flow_core.specs.Places.{before_here, brought}
+use Rattle.flow_core.proofs.Changes.{changed_brings}
 use Rattle.flow_core.proofs.Knowing.{knows_same}
 use Rattle.flow_core.proofs.worker.FlowWorker.learn_next.Goals as goal
 
@@ -8,18 +10,38 @@ pub invariant_of-self : goal.invariant_of-self
 invariant_of-self g c =
     let w = c.args.self.now in
     let change = c.learn_at.ensures.changed in
-    let knows = knows_same g.H.Flow.name g.H.Flow.slot_at g.H.Flow.item_slot g.H.Flow.handled
+    let knows = knows_same (brought g.H.Flow.name g.H.Flow.places w.place)
+    (λ bring. g.H.Flow.slot_at bring.0) g.H.Flow.item_slot g.H.Flow.handled
     (taken w.orders) w.held.items c.learn_at.new.held.items
-    w.kept (sent w.home ++ option_to_list w.waiting) w.cursor change.0 change.1 change.2 change.3.lists
-    (w.names, w.holds, w.sends, w.stands) in
-    record { names = knows.0; holds = knows.1; sends = knows.2; stands = knows.3; within = search rules }
+    w.kept (sent w.home ++ option_to_list w.waiting) w.cursor change.0 change.1
+    (changed_brings g.H.Flow.name g.H.Flow.places w.place w.cursor change.0 change.1 w.held.items
+    c.learn_at.new.held.items change.2 (ap (before_here w.place) change.4)) change.3.lists
+    (w.here, w.holds, w.sends, w.stands) in
+    record {
+      names = λ h. knows.0 (λ bring. h bring.0);
+      here = knows.0;
+      holds = knows.1;
+      sends = knows.2;
+      stands = knows.3;
+      within = search rules;
+    }
 
 pub invariant_of-self-2 : goal.invariant_of-self-2
 invariant_of-self-2 g c =
     let w = c.args.self.now in
     let change = c.learn_at.ensures.changed in
-    let knows = knows_same g.H.Flow.name g.H.Flow.slot_at g.H.Flow.item_slot g.H.Flow.handled
+    let knows = knows_same (brought g.H.Flow.name g.H.Flow.places w.place)
+    (λ bring. g.H.Flow.slot_at bring.0) g.H.Flow.item_slot g.H.Flow.handled
     (taken w.orders) w.held.items c.learn_at.new.held.items
-    w.kept (sent w.home ++ option_to_list w.waiting) w.cursor change.0 change.1 change.2 change.3.lists
-    (w.names, w.holds, w.sends, w.stands) in
-    record { names = knows.0; holds = knows.1; sends = knows.2; stands = knows.3; within = search rules }
+    w.kept (sent w.home ++ option_to_list w.waiting) w.cursor change.0 change.1
+    (changed_brings g.H.Flow.name g.H.Flow.places w.place w.cursor change.0 change.1 w.held.items
+    c.learn_at.new.held.items change.2 (ap (before_here w.place) change.4)) change.3.lists
+    (w.here, w.holds, w.sends, w.stands) in
+    record {
+      names = λ h. knows.0 (λ bring. h bring.0);
+      here = knows.0;
+      holds = knows.1;
+      sends = knows.2;
+      stands = knows.3;
+      within = search rules;
+    }

@@ -3,6 +3,7 @@ use Rattle.std.specs.Prelude.{Option, Some, None}
 use Rattle.std.specs.Option.{option_to_list}
 use Rattle.lane_core.specs.Ends.{sent, taken}
 use Rattle.flow_core.specs.Stays.{NamesKept}
+use Rattle.flow_core.specs.Places.{brought}
 use Rattle.flow_core.proofs.Knowing.{left_few, left_home, knows_left}
 use Rattle.flow_core.proofs.worker.FlowWorker.send_waiting.Goals as goal
 
@@ -12,11 +13,19 @@ invariant_of-self g c =
     let same : sent w.home ++ option_to_list c.take.new.self ≡ sent w.home ++ option_to_list w.waiting =
     ap (λ o. sent w.home ++ option_to_list o)
     (c.take.ensures.after ∙ sym (sym c.take.ensures.value ∙ c.in_default.is)) in
-    let knows = knows_left g.H.Flow.name g.H.Flow.slot_at g.H.Flow.item_slot g.H.Flow.handled
+    let knows = knows_left (brought g.H.Flow.name g.H.Flow.places w.place)
+    (λ bring. g.H.Flow.slot_at bring.0) g.H.Flow.item_slot g.H.Flow.handled
     (taken w.orders) w.held.items w.kept
     (sent w.home ++ option_to_list w.waiting) (sent w.home ++ option_to_list c.take.new.self) same
-    (w.names, w.holds, w.sends, w.stands) in
-    record { names = knows.0; holds = knows.1; sends = knows.2; stands = knows.3; within = search rules }
+    (w.here, w.holds, w.sends, w.stands) in
+    record {
+      names = λ h. knows.0 (λ bring. h bring.0);
+      here = knows.0;
+      holds = knows.1;
+      sends = knows.2;
+      stands = knows.3;
+      within = search rules;
+    }
 
 pub offer-requires-clause-few : goal.offer-requires-clause-few
 offer-requires-clause-few g c κs within =
@@ -32,11 +41,19 @@ invariant_of-self-in-Ok g c =
     ap (λ o. sent c.offer.new.self ++ option_to_list o) c.take.ensures.after
     ∙ left_home (sent w.home) (sent c.offer.new.self) w.waiting c.in-Some.half
     (sym c.take.ensures.value ∙ c.in-Some.is) c.in-Ok.ensures.ok.0 in
-    let knows = knows_left g.H.Flow.name g.H.Flow.slot_at g.H.Flow.item_slot g.H.Flow.handled
+    let knows = knows_left (brought g.H.Flow.name g.H.Flow.places w.place)
+    (λ bring. g.H.Flow.slot_at bring.0) g.H.Flow.item_slot g.H.Flow.handled
     (taken w.orders) w.held.items w.kept
     (sent w.home ++ option_to_list w.waiting) (sent c.offer.new.self ++ option_to_list c.take.new.self) same
-    (w.names, w.holds, w.sends, w.stands) in
-    record { names = knows.0; holds = knows.1; sends = knows.2; stands = knows.3; within = search rules }
+    (w.here, w.holds, w.sends, w.stands) in
+    record {
+      names = λ h. knows.0 (λ bring. h bring.0);
+      here = knows.0;
+      holds = knows.1;
+      sends = knows.2;
+      stands = knows.3;
+      within = search rules;
+    }
 
 pub invariant_of-self-in-Err : goal.invariant_of-self-in-Err
 invariant_of-self-in-Err g c =
@@ -45,8 +62,16 @@ invariant_of-self-in-Err g c =
     ++ option_to_list w.waiting =
     (λ i. c.in-Err.ensures.full.1 i ++ option_to_list (Some (c.in-Err.ensures.full.0 i)))
     ∙ ap (λ o. sent w.home ++ option_to_list o) (sym (sym c.take.ensures.value ∙ c.in-Some.is)) in
-    let knows = knows_left g.H.Flow.name g.H.Flow.slot_at g.H.Flow.item_slot g.H.Flow.handled
+    let knows = knows_left (brought g.H.Flow.name g.H.Flow.places w.place)
+    (λ bring. g.H.Flow.slot_at bring.0) g.H.Flow.item_slot g.H.Flow.handled
     (taken w.orders) w.held.items w.kept
     (sent w.home ++ option_to_list w.waiting) (sent c.offer.new.self ++ option_to_list (Some c.in-Err.field-0.0)) same
-    (w.names, w.holds, w.sends, w.stands) in
-    record { names = knows.0; holds = knows.1; sends = knows.2; stands = knows.3; within = search rules }
+    (w.here, w.holds, w.sends, w.stands) in
+    record {
+      names = λ h. knows.0 (λ bring. h bring.0);
+      here = knows.0;
+      holds = knows.1;
+      sends = knows.2;
+      stands = knows.3;
+      within = search rules;
+    }

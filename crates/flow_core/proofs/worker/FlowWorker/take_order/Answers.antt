@@ -5,26 +5,43 @@ use Rattle.std.specs.Option.{option_to_list}
 use Rattle.lane_core.specs.Ends.{sent, taken}
 use Rattle.flow_core.specs.declared.order.FlowOrder.{FlowOrder}
 use Rattle.flow_core.specs.declared.order.FlowOrder.TheVariants.{Arrive, Item, Leave}
+use Rattle.flow_core.specs.Places.{brought}
 use Rattle.flow_core.proofs.Knowing.{Knows, knows_arrive, knows_item, knows_leave, knows_lists, leaving_found, law_last, none_among, found_slot}
 use Rattle.flow_core.proofs.worker.FlowWorker.take_order.Goals as goal
 
 pub invariant_of-self : goal.invariant_of-self
 invariant_of-self g c =
     let w = c.args.self.now in
-    let knows = knows_lists g.H.Flow.name g.H.Flow.slot_at g.H.Flow.item_slot g.H.Flow.handled (taken w.orders)
+    let knows = knows_lists (brought g.H.Flow.name g.H.Flow.places w.place)
+    (λ bring. g.H.Flow.slot_at bring.0) g.H.Flow.item_slot g.H.Flow.handled (taken w.orders)
     (taken w.orders) w.held.items c.reserve.new.self.items
     w.kept (sent w.home ++ option_to_list w.waiting) refl c.reserve.ensures.items
-    (w.names, w.holds, w.sends, w.stands) in
-    record { names = knows.0; holds = knows.1; sends = knows.2; stands = knows.3; within = search rules }
+    (w.here, w.holds, w.sends, w.stands) in
+    record {
+      names = λ h. knows.0 (λ bring. h bring.0);
+      here = knows.0;
+      holds = knows.1;
+      sends = knows.2;
+      stands = knows.3;
+      within = search rules;
+    }
 
 pub invariant_of-self-in_default : goal.invariant_of-self-in_default
 invariant_of-self-in_default g c =
     let w = c.args.self.now in
-    let knows = knows_lists g.H.Flow.name g.H.Flow.slot_at g.H.Flow.item_slot g.H.Flow.handled (taken w.orders)
+    let knows = knows_lists (brought g.H.Flow.name g.H.Flow.places w.place)
+    (λ bring. g.H.Flow.slot_at bring.0) g.H.Flow.item_slot g.H.Flow.handled (taken w.orders)
     (taken c.take.new.self) w.held.items c.reserve.new.self.items
     w.kept (sent w.home ++ option_to_list w.waiting) c.in_default.ensures.next.0 c.reserve.ensures.items
-    (w.names, w.holds, w.sends, w.stands) in
-    record { names = knows.0; holds = knows.1; sends = knows.2; stands = knows.3; within = search rules }
+    (w.here, w.holds, w.sends, w.stands) in
+    record {
+      names = λ h. knows.0 (λ bring. h bring.0);
+      here = knows.0;
+      holds = knows.1;
+      sends = knows.2;
+      stands = knows.3;
+      within = search rules;
+    }
 
 pub invariant_of-self-in-Arrive : goal.invariant_of-self-in-Arrive
 invariant_of-self-in-Arrive g c =
@@ -36,13 +53,21 @@ invariant_of-self-in-Arrive g c =
     (λ half. g.H.Flow.slot_at (g.H.Flow.name half)) g.H.FlowKind.slot_of_item g.H.Flow.item_slot laws.half_slots
     laws.item_slots
     (taken w.orders) (taken c.take.new.self) (Arrive c.in-Arrive.half) came c.take.ensures.lawful in
-    let knows = knows_arrive g.H.Flow.name g.H.Flow.slot_at g.H.Flow.item_slot g.H.Flow.handled (taken w.orders)
+    let knows = knows_arrive (brought g.H.Flow.name g.H.Flow.places w.place)
+    (λ bring. g.H.Flow.slot_at bring.0) g.H.Flow.item_slot g.H.Flow.handled (taken w.orders)
     (taken c.take.new.self) w.held.items
     c.push_reserved.new.self.items w.kept
     (sent w.home ++ option_to_list w.waiting) c.in-Arrive.half c.requires.free law came
     (c.push_reserved.ensures.items ∙ ap (λ l. l ++ c.in-Arrive.half ∷ []) c.reserve.ensures.items)
-    (w.names, w.holds, w.sends, w.stands) in
-    record { names = knows.0; holds = knows.1; sends = knows.2; stands = knows.3; within = search rules }
+    (w.here, w.holds, w.sends, w.stands) in
+    record {
+      names = λ h. knows.0 (λ bring. h bring.0);
+      here = knows.0;
+      holds = knows.1;
+      sends = knows.2;
+      stands = knows.3;
+      within = search rules;
+    }
 
 pub invariant_of-self-in-Item : goal.invariant_of-self-in-Item
 invariant_of-self-in-Item g c =
@@ -54,14 +79,23 @@ invariant_of-self-in-Item g c =
     (λ half. g.H.Flow.slot_at (g.H.Flow.name half)) g.H.FlowKind.slot_of_item g.H.Flow.item_slot laws.half_slots
     laws.item_slots
     (taken w.orders) (taken c.take.new.self) (Item c.in-Item.item) came c.take.ensures.lawful in
-    let before = knows_item g.H.Flow.name g.H.Flow.slot_at g.H.Flow.item_slot g.H.Flow.handled (taken w.orders)
+    let before = knows_item (brought g.H.Flow.name g.H.Flow.places w.place)
+    (λ bring. g.H.Flow.slot_at bring.0) g.H.Flow.item_slot g.H.Flow.handled (taken w.orders)
     (taken c.take.new.self) w.held.items
     w.kept (sent w.home ++ option_to_list w.waiting) c.in-Item.item c.requires.free law came
-    (w.names, w.holds, w.sends, w.stands) in
-    let knows = knows_lists g.H.Flow.name g.H.Flow.slot_at g.H.Flow.item_slot g.H.Flow.handled (taken c.take.new.self)
+    (w.here, w.holds, w.sends, w.stands) in
+    let knows = knows_lists (brought g.H.Flow.name g.H.Flow.places w.place)
+    (λ bring. g.H.Flow.slot_at bring.0) g.H.Flow.item_slot g.H.Flow.handled (taken c.take.new.self)
     (taken c.take.new.self) w.held.items c.reserve.new.self.items
     (Some c.in-Item.item) (sent w.home ++ option_to_list w.waiting) refl c.reserve.ensures.items before in
-    record { names = knows.0; holds = knows.1; sends = knows.2; stands = knows.3; within = search rules }
+    record {
+      names = λ h. knows.0 (λ bring. h bring.0);
+      here = knows.0;
+      holds = knows.1;
+      sends = knows.2;
+      stands = knows.3;
+      within = search rules;
+    }
 
 pub unreachable-requires : goal.unreachable-requires
 unreachable-requires g c =
@@ -99,8 +133,16 @@ invariant_of-self-in-Leave g c =
     w.held.items c.deref.result.now at half there seen refl c.in-Some-find.ensures.found.1 in
     let fewer : c.remove.new.self.items
     ≡ remove w.held.items at = c.remove.ensures.items ∙ ap (λ l. remove l at) c.reserve.ensures.items in
-    let knows = knows_leave g.H.Flow.name g.H.Flow.slot_at g.H.Flow.item_slot g.H.Flow.handled (taken w.orders)
+    let knows = knows_leave (brought g.H.Flow.name g.H.Flow.places w.place)
+    (λ bring. g.H.Flow.slot_at bring.0) g.H.Flow.item_slot g.H.Flow.handled (taken w.orders)
     (taken c.take.new.self) w.held.items c.remove.new.self.items
     w.kept (sent w.home) w.waiting at half c.in-Leave.slot c.requires.free c.requires.none within there slot came fewer
-    (w.names, w.holds, w.sends, w.stands) in
-    record { names = knows.0; holds = knows.1; sends = knows.2; stands = knows.3; within = search rules }
+    (w.here, w.holds, w.sends, w.stands) in
+    record {
+      names = λ h. knows.0 (λ bring. h bring.0);
+      here = knows.0;
+      holds = knows.1;
+      sends = knows.2;
+      stands = knows.3;
+      within = search rules;
+    }

@@ -4,6 +4,8 @@ use Rattle.std.specs.Option.{option_to_list}
 use Rattle.lane_core.specs.Ends.{sent, taken}
 use Rattle.flow_core.specs.declared.serving.Tried.{Tried}
 use Rattle.flow_core.specs.Steps.{Handed}
+use Rattle.flow_core.specs.Places.{brought}
+use Rattle.flow_core.proofs.Changes.{changed_brings}
 use Rattle.flow_core.proofs.Knowing.{Knows, knows_same, knows_handled, kept_found, none_among, found_slot}
 use Rattle.flow_core.proofs.worker.FlowWorker.try_kept.Goals as goal
 
@@ -33,16 +35,27 @@ invariant_of-self g c =
     w.held.items c.deref.result.now c.in-Some-find.at change.0 change.2.there c.deref.ensures.value
     (c.slot_of.ensures ∙ sym (laws.item_slots c.in-Some.item))
     c.in-Some-find.ensures.found.1 in
-    let knows = knows_handled g.H.Flow.name g.H.Flow.slot_at g.H.Flow.item_slot g.H.Flow.handled
+    let knows = knows_handled (brought g.H.Flow.name g.H.Flow.places w.place)
+    (λ bring. g.H.Flow.slot_at bring.0) g.H.Flow.item_slot g.H.Flow.handled
     (taken w.orders) w.held.items c.hand_at.new.held.items w.kept
     (sent w.home ++ option_to_list w.waiting) c.in-Some-find.at change.0 change.1 c.in-Some.item
-    (sym c.take.ensures.value ∙ c.in-Some.is) change.2 slot handed.0
-    (w.names, w.holds, w.sends, w.stands) in
+    (sym c.take.ensures.value ∙ c.in-Some.is)
+    (changed_brings g.H.Flow.name g.H.Flow.places w.place c.in-Some-find.at change.0 change.1 w.held.items
+    c.hand_at.new.held.items change.2 change.4) slot handed.0
+    (w.here, w.holds, w.sends, w.stands) in
     let after = subst
-    (λ (o : Option g.row.H-Item.Denot). Knows g.H.Flow.name g.H.Flow.slot_at g.H.Flow.item_slot g.H.Flow.handled
+    (λ (o : Option g.row.H-Item.Denot). Knows (brought g.H.Flow.name g.H.Flow.places w.place)
+    (λ bring. g.H.Flow.slot_at bring.0) g.H.Flow.item_slot g.H.Flow.handled
     (taken w.orders) c.hand_at.new.held.items o
     (sent w.home ++ option_to_list w.waiting)) (sym c.take.ensures.after) knows in
-    record { names = after.0; holds = after.1; sends = after.2; stands = after.3; within = search rules }
+    record {
+      names = λ h. after.0 (λ bring. h bring.0);
+      here = after.0;
+      holds = after.1;
+      sends = after.2;
+      stands = after.3;
+      within = search rules;
+    }
 
 pub invariant_of-self-in-Ok-Waits : goal.invariant_of-self-in-Ok-Waits
 invariant_of-self-in-Ok-Waits g c =
@@ -53,25 +66,47 @@ invariant_of-self-in-Ok-Waits g c =
     change.1)
     c.in-Ok-Waits.field-0-is change.3 in
     let was = subst
-    (λ (o : Option g.row.H-Item.Denot). Knows g.H.Flow.name g.H.Flow.slot_at g.H.Flow.item_slot g.H.Flow.handled
+    (λ (o : Option g.row.H-Item.Denot). Knows (brought g.H.Flow.name g.H.Flow.places w.place)
+    (λ bring. g.H.Flow.slot_at bring.0) g.H.Flow.item_slot g.H.Flow.handled
     (taken w.orders) w.held.items o
     (sent w.home ++ option_to_list w.waiting)) (sym c.take.ensures.value ∙ c.in-Some.is)
-    (w.names, w.holds, w.sends, w.stands) in
-    let knows = knows_same g.H.Flow.name g.H.Flow.slot_at g.H.Flow.item_slot g.H.Flow.handled
+    (w.here, w.holds, w.sends, w.stands) in
+    let knows = knows_same (brought g.H.Flow.name g.H.Flow.places w.place)
+    (λ bring. g.H.Flow.slot_at bring.0) g.H.Flow.item_slot g.H.Flow.handled
     (taken w.orders) w.held.items c.hand_at.new.held.items (Some c.in-Some.item)
-    (sent w.home ++ option_to_list w.waiting) c.in-Some-find.at change.0 change.1 change.2 handed.0 was in
-    record { names = knows.0; holds = knows.1; sends = knows.2; stands = knows.3; within = search rules }
+    (sent w.home ++ option_to_list w.waiting) c.in-Some-find.at change.0 change.1
+    (changed_brings g.H.Flow.name g.H.Flow.places w.place c.in-Some-find.at change.0 change.1 w.held.items
+    c.hand_at.new.held.items change.2 change.4) handed.0 was in
+    record {
+      names = λ h. knows.0 (λ bring. h bring.0);
+      here = knows.0;
+      holds = knows.1;
+      sends = knows.2;
+      stands = knows.3;
+      within = search rules;
+    }
 
 pub invariant_of-self-in-Err : goal.invariant_of-self-in-Err
 invariant_of-self-in-Err g c =
     let w = c.args.self.now in
     let change = c.in-Err.ensures.err in
     let was = subst
-    (λ (o : Option g.row.H-Item.Denot). Knows g.H.Flow.name g.H.Flow.slot_at g.H.Flow.item_slot g.H.Flow.handled
+    (λ (o : Option g.row.H-Item.Denot). Knows (brought g.H.Flow.name g.H.Flow.places w.place)
+    (λ bring. g.H.Flow.slot_at bring.0) g.H.Flow.item_slot g.H.Flow.handled
     (taken w.orders) w.held.items o
     (sent w.home ++ option_to_list w.waiting)) (sym c.take.ensures.value ∙ c.in-Some.is)
-    (w.names, w.holds, w.sends, w.stands) in
-    let knows = knows_same g.H.Flow.name g.H.Flow.slot_at g.H.Flow.item_slot g.H.Flow.handled
+    (w.here, w.holds, w.sends, w.stands) in
+    let knows = knows_same (brought g.H.Flow.name g.H.Flow.places w.place)
+    (λ bring. g.H.Flow.slot_at bring.0) g.H.Flow.item_slot g.H.Flow.handled
     (taken w.orders) w.held.items c.hand_at.new.held.items (Some c.in-Some.item)
-    (sent w.home ++ option_to_list w.waiting) c.in-Some-find.at change.0 change.1 change.2 change.3 was in
-    record { names = knows.0; holds = knows.1; sends = knows.2; stands = knows.3; within = search rules }
+    (sent w.home ++ option_to_list w.waiting) c.in-Some-find.at change.0 change.1
+    (changed_brings g.H.Flow.name g.H.Flow.places w.place c.in-Some-find.at change.0 change.1 w.held.items
+    c.hand_at.new.held.items change.2 change.4) change.3 was in
+    record {
+      names = λ h. knows.0 (λ bring. h bring.0);
+      here = knows.0;
+      holds = knows.1;
+      sends = knows.2;
+      stands = knows.3;
+      within = search rules;
+    }
