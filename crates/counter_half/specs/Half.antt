@@ -1,5 +1,5 @@
 -- What a clause says of a counter half.
-use Rattle.std.specs.Prelude.{ℕ, ◌-◌, ◌<◌, ◌≤◌, ◌^◌, ◌&&◌, nat_le, nat_lt, Bool, Option, Some, None, List, length, map}
+use Rattle.std.specs.Prelude.{ℕ, ◌-◌, ◌<◌, ◌≤◌, ◌^◌, ◌&&◌, nat_le, nat_lt, Bool, Option, Some, None, List, length}
 use Rattle.lane_core.specs.Ends.{receiver_lane, taken}
 use Rattle.pc_base.specs.declared.numbered.Numbered.{Ghosts}
 use Rattle.pc_base.specs.declared.packet.Place.{Place}
@@ -9,8 +9,7 @@ use Rattle.update_batch.specs.Batch.{floor_of}
 use Rattle.counter_half.specs.declared.half.FlowHalf.{FlowHalf}
 use Rattle.counter_half.specs.declared.making.FlowRest.{FlowRest}
 use Rattle.counter_half.specs.declared.items.FlowItem.{FlowItem}
-use Rattle.counter_half.specs.declared.items.PacketDone.{PacketDone}
-use Rattle.counter_half.specs.Handled.{items_in}
+use Rattle.counter_half.specs.Handled.{items_in, places_in}
 use Rattle.counter_half.specs.Named.{Named}
 
 abbrev pub name_of : FlowHalf → Named
@@ -25,7 +24,7 @@ handled_by half = items_in half.state.handled.items
 
 -- where it handled each of them
 abbrev pub places_of : FlowHalf → List Place
-places_of half = map (λ (done : PacketDone). done.place) half.state.notes.items
+places_of half = places_in half.state.notes.items
 
 -- it has learnt as many commands as the item's floor, and handled fewer than 2^50 packets
 abbrev pub may_take : FlowHalf → FlowItem → Bool

@@ -31,7 +31,8 @@ impl FlowKind for FlowHalf {
 
 impl Flow for FlowHalf {
     ghost use Rattle.std.specs.Prelude.{length};
-    ghost use Rattle.counter_half.specs.Handled.{note_of, noted};
+    ghost use Rattle.counter_half.specs.declared.items.PacketDone.{PacketDone};
+    ghost use Rattle.counter_half.specs.Handled.{Handled, note_of, noted};
     ghost use Rattle.counter_half.specs.Half.{name_of, handled_by, places_of, may_take};
 
     type Name = FlowName;
@@ -64,9 +65,10 @@ impl Flow for FlowHalf {
         self.handle(place, item)
     }
 
-    ghost each_placed = { λ half. length-map half.state.notes.items (λ done. done.place)
+    ghost each_placed = { λ half. length-map half.state.notes.items (λ (done : PacketDone). done.place)
         ∙ sym (length-map half.state.notes.items noted) ∙ ap length half.state.handles.notes_are
-        ∙ length-map half.state.handled.items note_of ∙ sym (length-map half.state.handled.items (λ handled. handled.0)) };
+        ∙ length-map half.state.handled.items note_of
+        ∙ sym (length-map half.state.handled.items (λ (h : Handled). h.0)) };
 
     ghost half_slots = { λ half. refl };
 

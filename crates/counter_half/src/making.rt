@@ -73,6 +73,7 @@ impl FlowHalf {
     pub fn into_rest(self) -> FlowRest
         ensures name { rest_name result ≡ name_of self }
         ensures handled { result.state.handled.items ≡ self.state.handled.items }
+        ensures notes { result.state.notes.items ≡ self.state.notes.items }
     {
         let FlowHalf {
             state,

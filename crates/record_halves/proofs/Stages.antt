@@ -80,3 +80,10 @@ at_closing origin now is = record {
   halfway = λ other same. absurd (let no : ⊥ = cc in no);
   closing = λ other same. subst (IsClosing origin) (let s : now ≡ other = cc in s) is;
 }
+
+-- versions of the batch in hand were learnt
+pub learnt_of : (learnt more hand kept rest : List Published) → more ++ kept ≡ learnt ++ hand
+    → learnt ++ (hand ++ rest) ≡ more ++ (kept ++ rest)
+learnt_of learnt more hand kept rest same =
+    sym (append_assoc learnt hand rest) ∙ ap (λ (l : List Published). l ++ rest) (sym same)
+    ∙ append_assoc more kept rest

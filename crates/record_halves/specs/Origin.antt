@@ -6,10 +6,13 @@ use Rattle.control_half.specs.Applied.{HasRoomFor}
 use Rattle.control_half.specs.Half as control
 use Rattle.control_half.specs.Published.{in_batches, in_kept}
 use Rattle.control_half.specs.declared.items.CommandItem.{CommandItem}
+use Rattle.pc_base.specs.declared.packet.Place.{Place}
 use Rattle.counter_half.specs.Half as flow
+use Rattle.counter_half.specs.Handled.{places_in}
 use Rattle.counter_half.specs.State.{learnt_by}
 use Rattle.counter_half.specs.declared.items.FlowItem.{FlowItem}
 use Rattle.record_halves.specs.Closing.{HasLeft, AreItems}
+use Rattle.record_halves.specs.Places.{at_closing}
 use Rattle.record_halves.specs.Rejoined.{start_of, commands_sent}
 use Rattle.record_halves.specs.declared.origin.Origin.{Origin}
 use Rattle.record_halves.specs.declared.parts.Stage.{Stage}
@@ -29,6 +32,10 @@ commands_in origin = commands_sent origin.front.value
 abbrev pub items_in_all : Origin → List FlowItem
 items_in_all origin = flow.handled_by origin.flow.value ++ origin.left.value.items
 
+-- where those that the half had handled were handled, and where those that were left will be
+abbrev pub places_in_all : Origin → List Place
+places_in_all origin = flow.places_of origin.flow.value ++ at_closing origin.left.value.items
+
 -- both lanes are open: nothing is changed yet
 pub record IsOpen (origin : Origin) (open_now : Open) : Type 0 where
   pub session : (control.end_name open_now.control).session ≡ (start_in origin).session
@@ -38,6 +45,7 @@ pub record IsOpen (origin : Origin) (open_now : Open) : Type 0 where
   pub started : (flow.rest_name open_now.flow).started ≡ start_in origin
   pub sent_are : sent open_now.lane ≡ commands_in origin
   pub items : AreItems (items_in_all origin) open_now.flow.state.handled.items open_now.left.items
+  pub places : places_in open_now.flow.state.notes.items ++ at_closing open_now.left.items ≡ places_in_all origin
 
 -- the commands that a control half has still to apply
 abbrev pub waiting_in : Commanded → ℕ → List CommandItem
@@ -59,6 +67,7 @@ pub record IsHalfway (origin : Origin) (half : Halfway) : Type 0 where
   pub roomy : HasRoomFor (start_in origin).session (commands_met (start_in origin))
   pub started : (flow.rest_name half.flow).started ≡ start_in origin
   pub items : AreItems (items_in_all origin) half.flow.state.handled.items half.left.items
+  pub places : places_in half.flow.state.notes.items ++ at_closing half.left.items ≡ places_in_all origin
 
 -- both are
 pub record IsClosing (origin : Origin) (closing : Closing) : Type 0 where
@@ -71,6 +80,7 @@ pub record IsClosing (origin : Origin) (closing : Closing) : Type 0 where
   pub few : (start_in origin).packets ≤ 2 ^ 60
   pub started : closing.state.started ≡ start_in origin
   pub items : AreItems (items_in_all origin) closing.state.handled.items (items_left closing)
+  pub places : places_in closing.state.notes.items ++ at_closing (items_left closing) ≡ places_in_all origin
 
 -- every command is applied, and its version is learnt or in a batch
 pub record IsApplied (origin : Origin) (closing : Closing) : Type 0 where

@@ -2,6 +2,7 @@
 ghost use Rattle.std.specs.Prelude.{◌≡◌, ◌+◌, ◌++◌, [], ◌∷◌, true, false, None, length, IfOk, OnOk, IsTrue, IsFalse, MatchOption};
 ghost use Rattle.record_halves.specs.Rejoined.{AreAccepted, Finishes};
 ghost use Rattle.counter_half.specs.Half.{IsReady};
+ghost use Rattle.counter_half.specs.Handled.{places_in};
 ghost use Rattle.control_half.specs.Published.{in_kept, in_batches};
 ghost use Rattle.record_halves.specs.Closing.{IsSpent, Waits, to_learn};
 
@@ -33,7 +34,8 @@ pub(crate) struct Closing {
 }
 
 impl Closing {
-    ghost use Rattle.record_halves.specs.Origin.{start_in, commands_in, items_in_all, IsClosing, IsApplied, IsDone, commands_left, items_left};
+    ghost use Rattle.record_halves.specs.Origin.{start_in, commands_in, items_in_all, places_in_all};
+    ghost use Rattle.record_halves.specs.Origin.{IsClosing, IsApplied, IsDone, commands_left, items_left};
 
     /// Applies what commands are left. Then each packet is handled behind every version whose floor is met
     /// there, and at last every version is learnt. Where memory is wanting, what is done stays done.
@@ -273,7 +275,9 @@ impl Closing {
         requires done { IsDone origin.now self }
         requires accepted { AreAccepted origin.now.front.value (items_in_all origin.now) }
 
-        ensures { Finishes (start_in origin.now) (commands_in origin.now) (items_in_all origin.now) destination result }
+        ensures finished { Finishes (start_in origin.now) (commands_in origin.now) (items_in_all origin.now)
+            destination result }
+        ensures placed { places_in result.packets.items ≡ places_in_all origin.now }
     {
         known_pasts();
         let Closing { control, state, .. } = self;

@@ -1,8 +1,10 @@
 //! The halves of a subscriber finish what is left, and are one again.
 ghost use Rattle.std.specs.Prelude.{◌≡◌, ◌++◌, IfOk, IfErr};
-ghost use Rattle.counter_half.specs.Half.{handled_by};
+ghost use Rattle.counter_half.specs.Half.{handled_by, places_of};
+ghost use Rattle.counter_half.specs.Handled.{places_in};
 ghost use Rattle.record_halves.specs.Rejoined.{AreOfOneSplit, AreAccepted, Finishes, start_of, commands_sent};
 ghost use Rattle.record_halves.specs.Parts.{IsOf};
+ghost use Rattle.record_halves.specs.Places.{at_closing};
 
 use crate::{FrontEnd, Parts, Record};
 use charging_book::ChargeRow;
@@ -28,7 +30,8 @@ pub struct Finished {
 /// Does what the halves of a subscriber have left to do, with the packets that were accepted and that no
 /// one handled, and makes them one record. The three come from one split. The items that the counter half
 /// handled and those that are left are those that the front end counted, in order, and their moments don't
-/// fall. Where memory is wanting, all is handed back.
+/// fall. Those that are left are handled at the end of an epoch (`Place::Closing`). Where memory is wanting, all is
+/// handed back.
 pub fn finish<R: Wait>(
     rt: &R,
     alloc: Global,
@@ -42,6 +45,7 @@ pub fn finish<R: Wait>(
 
     ensures finished { IfOk result (λ made. Finishes (start_of front) (commands_sent front)
         (handled_by flow ++ left.items) front.destination made) }
+    ensures placed { IfOk result (λ made. places_in made.packets.items ≡ places_of flow ++ at_closing left.items) }
     ensures parts { IfErr result (λ parts. IsOf parts front flow left.items) }
 {
     Parts::new(alloc, front, control, flow, left).again(rt)

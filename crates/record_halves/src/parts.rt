@@ -1,8 +1,10 @@
 //! What is left of a subscriber's halves, until they are one again.
 ghost use Rattle.std.specs.Prelude.{◌≡◌, ◌++◌, IfOk, IfErr};
 ghost use Rattle.counter_half.specs.Half.{handled_by};
+ghost use Rattle.counter_half.specs.Handled.{places_in};
 ghost use Rattle.record_halves.specs.Rejoined.{AreOfOneSplit, AreAccepted, Finishes};
-ghost use Rattle.record_halves.specs.Origin.{start_in, commands_in, items_in_all, IsAt, IsOpen, IsHalfway, IsClosing};
+ghost use Rattle.record_halves.specs.Origin.{start_in, commands_in, items_in_all, places_in_all};
+ghost use Rattle.record_halves.specs.Origin.{IsAt, IsOpen, IsHalfway, IsClosing};
 ghost use Rattle.record_halves.specs.Props.{accepted_prop};
 
 use crate::closing::Closing;
@@ -108,6 +110,7 @@ impl Parts {
     pub fn again<R: Wait>(self, rt: &R) -> Result<Finished, Parts>
         ensures finished { IfOk result (λ made. Finishes (start_in self.origin) (commands_in self.origin)
             (items_in_all self.origin) self.destination made) }
+        ensures placed { IfOk result (λ made. places_in made.packets.items ≡ places_in_all self.origin) }
         ensures parts { IfErr result (λ parts. parts.origin ≡ self.origin) }
     {
         let Parts {

@@ -1,7 +1,9 @@
-use Rattle.std.proofs.Common.{ℕ, ◌++◌, List, IfOk, ap, ◌∙◌, subst}
-use Rattle.counter_half.specs.Half.{handled_by}
+use Rattle.std.proofs.Common.{◌≡◌, ℕ, ◌++◌, List, IfOk, ap, ◌∙◌, subst}
+use Rattle.counter_half.specs.Half.{handled_by, places_of}
+use Rattle.counter_half.specs.Handled.{places_in}
 use Rattle.counter_half.specs.declared.half.FlowHalf.{FlowHalf}
 use Rattle.counter_half.specs.declared.items.FlowItem.{FlowItem}
+use Rattle.record_halves.specs.Places.{at_closing}
 use Rattle.record_halves.specs.Rejoined.{Finishes, start_of, commands_sent}
 use Rattle.record_halves.specs.declared.finishing.Finished.{Finished}
 use Rattle.record_halves.specs.declared.front.FrontEnd.{FrontEnd}
@@ -16,6 +18,14 @@ returns-clause-finished g c =
     Finishes (start_of p.0) (commands_sent p.0) (handled_by p.1 ++ p.2) p.3 made))
     (λ i. (of.front_is i, of.flow_is i, of.left_is i, (parts.bound ∙ ap (λ (f : FrontEnd). f.destination) of.front_is) i))
     c.again.ensures.finished
+
+pub returns-clause-placed : goal.returns-clause-placed
+returns-clause-placed g c =
+    let of = c.new.ensures in
+    subst (λ (p : FlowHalf × List FlowItem). IfOk c.again.result (λ (made : Finished).
+    places_in made.packets.items ≡ places_of p.0 ++ at_closing p.1))
+    (λ i. (of.flow_is i, of.left_is i))
+    c.again.ensures.placed
 
 pub returns-clause-parts : goal.returns-clause-parts
 returns-clause-parts g c =

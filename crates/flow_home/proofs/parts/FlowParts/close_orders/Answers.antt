@@ -6,6 +6,7 @@ use Rattle.std.proofs.lemmas.List.{reverse-reverse}
 use base.Stored.{coded_list}
 use Rattle.lane_core.specs.Ends.{sent, taken}
 use Rattle.worker_core.specs.Names.{weight}
+use Rattle.flow_core.specs.Places.{brought}
 use Rattle.flow_core.specs.Orders.{halves_in, now_of, gone_of}
 use Rattle.flow_core.specs.Workers.{desk_lanes, end_lanes}
 use Rattle.gather_home.proofs.Wholes.{lasts_same}
@@ -49,6 +50,7 @@ invariant_of-push_reserved g c =
     let same : taken c.in-Err.ends.rx ≡ taken c.in-Some-pop.end.orders = ap taken c.in-Err.ensures.kept.1 in
     record {
       names = λ h. ap (λ l. weight g.H.Flow.name h (halves_in l)) same ∙ was.names h;
+      here = λ h. ap (λ l. weight (brought g.H.Flow.name g.H.Flow.places was.place) h (halves_in l)) same ∙ was.here h;
       holds = λ s h. was.holds s h
           ∙ ap (λ l. sum_by h (option_to_list (now_of (λ half. g.H.Flow.slot_at (g.H.Flow.name half))
           g.H.Flow.item_slot g.H.Flow.handled s l))) (sym same);

@@ -24,4 +24,5 @@ returns-clause-at c =
       few = is.few;
       started = is.started;
       items = is.items;
+      places = is.places;
     }

@@ -1,17 +1,18 @@
-use Rattle.std.proofs.Common.{◌++◌, List, refl, ap, ◌∙◌, subst, append-nil}
+use Rattle.std.proofs.Common.{◌++◌, List, refl, ap, sym, ◌∙◌, subst, append-nil}
 use Rattle.split_record.specs.Standing.{SubscriberState, commands_met}
 use Rattle.control_half.specs.Published.{in_kept, in_batches}
-use Rattle.counter_half.specs.Handled.{HasHandled, items_in}
+use Rattle.counter_half.specs.Handled.{HasHandled, items_in, places_in}
 use Rattle.counter_half.specs.State.{learnt_by}
 use Rattle.counter_half.specs.Told.{TellsLawfully}
 use Rattle.counter_half.specs.declared.items.FlowItem.{FlowItem}
 use Rattle.record_halves.specs.Origin.{start_in, commands_in, items_in_all, commands_left}
+use Rattle.record_halves.specs.Places.{at_closing}
 use Rattle.record_halves.proofs.Leaving.{all_applied}
 use Rattle.record_halves.proofs.Together.{notes_told, comes}
 use Rattle.record_halves.proofs.closing.Closing.finished.Goals as goal
 
-pub returns : goal.returns
-returns c =
+pub returns-clause-finished : goal.returns-clause-finished
+returns-clause-finished c =
     let self = c.args.self in
     let origin = c.args.origin.now in
     let is = c.requires.at in
@@ -47,3 +48,10 @@ returns c =
           c.take_closed-rows.ensures.rows c.take_closed-rows.ensures.stands;
       destination_is = refl;
     }
+
+pub returns-clause-placed : goal.returns-clause-placed
+returns-clause-placed c =
+    let is = c.requires.at in
+    sym (append-nil (places_in c.args.self.state.notes.items))
+    ∙ ap (λ (l : List FlowItem). places_in c.args.self.state.notes.items ++ at_closing l) (sym c.requires.done.handled)
+    ∙ is.places

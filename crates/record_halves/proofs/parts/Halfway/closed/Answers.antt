@@ -27,4 +27,5 @@ returns-in-Ok-clause-ok g c =
       few = subst (λ (s : SubscriberState). s.packets ≤ 2 ^ 60) is.started rest.few.1;
       started = is.started;
       items = is.items;
+      places = is.places;
     }

@@ -21,4 +21,5 @@ returns-in-Ok-clause-ok g c =
       roomy = subst (λ (p : SessionState × ℕ). HasRoomFor p.0 p.1) (λ i. (is.session i, is.number i)) end.roomy;
       started = is.started;
       items = is.items;
+      places = is.places;
     }

@@ -1,9 +1,11 @@
 use Rattle.std.proofs.Common.{List, ◌++◌, ap, sym, ◌∙◌, subst}
 use Rattle.control_half.specs.Named as control
 use Rattle.counter_half.specs.Named as flow
-use Rattle.counter_half.specs.Half.{handled_by}
-use Rattle.counter_half.specs.Handled.{Handled, items_in}
+use Rattle.counter_half.specs.Half.{handled_by, places_of}
+use Rattle.counter_half.specs.Handled.{Handled, items_in, places_in}
 use Rattle.counter_half.specs.declared.items.FlowItem.{FlowItem}
+use Rattle.counter_half.specs.declared.items.PacketDone.{PacketDone}
+use Rattle.record_halves.specs.Places.{at_closing}
 use Rattle.record_halves.specs.Rejoined.{AreAccepted, start_of, commands_sent}
 use Rattle.record_halves.specs.declared.front.FrontEnd.{FrontEnd}
 use Rattle.record_halves.proofs.Stages.{at_open}
@@ -31,4 +33,6 @@ invariant_of-result-clause-whole c =
       sent_are = ap commands_sent (sym is.front);
       items = (λ i. handled_by (is.flow i) ++ (is.left i).items)
           ∙ ap (λ (h : List Handled). items_in h ++ c.args.left.items) (sym c.into_rest.ensures.handled);
+      places = ap (λ (notes : List PacketDone). places_in notes ++ at_closing c.args.left.items)
+          c.into_rest.ensures.notes ∙ (λ i. places_of (sym is.flow i) ++ at_closing (sym is.left i).items);
     })
