@@ -4,7 +4,5 @@
 #![tactic(auto)]
 
 mod book;
-#[cfg(test)]
-mod tests;
 
 pub use book::{AddressBook, AdmitNo};

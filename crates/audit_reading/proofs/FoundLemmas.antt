@@ -6,9 +6,9 @@ use Rattle.std.specs.Global.{Vec}
 use Rattle.report_lines.specs.declared.entry.Entry.{Entry}
 use Rattle.report_lines.specs.declared.entry.LineEntry.{LineEntry}
 use Rattle.lawful_run.specs.LinesTold.{LineTold}
-use Rattle.audit_lines.specs.declared.meaning.Meant.{Meant}
-use Rattle.audit_lines.specs.declared.sharing.Keyed.{Keyed}
-use Rattle.audit_lines.specs.declared.told.Told.{Told}
+use Rattle.audit_sentences.specs.declared.meaning.Meant.{Meant}
+use Rattle.audit_sentences.specs.declared.sharing.Keyed.{Keyed}
+use Rattle.audit_sentences.specs.declared.told.Told.{Told}
 use Rattle.audit_sentences.specs.Entries.{all_lines, in_line_order, line_entries}
 use Rattle.audit_sentences.specs.Sentences.{LinesAreAnswered, told_epochs}
 use Rattle.audit_reading.specs.Answering.{matched_all}

@@ -9,9 +9,9 @@ use Rattle.report_lines.specs.declared.entry.Entry.{Entry}
 use Rattle.report_lines.specs.declared.entry.Entry.TheVariants as of
 use Rattle.report_lines.specs.declared.entry.LineEntry.{LineEntry}
 use Rattle.lawful_run.specs.Telling.{counted}
-use Rattle.audit_lines.specs.declared.sharing.Keyed.{Keyed}
-use Rattle.audit_lines.specs.Sharing.{shares, under}
-use Rattle.audit_lines.proofs.SharingLemmas.{flat_of_map, under_one}
+use Rattle.audit_sentences.specs.declared.sharing.Keyed.{Keyed}
+use Rattle.audit_sentences.specs.Sharing.{shares, under}
+use Rattle.audit_sentences.proofs.SharingLemmas.{flat_of_map, under_one}
 use Rattle.audit_sentences.specs.Entries.{as_line, in_line_order, line_entries, line_of}
 use Rattle.audit_reading.specs.Matching.{IsKeyed, lent}
 

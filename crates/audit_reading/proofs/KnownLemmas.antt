@@ -15,7 +15,7 @@ use Rattle.demux.specs.declared.decision.Whose.TheVariants as whose
 use Rattle.demux.proofs.ResolvedLemmas.{book_resolved, is_decision}
 use Rattle.demux.proofs.TraceLemmas.{book_of-push}
 use Rattle.lawful_run.specs.Trace.{meant_epochs, meant_from, own_epoch, settled_by}
-use Rattle.audit_reading.specs.Cutting.{IsCut, lines_in}
+use Rattle.lawful_run.specs.Cut.{IsCut, lines_in}
 use Rattle.audit_reading.specs.Holding.{AreKnown, IsKnown}
 use Rattle.audit_reading.proofs.CutLemmas.{cut_told}
 

@@ -8,3 +8,9 @@ pub mod MatchSteps
 pub mod ReadLemmas
 pub mod RefuseLemmas
 pub mod WaitLemmas
+pub mod RestLemmas
+pub mod SlotLemmas
+pub mod PlaceLemmas
+pub mod MadeLemmas
+pub mod AmongLemmas
+pub mod HoldLemmas

@@ -4,7 +4,7 @@ use Rattle.demux.specs.Trace.{Meaning}
 use Rattle.report_lines.specs.declared.entry.LineEntry.{LineEntry}
 use Rattle.lawful_run.specs.Answers.{AnswersAll}
 use Rattle.lawful_run.specs.LinesTold.{LineTold, lines_told}
-use Rattle.audit_lines.proofs.LineKinds.{are_answered}
+use Rattle.audit_sentences.proofs.LineKinds.{are_answered}
 use Rattle.audit_sentences.specs.Entries.{all_lines, cut}
 use Rattle.audit_reading.specs.Answering.{answers, matched_all, matched_on, then_all}
 use Rattle.audit_reading.specs.Holding.{EpochsAnswered, meanings_told}

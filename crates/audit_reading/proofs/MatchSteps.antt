@@ -7,8 +7,8 @@ use Rattle.std.proofs.lemmas.List.{drop-drop, drop_more, length-map, map-append,
 use Rattle.demux.specs.Trace.{Meaning}
 use Rattle.report_lines.specs.declared.entry.LineEntry.{LineEntry}
 use Rattle.lawful_run.specs.LinesTold.{LineTold}
-use Rattle.audit_lines.specs.declared.meaning.Meant.{Meant}
-use Rattle.audit_lines.specs.Meant.{meaning_of}
+use Rattle.audit_sentences.specs.declared.meaning.Meant.{Meant}
+use Rattle.audit_sentences.specs.Meant.{meaning_of}
 use Rattle.audit_sentences.specs.Entries.{all_lines}
 use Rattle.audit_reading.specs.Answering.{answers, matched_all, matched_on, then_all}
 use Rattle.audit_reading.specs.Holding.{epochs_meant, meant_of}

@@ -20,16 +20,18 @@ use Rattle.control_steps.specs.declared.command.CommandKind.{CommandKind}
 use Rattle.demux.proofs.TraceLemmas.{book_of-push, destination_after-push}
 use Rattle.lawful_run.specs.Trace.{epochs_told, meant_from, own_epoch, settled_by, stop_noted}
 use Rattle.lawful_run.proofs.CutEpochs.{meant_from-append}
-use Rattle.audit_lines.specs.declared.meaning.Meant.{Meant}
+use Rattle.audit_sentences.specs.declared.meaning.Meant.{Meant}
 use Rattle.audit_sentences.specs.Entries.{all_lines}
-use Rattle.audit_reading.specs.declared.rule.BadAt.{BadAt}
+use Rattle.audit_reading.specs.declared.setup.BadAt.{BadAt}
 use Rattle.audit_reading.specs.declared.meaning.Cutter.{Cutter}
 use Rattle.audit_reading.specs.declared.meaning.Extent.{Extent}
 use Rattle.audit_reading.specs.declared.meaning.Reader.{Reader}
-use Rattle.audit_reading.specs.Cutting.{Cuts, IsCut, Measures, Reads, lines_in, meant_next, moved_from}
+use Rattle.lawful_run.specs.Cut.{IsCut, lines_in}
+use Rattle.audit_reading.specs.Cutting.{Cuts, Measures, Reads, meant_next, moved_from}
 use Rattle.audit_reading.specs.Holding.{AreKnown, IsKnown, epochs_meant, meant_of}
-use Rattle.audit_reading.specs.Rules.{input_with, stop_of}
-use Rattle.audit_reading.proofs.CutLemmas.{count_told, cut_open, cut_told, cut_whole, epochs_mean, meant_epochs-push, octets_more, stays_short}
+use Rattle.audit_reading.specs.Setups.{input_with, stop_of}
+use Rattle.lawful_run.proofs.CutLines.{cut_open, cut_whole, meant_epochs-push}
+use Rattle.audit_reading.proofs.CutLemmas.{count_told, cut_told, epochs_mean, octets_more, stays_short}
 use Rattle.audit_reading.proofs.KnownLemmas.{told_known}
 
 -- the home slices of the slots so far

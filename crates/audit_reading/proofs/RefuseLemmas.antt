@@ -12,16 +12,16 @@ use Rattle.lawful_run.specs.Answers.{Answers}
 use Rattle.lawful_run.specs.LinesTold.{EachFrom, LineTold}
 use Rattle.lawful_run.specs.Moves.{is_moved}
 use Rattle.lawful_run.specs.Refusals.{MayRefuse, RefusedAs, lane_load, slot_by, slot_count}
-use Rattle.lawful_run.specs.Job.{sliced}
-use Rattle.audit_lines.specs.Meant.{line_told, lines_of, slot_in}
-use Rattle.audit_lines.specs.OfSlot.{AreAnswered}
-use Rattle.audit_reading.specs.declared.rule.Rule.{Rule}
+use Rattle.lawful_run.specs.Setup.{sliced}
+use Rattle.audit_sentences.specs.Meant.{line_told, lines_of, slot_in}
+use Rattle.audit_sentences.specs.OfSlot.{AreAnswered}
+use Rattle.audit_reading.specs.declared.setup.Setup.{Setup as Given}
 use Rattle.audit_reading.specs.declared.waiting.Load.{Load}
 use Rattle.audit_reading.specs.declared.waiting.Waiting.{Waiting}
 use Rattle.audit_reading.specs.declared.waiting.Waits.{Waits}
-use Rattle.audit_lines.specs.declared.told.Told.{Told}
+use Rattle.audit_sentences.specs.declared.told.Told.{Told}
 use Rattle.audit_reading.specs.Holding.{AreKnownTold, IsKnown}
-use Rattle.audit_reading.specs.Rules.{job_of}
+use Rattle.audit_reading.specs.Setups.{setup_of}
 use Rattle.audit_reading.specs.Waiting.{AllWait, AreWaiting, SlotWaits, may_refuse, one_new, refused_well}
 use Rattle.audit_reading.proofs.AnswerLemmas.{both_decide}
 use Rattle.audit_reading.proofs.WaitLemmas.{slots_with}
@@ -45,7 +45,7 @@ refused_decides : (solo : Bool) (slices room lane : ℕ) (of_packet : Bool) (own
     (before : List LineTold) (now : LineTold) → SlotWaits own at before → AllWait load before
     → slots ≡ slot_count (before ++ now ∷ [])
     → Decides (may_refuse (record { solo = solo; slices = slices; room = room; lane = lane }) of_packet own load slots)
-    (MayRefuse (job_of (record { solo = solo; slices = slices; room = room; lane = lane })) at of_packet before now)
+    (MayRefuse (setup_of (record { solo = solo; slices = slices; room = room; lane = lane })) at of_packet before now)
 refused_decides true slices room lane of_packet own load slots at before now waits all slots_is =
     (λ is. absurd (never is), λ none. absurd none)
   where
@@ -78,87 +78,87 @@ slot_seen n at (packet own p) refused answers is = is
 slot_seen n at (move own slice text) refused answers is = absurd answers
 slot_seen n at (note text) refused answers is = absurd answers
 
-line_decides : (rule : Rule) (n at slots : ℕ) (own : Waiting) (load : Load) (before : List LineTold)
+line_decides : (setup : Given) (n at slots : ℕ) (own : Waiting) (load : Load) (before : List LineTold)
     (meaning : Meaning) (entry : LineEntry) → SlotWaits own at before → AllWait load before
     → slot_in meaning ≡ Some at → slots ≡ load.slots + one_new own.seen → Answers n meaning entry
-    → Decides (refused_well rule own load slots entry)
-    (RefusedAs (job_of rule) before (record { meaning = meaning; entry = entry }) entry)
-line_decides rule n at slots own load before meaning (line.N noted) waits all is slots_is answers =
+    → Decides (refused_well setup own load slots entry)
+    (RefusedAs (setup_of setup) before (record { meaning = meaning; entry = entry }) entry)
+line_decides setup n at slots own load before meaning (line.N noted) waits all is slots_is answers =
     (λ holds. tt, λ holds. refl)
-line_decides rule n at slots own load before meaning (line.C answered) waits all is slots_is answers =
+line_decides setup n at slots own load before meaning (line.C answered) waits all is slots_is answers =
     (λ holds. tt, λ holds. refl)
-line_decides rule n at slots own load before meaning (line.P judged) waits all is slots_is answers =
+line_decides setup n at slots own load before meaning (line.P judged) waits all is slots_is answers =
     (λ holds. tt, λ holds. refl)
-line_decides rule n at slots own load before meaning (line.F refused) waits all is slots_is answers =
+line_decides setup n at slots own load before meaning (line.F refused) waits all is slots_is answers =
     let now : LineTold = record { meaning = meaning; entry = line.F refused } in
-    subst (λ slot. Decides (may_refuse rule refused.packet own load slots)
-    (MayRefuse (job_of rule) slot refused.packet before now)) (sym (as_told n at meaning refused answers is))
-    (refused_decides rule.solo rule.slices rule.room rule.lane refused.packet own load slots at before now waits all
+    subst (λ slot. Decides (may_refuse setup refused.packet own load slots)
+    (MayRefuse (setup_of setup) slot refused.packet before now)) (sym (as_told n at meaning refused answers is))
+    (refused_decides setup.solo setup.slices setup.room setup.lane refused.packet own load slots at before now waits all
     (slots_is ∙ slots_with load before now at own.seen (slot_seen n at meaning refused answers is)
     waits.seen all.slots))
 
-pub line_holds : (rule : Rule) (waits : Waits) (n at slots : ℕ) (own : Waiting) (of_slots : ℕ)
+pub line_holds : (setup : Given) (waits : Waits) (n at slots : ℕ) (own : Waiting) (of_slots : ℕ)
     (before : List LineTold) (now : LineTold) → AreWaiting waits of_slots before
     → slot_in now.meaning ≡ Some at → at < length waits.own.items → own ≡ get_or waits.own.items at own
     → slots ≡ waits.load.slots + one_new own.seen → Answers n now.meaning now.entry
-    → (IsTrue (refused_well rule own waits.load slots now.entry) ↔ RefusedAs (job_of rule) before now now.entry)
-line_holds rule waits n at slots own of_slots before now are is within own_is slots_is answers =
+    → (IsTrue (refused_well setup own waits.load slots now.entry) ↔ RefusedAs (setup_of setup) before now now.entry)
+line_holds setup waits n at slots own of_slots before now are is within own_is slots_is answers =
     let held : SlotWaits own at before =
     subst (λ w. SlotWaits w at before) (sym own_is) (are.each at own (omega (arith, within, are.places))) in
-    line_decides rule n at slots own waits.load before now.meaning now.entry held are.all is slots_is answers
+    line_decides setup n at slots own waits.load before now.meaning now.entry held are.all is slots_is answers
 
 -- a note is never refused
-note_well : (rule : Rule) (n : ℕ) (before : List LineTold) (meaning : Meaning) (entry : LineEntry)
+note_well : (setup : Given) (n : ℕ) (before : List LineTold) (meaning : Meaning) (entry : LineEntry)
     → slot_in meaning ≡ None → Answers n meaning entry
-    → RefusedAs (job_of rule) before (record { meaning = meaning; entry = entry }) entry
-note_well rule n before (note text) (line.N noted) is answers = tt
-note_well rule n before (note text) (line.C answered) is answers = absurd answers
-note_well rule n before (note text) (line.P judged) is answers = absurd answers
-note_well rule n before (note text) (line.F refused) is answers = absurd answers
-note_well rule n before (command own c) entry is answers = absurd (nothing is)
+    → RefusedAs (setup_of setup) before (record { meaning = meaning; entry = entry }) entry
+note_well setup n before (note text) (line.N noted) is answers = tt
+note_well setup n before (note text) (line.C answered) is answers = absurd answers
+note_well setup n before (note text) (line.P judged) is answers = absurd answers
+note_well setup n before (note text) (line.F refused) is answers = absurd answers
+note_well setup n before (command own c) entry is answers = absurd (nothing is)
   where
     nothing : Some own ≡ None → ⊥
     nothing some = cc
-note_well rule n before (packet own p) entry is answers = absurd (nothing is)
+note_well setup n before (packet own p) entry is answers = absurd (nothing is)
   where
     nothing : Some own ≡ None → ⊥
     nothing some = cc
-note_well rule n before (move own slice text) entry is answers = absurd (nothing is)
+note_well setup n before (move own slice text) entry is answers = absurd (nothing is)
   where
     nothing : Some own ≡ None → ⊥
     nothing some = cc
 
-pub note_holds : (rule : Rule) (n : ℕ) (before : List LineTold) (now : LineTold) → slot_in now.meaning ≡ None
-    → Answers n now.meaning now.entry → (IsTrue true ↔ RefusedAs (job_of rule) before now now.entry)
-note_holds rule n before now is answers =
-    (λ holds. note_well rule n before now.meaning now.entry is answers, λ holds. refl)
+pub note_holds : (setup : Given) (n : ℕ) (before : List LineTold) (now : LineTold) → slot_in now.meaning ≡ None
+    → Answers n now.meaning now.entry → (IsTrue true ↔ RefusedAs (setup_of setup) before now now.entry)
+note_holds setup n before now is answers =
+    (λ holds. note_well setup n before now.meaning now.entry is answers, λ holds. refl)
 
 -- each line of an epoch, one after another
-abbrev pub Each : Rule → List LineTold → List LineTold → Type 0
-Each rule before lines = EachFrom (λ front now later. RefusedAs (job_of rule) front now now.entry) before lines
+abbrev pub Each : Given → List LineTold → List LineTold → Type 0
+Each setup before lines = EachFrom (λ front now later. RefusedAs (setup_of setup) front now now.entry) before lines
 
-pub each_step : (rule : Rule) (lines : List LineTold) (i : ℕ) (now : LineTold) → i < length lines
-    → now ≡ get_or lines i now → RefusedAs (job_of rule) (take i lines) now now.entry
-    → (Each rule (take i lines) (drop i lines) ↔ Each rule [] lines)
-    → (Each rule (take (i + 1) lines) (drop (i + 1) lines) ↔ Each rule [] lines)
-each_step rule lines i now within is well holds =
+pub each_step : (setup : Given) (lines : List LineTold) (i : ℕ) (now : LineTold) → i < length lines
+    → now ≡ get_or lines i now → RefusedAs (setup_of setup) (take i lines) now now.entry
+    → (Each setup (take i lines) (drop i lines) ↔ Each setup [] lines)
+    → (Each setup (take (i + 1) lines) (drop (i + 1) lines) ↔ Each setup [] lines)
+each_step setup lines i now within is well holds =
     let front : take (i + 1) lines ≡ take i lines ++ now ∷ [] =
     take_more lines i now within ∙ ap (λ n. take i lines ++ n ∷ []) (sym is) in
     let later : drop i lines ≡ now ∷ drop (i + 1) lines =
     drop_more lines i now within ∙ ap (λ n. n ∷ drop (i + 1) lines) (sym is) in (
-      λ each. holds.0 (subst (Each rule (take i lines)) (sym later)
-          (well, subst (λ f. Each rule f (drop (i + 1) lines)) front each)),
-      λ each. subst (λ f. Each rule f (drop (i + 1) lines)) (sym front)
-          (subst (Each rule (take i lines)) later (holds.1 each)).1,
+      λ each. holds.0 (subst (Each setup (take i lines)) (sym later)
+          (well, subst (λ f. Each setup f (drop (i + 1) lines)) front each)),
+      λ each. subst (λ f. Each setup f (drop (i + 1) lines)) (sym front)
+          (subst (Each setup (take i lines)) later (holds.1 each)).1,
     )
 
-pub each_breaks : (rule : Rule) (lines : List LineTold) (i : ℕ) (now : LineTold) → i < length lines
-    → now ≡ get_or lines i now → ¬ RefusedAs (job_of rule) (take i lines) now now.entry
-    → (Each rule (take i lines) (drop i lines) ↔ Each rule [] lines) → ¬ Each rule [] lines
-each_breaks rule lines i now within is bad holds each =
+pub each_breaks : (setup : Given) (lines : List LineTold) (i : ℕ) (now : LineTold) → i < length lines
+    → now ≡ get_or lines i now → ¬ RefusedAs (setup_of setup) (take i lines) now now.entry
+    → (Each setup (take i lines) (drop i lines) ↔ Each setup [] lines) → ¬ Each setup [] lines
+each_breaks setup lines i now within is bad holds each =
     let later : drop i lines ≡ now ∷ drop (i + 1) lines =
     drop_more lines i now within ∙ ap (λ n. n ∷ drop (i + 1) lines) (sym is) in
-    bad (subst (Each rule (take i lines)) later (holds.1 each)).0
+    bad (subst (Each setup (take i lines)) later (holds.1 each)).0
 
 -- the answer to a line of answered ones
 pub answered_at : (n : ℕ) (lines : List LineTold) (i : ℕ) (d : LineTold) → AreAnswered n lines → i < length lines
@@ -226,10 +226,10 @@ front_more lines i told within is =
     ∙ sym (take_more (lines_of lines) i (line_told told) (told_within lines i within))
 
 -- what is said of an answered line of theirs
-abbrev pub Tells : Rule → List Told → ℕ → Told → ℕ → Bool → Type 0
-Tells rule lines i told first well =
+abbrev pub Tells : Given → List Told → ℕ → Told → ℕ → Bool → Type 0
+Tells setup lines i told first well =
     Answers (first + i) (line_told told).meaning (line_told told).entry
-    → IsTrue well ↔ RefusedAs (job_of rule) (take i (lines_of lines)) (line_told told) (line_told told).entry
+    → IsTrue well ↔ RefusedAs (setup_of setup) (take i (lines_of lines)) (line_told told) (line_told told).entry
 
 answer_of : (lines : List Told) (i : ℕ) (told : Told) (first : ℕ) → i < length lines → told ≡ get_or lines i told
     → AreAnswered first (lines_of lines) → Answers (first + i) (line_told told).meaning (line_told told).entry
@@ -237,23 +237,23 @@ answer_of lines i told first within is answers =
     subst (λ (t : LineTold). Answers (first + i) t.meaning t.entry) (sym (told_is lines i told within is))
     (answered_at first (lines_of lines) i (line_told told) answers (told_within lines i within))
 
-pub goes_on : (rule : Rule) (lines : List Told) (i : ℕ) (told : Told) (first : ℕ) (well : Bool) → well ≡ true
-    → Tells rule lines i told first well
+pub goes_on : (setup : Given) (lines : List Told) (i : ℕ) (told : Told) (first : ℕ) (well : Bool) → well ≡ true
+    → Tells setup lines i told first well
     → i < length lines → told ≡ get_or lines i told → AreAnswered first (lines_of lines)
-    → (Each rule (take i (lines_of lines)) (drop i (lines_of lines)) ↔ Each rule [] (lines_of lines))
-    → (Each rule (take (i + 1) (lines_of lines)) (drop (i + 1) (lines_of lines)) ↔ Each rule [] (lines_of lines))
-goes_on rule lines i told first well is_well tells within is answers holds =
-    each_step rule (lines_of lines) i (line_told told) (told_within lines i within) (told_is lines i told within is)
+    → (Each setup (take i (lines_of lines)) (drop i (lines_of lines)) ↔ Each setup [] (lines_of lines))
+    → (Each setup (take (i + 1) (lines_of lines)) (drop (i + 1) (lines_of lines)) ↔ Each setup [] (lines_of lines))
+goes_on setup lines i told first well is_well tells within is answers holds =
+    each_step setup (lines_of lines) i (line_told told) (told_within lines i within) (told_is lines i told within is)
     ((tells (answer_of lines i told first within is answers)).0 is_well) holds
 
-pub breaks_off : (rule : Rule) (lines : List Told) (i : ℕ) (told : Told) (first : ℕ) (well : Bool) → well ≡ false
-    → Tells rule lines i told first well
+pub breaks_off : (setup : Given) (lines : List Told) (i : ℕ) (told : Told) (first : ℕ) (well : Bool) → well ≡ false
+    → Tells setup lines i told first well
     → i < length lines → told ≡ get_or lines i told → AreAnswered first (lines_of lines)
-    → (Each rule (take i (lines_of lines)) (drop i (lines_of lines)) ↔ Each rule [] (lines_of lines))
-    → (IsTrue false ↔ Each rule [] (lines_of lines))
-breaks_off rule lines i told first well is_bad tells within is answers holds = (
+    → (Each setup (take i (lines_of lines)) (drop i (lines_of lines)) ↔ Each setup [] (lines_of lines))
+    → (IsTrue false ↔ Each setup [] (lines_of lines))
+breaks_off setup lines i told first well is_bad tells within is answers holds = (
   λ never. absurd (not_true never),
-  λ each. absurd (each_breaks rule (lines_of lines) i (line_told told) (told_within lines i within)
+  λ each. absurd (each_breaks setup (lines_of lines) i (line_told told) (told_within lines i within)
       (told_is lines i told within is)
       (λ well_is. not_true (sym is_bad ∙ (tells (answer_of lines i told first within is answers)).1 well_is))
       holds each),

@@ -16,7 +16,7 @@ use Rattle.lawful_run.specs.Accepted.{Placed, accepted_command, accepted_packet,
 use Rattle.lawful_run.specs.LinesTold.{LineTold}
 use Rattle.lawful_run.specs.Moves.{is_moved, moves}
 use Rattle.lawful_run.specs.Refusals.{different, is_move, is_packet, move_count, packet_count, slot_count, slot_of}
-use Rattle.audit_lines.specs.Meant.{slot_in}
+use Rattle.audit_sentences.specs.Meant.{slot_in}
 use Rattle.audit_reading.specs.declared.waiting.Load.{Load}
 use Rattle.audit_reading.specs.declared.waiting.Waiting.{Waiting}
 use Rattle.audit_reading.specs.declared.waiting.Waits.{Waits}

@@ -5,23 +5,12 @@ use Rattle.trace_lines.specs.Epochs.{epochs_behind, epochs_of, octets_in}
 use Rattle.trace_lines.specs.Line.{Line}
 use Rattle.demux.specs.Texts.{move_note}
 use Rattle.demux.specs.Trace.{Meaning, book_of, destination_after, meaning, move, note}
-use Rattle.lawful_run.specs.Trace.{is_whole, meant_epochs, meant_from, settled_by}
+use Rattle.lawful_run.specs.Cut.{IsCut, lines_in}
+use Rattle.lawful_run.specs.Trace.{meant_epochs, meant_from, settled_by}
 use Rattle.audit_reading.specs.declared.meaning.Cutter.{Cutter}
 use Rattle.audit_reading.specs.declared.meaning.Extent.{Extent}
 use Rattle.audit_reading.specs.declared.meaning.Reader.{Reader}
 use Rattle.audit_reading.specs.Holding.{meant_of, epochs_meant}
-
--- the lines of epochs
-abbrev pub lines_in : List (List Line) → List Line
-lines_in epochs = flat_map (λ (epoch : List Line). epoch) epochs
-
--- These lines are whole epochs and those of one that is open still, which is what any lines behind them come to.
-pub record IsCut (done : List Line) (closed : List (List Line)) (open_ : List Line) : Type 0 where
-  pub parts : done ≡ lines_in closed ++ open_
-  pub closes : (later : List Line) → epochs_of (lines_in closed ++ later) ≡ closed ++ epochs_behind [] later
-  pub opens : (later : List Line) → epochs_behind [] (open_ ++ later) ≡ epochs_behind open_ later
-  pub whole : All (λ epoch. is_whole [] epoch ≡ true) closed
-  pub unfinished : is_whole [] open_ ≡ false
 
 -- what a line means behind lines
 abbrev pub meant_next : ℕ → List Line → Line → Meaning

@@ -3,10 +3,10 @@ use Rattle.std.specs.Prelude.{ℕ, ◌+◌, ◌<◌, All, IfSome, List, [], ◌�
 use Rattle.std.specs.Global.{Vec}
 use Rattle.demux.specs.Trace.{Meaning}
 use Rattle.lawful_run.specs.LinesTold.{LineTold}
-use Rattle.audit_lines.specs.declared.meaning.Meant.{Meant}
-use Rattle.audit_lines.specs.declared.told.Told.{Told}
-use Rattle.audit_lines.specs.Meant.{meaning_of, lines_of, slot_in}
-use Rattle.audit_lines.specs.OfSlot.{AreAnswered}
+use Rattle.audit_sentences.specs.declared.meaning.Meant.{Meant}
+use Rattle.audit_sentences.specs.declared.told.Told.{Told}
+use Rattle.audit_sentences.specs.Meant.{meaning_of, lines_of, slot_in}
+use Rattle.audit_sentences.specs.OfSlot.{AreAnswered}
 
 -- what lines mean, and what those of each epoch do
 abbrev pub meant_of : List Meant → List Meaning

@@ -2,5 +2,9 @@ pub mod Answering
 pub mod Cutting
 pub mod Holding
 pub mod Matching
-pub mod Rules
+pub mod Setups
 pub mod Waiting
+pub mod Made
+pub mod Order
+pub mod Placing
+pub mod Agreeing

@@ -2,8 +2,8 @@
 use Rattle.std.specs.Prelude.{◌≡◌, ℕ, ◌==◌, List, length, map, filter}
 use Rattle.std.specs.Borrow.{Bor}
 use Rattle.report_lines.specs.declared.entry.LineEntry.{LineEntry}
-use Rattle.audit_lines.specs.declared.sharing.Keyed.{Keyed}
-use Rattle.audit_lines.specs.Sharing.{under}
+use Rattle.audit_sentences.specs.declared.sharing.Keyed.{Keyed}
+use Rattle.audit_sentences.specs.Sharing.{under}
 use Rattle.audit_sentences.specs.Entries.{line_of}
 
 -- the entries that are lent

@@ -9,7 +9,7 @@ use Rattle.lawful_run.specs.Accepted.{command_count, is_refused, packets_accepte
 use Rattle.lawful_run.specs.LinesTold.{LineTold}
 use Rattle.lawful_run.specs.Moves.{is_moved}
 use Rattle.lawful_run.specs.Refusals.{move_count, packet_count, slot_count, slot_of}
-use Rattle.audit_reading.specs.declared.rule.Rule.{Rule}
+use Rattle.audit_reading.specs.declared.setup.Setup.{Setup}
 use Rattle.audit_reading.specs.declared.waiting.Load.{Load}
 use Rattle.audit_reading.specs.declared.waiting.Waiting.{Waiting}
 use Rattle.audit_reading.specs.declared.waiting.Waits.{Waits}
@@ -38,18 +38,18 @@ load_by load seen (move slot slice text) entry = record load { moves = load.move
 load_by load seen (note text) entry = load
 
 -- whether a line of a slot may be refused, by what waits behind it and the lines before it
-abbrev pub may_refuse : Rule → Bool → Waiting → Load → ℕ → Bool
-may_refuse rule of_packet own load slots =
-    if rule.solo then false
+abbrev pub may_refuse : Setup → Bool → Waiting → Load → ℕ → Bool
+may_refuse setup of_packet own load slots =
+    if setup.solo then false
     else if of_packet then
-    nat_le rule.lane (load.packets + slots + 2 * load.moves) || (own.moved && nat_le rule.room own.packets)
-    else nat_le rule.room own.commands
+    nat_le setup.lane (load.packets + slots + 2 * load.moves) || (own.moved && nat_le setup.room own.packets)
+    else nat_le setup.room own.commands
 
-abbrev pub refused_well : Rule → Waiting → Load → ℕ → LineEntry → Bool
-refused_well rule own load slots (line.N noted) = true
-refused_well rule own load slots (line.C answered) = true
-refused_well rule own load slots (line.P judged) = true
-refused_well rule own load slots (line.F refused) = may_refuse rule refused.packet own load slots
+abbrev pub refused_well : Setup → Waiting → Load → ℕ → LineEntry → Bool
+refused_well setup own load slots (line.N noted) = true
+refused_well setup own load slots (line.C answered) = true
+refused_well setup own load slots (line.P judged) = true
+refused_well setup own load slots (line.F refused) = may_refuse setup refused.packet own load slots
 
 -- whether a slot has a command or packet among lines
 abbrev pub is_seen : ℕ → List LineTold → Bool

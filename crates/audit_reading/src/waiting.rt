@@ -4,16 +4,16 @@ ghost use Rattle.std.specs.Prelude.{IfOk, IsTrue, List, length};
 ghost use Rattle.lawful_run.specs.Answers.{Answers};
 ghost use Rattle.lawful_run.specs.LinesTold.{EachLine, LineTold};
 ghost use Rattle.lawful_run.specs.Refusals.{RefusedAs, RefusedWhereFull};
-ghost use Rattle.audit_lines.specs.Meant.{line_told, lines_of};
-ghost use Rattle.audit_lines.specs.OfSlot.{AreAnswered};
+ghost use Rattle.audit_sentences.specs.Meant.{line_told, lines_of};
+ghost use Rattle.audit_sentences.specs.OfSlot.{AreAnswered};
 ghost use Rattle.audit_reading.specs.Holding.{AreKnownTold, IsKnown};
-ghost use Rattle.audit_reading.specs.Rules.{job_of};
+ghost use Rattle.audit_reading.specs.Setups.{setup_of};
 ghost use Rattle.audit_reading.specs.Waiting.{AllWait, AreWaiting, SlotWaits, load_by, may_refuse, one_new, one_taken};
 ghost use Rattle.audit_reading.specs.Waiting.{refused_well, waiting_by};
 
 use crate::NoMemory;
-use crate::rule::Rule;
-use audit_lines::{Meant, Told};
+use crate::setup::Setup;
+use audit_sentences::{Meant, Told};
 use report_lines::LineEntry;
 use std::alloc::Global;
 
@@ -115,30 +115,31 @@ impl Load {
 }
 
 // Whether a refused line's queue or lane could be full. Its own slot counts for the lane.
-fn may_refuse(rule: &Rule, packet: bool, own: &Waiting, load: &Load, slots: u64) -> bool
+fn may_refuse(setup: &Setup, packet: bool, own: &Waiting, load: &Load, slots: u64) -> bool
     requires packets { load.now.packets < 2 ^ 61 }
     requires slots { slots < 2 ^ 61 }
     requires moves { load.now.moves < 2 ^ 61 }
-    ensures { result ≡ may_refuse rule.now packet own.now load.now slots }
+    ensures { result ≡ may_refuse setup.now packet own.now load.now slots }
 {
-    if rule.solo {
+    if setup.solo {
         return false;
     }
     if packet {
         let items = load.packets + slots + 2 * load.moves;
-        return items >= u64::from(rule.lane) || (own.moved && own.packets >= u64::from(rule.room));
+        return items >= u64::from(setup.lane)
+            || (own.moved && own.packets >= u64::from(setup.room));
     }
-    own.commands >= u64::from(rule.room)
+    own.commands >= u64::from(setup.room)
 }
 
-fn refused_well(rule: &Rule, own: &Waiting, load: &Load, slots: u64, entry: &LineEntry) -> bool
+fn refused_well(setup: &Setup, own: &Waiting, load: &Load, slots: u64, entry: &LineEntry) -> bool
     requires packets { load.now.packets < 2 ^ 61 }
     requires slots { slots < 2 ^ 61 }
     requires moves { load.now.moves < 2 ^ 61 }
-    ensures { result ≡ refused_well rule.now own.now load.now slots entry.now }
+    ensures { result ≡ refused_well setup.now own.now load.now slots entry.now }
 {
     match entry {
-        LineEntry::F(refused) => may_refuse(rule, refused.packet, own, load, slots),
+        LineEntry::F(refused) => may_refuse(setup, refused.packet, own, load, slots),
         LineEntry::N(_) | LineEntry::C(_) | LineEntry::P(_) => true,
     }
 }
@@ -170,14 +171,14 @@ impl Waits {
     }
 
     // One line more: whether it is refused only where it may be.
-    fn take(&mut self, rule: &Rule, told: &Told<'_>) -> bool
+    fn take(&mut self, setup: &Setup, told: &Told<'_>) -> bool
         requires known { IsKnown (length self.old.own.items) (line_told told.now).meaning }
         requires few { (slots : ℕ) × (before : List LineTold) × AreWaiting self.old slots before
             × (length before < 2 ^ 60) }
 
         ensures holds { (slots n : ℕ) (before : List LineTold) → AreWaiting self.old slots before
             → Answers n (line_told told.now).meaning (line_told told.now).entry
-            → (IsTrue result ↔ RefusedAs (job_of rule.now) before (line_told told.now) (line_told told.now).entry) }
+            → (IsTrue result ↔ RefusedAs (setup_of setup.now) before (line_told told.now) (line_told told.now).entry) }
         ensures waits { (slots : ℕ) (before : List LineTold) → AreWaiting self.old slots before
             → AreWaiting self.new slots (before ++ line_told told.now ∷ []) }
     {
@@ -188,7 +189,7 @@ impl Waits {
         let own = self.own[place];
         let load = self.load;
         let slots = load.slots + one_new(own.seen);
-        let well = refused_well(rule, &own, &load, slots, told.entry());
+        let well = refused_well(setup, &own, &load, slots, told.entry());
         self.own[place] = own.with(told);
         self.load = load.with(own.seen, told);
         well
@@ -198,7 +199,7 @@ impl Waits {
 /// Whether the lines of an epoch are refused only where a queue or lane could be full.
 pub fn refused_where_full(
     alloc: Global,
-    rule: &Rule,
+    setup: &Setup,
     slots: u32,
     lines: &[Told<'_>],
 ) -> Result<bool, NoMemory>
@@ -207,11 +208,11 @@ pub fn refused_where_full(
 
     ensures { (first : ℕ) → AreAnswered first (lines_of lines.now)
         → IfOk result (λ holds. IsTrue holds
-        ↔ EachLine (RefusedWhereFull (job_of rule.now)) (lines_of lines.now)) }
+        ↔ EachLine (RefusedWhereFull (setup_of setup.now)) (lines_of lines.now)) }
 {
     let mut waits = Waits::new(alloc, slots)?;
     for told in lines {
-        if !waits.take(rule, told) {
+        if !waits.take(setup, told) {
             return Ok(false);
         }
     }

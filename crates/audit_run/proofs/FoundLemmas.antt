@@ -6,8 +6,8 @@ use Rattle.pc_outside.specs.Fronts.{AppendsFront}
 use Rattle.pc_outside.specs.declared.writing.WriteFault.{WriteFault}
 use Rattle.report_lines.specs.declared.entry.Entry.{Entry}
 use Rattle.trace_lines.specs.Line.{Line}
-use Rattle.lawful_run.specs.Job.{Job}
-use Rattle.audit_reading.specs.Rules.{input_with}
+use Rattle.lawful_run.specs.Setup.{Setup}
+use Rattle.audit_reading.specs.Setups.{input_with}
 use Rattle.audit_run.specs.Findings.{Breaks, Confirmed, Finds, IsOf, finding_text}
 use Rattle.audit_run.specs.Heard.{HasHeard}
 use Rattle.audit_run.specs.Progress.{Reached, ending_as}
@@ -18,19 +18,19 @@ use Rattle.audit_run.specs.declared.auditing.Stopped.TheVariants as stopped_at
 use Rattle.audit_run.specs.declared.heard.Heard.{Heard}
 use Rattle.audit_run.proofs.HeardLemmas.{entries_heard, said_heard}
 
-pub confirmed_by : (job : Job) (heard : Heard) (texts : List Text) (lines : List Line) (entries : List Entry)
+pub confirmed_by : (setup : Setup) (heard : Heard) (texts : List Text) (lines : List Line) (entries : List Entry)
     → heard.outside ≡ false → lines ≡ heard.lines.items → entries ≡ heard.entries.items
-    → IsOf job (input_with lines heard.bad) entries → HasHeard heard texts → Confirmed job texts
-confirmed_by job heard texts lines entries inside same all lawful hears = record {
+    → IsOf setup (input_with lines heard.bad) entries → HasHeard heard texts → Confirmed setup texts
+confirmed_by setup heard texts lines entries inside same all lawful hears = record {
   entries = heard.entries.items;
   are = entries_heard heard texts hears inside;
   lawful = rw (said_heard heard texts hears, ← same, ← all) lawful;
 }
 
-pub broken_by : (job : Job) (heard : Heard) (texts : List Text) (lines : List Line) (entries : List Entry) (k : ℕ)
+pub broken_by : (setup : Setup) (heard : Heard) (texts : List Text) (lines : List Line) (entries : List Entry) (k : ℕ)
     → heard.outside ≡ false → lines ≡ heard.lines.items → entries ≡ heard.entries.items
-    → Breaks job (input_with lines heard.bad) entries k → HasHeard heard texts → Finds job texts (Some k)
-broken_by job heard texts lines entries k inside same all breaks hears = inr (record {
+    → Breaks setup (input_with lines heard.bad) entries k → HasHeard heard texts → Finds setup texts (Some k)
+broken_by setup heard texts lines entries k inside same all breaks hears = inr (record {
   entries = heard.entries.items;
   are = entries_heard heard texts hears inside;
   broken = rw (said_heard heard texts hears, ← same, ← all) breaks;
@@ -47,43 +47,43 @@ pub told_unit : (start left : Option (List ℕ)) (P : List ℕ → List ℕ → 
     → WhereTold start left (λ octets rest. Unit {0})
 told_unit start left P = told_as start left P (λ octets rest. Unit {0}) (λ octets rest said. tt)
 
-says_whole : (job : Job) (octets : List ℕ) (texts : List Text) (found : Option ℕ) → Finds job texts found
-    → (texts_of octets).lines ≡ texts → SaysWhole job octets (finding_text found) found
-says_whole job octets texts found finds same = record {
-  finds = subst (λ t. Finds job t found) (sym same) finds;
+says_whole : (setup : Setup) (octets : List ℕ) (texts : List Text) (found : Option ℕ) → Finds setup texts found
+    → (texts_of octets).lines ≡ texts → SaysWhole setup octets (finding_text found) found
+says_whole setup octets texts found finds same = record {
+  finds = subst (λ t. Finds setup t found) (sym same) finds;
   says = refl;
 }
 
 -- the finding was written, or a front of it
-pub audits_so : (job : Job) (found : Option ℕ) (written : Result Unit WriteFault)
-    (start left old new : Option (List ℕ)) (texts : List Text) → Finds job texts found
+pub audits_so : (setup : Setup) (found : Option ℕ) (written : Result Unit WriteFault)
+    (start left old new : Option (List ℕ)) (texts : List Text) → Finds setup texts found
     → WhereTold start left (λ octets rest. Reached stopped_at.Ended octets rest texts)
     → OnOk written (Appends old new (finding_text found)) → OnErr written (AppendsFront old new (finding_text found))
-    → Audits (ending_as found written) job start left old new
-audits_so job None (Ok done) start left old new texts finds reached whole cut = record {
+    → Audits (ending_as found written) setup start left old new
+audits_so setup None (Ok done) start left old new texts finds reached whole cut = record {
   text = finding_text None;
   written = whole;
   report = told_as start left (λ octets rest. Reached stopped_at.Ended octets rest texts)
-      (λ octets rest. Reports (ending_as None (Ok done)) job octets rest (finding_text None))
-      (λ octets rest is. (is.0, says_whole job octets texts None finds is.1)) reached;
+      (λ octets rest. Reports (ending_as None (Ok done)) setup octets rest (finding_text None))
+      (λ octets rest is. (is.0, says_whole setup octets texts None finds is.1)) reached;
 }
-audits_so job (Some k) (Ok done) start left old new texts finds reached whole cut = record {
+audits_so setup (Some k) (Ok done) start left old new texts finds reached whole cut = record {
   text = finding_text (Some k);
   written = whole;
   report = told_as start left (λ octets rest. Reached stopped_at.Ended octets rest texts)
-      (λ octets rest. Reports (ending_as (Some k) (Ok done)) job octets rest (finding_text (Some k)))
-      (λ octets rest is. (is.0, (k, says_whole job octets texts (Some k) finds is.1))) reached;
+      (λ octets rest. Reports (ending_as (Some k) (Ok done)) setup octets rest (finding_text (Some k)))
+      (λ octets rest is. (is.0, (k, says_whole setup octets texts (Some k) finds is.1))) reached;
 }
-audits_so job found (Err fault) start left old new texts finds reached whole cut = record {
+audits_so setup found (Err fault) start left old new texts finds reached whole cut = record {
   text = cut.front;
   written = cut.appended;
   report = told_as start left (λ octets rest. Reached stopped_at.Ended octets rest texts)
-      (λ octets rest. Reports (ending_as found (Err fault)) job octets rest cut.front)
+      (λ octets rest. Reports (ending_as found (Err fault)) setup octets rest cut.front)
       (λ octets rest is. (
         is.0,
         record {
           found = found;
-          finds = subst (λ t. Finds job t found) (sym is.1) finds;
+          finds = subst (λ t. Finds setup t found) (sym is.1) finds;
           more = cut.rest;
           says = cut.parts;
         },
@@ -91,41 +91,41 @@ audits_so job found (Err fault) start left old new texts finds reached whole cut
 }
 
 -- nothing is written where memory ran out, or where no more can be read
-pub nothing_said : (job : Job) (start left old : Option (List ℕ))
-    → WhereTold start left (λ octets rest. Unit {0}) → Audits audited.NoMemory job start left old old
-nothing_said job start left old told = record {
+pub nothing_said : (setup : Setup) (start left old : Option (List ℕ))
+    → WhereTold start left (λ octets rest. Unit {0}) → Audits audited.NoMemory setup start left old old
+nothing_said setup start left old told = record {
   text = [];
   written = Appends-nil old;
-  report = told_as start left (λ octets rest. Unit {0}) (λ octets rest. Reports audited.NoMemory job octets rest [])
+  report = told_as start left (λ octets rest. Unit {0}) (λ octets rest. Reports audited.NoMemory setup octets rest [])
       (λ octets rest yes. refl) told;
 }
 
-pub fault_said : (job : Job) (start left old : Option (List ℕ)) (texts : List Text)
+pub fault_said : (setup : Setup) (start left old : Option (List ℕ)) (texts : List Text)
     → WhereTold start left (λ octets rest. Reached stopped_at.ReadFault octets rest texts)
-    → Audits audited.ReadFault job start left old old
-fault_said job start left old texts reached = record {
+    → Audits audited.ReadFault setup start left old old
+fault_said setup start left old texts reached = record {
   text = [];
   written = Appends-nil old;
   report = told_as start left (λ octets rest. Reached stopped_at.ReadFault octets rest texts)
-      (λ octets rest. Reports audited.ReadFault job octets rest []) (λ octets rest is. (is, refl)) reached;
+      (λ octets rest. Reports audited.ReadFault setup octets rest []) (λ octets rest is. (is, refl)) reached;
 }
 
-pub long_said : (job : Job) (start left old : Option (List ℕ)) (texts : List Text)
+pub long_said : (setup : Setup) (start left old : Option (List ℕ)) (texts : List Text)
     → WhereTold start left (λ octets rest. Reached stopped_at.LineLong octets rest texts)
-    → Audits audited.LineLong job start left old old
-long_said job start left old texts reached = record {
+    → Audits audited.LineLong setup start left old old
+long_said setup start left old texts reached = record {
   text = [];
   written = Appends-nil old;
   report = told_as start left (λ octets rest. Reached stopped_at.LineLong octets rest texts)
-      (λ octets rest. Reports audited.LineLong job octets rest []) (λ octets rest is. (is, refl)) reached;
+      (λ octets rest. Reports audited.LineLong setup octets rest []) (λ octets rest is. (is, refl)) reached;
 }
 
-pub big_said : (job : Job) (start left old : Option (List ℕ)) (texts : List Text)
+pub big_said : (setup : Setup) (start left old : Option (List ℕ)) (texts : List Text)
     → WhereTold start left (λ octets rest. Reached stopped_at.TooLong octets rest texts)
-    → Audits audited.TooLong job start left old old
-big_said job start left old texts reached = record {
+    → Audits audited.TooLong setup start left old old
+big_said setup start left old texts reached = record {
   text = [];
   written = Appends-nil old;
   report = told_as start left (λ octets rest. Reached stopped_at.TooLong octets rest texts)
-      (λ octets rest. Reports audited.TooLong job octets rest []) (λ octets rest is. (is, refl)) reached;
+      (λ octets rest. Reports audited.TooLong setup octets rest []) (λ octets rest is. (is, refl)) reached;
 }

@@ -13,8 +13,8 @@ use Rattle.trace_lines.specs.Line.{Line}
 use Rattle.trace_lines.specs.Meaning.{line_meaning}
 use Rattle.trace_lines.specs.declared.bad.LineBad.{LineBad}
 use Rattle.trace_lines.specs.declared.bad.LineBad.TheVariants as whys
-use Rattle.audit_reading.specs.Rules.{input_with}
-use Rattle.audit_reading.specs.declared.rule.BadAt.{BadAt}
+use Rattle.audit_reading.specs.Setups.{input_with}
+use Rattle.audit_reading.specs.declared.setup.BadAt.{BadAt}
 use Rattle.audit_run.specs.Heard.{HasHeard, SaysReport, SaysTrace, StopsAt, with_report}
 use Rattle.audit_run.specs.Said.{AreEntries, HasNoEntry, marker, report_texts, trace_from, trace_said, trace_texts}
 use Rattle.audit_run.specs.Texts.{Text}

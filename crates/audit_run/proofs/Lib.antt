@@ -1,3 +1,17 @@
+pub mod ChargedMore
+pub mod Steps
+pub mod Loops
+pub mod Opens
+pub mod ShareLemmas
+pub mod AnswerLemmas
+pub mod EpochLemmas
+pub mod PlayerLemmas
+pub mod ReplayLemmas
+pub mod RunLemmas
+pub mod FindingLemmas
+pub mod InRangeLemmas
+pub mod AuditLemmas
+pub mod HoldsLemmas
 pub mod TextLemmas
 pub mod ReadLemmas
 pub mod SaidLemmas

@@ -6,7 +6,7 @@ use Rattle.report_lines.specs.Text.{entry_text}
 use Rattle.report_lines.specs.declared.entry.Entry.{Entry}
 use Rattle.report_lines.proofs.TextLemmas.{text_tells}
 use Rattle.demux.specs.Trace.{book_of}
-use Rattle.lawful_run.specs.Job.{Job, slices_of}
+use Rattle.lawful_run.specs.Setup.{Setup, slices_of}
 use Rattle.lawful_run.specs.Trace.{epochs_told}
 use Rattle.audit_sentences.proofs.HavingLines.{traces_have_lines}
 use Rattle.audit_sentences.proofs.LawLemmas.{sentences_are_the_run}
@@ -50,11 +50,11 @@ no_other texts entries are has =
     has.none one.0 one.1 one.2
 
 -- a lawful run breaks no sentence
-no_break : (job : Job) (trace : Input) (entries : List Entry) (k : ℕ) → IsOf job trace entries
-    → Breaks job trace entries k → ⊥
-no_break job trace entries k lawful breaks =
-    breaks.0.broken ((sentences_are_the_run job (length (book_of trace.lines)) (epochs_told (slices_of job) trace) entries
-    (traces_have_lines (slices_of job) trace)).1 lawful k)
+no_break : (setup : Setup) (trace : Input) (entries : List Entry) (k : ℕ) → IsOf setup trace entries
+    → Breaks setup trace entries k → ⊥
+no_break setup trace entries k lawful breaks =
+    breaks.0.broken ((sentences_are_the_run setup (length (book_of trace.lines)) (epochs_told (slices_of setup) trace) entries
+    (traces_have_lines (slices_of setup) trace)).1 lawful k)
 
 same_number : (k j : ℕ) → (k < j → ⊥) → (j < k → ⊥) → k ≡ j
 same_number zero zero less more = refl
@@ -64,36 +64,36 @@ same_number (suc k) (suc j) less more =
     ap suc (same_number k j (λ is. less (omega (arith, is))) (λ is. more (omega (arith, is))))
 
 -- there is one first sentence that is broken
-one_break : (job : Job) (trace : Input) (entries : List Entry) (k j : ℕ) → Breaks job trace entries k
-    → Breaks job trace entries j → k ≡ j
-one_break job trace entries k j one other =
+one_break : (setup : Setup) (trace : Input) (entries : List Entry) (k j : ℕ) → Breaks setup trace entries k
+    → Breaks setup trace entries j → k ≡ j
+one_break setup trace entries k j one other =
     same_number k j (λ less. one.0.broken (other.0.before k less)) (λ more. other.0.broken (one.0.before j more))
 
-confirmed_refuted : (job : Job) (texts : List Text) (k : ℕ) → Confirmed job texts → Refuted job texts k → ⊥
-confirmed_refuted job texts k one other =
-    no_break job (trace_said texts) one.entries k one.lawful
-    (subst (λ entries. Breaks job (trace_said texts) entries k)
+confirmed_refuted : (setup : Setup) (texts : List Text) (k : ℕ) → Confirmed setup texts → Refuted setup texts k → ⊥
+confirmed_refuted setup texts k one other =
+    no_break setup (trace_said texts) one.entries k one.lawful
+    (subst (λ entries. Breaks setup (trace_said texts) entries k)
     (one_list (report_texts texts) other.entries one.entries other.are one.are) other.broken)
 
-confirmed_clash : (job : Job) (texts : List Text) (k : ℕ) → Confirmed job texts → Finds job texts (Some k) → ⊥
-confirmed_clash job texts k one (inl other) = no_other (report_texts texts) one.entries one.are other.1
-confirmed_clash job texts k one (inr other) = confirmed_refuted job texts k one other
+confirmed_clash : (setup : Setup) (texts : List Text) (k : ℕ) → Confirmed setup texts → Finds setup texts (Some k) → ⊥
+confirmed_clash setup texts k one (inl other) = no_other (report_texts texts) one.entries one.are other.1
+confirmed_clash setup texts k one (inr other) = confirmed_refuted setup texts k one other
 
-both_refuted : (job : Job) (texts : List Text) (k j : ℕ) → Refuted job texts k → Refuted job texts j → k ≡ j
-both_refuted job texts k j one other =
-    one_break job (trace_said texts) one.entries k j one.broken
-    (subst (λ entries. Breaks job (trace_said texts) entries j)
+both_refuted : (setup : Setup) (texts : List Text) (k j : ℕ) → Refuted setup texts k → Refuted setup texts j → k ≡ j
+both_refuted setup texts k j one other =
+    one_break setup (trace_said texts) one.entries k j one.broken
+    (subst (λ entries. Breaks setup (trace_said texts) entries j)
     (one_list (report_texts texts) other.entries one.entries other.are one.are) other.broken)
 
-both_some : (job : Job) (texts : List Text) (k j : ℕ) → Finds job texts (Some k) → Finds job texts (Some j) → k ≡ j
-both_some job texts k j (inl one) (inl other) = one.0 ∙ sym other.0
-both_some job texts k j (inl one) (inr other) = absurd (no_other (report_texts texts) other.entries other.are one.1)
-both_some job texts k j (inr one) (inl other) = absurd (no_other (report_texts texts) one.entries one.are other.1)
-both_some job texts k j (inr one) (inr other) = both_refuted job texts k j one other
+both_some : (setup : Setup) (texts : List Text) (k j : ℕ) → Finds setup texts (Some k) → Finds setup texts (Some j) → k ≡ j
+both_some setup texts k j (inl one) (inl other) = one.0 ∙ sym other.0
+both_some setup texts k j (inl one) (inr other) = absurd (no_other (report_texts texts) other.entries other.are one.1)
+both_some setup texts k j (inr one) (inl other) = absurd (no_other (report_texts texts) one.entries one.are other.1)
+both_some setup texts k j (inr one) (inr other) = both_refuted setup texts k j one other
 
-pub one_finding : (job : Job) (texts : List Text) (one other : Option ℕ) → Finds job texts one → Finds job texts other
+pub one_finding : (setup : Setup) (texts : List Text) (one other : Option ℕ) → Finds setup texts one → Finds setup texts other
     → one ≡ other
-one_finding job texts None None finds also = refl
-one_finding job texts None (Some j) finds also = absurd (confirmed_clash job texts j finds also)
-one_finding job texts (Some k) None finds also = absurd (confirmed_clash job texts k also finds)
-one_finding job texts (Some k) (Some j) finds also = ap Some (both_some job texts k j finds also)
+one_finding setup texts None None finds also = refl
+one_finding setup texts None (Some j) finds also = absurd (confirmed_clash setup texts j finds also)
+one_finding setup texts (Some k) None finds also = absurd (confirmed_clash setup texts k also finds)
+one_finding setup texts (Some k) (Some j) finds also = ap Some (both_some setup texts k j finds also)

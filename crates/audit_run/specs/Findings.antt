@@ -5,7 +5,7 @@ use Rattle.pc_outside.specs.Limits.{newline}
 use Rattle.demux.specs.Trace.{book_of}
 use Rattle.report_lines.specs.declared.entry.Entry.{Entry}
 use Rattle.trace_lines.specs.Input.{Input}
-use Rattle.lawful_run.specs.Job.{Job, slices_of}
+use Rattle.lawful_run.specs.Setup.{Setup, slices_of}
 use Rattle.lawful_run.specs.Trace.{epochs_told}
 use Rattle.audit_sentences.specs.Lawful.{IsLawful}
 use Rattle.audit_sentences.specs.Sentences.{IsFirstBroken}
@@ -13,29 +13,31 @@ use Rattle.audit_run.specs.Said.{AreEntries, HasNoEntry, report_texts, trace_sai
 use Rattle.audit_run.specs.Texts.{Text}
 
 -- entries are those of a lawful run of a trace · this is the first sentence of the lawful run that they break
-abbrev pub IsOf : Job → Input → List Entry → Type 0
-IsOf job trace entries = IsLawful job (length (book_of trace.lines)) (epochs_told (slices_of job) trace) entries
+abbrev pub IsOf : Setup → Input → List Entry → Type 0
+IsOf setup trace entries = IsLawful setup (length (book_of trace.lines)) (epochs_told (slices_of setup) trace) entries
 
-abbrev pub Breaks : Job → Input → List Entry → ℕ → Type 0
-Breaks job trace entries k =
-    IsFirstBroken job (length (book_of trace.lines)) (epochs_told (slices_of job) trace) entries k × (1 ≤ k) × (k ≤ 6)
+abbrev pub Breaks : Setup → Input → List Entry → ℕ → Type 0
+Breaks setup trace entries k =
+    IsFirstBroken setup (length (book_of trace.lines)) (epochs_told (slices_of setup) trace) entries k
+    × (1 ≤ k)
+    × (k ≤ 6)
 
--- The report is a lawful one of the trace under this job.
-pub record Confirmed (job : Job) (texts : List Text) : Type 0 where
+-- The report is a lawful one of the trace under this setup.
+pub record Confirmed (setup : Setup) (texts : List Text) : Type 0 where
   pub entries : List Entry
   pub are : AreEntries (report_texts texts) entries
-  pub lawful : IsOf job (trace_said texts) entries
+  pub lawful : IsOf setup (trace_said texts) entries
 
 -- It is refuted: its lines are entries, and this is the first sentence that they break.
-pub record Refuted (job : Job) (texts : List Text) (k : ℕ) : Type 0 where
+pub record Refuted (setup : Setup) (texts : List Text) (k : ℕ) : Type 0 where
   pub entries : List Entry
   pub are : AreEntries (report_texts texts) entries
-  pub broken : Breaks job (trace_said texts) entries k
+  pub broken : Breaks setup (trace_said texts) entries k
 
 -- What is found: nothing to refute, or the number of what refutes it, where 0 stands for a line that is no entry.
-abbrev pub Finds : Job → List Text → Option ℕ → Type 0
-Finds job texts None = Confirmed job texts
-Finds job texts (Some k) = ((k ≡ 0) × HasNoEntry (report_texts texts)) ⊎ Refuted job texts k
+abbrev pub Finds : Setup → List Text → Option ℕ → Type 0
+Finds setup texts None = Confirmed setup texts
+Finds setup texts (Some k) = ((k ≡ 0) × HasNoEntry (report_texts texts)) ⊎ Refuted setup texts k
 
 -- what is written of it
 abbrev pub finding_text : Option ℕ → List ℕ

@@ -4,8 +4,8 @@ use Rattle.std.specs.Prelude.{None, Some, bytes_eq, if◌then◌else◌}
 use Rattle.report_lines.specs.declared.entry.Entry.{Entry}
 use Rattle.trace_lines.specs.Input.{after_lines}
 use Rattle.trace_lines.specs.Line.{Line}
-use Rattle.audit_reading.specs.Rules.{input_with}
-use Rattle.audit_reading.specs.declared.rule.BadAt.{BadAt}
+use Rattle.audit_reading.specs.Setups.{input_with}
+use Rattle.audit_reading.specs.declared.setup.BadAt.{BadAt}
 use Rattle.audit_run.specs.Said.{AreEntries, HasNoEntry, marker, trace_from}
 use Rattle.audit_run.specs.Texts.{Text}
 use Rattle.audit_run.specs.declared.heard.Heard.{Heard}

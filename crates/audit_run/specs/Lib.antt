@@ -1,3 +1,11 @@
+pub mod Charged
+pub mod Playing
+pub mod Found
+pub mod Answers
+pub mod Shares
+pub mod Epochs
+pub mod Runs
+pub mod Replays
 pub mod Texts
 pub mod Said
 pub mod Heard

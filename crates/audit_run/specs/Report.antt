@@ -1,7 +1,7 @@
 -- What an audit wrote, by how it ended.
 use Rattle.std.specs.Prelude.{◌≡◌, ℕ, List, [], ◌++◌, Option, None, Some}
 use Rattle.std.specs.Io.KnownBytes.{Appends}
-use Rattle.lawful_run.specs.Job.{Job}
+use Rattle.lawful_run.specs.Setup.{Setup}
 use Rattle.audit_run.specs.Findings.{Finds, finding_text}
 use Rattle.audit_run.specs.Texts.{big, ended, long, texts_of}
 use Rattle.audit_run.specs.declared.auditing.Audited.{Audited}
@@ -19,14 +19,14 @@ abbrev pub IsReadWhole : List ℕ → List ℕ → Type 0
 IsReadWhole octets left = ((texts_of octets).stop ≡ ended) × (left ≡ [])
 
 -- the text says what is found
-pub record SaysWhole (job : Job) (octets text : List ℕ) (found : Option ℕ) : Type 0 where
-  pub finds : Finds job (texts_of octets).lines found
+pub record SaysWhole (setup : Setup) (octets text : List ℕ) (found : Option ℕ) : Type 0 where
+  pub finds : Finds setup (texts_of octets).lines found
   pub says : text ≡ finding_text found
 
 -- it is a front of that
-pub record SaysPart (job : Job) (octets text : List ℕ) : Type 0 where
+pub record SaysPart (setup : Setup) (octets text : List ℕ) : Type 0 where
   pub found : Option ℕ
-  pub finds : Finds job (texts_of octets).lines found
+  pub finds : Finds setup (texts_of octets).lines found
   pub more : List ℕ
   pub says : finding_text found ≡ text ++ more
 
@@ -36,18 +36,18 @@ pub record IsTaken (octets left : List ℕ) : Type 0 where
   pub parts : octets ≡ taken ++ left
   pub stop : (texts_of taken).stop ≡ ended
 
-abbrev pub Reports : Audited → Job → List ℕ → List ℕ → List ℕ → Type 0
-Reports audited.Confirmed job octets left text = IsReadWhole octets left × SaysWhole job octets text None
-Reports audited.Refuted job octets left text =
-    IsReadWhole octets left × ((k : ℕ) × SaysWhole job octets text (Some k))
-Reports audited.ReadFault job octets left text = IsTaken octets left × (text ≡ [])
-Reports audited.WriteFault job octets left text = IsReadWhole octets left × SaysPart job octets text
-Reports audited.NoMemory job octets left text = text ≡ []
-Reports audited.LineLong job octets left text = ((texts_of octets).stop ≡ long) × (text ≡ [])
-Reports audited.TooLong job octets left text = ((texts_of octets).stop ≡ big) × (text ≡ [])
+abbrev pub Reports : Audited → Setup → List ℕ → List ℕ → List ℕ → Type 0
+Reports audited.Confirmed setup octets left text = IsReadWhole octets left × SaysWhole setup octets text None
+Reports audited.Refuted setup octets left text =
+    IsReadWhole octets left × ((k : ℕ) × SaysWhole setup octets text (Some k))
+Reports audited.ReadFault setup octets left text = IsTaken octets left × (text ≡ [])
+Reports audited.WriteFault setup octets left text = IsReadWhole octets left × SaysPart setup octets text
+Reports audited.NoMemory setup octets left text = text ≡ []
+Reports audited.LineLong setup octets left text = ((texts_of octets).stop ≡ long) × (text ≡ [])
+Reports audited.TooLong setup octets left text = ((texts_of octets).stop ≡ big) × (text ≡ [])
 
 -- octets were appended to what a sink tells, and they say what is found of those that a source told
-pub record Audits (ending : Audited) (job : Job) (start left old new : Option (List ℕ)) : Type 0 where
+pub record Audits (ending : Audited) (setup : Setup) (start left old new : Option (List ℕ)) : Type 0 where
   pub text : List ℕ
   pub written : Appends old new text
-  pub report : WhereTold start left (λ octets rest. Reports ending job octets rest text)
+  pub report : WhereTold start left (λ octets rest. Reports ending setup octets rest text)

@@ -4,16 +4,17 @@ ghost use Rattle.std.specs.Prelude.{IfOk, IfSome, OnOk, OnErr, Ok};
 ghost use Rattle.std.specs.Io.KnownBytes.{Appends};
 ghost use Rattle.pc_outside.specs.Faults.{Rises};
 ghost use Rattle.pc_outside.specs.Fronts.{AppendsFront};
-ghost use Rattle.audit_reading.specs.Rules.{IsRule, job_of};
+ghost use Rattle.audit_reading.specs.Setups.{IsSetup, setup_of};
 ghost use Rattle.audit_run.specs.Findings.{Finds, finding_text};
 ghost use Rattle.audit_run.specs.Heard.{HasHeard};
 ghost use Rattle.audit_run.specs.Progress.{Ends, Reached, ending_as};
 ghost use Rattle.audit_run.specs.Report.{Audits, WhereTold};
 ghost use Rattle.audit_run.specs.Texts.{Text};
 
+use crate::finding::Finding;
 use crate::heard::Heard;
-use audit_core::Finding;
-use audit_reading::Rule;
+use crate::replaying::finding_of;
+use audit_reading::Setup;
 use pc_outside::{LineBuf, LineRead, Sink, Source, WriteFault, read_line, write_whole};
 use std::alloc::{AllocError, Global};
 
@@ -81,19 +82,19 @@ fn hear<S: Source>(
 }
 
 // What is found of what was heard: nothing to refute, or the number of what refutes the report.
-fn found(alloc: Global, rule: &Rule, heard: &Heard) -> Result<Option<u8>, AllocError>
-    requires rule { IsRule rule.now }
+fn found(alloc: Global, setup: &Setup, heard: &Heard) -> Result<Option<u8>, AllocError>
+    requires setup { IsSetup setup.now }
     requires few { vec_len heard.now.lines + 1 < 2 ^ 40 }
     ensures finds { (texts : List Text) → HasHeard heard.now texts
-        → IfOk result (λ found. Finds (job_of rule.now) texts found) }
+        → IfOk result (λ found. Finds (setup_of setup.now) texts found) }
     ensures few { IfOk result (λ found. IfSome found (λ k. k ≤ 6)) }
 {
     if heard.outside {
         return Ok(Some(0));
     }
-    match audit_core::audit(
+    match finding_of(
         alloc,
-        rule,
+        setup,
         heard.lines.as_slice(),
         heard.bad,
         heard.entries.as_slice(),
@@ -131,35 +132,35 @@ fn ending_of(found: Option<u8>, written: Result<(), WriteFault>) -> Audited
 }
 
 // Writes what is found of what was heard.
-fn judge<K: Sink>(alloc: Global, rule: &Rule, heard: &Heard, sink: &mut K) -> Audited
-    requires rule { IsRule rule.now }
+fn judge<K: Sink>(alloc: Global, setup: &Setup, heard: &Heard, sink: &mut K) -> Audited
+    requires setup { IsSetup setup.now }
     requires few { vec_len heard.now.lines + 1 < 2 ^ 40 }
     ensures audits { (start left : Option (List ℕ)) (texts : List Text) → HasHeard heard.now texts
         → WhereTold start left (λ octets rest. Reached Stopped.Ended octets rest texts)
-        → Audits result (job_of rule.now) start left (K.written sink.old) (K.written sink.new) }
+        → Audits result (setup_of setup.now) start left (K.written sink.old) (K.written sink.new) }
     ensures read_fault { result ≡ Audited.ReadFault → ⊥ }
     ensures later { K.faults sink.old ≤ K.faults sink.new }
     ensures write_fault { result ≡ Audited.WriteFault → Rises (K.faults sink.old) (K.faults sink.new) }
 {
-    match found(alloc, rule, heard) {
+    match found(alloc, setup, heard) {
         Ok(found) => ending_of(found, tell(found, sink)),
         Err(AllocError) => Audited::NoMemory,
     }
 }
 
 /// Reads a trace and its report from the source, and writes to the sink whether the report is a lawful one under the
-/// rule: `yes`; or `no` and the number of the first sentence of the lawful run that it breaks, 1 to 6, or 0 where a
+/// setup: `yes`; or `no` and the number of the first sentence of the lawful run that it breaks, 1 to 6, or 0 where a
 /// line of it is no entry.
 pub fn audit<S: Source, K: Sink>(
     alloc: Global,
-    rule: &Rule,
+    setup: &Setup,
     source: &mut S,
     sink: &mut K,
 ) -> Audited
-    requires { IsRule rule.now }
+    requires { IsSetup setup.now }
 
     // What is written is what is found, where source and sink tell their octets.
-    ensures audits { Audits result (job_of rule.now) (S.left source.old) (S.left source.new) (K.written sink.old)
+    ensures audits { Audits result (setup_of setup.now) (S.left source.old) (S.left source.new) (K.written sink.old)
         (K.written sink.new) }
 
     // Faults are those of the source and the sink.
@@ -178,7 +179,7 @@ pub fn audit<S: Source, K: Sink>(
         Err(AllocError) => return Audited::NoMemory,
     };
     match stop {
-        Stopped::Ended => judge(alloc, rule, &heard, sink),
+        Stopped::Ended => judge(alloc, setup, &heard, sink),
         Stopped::ReadFault => Audited::ReadFault,
         Stopped::LineLong => Audited::LineLong,
         Stopped::TooLong => Audited::TooLong,

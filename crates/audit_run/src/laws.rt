@@ -1,11 +1,12 @@
 //! Laws.
 ghost use Rattle.std.specs.Prelude.{◌≡◌, ℕ, List, Option};
-ghost use Rattle.lawful_run.specs.Job.{Job};
+ghost use Rattle.lawful_run.specs.Setup.{Setup};
 ghost use Rattle.audit_run.specs.Findings.{Finds};
 ghost use Rattle.audit_run.specs.Texts.{Text};
 
 /// The lines of an input have one finding, whatever gateway it is held against.
 pub fn one_finding()
-    ensures { (job : Job) (texts : List Text) (one other : Option ℕ) → Finds job texts one → Finds job texts other
+    ensures { (setup : Setup) (texts : List Text) (one other : Option ℕ) → Finds setup texts one
+        → Finds setup texts other
         → one ≡ other }
 {}

@@ -1,13 +1,23 @@
-//! An audit read from a source: a trace, and behind the line `REPORT` a report of it. All is read before the finding
-//! is written. What a line means, what an entry is and what is found are left to the crates below.
+//! An audit: whether a report is a lawful one of a trace. A trace, and behind the line `REPORT` a
+//! report of it, are read
+//! from a source; each subscriber is replayed through the plain gateway, epoch after epoch; the
+//! entries are held against
+//! what it answers, sentence by sentence of the definition; and the finding is written.
 #![tactic(auto)]
 
+mod answers;
 mod auditing;
+mod epoch;
+mod finding;
 mod heard;
 mod laws;
-#[cfg(test)]
-mod tests;
+mod player;
+mod replaying;
+mod share;
 
 pub use auditing::{Audited, audit};
+pub use finding::Finding;
 pub use laws::one_finding;
+pub use player::{Done, Placed, Played, Player};
+pub use replaying::finding_of;
 pub use std::alloc::AllocError as NoMemory;

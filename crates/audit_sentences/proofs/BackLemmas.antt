@@ -4,21 +4,21 @@ use Rattle.demux.specs.Trace.{Meaning}
 use Rattle.report_lines.specs.declared.entry.Entry.{Entry}
 use Rattle.report_lines.specs.declared.entry.LineEntry.{LineEntry}
 use Rattle.lawful_run.specs.Answers.{AnswersAll}
-use Rattle.lawful_run.specs.Job.{Job}
+use Rattle.lawful_run.specs.Setup.{Setup}
 use Rattle.lawful_run.specs.LinesTold.{LineTold, lines_told}
 use Rattle.lawful_run.specs.Order.{Histories, events_in, behind}
 use Rattle.lawful_run.specs.Outcomes as made_of
 use Rattle.lawful_run.specs.Report.{EpochReport}
 use Rattle.lawful_run.specs.Run.{told_in, IsEpochRun, AreEpochRuns, by_slot, no_events, behind_all}
 use Rattle.lawful_run.specs.Telling.{reply_told, verdict_told}
-use Rattle.audit_lines.proofs.LineKinds.{told_entries}
-use Rattle.audit_lines.proofs.TogetherLemmas.{numbers_of_slots, counts_of_slots}
+use Rattle.audit_sentences.proofs.LineKinds.{told_entries}
+use Rattle.audit_sentences.proofs.TogetherLemmas.{numbers_of_slots, counts_of_slots}
 use Rattle.audit_sentences.specs.Entries.{line_entries, in_line_order, cut, all_lines}
 use Rattle.audit_sentences.specs.Lawful.{AllSentences, IsLawful}
 use Rattle.audit_sentences.specs.Sentences.{told_epochs, EachEpoch, AreNumbered, CountsAreLawful, AreOfTheGateway, made_epoch, made_epochs, made_report, behind_epochs, WaitsAreLawful}
 use Rattle.audit_sentences.proofs.LineOrder.{entries_told, answers_split}
 
-module _ (job : Job) (slots : ℕ) where
+module _ (setup : Setup) (slots : ℕ) where
   -- an epoch with these entries of lines
   abbrev epoch_with : Histories → List Meaning → List LineEntry → EpochReport
   epoch_with before now entries = record {
@@ -42,8 +42,8 @@ module _ (job : Job) (slots : ℕ) where
   run_with : (first : ℕ) (before : Histories) (now : List Meaning) (entries : List LineEntry)
       → AnswersAll first now entries → AreNumbered before (lines_told now entries)
       → CountsAreLawful before (lines_told now entries) → AreOfTheGateway before (lines_told now entries)
-      → WaitsAreLawful job before (lines_told now entries)
-      → IsEpochRun job slots first before now (epoch_with before now entries)
+      → WaitsAreLawful setup before (lines_told now entries)
+      → IsEpochRun setup slots first before now (epoch_with before now entries)
   run_with first before now entries answers numbers counts gateway waits =
       let numbered = (numbers_of_slots before first now entries answers).1 numbers in
       let risen = (counts_of_slots 1 1 1 before first now entries answers).1 counts in
@@ -65,16 +65,16 @@ module _ (job : Job) (slots : ℕ) where
   runs_back : (first : ℕ) (before : Histories) (made : List (List Meaning)) (entries : List LineEntry)
       → AnswersAll first (all_lines made) entries → EachEpoch AreNumbered before (cut made entries)
       → EachEpoch CountsAreLawful before (cut made entries) → EachEpoch AreOfTheGateway before (cut made entries)
-      → EachEpoch (WaitsAreLawful job) before (cut made entries)
-      → AreEpochRuns job slots first before made (made_epochs slots before (cut made entries))
+      → EachEpoch (WaitsAreLawful setup) before (cut made entries)
+      → AreEpochRuns setup slots first before made (made_epochs slots before (cut made entries))
   runs_back first before [] entries answers numbers counts gateway waits = tt
   runs_back first before (now ∷ made) entries answers numbers counts gateway waits =
       let parts = answers_split first (first + length now) now (all_lines made) entries refl answers in
       let own = take (length now) entries in
       let others =
       made_epochs slots (behind before (lines_told now own)) (cut made (drop (length now) entries)) in
-      let P : EpochReport → Type 0 = λ told. IsEpochRun job slots first before now told
-      × AreEpochRuns job slots (first + length now) (behind before (told_in now told)) made others in
+      let P : EpochReport → Type 0 = λ told. IsEpochRun setup slots first before now told
+      × AreEpochRuns setup slots (first + length now) (behind before (told_in now told)) made others in
       subst P (sym (made_with first before now own parts.0)) (
         run_with first before now own parts.0 numbers.0 counts.0 gateway.0 waits.0,
         runs_back (first + length now) (behind before (lines_told now own)) made (drop (length now) entries) parts.1
@@ -94,8 +94,8 @@ module _ (job : Job) (slots : ℕ) where
       (ap (lines_told now) (entries_told first now own parts.0))
       ∙ behind_back (first + length now) (behind before (lines_told now own)) made (drop (length now) entries) parts.1
 
-  pub lawful_back : (made : List (List Meaning)) (entries : List Entry) → AllSentences job slots made entries
-      → IsLawful job slots made entries
+  pub lawful_back : (made : List (List Meaning)) (entries : List Entry) → AllSentences setup slots made entries
+      → IsLawful setup slots made entries
   lawful_back made entries all =
       let ordered = in_line_order (length (all_lines made)) (line_entries entries) in
       let one = all (suc zero) in

@@ -7,7 +7,7 @@ use Rattle.report_lines.specs.Records.{Effected}
 use Rattle.report_lines.specs.declared.entry.ChargeEntry.{ChargeEntry}
 use Rattle.report_lines.specs.declared.entry.LineEntry.{LineEntry}
 use Rattle.lawful_run.specs.Answers.{AnswersAll}
-use Rattle.lawful_run.specs.Job.{Job}
+use Rattle.lawful_run.specs.Setup.{Setup}
 use Rattle.lawful_run.specs.LinesTold.{LineTold, lines_told}
 use Rattle.lawful_run.specs.Order.{Histories, behind}
 use Rattle.lawful_run.specs.Report.{EpochReport}
@@ -24,10 +24,10 @@ told_all (made ∷ epochs) (told ∷ others) = told_in made told ∷ told_all ep
 abbrev pub lines_all : List EpochReport → List LineEntry
 lines_all others = flat_map (λ (told : EpochReport). told.lines) others
 
-module _ (job : Job) (slots : ℕ) where
+module _ (setup : Setup) (slots : ℕ) where
   -- in a run all lines are answered
   pub runs_answer : (first : ℕ) (before : Histories) (made : List (List Meaning)) (others : List EpochReport)
-      → AreEpochRuns job slots first before made others → AnswersAll first (all_lines made) (lines_all others)
+      → AreEpochRuns setup slots first before made others → AnswersAll first (all_lines made) (lines_all others)
   runs_answer first before [] [] runs = tt
   runs_answer first before [] (told ∷ others) runs = absurd runs
   runs_answer first before (now ∷ made) [] runs = absurd runs
@@ -38,7 +38,7 @@ module _ (job : Job) (slots : ℕ) where
 
   -- and cut into its epochs
   pub cut_is : (first : ℕ) (before : Histories) (made : List (List Meaning)) (others : List EpochReport)
-      → AreEpochRuns job slots first before made others → cut made (lines_all others) ≡ told_all made others
+      → AreEpochRuns setup slots first before made others → cut made (lines_all others) ≡ told_all made others
   cut_is first before [] [] runs = refl
   cut_is first before [] (told ∷ others) runs = absurd runs
   cut_is first before (now ∷ made) [] runs = absurd runs
@@ -52,7 +52,7 @@ module _ (job : Job) (slots : ℕ) where
 
   -- what its events make is what it has
   epoch_is : (before : Histories) (now : List Meaning) (told : EpochReport) (first : ℕ)
-      → IsEpochRun job slots first before now told → made_epoch slots before (told_in now told) ≡ told
+      → IsEpochRun setup slots first before now told → made_epoch slots before (told_in now told) ≡ told
   epoch_is before now told first run =
       let made = made_epoch slots before (told_in now told) in
       ap (λ (xs : List LineEntry). record { lines = xs; effects = made.effects; rows = made.rows })
@@ -61,7 +61,7 @@ module _ (job : Job) (slots : ℕ) where
       ∙ ap (λ (xs : List ChargeEntry). record { lines = told.lines; effects = told.effects; rows = xs }) (sym run.rows)
 
   pub made_is : (first : ℕ) (before : Histories) (made : List (List Meaning)) (others : List EpochReport)
-      → AreEpochRuns job slots first before made others → made_epochs slots before (told_all made others) ≡ others
+      → AreEpochRuns setup slots first before made others → made_epochs slots before (told_all made others) ≡ others
   made_is first before [] [] runs = refl
   made_is first before [] (told ∷ others) runs = absurd runs
   made_is first before (now ∷ made) [] runs = absurd runs
@@ -73,9 +73,9 @@ module _ (job : Job) (slots : ℕ) where
   -- what each epoch of a run gives
   pub each_epoch : (P : Histories → List LineTold → Type 0)
       → ((first : ℕ) (before : Histories) (now : List Meaning) (told : EpochReport)
-      → IsEpochRun job slots first before now told → P before (told_in now told))
+      → IsEpochRun setup slots first before now told → P before (told_in now told))
       → (first : ℕ) (before : Histories) (made : List (List Meaning)) (others : List EpochReport)
-      → AreEpochRuns job slots first before made others → EachEpoch P before (told_all made others)
+      → AreEpochRuns setup slots first before made others → EachEpoch P before (told_all made others)
   each_epoch P gives first before [] [] runs = tt
   each_epoch P gives first before [] (told ∷ others) runs = absurd runs
   each_epoch P gives first before (now ∷ made) [] runs = absurd runs

@@ -5,8 +5,8 @@ use Rattle.audit_sentences.proofs.BackLemmas.{lawful_back}
 use Rattle.audit_sentences.proofs.ThereLemmas.{sentences_there}
 
 pub sentences_are_the_run : SentencesAreTheRun
-sentences_are_the_run job slots made entries have = (
-  lawful_back job slots made entries,
-  (λ lawful. subst (AllSentences job slots made) (sym lawful.2)
-      (sentences_there job slots made lawful.0 have lawful.1)),
+sentences_are_the_run setup slots made entries have = (
+  lawful_back setup slots made entries,
+  (λ lawful. subst (AllSentences setup slots made) (sym lawful.2)
+      (sentences_there setup slots made lawful.0 have lawful.1)),
 )

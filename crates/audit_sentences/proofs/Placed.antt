@@ -12,7 +12,7 @@ use Rattle.report_lines.specs.declared.entry.Entry.TheVariants as entry
 use Rattle.report_lines.specs.declared.entry.LineEntry.{LineEntry}
 use Rattle.gate_model.specs.SlotPast.{records_made}
 use Rattle.lawful_run.specs.Answers.{AnswersAll}
-use Rattle.lawful_run.specs.Job.{Job}
+use Rattle.lawful_run.specs.Setup.{Setup}
 use Rattle.lawful_run.specs.Order.{Histories, behind}
 use Rattle.lawful_run.specs.Outcomes as made_of
 use Rattle.lawful_run.specs.Report.{EpochReport, epoch_entries}
@@ -194,11 +194,11 @@ abbrev pub picked : {X : Type 0} → (EpochReport → List X) → (epoch i : ℕ
 picked of epoch i [] = []
 picked of epoch i (told ∷ others) = cond (i == epoch) (of told) [] ++ picked of epoch (i + 1) others
 
-module _ (job : Job) (slots : ℕ) (made : List (List Meaning)) (epoch : ℕ) where
+module _ (setup : Setup) (slots : ℕ) (made : List (List Meaning)) (epoch : ℕ) where
   -- the effects
   told_effects : (i first now : ℕ) (before : Histories) (rest : List (List Meaning)) (others : List EpochReport)
       (opens : List ChargeEntry) → All (λ (lines : List Meaning). 0 < length lines) rest
-      → AreEpochRuns job slots first before rest others → StandFrom made first i rest
+      → AreEpochRuns setup slots first before rest others → StandFrom made first i rest
       → told_in_epoch (effect_in epoch) made now (flat_map epoch_entries others ++ map entry.Charge opens)
       ≡ picked (λ (told : EpochReport). told.effects) epoch i others
   told_effects i first now before [] [] opens have runs stand =
@@ -234,7 +234,7 @@ module _ (job : Job) (slots : ℕ) (made : List (List Meaning)) (epoch : ℕ) wh
   told_rows : (i first now : ℕ) (before : Histories) (rest : List (List Meaning)) (others : List EpochReport)
       (opens : List ChargeEntry) → filter_map as_row opens ≡ []
       → All (λ (lines : List Meaning). 0 < length lines) rest
-      → AreEpochRuns job slots first before rest others → StandFrom made first i rest
+      → AreEpochRuns setup slots first before rest others → StandFrom made first i rest
       → told_in_epoch (row_in epoch) made now (flat_map epoch_entries others ++ map entry.Charge opens)
       ≡ picked (λ (told : EpochReport). told.rows) epoch i others
   told_rows i first now before [] [] opens none have runs stand =
@@ -270,21 +270,21 @@ module _ (job : Job) (slots : ℕ) (made : List (List Meaning)) (epoch : ℕ) wh
       (told_rows (i + 1) (first + length lines) i (behind before (told_in lines told)) rest others opens none
       (All-tail (λ (l : List Meaning). 0 < length l) lines rest have) runs.1 (stand_on made first i lines rest stand))
 
-pub effects_stand : (job : Job) (slots : ℕ) (made : List (List Meaning)) (others : List EpochReport)
+pub effects_stand : (setup : Setup) (slots : ℕ) (made : List (List Meaning)) (others : List EpochReport)
     (opens : List ChargeEntry) → All (λ (lines : List Meaning). 0 < length lines) made
-    → AreEpochRuns job slots 1 no_events made others → (epoch : ℕ)
+    → AreEpochRuns setup slots 1 no_events made others → (epoch : ℕ)
     → effects_told made epoch (flat_map epoch_entries others ++ map entry.Charge opens)
     ≡ picked (λ (told : EpochReport). told.effects) epoch 0 others
-effects_stand job slots made others opens have runs epoch =
-    told_effects job slots made epoch 0 1 0 no_events made others opens have runs (stand_all made)
+effects_stand setup slots made others opens have runs epoch =
+    told_effects setup slots made epoch 0 1 0 no_events made others opens have runs (stand_all made)
 
-pub rows_stand : (job : Job) (slots : ℕ) (made : List (List Meaning)) (others : List EpochReport)
+pub rows_stand : (setup : Setup) (slots : ℕ) (made : List (List Meaning)) (others : List EpochReport)
     (opens : List ChargeEntry) → filter_map as_row opens ≡ [] → All (λ (lines : List Meaning). 0 < length lines) made
-    → AreEpochRuns job slots 1 no_events made others → (epoch : ℕ)
+    → AreEpochRuns setup slots 1 no_events made others → (epoch : ℕ)
     → rows_told made epoch (flat_map epoch_entries others ++ map entry.Charge opens)
     ≡ picked (λ (told : EpochReport). told.rows) epoch 0 others
-rows_stand job slots made others opens none have runs epoch =
-    told_rows job slots made epoch 0 1 0 no_events made others opens none have runs (stand_all made)
+rows_stand setup slots made others opens none have runs epoch =
+    told_rows setup slots made epoch 0 1 0 no_events made others opens none have runs (stand_all made)
 
 -- the entries of lines
 lines_kept : (entries : List LineEntry) → filter_map as_line (map entry.Line entries) ≡ entries
@@ -319,14 +319,14 @@ opens_kept [] = refl
 opens_kept (charge.R slot row ∷ charges) = opens_kept charges
 opens_kept (charge.O slot counters ∷ charges) = ap (λ xs. charge.O slot counters ∷ xs) (opens_kept charges)
 
-pub opens_stand : (job : Job) (slots first : ℕ) (before : Histories) (made : List (List Meaning))
-    (others : List EpochReport) (opens : List ChargeEntry) → AreEpochRuns job slots first before made others
+pub opens_stand : (setup : Setup) (slots first : ℕ) (before : Histories) (made : List (List Meaning))
+    (others : List EpochReport) (opens : List ChargeEntry) → AreEpochRuns setup slots first before made others
     → filter_map as_open opens ≡ opens
     → opens_told (flat_map epoch_entries others ++ map entry.Charge opens) ≡ opens
-opens_stand job slots first before [] [] opens runs whole = opens_kept opens ∙ whole
-opens_stand job slots first before [] (told ∷ others) opens runs whole = absurd runs
-opens_stand job slots first before (lines ∷ made) [] opens runs whole = absurd runs
-opens_stand job slots first before (lines ∷ made) (told ∷ others) opens runs whole =
+opens_stand setup slots first before [] [] opens runs whole = opens_kept opens ∙ whole
+opens_stand setup slots first before [] (told ∷ others) opens runs whole = absurd runs
+opens_stand setup slots first before (lines ∷ made) [] opens runs whole = absurd runs
+opens_stand setup slots first before (lines ∷ made) (told ∷ others) opens runs whole =
     let later = flat_map epoch_entries others ++ map entry.Charge opens in
     let apart : (epoch_entries told ++ flat_map epoch_entries others) ++ map entry.Charge opens
     ≡ map entry.Line told.lines ++ (map entry.Effect told.effects ++ (map entry.Charge told.rows ++ later)) =
@@ -343,4 +343,4 @@ opens_stand job slots first before (lines ∷ made) (told ∷ others) opens runs
     (none_map open_of entry.Effect (λ e. refl) told.effects)
     ∙ filter_map-append open_of (map entry.Charge told.rows) later
     ∙ ap (λ xs. xs ++ filter_map open_of later) (opens_kept told.rows ∙ no_rows)
-    ∙ opens_stand job slots (first + length lines) (behind before (told_in lines told)) made others opens runs.1 whole
+    ∙ opens_stand setup slots (first + length lines) (behind before (told_in lines told)) made others opens runs.1 whole

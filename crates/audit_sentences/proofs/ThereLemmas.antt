@@ -12,7 +12,7 @@ use Rattle.report_lines.specs.declared.entry.LineEntry.{LineEntry}
 use Rattle.report_lines.specs.declared.entry.LineEntry.TheVariants as line
 use Rattle.lawful_run.specs.Answers.{AnswersAll}
 use Rattle.lawful_run.specs.Bounds.{MeetsBounds, MeetsAs}
-use Rattle.lawful_run.specs.Job.{Job, solo, sliced}
+use Rattle.lawful_run.specs.Setup.{Setup, solo, sliced}
 use Rattle.lawful_run.specs.LinesTold.{LineTold}
 use Rattle.lawful_run.specs.Order.{Histories}
 use Rattle.lawful_run.specs.Outcomes as made_of
@@ -20,8 +20,8 @@ use Rattle.lawful_run.specs.Report.{EpochReport, Report, entries_of}
 use Rattle.lawful_run.specs.Run.{told_in, IsEpochRun, IsRun, by_slot, no_events, behind_all}
 use Rattle.lawful_run.specs.Telling.{reply_told, verdict_told}
 use Rattle.lawful_run.proofs.Lawful.{each_gives, meets_at_once}
-use Rattle.audit_lines.proofs.LineKinds.{told_entries}
-use Rattle.audit_lines.proofs.TogetherLemmas.{numbers_of_slots, counts_of_slots}
+use Rattle.audit_sentences.proofs.LineKinds.{told_entries}
+use Rattle.audit_sentences.proofs.TogetherLemmas.{numbers_of_slots, counts_of_slots}
 use Rattle.audit_sentences.specs.Entries.{line_entries, in_line_order, cut, all_lines, effects_told, rows_told, opens_told, slot_charged}
 use Rattle.audit_sentences.specs.Lawful.{HaveLines}
 use Rattle.audit_sentences.specs.Sentences.{LinesAreAnswered, told_epochs, EachEpoch, AreNumbered, CountsAreLawful, AreOfTheGateway, made_report, behind_epochs, EffectsAre, RowsAre, ChargesAre, WaitsAreLawful, Sentence}
@@ -84,8 +84,8 @@ solo_within start before (line.P judged) later meets =
     meets_at_once (sliced 1 1 1) start judged.slot before later judged.commands meets
 solo_within start before (line.F refused) later meets = tt
 
-counts_there : (job : Job) (slots first : ℕ) (before : Histories) (now : List Meaning) (told : EpochReport)
-    → IsEpochRun job slots first before now told → CountsAreLawful before (told_in now told)
+counts_there : (setup : Setup) (slots first : ℕ) (before : Histories) (now : List Meaning) (told : EpochReport)
+    → IsEpochRun setup slots first before now told → CountsAreLawful before (told_in now told)
 counts_there solo slots first before now told run =
     (counts_of_slots 1 1 1 before first now told.lines run.one_each).0 (record {
       counts_rise = run.counts_rise;
@@ -96,30 +96,30 @@ counts_there (sliced slices room lane) slots first before now told run =
     (counts_of_slots slices room lane before first now told.lines run.one_each).0
     (record { counts_rise = run.counts_rise; bounds = run.bounds })
 
-module _ (job : Job) (slots : ℕ) where
+module _ (setup : Setup) (slots : ℕ) where
   numbers_there : (first : ℕ) (before : Histories) (now : List Meaning) (told : EpochReport)
-      → IsEpochRun job slots first before now told → AreNumbered before (told_in now told)
+      → IsEpochRun setup slots first before now told → AreNumbered before (told_in now told)
   numbers_there first before now told run =
       (numbers_of_slots before first now told.lines run.one_each).0
       (record { command_numbers = run.command_numbers; packet_numbers = run.packet_numbers })
 
   gateway_there : (first : ℕ) (before : Histories) (now : List Meaning) (told : EpochReport)
-      → IsEpochRun job slots first before now told → AreOfTheGateway before (told_in now told)
+      → IsEpochRun setup slots first before now told → AreOfTheGateway before (told_in now told)
   gateway_there first before now told run = record {
     replies = λ slot. told_entries (reply_told slot) first now told.lines run.one_each ∙ run.replies slot;
     verdicts = λ slot. told_entries (verdict_told slot) first now told.lines run.one_each ∙ run.verdicts slot;
   }
 
   waits_there : (first : ℕ) (before : Histories) (now : List Meaning) (told : EpochReport)
-      → IsEpochRun job slots first before now told → WaitsAreLawful job before (told_in now told)
+      → IsEpochRun setup slots first before now told → WaitsAreLawful setup before (told_in now told)
   waits_there first before now told run =
       record { refusals = run.refusals; parking = run.parking; counts = run.bounds }
 
   -- what holds of the lines of each epoch of a run
   module _ (made : List (List Meaning)) (report : Report) (have : HaveLines made)
-      (run : IsRun job slots made report) where
+      (run : IsRun setup slots made report) where
     answered : AnswersAll 1 (all_lines made) (lines_all report.epochs)
-    answered = runs_answer job slots 1 no_events made report.epochs run.epochs
+    answered = runs_answer setup slots 1 no_events made report.epochs run.epochs
 
     in_order : in_line_order (length (all_lines made)) (line_entries (entries_of report)) ≡ lines_all report.epochs
     in_order =
@@ -128,7 +128,7 @@ module _ (job : Job) (slots : ℕ) where
 
     cut_there : told_epochs made (entries_of report) ≡ told_all made report.epochs
     cut_there =
-        ap (cut made) in_order ∙ cut_is job slots 1 no_events made report.epochs run.epochs
+        ap (cut made) in_order ∙ cut_is setup slots 1 no_events made report.epochs run.epochs
 
     made_there : made_report slots (told_epochs made (entries_of report)) ≡ report
     made_there =
@@ -137,18 +137,18 @@ module _ (job : Job) (slots : ℕ) where
           epochs = xs;
           opens = by_slot slots (λ slot.
               made_of.opens slot (behind_epochs no_events (told_all made report.epochs) slot));
-        }) (made_is job slots 1 no_events made report.epochs run.epochs)
+        }) (made_is setup slots 1 no_events made report.epochs run.epochs)
         ∙ ap (λ (xs : List ChargeEntry). record { epochs = report.epochs; opens = xs })
         (ap (λ (behind : Histories). by_slot slots (λ slot. made_of.opens slot (behind slot)))
         (behind_is no_events made report.epochs) ∙ sym run.opens)
 
     each : (P : Histories → List LineTold → Type 0)
         → ((first : ℕ) (before : Histories) (now : List Meaning) (told : EpochReport)
-        → IsEpochRun job slots first before now told → P before (told_in now told))
+        → IsEpochRun setup slots first before now told → P before (told_in now told))
         → EachEpoch P no_events (told_epochs made (entries_of report))
     each P gives =
         subst (EachEpoch P no_events) (sym cut_there)
-        (each_epoch job slots P gives 1 no_events made report.epochs run.epochs)
+        (each_epoch setup slots P gives 1 no_events made report.epochs run.epochs)
 
     pub first_there : LinesAreAnswered made (entries_of report)
     first_there = record {
@@ -160,7 +160,7 @@ module _ (job : Job) (slots : ℕ) where
     opens_whole : opens_told (entries_of report) ≡ report.opens
     opens_whole =
         let open_ = opens_are_opens slots (behind_all no_events made report.epochs) in
-        opens_stand job slots 1 no_events made report.epochs report.opens run.epochs
+        opens_stand setup slots 1 no_events made report.epochs report.opens run.epochs
         (ap (λ xs. filter_map as_open xs) run.opens ∙ open_.1 ∙ sym run.opens)
 
     charges_there : ChargesAre made (entries_of report) report
@@ -168,23 +168,23 @@ module _ (job : Job) (slots : ℕ) where
         let open_ = opens_are_opens slots (behind_all no_events made report.epochs) in
         let none : filter_map as_row report.opens ≡ [] = ap (λ xs. filter_map as_row xs) run.opens ∙ open_.0 in record {
           effects = effects_are made (entries_of report) 0 report.epochs (λ epoch above.
-              effects_stand job slots made report.epochs report.opens have run.epochs epoch);
+              effects_stand setup slots made report.epochs report.opens have run.epochs epoch);
           rows = rows_are made (entries_of report) 0 report.epochs (λ epoch above.
-              rows_stand job slots made report.epochs report.opens none have run.epochs epoch);
+              rows_stand setup slots made report.epochs report.opens none have run.epochs epoch);
           opens = subst (λ xs. All (Contains xs) report.opens) (sym opens_whole) (All-contains_itself report.opens);
           as_many = ap length opens_whole;
         }
 
-    pub sentences_there : (k : ℕ) → Sentence job slots made (entries_of report) k
+    pub sentences_there : (k : ℕ) → Sentence setup slots made (entries_of report) k
     sentences_there zero = tt
     sentences_there (suc zero) = first_there
     sentences_there (suc (suc zero)) = each AreNumbered numbers_there
-    sentences_there (suc (suc (suc zero))) = each CountsAreLawful (counts_there job slots)
+    sentences_there (suc (suc (suc zero))) = each CountsAreLawful (counts_there setup slots)
     sentences_there (suc (suc (suc (suc zero)))) = each AreOfTheGateway gateway_there
     sentences_there (suc (suc (suc (suc (suc zero))))) =
         subst (ChargesAre made (entries_of report)) (sym made_there) charges_there
     sentences_there (suc (suc (suc (suc (suc (suc zero)))))) = record {
-      waits = each (WaitsAreLawful job) waits_there;
+      waits = each (WaitsAreLawful setup) waits_there;
       order = ap entries_of (sym made_there);
     }
     sentences_there (suc (suc (suc (suc (suc (suc (suc k))))))) = tt

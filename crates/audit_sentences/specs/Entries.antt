@@ -45,7 +45,8 @@ abbrev pub epoch_at : List (List Meaning) → ℕ → ℕ
 epoch_at [] n = 0
 epoch_at (made ∷ epochs) n = if nat_le n (length made) then 0 else epoch_at epochs (n - length made) + 1
 
--- An effect or a charging record belongs to the epoch of the last entry of a line before it, and to the first epoch where
+-- An effect or a charging record belongs to the epoch of the last entry of a line before it, and to
+-- the first epoch where
 -- none stands before it.
 abbrev pub epoch_behind : List (List Meaning) → ℕ → Entry → ℕ
 epoch_behind epochs now (entry.Line of_line) = epoch_at epochs (line_of of_line)

@@ -2,7 +2,7 @@
 use Rattle.std.specs.Prelude.{◌≡◌, ℕ, ◌<◌, ◌↔◌, List, length, All}
 use Rattle.demux.specs.Trace.{Meaning}
 use Rattle.report_lines.specs.declared.entry.Entry.{Entry}
-use Rattle.lawful_run.specs.Job.{Job}
+use Rattle.lawful_run.specs.Setup.{Setup}
 use Rattle.lawful_run.specs.Report.{Report, entries_of}
 use Rattle.lawful_run.specs.Run.{IsRun}
 use Rattle.lawful_run.specs.Trace.{epochs_told}
@@ -14,16 +14,16 @@ abbrev pub HaveLines : List (List Meaning) → Type 0
 HaveLines made = All (λ (lines : List Meaning). 0 < length lines) made
 
 -- the entries are those of a lawful run
-abbrev pub IsLawful : Job → ℕ → List (List Meaning) → List Entry → Type 0
-IsLawful job slots made entries = (report : Report) × IsRun job slots made report × (entries ≡ entries_of report)
+abbrev pub IsLawful : Setup → ℕ → List (List Meaning) → List Entry → Type 0
+IsLawful setup slots made entries = (report : Report) × IsRun setup slots made report × (entries ≡ entries_of report)
 
-abbrev pub AllSentences : Job → ℕ → List (List Meaning) → List Entry → Type 0
-AllSentences job slots made entries = (k : ℕ) → Sentence job slots made entries k
+abbrev pub AllSentences : Setup → ℕ → List (List Meaning) → List Entry → Type 0
+AllSentences setup slots made entries = (k : ℕ) → Sentence setup slots made entries k
 
 abbrev pub SentencesAreTheRun : Type 0
 SentencesAreTheRun =
-    (job : Job) (slots : ℕ) (made : List (List Meaning)) (entries : List Entry) → HaveLines made
-    → AllSentences job slots made entries ↔ IsLawful job slots made entries
+    (setup : Setup) (slots : ℕ) (made : List (List Meaning)) (entries : List Entry) → HaveLines made
+    → AllSentences setup slots made entries ↔ IsLawful setup slots made entries
 
 -- so it is in what the lines of an input mean
 abbrev pub TracesHaveLines : Type 0

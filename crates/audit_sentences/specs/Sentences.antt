@@ -8,7 +8,7 @@ use Rattle.report_lines.specs.Records.{Effected}
 use Rattle.report_lines.specs.declared.entry.Entry.{Entry}
 use Rattle.lawful_run.specs.Answers.{AnswersAll}
 use Rattle.lawful_run.specs.Bounds.{MeetsBounds, count_before}
-use Rattle.lawful_run.specs.Job.{Job}
+use Rattle.lawful_run.specs.Setup.{Setup}
 use Rattle.lawful_run.specs.LinesTold.{LineTold, EachLine}
 use Rattle.lawful_run.specs.Order.{Histories, events_in, behind}
 use Rattle.lawful_run.specs.Outcomes as made_of
@@ -17,8 +17,9 @@ use Rattle.lawful_run.specs.Refusals.{RefusedWhereFull}
 use Rattle.lawful_run.specs.Report.{EpochReport, Report, entries_of}
 use Rattle.lawful_run.specs.Run.{by_slot, no_events}
 use Rattle.lawful_run.specs.Telling.{reply_told, verdict_told}
-use Rattle.audit_lines.specs.OfSlot.{told_of, NumberOn, CountsRise}
-use Rattle.audit_sentences.specs.Entries.{line_entries, in_line_order, cut, all_lines, effects_told, rows_told, opens_told, slot_charged}
+use Rattle.audit_sentences.specs.OfSlot.{told_of, NumberOn, CountsRise}
+use Rattle.audit_sentences.specs.Entries.{line_entries, in_line_order, cut, all_lines, effects_told}
+use Rattle.audit_sentences.specs.Entries.{rows_told, opens_told, slot_charged}
 
 -- 1. In order of their lines' numbers the entries of lines answer the lines one by one, and there are no others.
 pub record LinesAreAnswered (made : List (List Meaning)) (entries : List Entry) : Type 0 where
@@ -74,7 +75,8 @@ made_report slots epochs = record {
   opens = by_slot slots (λ slot. made_of.opens slot (behind_epochs no_events epochs slot));
 }
 
--- 5. The effects of each slot in each epoch, and its charging records, are those that its events make. Each open counter
+-- 5. The effects of each slot in each epoch, and its charging records, are those that its events
+-- make. Each open counter
 -- behind all events has its entry, of as many.
 abbrev pub EffectsAre : List (List Meaning) → List Entry → ℕ → List EpochReport → Type 0
 EffectsAre made entries epoch [] = (later : ℕ) → effects_told made (epoch + later) entries ≡ []
@@ -96,30 +98,32 @@ pub record ChargesAre (made : List (List Meaning)) (entries : List Entry) (repor
 
 -- 6. Lines are refused and packets parked only where they may be, and on one thread each packet has just the commands
 -- before its line. The entries stand in their order.
-pub record WaitsAreLawful (job : Job) (before : Histories) (lines : List LineTold) : Type 0 where
-  pub refusals : EachLine (RefusedWhereFull job) lines
+pub record WaitsAreLawful (setup : Setup) (before : Histories) (lines : List LineTold) : Type 0 where
+  pub refusals : EachLine (RefusedWhereFull setup) lines
   pub parking : EachLine ParkedBehindMoves lines
-  pub counts : EachLine (MeetsBounds job before) lines
+  pub counts : EachLine (MeetsBounds setup before) lines
 
-pub record StandsInOrder (job : Job) (entries : List Entry) (slots : ℕ) (epochs : List (List LineTold)) : Type 0 where
-  pub waits : EachEpoch (WaitsAreLawful job) no_events epochs
+pub record StandsInOrder (setup : Setup) (entries : List Entry) (slots : ℕ) (epochs : List (List LineTold)) :
+    Type 0 where
+  pub waits : EachEpoch (WaitsAreLawful setup) no_events epochs
   pub order : entries ≡ entries_of (made_report slots epochs)
 
 -- the sentence of a number
-abbrev pub Sentence : Job → ℕ → List (List Meaning) → List Entry → ℕ → Type 0
-Sentence job slots made entries (suc zero) = LinesAreAnswered made entries
-Sentence job slots made entries (suc (suc zero)) = EachEpoch AreNumbered no_events (told_epochs made entries)
-Sentence job slots made entries (suc (suc (suc zero))) = EachEpoch CountsAreLawful no_events (told_epochs made entries)
-Sentence job slots made entries (suc (suc (suc (suc zero)))) =
+abbrev pub Sentence : Setup → ℕ → List (List Meaning) → List Entry → ℕ → Type 0
+Sentence setup slots made entries (suc zero) = LinesAreAnswered made entries
+Sentence setup slots made entries (suc (suc zero)) = EachEpoch AreNumbered no_events (told_epochs made entries)
+Sentence setup slots made entries (suc (suc (suc zero))) =
+    EachEpoch CountsAreLawful no_events (told_epochs made entries)
+Sentence setup slots made entries (suc (suc (suc (suc zero)))) =
     EachEpoch AreOfTheGateway no_events (told_epochs made entries)
-Sentence job slots made entries (suc (suc (suc (suc (suc zero))))) =
+Sentence setup slots made entries (suc (suc (suc (suc (suc zero))))) =
     ChargesAre made entries (made_report slots (told_epochs made entries))
-Sentence job slots made entries (suc (suc (suc (suc (suc (suc zero)))))) =
-    StandsInOrder job entries slots (told_epochs made entries)
-Sentence job slots made entries _ = Unit {0}
+Sentence setup slots made entries (suc (suc (suc (suc (suc (suc zero)))))) =
+    StandsInOrder setup entries slots (told_epochs made entries)
+Sentence setup slots made entries _ = Unit {0}
 
 -- the first sentence that is broken
-pub record IsFirstBroken (job : Job) (slots : ℕ) (made : List (List Meaning)) (entries : List Entry) (k : ℕ) :
+pub record IsFirstBroken (setup : Setup) (slots : ℕ) (made : List (List Meaning)) (entries : List Entry) (k : ℕ) :
     Type 0 where
-  pub before : (j : ℕ) → j < k → Sentence job slots made entries j
-  pub broken : ¬ Sentence job slots made entries k
+  pub before : (j : ℕ) → j < k → Sentence setup slots made entries j
+  pub broken : ¬ Sentence setup slots made entries k

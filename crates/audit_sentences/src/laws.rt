@@ -1,5 +1,7 @@
-//! The law of the sentences.
+//! Laws of the sentences.
 ghost use Rattle.audit_sentences.specs.Lawful.{SentencesAreTheRun, TracesHaveLines};
+ghost use Rattle.audit_sentences.specs.Together.{NumbersAreOfSlots, CountsAreOfSlots, AtOnceIsOfSlots};
+ghost use Rattle.audit_sentences.specs.Together.{ParkingIsOfSlots};
 
 /// All six sentences hold of entries exactly where these are those of a lawful run, in a trace each epoch of which has
 /// a line.
@@ -8,4 +10,12 @@ pub fn sentences_are_the_run()
 
     // So has each epoch of each input, whatever its octets say and wherever it stops.
     ensures lines { TracesHaveLines }
+{}
+
+/// What the lawful run says of the lines of an epoch is what these sentences say of each slot.
+pub fn sentences_of_slots()
+    ensures numbers { NumbersAreOfSlots }
+    ensures counts { CountsAreOfSlots }
+    ensures at_once { AtOnceIsOfSlots }
+    ensures parking { ParkingIsOfSlots }
 {}

@@ -41,9 +41,11 @@ impl Bearers {
     ghost use Rattle.bearer_state.specs.Ask.{AreAsks};
     ghost use Rattle.bearer_state.specs.Bearer.{AreBearers, IsBearer, IsEbi, index_of, is_active, is_asked};
     ghost use Rattle.bearer_state.specs.Qos.{IsQos};
-    ghost use Rattle.bearer_state.specs.Lookup.{at_index, least_free, has_index, has_active, has_dedicated, has_asked};
+    ghost use Rattle.bearer_state.specs.Lookup.{at_index, least_free, has_index, has_active, has_dedicated};
+    ghost use Rattle.bearer_state.specs.Lookup.{has_asked};
     ghost use Rattle.bearer_state.specs.Lookup.{is_dedicated, active_index, default_of};
-    ghost use Rattle.bearer_state.specs.Changes.{placed, with_first, without_first, unbound, rebound_bearer, filtered, granted_bearer};
+    ghost use Rattle.bearer_state.specs.Changes.{placed, with_first, without_first, unbound, rebound_bearer};
+    ghost use Rattle.bearer_state.specs.Changes.{filtered, granted_bearer};
 
     /// No bearers.
     pub fn new(alloc: Global) -> Bearers

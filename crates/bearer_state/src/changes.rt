@@ -5,8 +5,8 @@ ghost use Rattle.bearer_state.specs.Bearer.{IsEbi, IsSeq};
 ghost use Rattle.bearer_state.specs.Qos.{IsQos};
 ghost use Rattle.bearer_state.specs.Session.{HasRoom, IsAmbr, IsKept};
 ghost use Rattle.bearer_state.specs.Lookup.{has_active, least_free};
-ghost use Rattle.bearer_state.specs.Changes.{attached, detached, rerated, with_mme, rebound, released, with_asked, granted};
-ghost use Rattle.bearer_state.specs.Changes.{denied, refiltered, dropped, keeping};
+ghost use Rattle.bearer_state.specs.Changes.{attached, detached, rerated, with_mme, rebound, released};
+ghost use Rattle.bearer_state.specs.Changes.{with_asked, granted, denied, refiltered, dropped, keeping};
 
 use crate::{Ask, Bearer, Bearers, Kept, NoMemory, Phase, Qos, Session};
 use pc_base::{Kbps, Peer};

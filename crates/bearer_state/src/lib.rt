@@ -17,10 +17,7 @@ pub use ask::{Ask, Asks};
 pub use bearer::{Bearer, Phase};
 pub use bearers::Bearers;
 pub use kept::Kept;
-pub use qos::Qos;
+pub use qos::{Qos, is_guaranteed};
 pub use session::Session;
 pub use std::alloc::AllocError as NoMemory;
 pub use version::{ActiveBearer, Version};
-
-#[cfg(test)]
-mod tests;

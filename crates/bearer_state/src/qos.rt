@@ -1,4 +1,7 @@
 //! The quality of service of a bearer.
+ghost use Rattle.std.specs.Prelude.{◌≡◌};
+ghost use Rattle.bearer_state.specs.Qos.{is_guaranteed};
+
 use pc_base::Kbps;
 
 /// What a bearer is promised (TS 23.401, 4.7.3), rates in kbps.
@@ -15,6 +18,14 @@ pub struct Qos {
     /// The guaranteed rates.
     pub gbr_up: Kbps,
     pub gbr_down: Kbps,
+}
+
+/// Whether a QoS class has a guaranteed rate (TS 23.203, table 6.1.7).
+#[inline(always)]
+pub fn is_guaranteed(qci: u8) -> bool
+    ensures { result ≡ is_guaranteed qci }
+{
+    1 <= qci && qci <= 4
 }
 
 impl Qos {

@@ -6,3 +6,4 @@ pub mod Partition
 pub mod LedgerSums
 pub mod Bounds
 pub mod PostingLemmas
+pub mod PartLemmas

@@ -10,7 +10,8 @@ use Rattle.charging_book.specs.Rows.{Charged}
 use Rattle.charging_book.specs.Pieces.{Forwarded, Item, packet, mark, Finished, finishes, piece_after, finished, last_piece}
 use Rattle.charging_book.specs.Happenings.{Happening, started, forwarded, closed, Story, with_item, story_step, story_of, lives_step, lives_of, rows_by, rows_at, rows_of, MayHappen, AllMay}
 use Rattle.charging_book.specs.Ledger.{packet_by, packets_of, rows_for, TellPieces, LedgersArePartitions}
-use Rattle.charging_book.proofs.Places.{IsNone, none_of_all, without, without-other, without-same}
+use Rattle.charging_book.proofs.Places.{none_of_all, without, without-other, without-same}
+use Rattle.charging_book.specs.Accounts.{IsNone}
 use Rattle.charging_book.proofs.Steps.{last_piece-push, story-push, lives-push, rows-push, lives-distinct}
 use Rattle.charging_book.proofs.Standing.{own-forwarded, other-forwarded, own-closed, other-closed}
 use Rattle.charging_book.proofs.Pieces.{joined, packet_in, item_kept, own_rows, others_rows, rows_tell, tell-append, last_of, opens_tell}

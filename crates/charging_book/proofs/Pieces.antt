@@ -4,11 +4,11 @@ use Rattle.std.specs.List.{flat_map}
 use Rattle.std.proofs.lemmas.Bool.{ne_eqb}
 use Rattle.std.proofs.lemmas.Bool.Decides.{eqb_tells}
 use Rattle.std.proofs.lemmas.List.{append-nil}
+use Rattle.charging_book.specs.Accounts.{IsNone, AreDistinct}
 use Rattle.charging_book.specs.Rows.{Charged}
 use Rattle.charging_book.specs.Pieces.{Forwarded, Item, packet, mark, Finished, is_full, finishes, piece_after, last_piece, row_of}
 use Rattle.charging_book.specs.Happenings.{Happening, story_of, open_at}
 use Rattle.charging_book.specs.Ledger.{rows_for, opens_for, TellPieces, TellLast}
-use Rattle.charging_book.proofs.Places.{IsNone, AreDistinct}
 use Rattle.charging_book.proofs.Standing.{unfilled, filled}
 
 -- finished pieces one behind another

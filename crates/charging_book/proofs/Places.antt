@@ -2,16 +2,7 @@
 use Rattle.std.proofs.Common.{◌≡◌, ◌≢◌, ℕ, zero, suc, ◌<◌, ◌==◌, Bool, true, false, not, cond, List, [], ◌∷◌, ◌++◌, length, map, filter, All, get_or, set, sym, ◌∙◌, ap, refl, subst, arith, eq-eqb}
 use Rattle.std.specs.List.{remove}
 use Rattle.std.proofs.lemmas.Bool.{ne_eqb}
-
--- no element is x
-abbrev pub IsNone : ℕ → List ℕ → Type 0
-IsNone x [] = Unit {0}
-IsNone x (y ∷ ys) = (y ≢ x) × IsNone x ys
-
--- no element stands twice
-abbrev pub AreDistinct : List ℕ → Type 0
-AreDistinct [] = Unit {0}
-AreDistinct (x ∷ xs) = IsNone x xs × AreDistinct xs
+use Rattle.charging_book.specs.Accounts.{IsNone, AreDistinct}
 
 pub none_of_all : (x : ℕ) (xs : List ℕ) → All (λ y. y ≢ x) xs → IsNone x xs
 none_of_all x [] all = tt

@@ -5,7 +5,8 @@ use Rattle.std.proofs.lemmas.List.Sums.{fold-append}
 use Rattle.charging_book.specs.Pieces.{Forwarded, Item, finishes, piece_after, finished_from, finished, last_piece}
 use Rattle.charging_book.specs.declared.records.Why.TheVariants.{Volume, Qos, Gone}
 use Rattle.charging_book.specs.Happenings.{Happening, started, forwarded, closed, story_step, story_of, lives_step, lives_of, rows_at, rows_from, rows_of, MayHappen, AllMay, IsLawful}
-use Rattle.charging_book.proofs.Places.{AreDistinct, none_of_all, distinct-push, distinct-filter}
+use Rattle.charging_book.proofs.Places.{none_of_all, distinct-push, distinct-filter}
+use Rattle.charging_book.specs.Accounts.{AreDistinct}
 
 finished_from-append : (piece : List Forwarded) (xs ys : List Item)
     → finished_from piece (xs ++ ys) ≡ finished_from piece xs ++ finished_from (fold piece_after piece xs) ys

@@ -1,5 +1,5 @@
--- A book as contracts see it, and the happenings that it stands for.
-use Rattle.std.specs.Prelude.{◌≡◌, ℕ, ◌+◌, ◌<◌, ◌≤◌, List, length, map, drop, All}
+-- A book as contracts see it, and the happenings that it represents.
+use Rattle.std.specs.Prelude.{◌≡◌, ◌≢◌, ℕ, ◌+◌, ◌<◌, ◌≤◌, List, [], ◌∷◌, length, map, drop, All}
 use Rattle.charging_book.specs.Rows.{Counters, Moments, Charged}
 use Rattle.charging_book.specs.Counters.{HasRoom}
 use Rattle.charging_book.specs.Pieces.{volume}
@@ -30,6 +30,15 @@ pub record StandsFor (book : Accounts) (happened : List Happening) (taken : ℕ)
 -- each piece has fewer octets than fill one
 abbrev pub AreCounting : List Counters → Type 0
 AreCounting opens = All (λ counters. counters.up_octets + counters.down_octets < volume) opens
+
+-- x isn't among them · no two of them are one
+abbrev pub IsNone : ℕ → List ℕ → Type 0
+IsNone x [] = Unit {0}
+IsNone x (y ∷ ys) = (y ≢ x) × IsNone x ys
+
+abbrev pub AreDistinct : List ℕ → Type 0
+AreDistinct [] = Unit {0}
+AreDistinct (x ∷ xs) = IsNone x xs × AreDistinct xs
 
 -- no count of these counters is above a number
 pub record IsBounded (most : ℕ) (counters : Counters) : Type 0 where

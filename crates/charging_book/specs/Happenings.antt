@@ -1,9 +1,36 @@
 -- What happens to a book, and the rows and open counters that this makes.
-use Rattle.std.specs.Prelude.{◌≢◌, ℕ, ◌==◌, not, List, [], ◌∷◌, ◌++◌, length, map, filter, fold, All, Contains, if◌then◌else◌}
+use Rattle.std.specs.Prelude.{
+  ◌≢◌,
+  ℕ,
+  ◌==◌,
+  not,
+  List,
+  [],
+  ◌∷◌,
+  ◌++◌,
+  length,
+  map,
+  filter,
+  fold,
+  All,
+  Contains,
+  if◌then◌else◌,
+}
 use Rattle.charging_book.specs.declared.records.Why.{Why}
 use Rattle.charging_book.specs.declared.records.Why.TheVariants.{Volume, Qos, Gone}
 use Rattle.charging_book.specs.Rows.{Counters, Moments, Charged}
-use Rattle.charging_book.specs.Pieces.{Forwarded, Item, packet, mark, finishes, finished, last_piece, open_of, moments_of, row_of}
+use Rattle.charging_book.specs.Pieces.{
+  Forwarded,
+  Item,
+  packet,
+  mark,
+  finishes,
+  finished,
+  last_piece,
+  open_of,
+  moments_of,
+  row_of,
+}
 
 -- a life starts, a packet is forwarded for it, a piece of it is closed
 pub data Happening : Type 0 where

@@ -1,8 +1,33 @@
 -- The exact ledger: the pieces of a life, one behind another, are its forwarded packets.
-use Rattle.std.specs.Prelude.{◌≡◌, ℕ, ◌+◌, ◌==◌, Bool, Option, Some, None, List, [], ◌∷◌, ◌++◌, filter, sum_by, if◌then◌else◌}
+use Rattle.std.specs.Prelude.{
+  ◌≡◌,
+  ℕ,
+  ◌+◌,
+  ◌==◌,
+  Bool,
+  Option,
+  Some,
+  None,
+  List,
+  [],
+  ◌∷◌,
+  ◌++◌,
+  filter,
+  sum_by,
+  if◌then◌else◌,
+}
 use Rattle.std.specs.List.{filter_map, flat_map}
 use Rattle.charging_book.specs.Rows.{Counters, Charged}
-use Rattle.charging_book.specs.Pieces.{Forwarded, Finished, up_octets, down_octets, up_packets, down_packets, open_of, row_of}
+use Rattle.charging_book.specs.Pieces.{
+  Forwarded,
+  Finished,
+  up_octets,
+  down_octets,
+  up_packets,
+  down_packets,
+  open_of,
+  row_of,
+}
 use Rattle.charging_book.specs.Happenings.{Happening, started, forwarded, closed, opens_of, rows_of, IsLawful}
 
 -- the packets that were forwarded for a life, in their order
@@ -34,7 +59,8 @@ TellLast [] last = last ≡ []
 TellLast (counters ∷ []) last = counters ≡ open_of counters.life counters.ebi counters.qci counters.seq last
 TellLast (counters ∷ other ∷ others) last = ⊥
 
--- the pieces that a life's rows and open counters tell, one behind another, are just its forwarded packets in their order
+-- the pieces that a life's rows and open counters tell, one behind another, are just its forwarded packets
+-- in their order
 pub record IsPartition (life : ℕ) (happened : List Happening) : Type 0 where
   pub pieces : List Finished
   pub last : List Forwarded

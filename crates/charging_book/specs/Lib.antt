@@ -5,3 +5,4 @@ pub mod Happenings
 pub mod Accounts
 pub mod Postings
 pub mod Ledger
+pub mod Parts

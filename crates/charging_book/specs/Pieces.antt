@@ -1,6 +1,23 @@
 -- A life's story is its forwarded packets and marks. It is cut into pieces at marks, and right after
 -- the packet that fills a piece.
-use Rattle.std.specs.Prelude.{ℕ, ◌+◌, Bool, not, nat_le, List, [], ◌∷◌, ◌++◌, fold, sum_by, count_by, Option, None, Some, if◌then◌else◌}
+use Rattle.std.specs.Prelude.{
+  ℕ,
+  ◌+◌,
+  Bool,
+  not,
+  nat_le,
+  List,
+  [],
+  ◌∷◌,
+  ◌++◌,
+  fold,
+  sum_by,
+  count_by,
+  Option,
+  None,
+  Some,
+  if◌then◌else◌,
+}
 use Rattle.charging_book.specs.declared.records.Why.{Why}
 use Rattle.charging_book.specs.declared.records.Why.TheVariants.{Volume}
 use Rattle.charging_book.specs.Rows.{Counters, Moments, Charged}

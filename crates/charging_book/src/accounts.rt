@@ -3,10 +3,12 @@ ghost use Rattle.std.specs.Prelude.{◌≡◌, ◌≢◌, ◌<◌, All, Contains
 ghost use Rattle.charging_book.specs.Ledger.{LedgersArePartitions, EachOctetOnce, EachPacketOnce};
 ghost use Rattle.charging_book.specs.Accounts.{AreBounded};
 
+mod parts;
 mod posting;
 
 use super::NoMemory;
 use super::records::{ChargeRow, Open, Span, Why};
+pub use parts::parts_represent_the_same;
 use pc_base::Moment;
 pub use posting::Posting;
 use std::alloc::Global;
@@ -14,7 +16,7 @@ use std::marker::Model;
 
 /// The open counters of a subscriber's lives, and the rows of their finished pieces.
 /// A clause speaks of it by the list of what happened to it since it was new, and by how many of
-/// the rows of that were taken out: it stands for these.
+/// the rows of that were taken out: it represents these.
 #[derive(Drop)]
 pub struct Book {
     opens: Vec<Open>,
@@ -23,18 +25,39 @@ pub struct Book {
 }
 
 impl Model for Book {
-    ghost use Rattle.std.specs.Prelude.{◌≡◌, vec_len};
-    ghost use Rattle.charging_book.specs.Accounts.{Accounts, AreCounting};
+    ghost use Rattle.std.specs.Prelude.{◌≡◌, map, vec_len};
+    ghost use Rattle.charging_book.specs.Accounts.{Accounts, AreCounting, AreDistinct};
 
     ghost Value = { Accounts };
 
     ghost view = { λ book. record { opens = book.opens.items; moments = book.spans.items; rows = book.rows.items } };
 
-    ghost invariant = { λ book. (vec_len book.spans ≡ vec_len book.opens) × AreCounting book.opens.items };
+    ghost invariant = { λ book. (vec_len book.spans ≡ vec_len book.opens) × AreCounting book.opens.items
+        × AreDistinct (map (λ counters. counters.life) book.opens.items) };
 }
 
 impl Book {
-    ghost use Rattle.std.specs.Prelude.{◌≡◌, ◌≢◌, ◌-◌, ◌^◌, ◌<◌, ◌≤◌, ℕ, List, [], ◌∷◌, ◌++◌, length, map, All, Contains, OnOk, OnErr, IsTrue, ◌↔◌};
+    ghost use Rattle.std.specs.Prelude.{
+      ◌≡◌,
+      ◌≢◌,
+      ◌-◌,
+      ◌^◌,
+      ◌<◌,
+      ◌≤◌,
+      ℕ,
+      List,
+      [],
+      ◌∷◌,
+      ◌++◌,
+      length,
+      map,
+      All,
+      Contains,
+      OnOk,
+      OnErr,
+      IsTrue,
+      ◌↔◌,
+    };
     ghost use Rattle.charging_book.specs.Happenings.{Happening, started, forwarded, closed, rows_of};
     ghost use Rattle.charging_book.specs.Accounts.{StandsFor, LifeHasRoom, lives_in};
     ghost use Rattle.charging_book.specs.Counters.{HasRoom};

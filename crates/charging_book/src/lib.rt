@@ -6,9 +6,6 @@
 mod accounts;
 mod records;
 
-pub use accounts::{Book, Posting, counts_are_bounded, each_packet_once};
-pub use records::{ChargeRow, Open, VOLUME_OCTETS, Why};
+pub use accounts::{Book, Posting, counts_are_bounded, each_packet_once, parts_represent_the_same};
+pub use records::{ChargeRow, Open, Piece, VOLUME_OCTETS, Why};
 pub use std::alloc::AllocError as NoMemory;
-
-#[cfg(test)]
-mod tests;

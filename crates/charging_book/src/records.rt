@@ -51,6 +51,39 @@ pub struct Open {
     pub down_packets: u64,
 }
 
+/// The last piece of a life that isn't over, as it is kept and made again: what is counted in it, and
+/// the moments of its first and last packet, None in a piece without packets.
+#[derive(Clone, Copy, Debug, PartialEq, Eq)]
+pub struct Piece {
+    pub counts: Open,
+    pub first: Option<Moment>,
+    pub last: Option<Moment>,
+}
+
+impl Piece {
+    ghost use Rattle.std.specs.Prelude.{◌≡◌, ◌+◌, nat_lt};
+    ghost use Rattle.charging_book.specs.Pieces.{volume};
+    ghost use Rattle.charging_book.specs.Parts.{piece_of};
+
+    pub(super) fn new(counts: &Open, span: &Span) -> Piece
+        ensures { result ≡ piece_of counts.now span.now }
+    {
+        Piece {
+            counts: *counts,
+            first: span.first,
+            last: span.last,
+        }
+    }
+
+    // Whether it has fewer octets than fill a piece.
+    pub(super) fn is_counting(&self) -> bool
+        ensures { result ≡ nat_lt (self.now.counts.up_octets + self.now.counts.down_octets) volume }
+    {
+        let (up, down) = (self.counts.up_octets, self.counts.down_octets);
+        up < VOLUME_OCTETS && down < VOLUME_OCTETS && up + down < VOLUME_OCTETS
+    }
+}
+
 impl Model for Open {
     ghost use Rattle.std.specs.Prelude.{◌^◌, ◌≤◌};
     ghost use Rattle.charging_book.specs.Rows.{Counters};
@@ -173,6 +206,7 @@ impl Model for Span {
 impl Span {
     ghost use Rattle.std.specs.Prelude.{◌≡◌};
     ghost use Rattle.charging_book.specs.Counters.{no_moments, with_moment};
+    ghost use Rattle.charging_book.specs.Parts.{moments_in};
 
     pub(super) fn new() -> Span
         ensures { result ≡ no_moments }
@@ -180,6 +214,15 @@ impl Span {
         Span {
             first: None,
             last: None,
+        }
+    }
+
+    pub(super) fn of(piece: &Piece) -> Span
+        ensures { result ≡ moments_in piece.now }
+    {
+        Span {
+            first: piece.first,
+            last: piece.last,
         }
     }
 

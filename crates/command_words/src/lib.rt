@@ -4,8 +4,6 @@
 
 mod jobs;
 mod program;
-#[cfg(test)]
-mod tests;
 mod words;
 
 pub use crate::jobs::Job;

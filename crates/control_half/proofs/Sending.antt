@@ -6,9 +6,9 @@ use Rattle.std.proofs.lemmas.Grind.{flat_map-append}
 use Rattle.pc_base.specs.declared.numbered.Numbered.{Ghosts}
 use Rattle.bearer_state.specs.Session.{SessionState}
 use Rattle.bearer_state.specs.Version.{VersionState, version_of}
-use Rattle.update_batch.specs.declared.batch.Batch.{Batch}
-use Rattle.update_batch.specs.Batch.{versions_of, floor_of}
-use Rattle.update_batch.specs.Consecutive.{IsNext}
+use Rattle.control_half.specs.declared.batch.Batch.{Batch}
+use Rattle.control_half.specs.Batch.{versions_of, floor_of}
+use Rattle.control_half.specs.Consecutive.{IsNext}
 use Rattle.control_half.specs.Applied.{in_due, NextOf}
 use Rattle.control_half.specs.declared.items.CommandItem.{CommandItem}
 use Rattle.control_half.specs.Controlled.{versions_left}

@@ -8,13 +8,13 @@ use Rattle.lane_core.specs.Ends.{raised, sent, full_answers, empty_answers}
 use Rattle.pc_base.specs.declared.numbered.Numbered.{Ghosts}
 use Rattle.bearer_state.specs.Version.{VersionState}
 use Rattle.bearer_state.specs.contracts.version.VersionNumbered.TheImpl.{ghosts}
-use Rattle.update_batch.specs.declared.batch.Batch.{Batch}
-use Rattle.update_batch.specs.Batch.{versions_of, floor_of}
+use Rattle.control_half.specs.declared.batch.Batch.{Batch}
+use Rattle.control_half.specs.Batch.{versions_of, floor_of}
 use Rattle.control_half.specs.declared.items.CommandItem.{CommandItem}
-use Rattle.control_half.specs.declared.half.ControlHalf.{ControlHalf}
+use Rattle.control_half.specs.declared.inner.ControlInner.{ControlInner}
 use Rattle.control_half.specs.Half.{IsSameHalf, seen_of}
 use Rattle.control_half.specs.Turns.{Grew, IsAhead, HasOtherFloor, Stops, SendsAs, IsLatest, StoppedFor, Seen, CameTo}
-use Rattle.control_half.specs.Turns.{Stopped, came_to}
+use Rattle.control_half.specs.Turns.{Stopped, Ended, came_to, size}
 
 pub grew_more : {X : Type 0} (a b c : List X) → Grew a b → Grew b c → Grew a c
 grew_more a b c one more = (
@@ -26,7 +26,7 @@ grew_more a b c one more = (
 pub grew_none : {X : Type 0} (a b : List X) → b ≡ a → Grew a b
 grew_none a b same = ([], same ∙ sym (append-nil a))
 
-pub same_more : (a b c : ControlHalf) → IsSameHalf a b → IsSameHalf b c → IsSameHalf a c
+pub same_more : (a b c : ControlInner) → IsSameHalf a b → IsSameHalf b c → IsSameHalf a c
 same_more a b c one more = record {
   name = more.name ∙ one.name;
   hop = more.hop ∙ one.hop;
@@ -98,6 +98,21 @@ module _ {g : Ghosts VersionState} where
   grew_sent None kept left sent more fulls fuller sends = grew_none sent more sends.1
   grew_sent (Some true) kept left sent more fulls fuller sends = (sends.0 ∷ [], sends.3)
 
+  -- as many versions as a batch has
+  pub size_few : (kept : Option (Batch VersionState g)) → size kept ≤ 16
+  size_few None = omega arith
+  size_few (Some batch) = batch.few
+
+  -- a send adds one batch at most
+  one_more : (did : Option Bool) (kept left : Option (Batch VersionState g)) (sent more : List (Batch VersionState g))
+      (fulls fuller : ℕ) → SendsAs did kept left sent more fulls fuller → length more ≤ length sent + 1
+  one_more (Some false) kept left sent more fulls fuller sends =
+      omega (arith, ap (λ (l : List (Batch VersionState g)). length l) sends.2)
+  one_more None kept left sent more fulls fuller sends =
+      omega (arith, ap (λ (l : List (Batch VersionState g)). length l) sends.1)
+  one_more (Some true) kept left sent more fulls fuller sends =
+      omega (arith, ap (λ (l : List (Batch VersionState g)). length l) sends.3, length-append sent (sends.0 ∷ []))
+
   longer : (sent more : List (Batch VersionState g)) → Grew sent more → length sent ≤ length more
   longer sent more grew =
       omega (arith, ap (λ (l : List (Batch VersionState g)). length l) grew.1, length-append sent grew.0)
@@ -140,7 +155,7 @@ module _ {g : Ghosts VersionState} where
       sends stops
 
 -- a turn: the batch is sent, commands are applied, and the batch is sent
-module _ (old one two new : ControlHalf) (applied before : Bool) (behind : Option Bool) where
+module _ (old one two new : ControlInner) (applied before : Bool) (behind : Option Bool) where
   pub record Turns : Type 0 where
     pub sends : SendsAs (Some before) old.batch one.batch (sent old.versions) (sent one.versions)
         (full_answers old.versions) (full_answers one.versions)
@@ -148,6 +163,7 @@ module _ (old one two new : ControlHalf) (applied before : Bool) (behind : Optio
     pub commands_one : one.commands ≡ old.commands
     pub versions_two : two.versions ≡ one.versions
     pub some : applied ≡ true → one.control.number < two.control.number
+    pub few : two.control.number ≤ one.control.number + 16
     pub stops : Stops two.hop two.batch two.head (empty_answers one.commands) (empty_answers two.commands)
     pub sends_behind : SendsAs behind two.batch new.batch (sent two.versions) (sent new.versions)
         (full_answers two.versions) (full_answers new.versions)
@@ -172,7 +188,7 @@ module _ (old one two new : ControlHalf) (applied before : Bool) (behind : Optio
       (subst (λ c. Stops two.hop two.batch two.head (empty_answers c)
       (empty_answers two.commands)) t.commands_one t.stops)))
 
-  pub turn_came : Turns → CameTo (came_to applied before behind) (seen_of old) (seen_of new)
+  turn_came : Turns → CameTo (came_to applied before behind) (seen_of old) (seen_of new)
   turn_came t =
       came applied before behind (seen_of old) (seen_of new) two.batch one.batch (sent two.versions)
       (full_answers two.versions) (sends_to_two t)
@@ -180,7 +196,7 @@ module _ (old one two new : ControlHalf) (applied before : Bool) (behind : Optio
       (arith, more, ap (λ k. k.number) t.control_one, ap (λ k. k.number) t.control_new))
       (stops_new t) t.sends_behind
 
-  pub turn_stopped : (did : Did) → Turns → Stopped did (seen_of old) (seen_of new)
+  turn_stopped : (did : Did) → Turns → Stopped did (seen_of old) (seen_of new)
   turn_stopped did t = stopped did behind (seen_of old) (seen_of new) two.batch (sent two.versions)
       (full_answers two.versions) (stops_new t) t.sends_behind
 
@@ -191,3 +207,28 @@ module _ (old one two new : ControlHalf) (applied before : Bool) (behind : Optio
       (full_answers two.versions) (sends_to_two t))
       (grew_sent behind two.batch new.batch (sent two.versions) (sent new.versions) (full_answers two.versions)
       (full_answers new.versions) t.sends_behind)
+
+  pub turn_ended : Turns → Ended (came_to applied before behind) (seen_of old) (seen_of new)
+  turn_ended t = record {
+    came = turn_came t;
+    stopped = turn_stopped (came_to applied before behind) t;
+    commands = omega (arith, t.few, ap (λ k. k.number) t.control_one, ap (λ k. k.number) t.control_new);
+    batches = omega (
+      arith,
+      one_more (Some before) old.batch one.batch (sent old.versions) (sent two.versions) (full_answers old.versions)
+          (full_answers two.versions) (sends_to_two t),
+      one_more behind two.batch new.batch (sent two.versions) (sent new.versions) (full_answers two.versions)
+          (full_answers new.versions) t.sends_behind,
+    );
+  }
+
+-- the lane of versions refused the batch that was kept
+pub turn_held : (old new : ControlInner) → SendsAs None old.batch new.batch (sent old.versions) (sent new.versions)
+    (full_answers old.versions) (full_answers new.versions) → new.control ≡ old.control
+    → Ended Held (seen_of old) (seen_of new)
+turn_held old new sends control = record {
+  came = sends.2;
+  stopped = tt;
+  commands = omega (arith, ap (λ k. k.number) control);
+  batches = omega (arith, ap (λ l. length l) sends.1);
+}

@@ -1,5 +1,8 @@
 pub mod Applied
+pub mod Batch
+pub mod Consecutive
 pub mod Controlled
+pub mod First
 pub mod Half
 pub mod Named
 pub mod Published

@@ -3,8 +3,8 @@ use Rattle.std.specs.Prelude.{ℕ, Option, Some, None, List, [], ◌∷◌, map}
 use Rattle.std.specs.List.{flat_map}
 use Rattle.pc_base.specs.declared.numbered.Numbered.{Ghosts}
 use Rattle.bearer_state.specs.Version.{VersionState}
-use Rattle.update_batch.specs.declared.batch.Batch.{Batch}
-use Rattle.update_batch.specs.Batch.{versions_of, floor_of}
+use Rattle.control_half.specs.declared.batch.Batch.{Batch}
+use Rattle.control_half.specs.Batch.{versions_of, floor_of}
 
 pub record Published : Type 0 where
   pub floor : ℕ

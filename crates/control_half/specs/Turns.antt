@@ -7,8 +7,8 @@ use Rattle.lane_core.specs.declared.did.Did.TheVariants.{Idle, Held, Worked}
 use Rattle.lane_core.specs.Ends.{raised}
 use Rattle.pc_base.specs.declared.numbered.Numbered.{Ghosts}
 use Rattle.bearer_state.specs.Version.{VersionState}
-use Rattle.update_batch.specs.declared.batch.Batch.{Batch}
-use Rattle.update_batch.specs.Batch.{versions_of, floor_of}
+use Rattle.control_half.specs.declared.batch.Batch.{Batch}
+use Rattle.control_half.specs.Batch.{versions_of, floor_of}
 use Rattle.control_half.specs.declared.items.CommandItem.{CommandItem}
 
 -- a list got more at its end, or nothing
@@ -103,3 +103,10 @@ module _ {g : Ghosts VersionState} where
   Stopped Held old new = Unit {0}
   Stopped Idle old new = StoppedFor new.hop new.head new.batch new.sent old.empties new.empties
   Stopped Worked old new = StoppedFor new.hop new.head new.batch new.sent old.empties new.empties
+
+  -- Why a turn ended as it did, and how much it did at most: 16 commands, a batch that was kept and one more.
+  pub record Ended (did : Did) (old new : Seen g) : Type 0 where
+    pub came : CameTo did old new
+    pub stopped : Stopped did old new
+    pub commands : new.number ≤ old.number + 16
+    pub batches : length new.sent ≤ length old.sent + 2

@@ -3,20 +3,22 @@
 //! version is left to the other half.
 #![tactic(auto)]
 
+mod as_split;
+mod batch;
 mod controller;
 mod half;
+mod inner;
 mod items;
 mod making;
 mod name;
 mod travelling;
 mod turning;
 
+pub use as_split::AsSplit;
+pub use batch::Batch;
 pub use controller::Controller;
 pub use half::ControlHalf;
 pub use items::{CommandDone, CommandItem};
 pub use making::ControlEnd;
 pub use name::ControlName;
 pub use std::alloc::AllocError as NoMemory;
-
-#[cfg(test)]
-mod tests;

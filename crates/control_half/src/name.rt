@@ -1,10 +1,9 @@
 //! What tells a half from each other one.
-use crate::CommandItem;
+use crate::{Batch, CommandItem};
 use bearer_state::{Session, Version};
 use lane_core::{Receiver, Sender};
 use std::marker::Model;
 use std::snapshot::Snapshot;
-use update_batch::Batch;
 
 /// The name of a half: the session and the count of commands that its subscriber had when it was
 /// split, and its two lanes. No value of it is made.

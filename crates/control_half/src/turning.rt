@@ -3,29 +3,47 @@ ghost use Rattle.std.specs.Prelude.{◌≡◌, ◌≢◌, ◌+◌, ◌<◌, ◌�
 ghost use Rattle.std.specs.Prelude.{◌++◌, true, false, None, Some, length};
 ghost use Rattle.std.specs.Prelude.{IfOk, OnOk, OnErr, IsTrue, IsFalse};
 ghost use Rattle.lane_core.specs.Ends.{sent, taken, full_answers, empty_answers, raised};
-ghost use Rattle.update_batch.specs.Batch.{versions_of};
+ghost use Rattle.control_half.specs.Batch.{versions_of};
 ghost use Rattle.control_half.specs.Applied.{JoinsBatch, NextOf};
 ghost use Rattle.control_half.specs.Published.{in_batch, in_kept, under};
-ghost use Rattle.control_half.specs.Turns.{Grew, size, IsOfBatch, Fits, Stops, SendsAs, CameTo, Stopped, came_to};
+ghost use Rattle.control_half.specs.Turns.{Grew, size, IsOfBatch, Fits, Stops, SendsAs, Ended, came_to};
 
-use crate::NoMemory;
-use crate::half::ControlHalf;
+use crate::inner::ControlInner;
+use crate::{Batch, NoMemory};
 use bearer_state::Version;
 use lane_core::{Did, Full};
 use std::alloc::Global;
 use std::sync::Wait;
-use update_batch::Batch;
 
 /// How many versions a batch holds at most.
 const MOST: usize = 16;
 
-impl ControlHalf {
-    ghost use Rattle.control_half.specs.Half.{IsSameHalf, seen_of};
+impl ControlInner {
+    ghost use Rattle.worker_core.specs.Turns.{works_after};
+    ghost use Rattle.control_half.specs.Half.{IsSameHalf, inner_name, seen_of};
+
+    /// A turn, which is counted.
+    pub(crate) fn turn<R: Wait>(&mut self, rt: &R) -> Result<Did, NoMemory>
+        ensures name { inner_name self.new ≡ inner_name self.old }
+        ensures hop { self.new.hop ≡ self.old.hop }
+        ensures turns { self.new.turns ≡ raised self.old.turns }
+        ensures works { self.new.works ≡ works_after result self.old.works }
+        ensures taken { Grew (taken self.old.commands) (taken self.new.commands) }
+        ensures sent { Grew (sent self.old.versions) (sent self.new.versions) }
+        ensures noted { Grew self.old.control.notes.items self.new.control.notes.items }
+        ensures ended { IfOk result (λ did. Ended did (seen_of self.old) (seen_of self.new)) }
+    {
+        self.turns = self.turns.saturating_add(1);
+        let did = self.work(rt)?;
+        if did == Did::Worked {
+            self.works = self.works.saturating_add(1);
+        }
+        Ok(did)
+    }
 
     /// Sends the batch that is kept, if there is one. Then commands are applied, as long as they come
-    /// and fit: of this half's hop or an earlier one, and of the batch's floor, which has room for 16
-    /// versions. Then the batch is sent, or kept.
-    pub fn work<R: Wait>(&mut self, rt: &R) -> Result<Did, NoMemory>
+    /// and fit. Then the batch is sent, or kept.
+    fn work<R: Wait>(&mut self, rt: &R) -> Result<Did, NoMemory>
         ensures same { IsSameHalf self.old self.new }
 
         // Nothing is lost, whatever the answer.
@@ -34,8 +52,7 @@ impl ControlHalf {
         ensures noted { Grew self.old.control.notes.items self.new.control.notes.items }
 
         // Why each answer comes, and why no more was applied.
-        ensures came { IfOk result (λ did. CameTo did (seen_of self.old) (seen_of self.new)) }
-        ensures stopped { IfOk result (λ did. Stopped did (seen_of self.old) (seen_of self.new)) }
+        ensures ended { IfOk result (λ did. Ended did (seen_of self.old) (seen_of self.new)) }
     {
         let Some(before) = self.send(rt) else {
             return Ok(Did::Held);
@@ -76,6 +93,7 @@ impl ControlHalf {
         ensures due { OnOk result (self.new.due ≡ None) }
         ensures applied { IfOk result (λ applied. applied ≡ true → self.old.control.number < self.new.control.number) }
         ensures none { IfOk result (λ applied. applied ≡ false → self.new.control.number ≡ self.old.control.number) }
+        ensures few { OnOk result (self.new.control.number ≤ self.old.control.number + 16) }
         ensures stops { OnOk result (Stops self.new.hop self.new.batch self.new.head
             (empty_answers self.old.commands) (empty_answers self.new.commands)) }
     {

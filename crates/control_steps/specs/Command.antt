@@ -1,8 +1,10 @@
 -- What is asked of a session, and the ranges that a command keeps.
 use Rattle.std.specs.Prelude.{◌≡◌, ℕ, ◌≤◌, ◌⊎◌, Option, Some, None}
 use Rattle.control_steps.specs.declared.command.CommandKind.{CommandKind}
-use Rattle.control_steps.specs.declared.command.CommandKind.TheVariants.{Attach, Create, Modify, Release, Delete, AddBearer}
-use Rattle.control_steps.specs.declared.command.CommandKind.TheVariants.{Filters, Drop, Ambr, CreateAns, UpdateAns, DeleteAns}
+use Rattle.control_steps.specs.declared.command.CommandKind.TheVariants.{Attach, Create, Modify, Release}
+use Rattle.control_steps.specs.declared.command.CommandKind.TheVariants.{Delete, AddBearer}
+use Rattle.control_steps.specs.declared.command.CommandKind.TheVariants.{Filters, Drop, Ambr, CreateAns}
+use Rattle.control_steps.specs.declared.command.CommandKind.TheVariants.{UpdateAns, DeleteAns}
 use Rattle.gtpv2_msg.specs.declared.kind.TheConstants.{CREATE_SESSION_REQUEST, MODIFY_BEARER_REQUEST}
 use Rattle.gtpv2_msg.specs.declared.kind.TheConstants.{RELEASE_ACCESS_BEARERS_REQUEST, DELETE_SESSION_REQUEST}
 use Rattle.bearer_state.specs.declared.qos.Qos.{Qos}

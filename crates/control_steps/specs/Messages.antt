@@ -12,7 +12,8 @@ use Rattle.gtpv2_ie.specs.declared.qos.QosIe.{QosIe}
 use Rattle.gtpv2_ie.specs.declared.value.IeValue.{IeValue}
 use Rattle.gtpv2_ie.specs.declared.value.IeValue.TheVariants as values
 use Rattle.gtpv2_ie.specs.Element.{Element}
-use Rattle.gtpv2_msg.specs.declared.kind.TheConstants.{CREATE_SESSION_RESPONSE, MODIFY_BEARER_RESPONSE, CREATE_BEARER_REQUEST}
+use Rattle.gtpv2_msg.specs.declared.kind.TheConstants.{CREATE_SESSION_RESPONSE, MODIFY_BEARER_RESPONSE}
+use Rattle.gtpv2_msg.specs.declared.kind.TheConstants.{CREATE_BEARER_REQUEST}
 use Rattle.gtpv2_msg.specs.declared.kind.TheConstants.{UPDATE_BEARER_REQUEST, DELETE_BEARER_REQUEST}
 use Rattle.gtpv2_msg.specs.Kinds.{answer_of}
 use Rattle.gtpv2_msg.specs.Message.{Message}

@@ -17,8 +17,10 @@ use Rattle.bearer_state.specs.Lookup.{has_active, has_dedicated, has_asked, leas
 use Rattle.bearer_state.specs.Qos.{is_guaranteed}
 use Rattle.bearer_state.specs.Session.{SessionState}
 use Rattle.control_steps.specs.declared.command.CommandKind.{CommandKind}
-use Rattle.control_steps.specs.declared.command.CommandKind.TheVariants.{Attach, Create, Modify, Release, Delete, AddBearer}
-use Rattle.control_steps.specs.declared.command.CommandKind.TheVariants.{Filters, Drop, Ambr, CreateAns, UpdateAns, DeleteAns}
+use Rattle.control_steps.specs.declared.command.CommandKind.TheVariants.{Attach, Create, Modify, Release}
+use Rattle.control_steps.specs.declared.command.CommandKind.TheVariants.{Delete, AddBearer}
+use Rattle.control_steps.specs.declared.command.CommandKind.TheVariants.{Filters, Drop, Ambr, CreateAns}
+use Rattle.control_steps.specs.declared.command.CommandKind.TheVariants.{UpdateAns, DeleteAns}
 use Rattle.control_steps.specs.declared.cause.TheConstants.{REQUEST_ACCEPTED}
 use Rattle.control_steps.specs.Command.{request_of}
 
@@ -45,6 +47,18 @@ pub data Row : Type 0 where
   granted : Row
   denied : Row
   noted : Row  -- UpdateAns, DeleteAns
+
+-- Whether a row takes memory: a refused order doesn't, nor does an answer of the MME.
+abbrev pub takes_memory : Row → Bool
+takes_memory not_asked = false
+takes_memory not_refiltered = false
+takes_memory not_dropped = false
+takes_memory not_rerated = false
+takes_memory unasked = false
+takes_memory granted = false
+takes_memory denied = false
+takes_memory noted = false
+takes_memory row = true
 
 -- a kept answer is that to a request
 abbrev pub answers : Option Kept → Option (ℕ × ℕ) → Bool

@@ -20,15 +20,19 @@ use Rattle.bearer_state.specs.Changes as changes
 use Rattle.bearer_state.specs.Lookup.{least_free, default_of}
 use Rattle.bearer_state.specs.Session.{SessionState}
 use Rattle.control_steps.specs.declared.command.CommandKind.{CommandKind}
-use Rattle.control_steps.specs.declared.command.CommandKind.TheVariants.{Attach, Create, Modify, Release, Delete, AddBearer}
+use Rattle.control_steps.specs.declared.command.CommandKind.TheVariants.{Attach, Create, Modify, Release}
+use Rattle.control_steps.specs.declared.command.CommandKind.TheVariants.{Delete, AddBearer}
 use Rattle.control_steps.specs.declared.command.CommandKind.TheVariants.{Filters, Drop, Ambr, CreateAns}
 use Rattle.control_steps.specs.declared.cause.TheConstants.{REQUEST_ACCEPTED, CONTEXT_NOT_FOUND}
 use Rattle.control_steps.specs.declared.cause.TheConstants.{PREFERRED_PDN_TYPE_NOT_SUPPORTED, REQUEST_REJECTED}
 use Rattle.control_steps.specs.Command.{request_of}
-use Rattle.control_steps.specs.Messages.{cause_alone, create_session_response, modify_bearer_response, create_bearer_request}
+use Rattle.control_steps.specs.Messages.{cause_alone, create_session_response, modify_bearer_response}
+use Rattle.control_steps.specs.Messages.{create_bearer_request}
 use Rattle.control_steps.specs.Messages.{update_bearer_request, delete_bearer_request}
-use Rattle.control_steps.specs.Row.{Row, repeated, pdn_refused, class_refused, created, attached, no_session, no_bearer}
-use Rattle.control_steps.specs.Row.{modified, released, deleted, not_asked, asked, not_refiltered, refiltered, not_dropped}
+use Rattle.control_steps.specs.Row.{Row, repeated, pdn_refused, class_refused, created, attached, no_session}
+use Rattle.control_steps.specs.Row.{no_bearer}
+use Rattle.control_steps.specs.Row.{modified, released, deleted, not_asked, asked, not_refiltered, refiltered}
+use Rattle.control_steps.specs.Row.{not_dropped}
 use Rattle.control_steps.specs.Row.{dropped, not_rerated, rerated, unasked, granted, denied, noted, filters_given}
 use Rattle.control_steps.specs.Row.{filters_made, row_of}
 

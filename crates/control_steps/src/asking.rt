@@ -1,5 +1,5 @@
 //! The order for one bearer more (TS 23.401, 5.4.1).
-ghost use Rattle.std.specs.Prelude.{◌≡◌, ◌<◌, ◌≤◌, ◌^◌, Some, IsTrue, IfOk};
+ghost use Rattle.std.specs.Prelude.{◌≡◌, ◌<◌, ◌≤◌, ◌^◌, true, Some, is_some, IsTrue, IfOk, IfErr};
 ghost use Rattle.bearer_state.specs.Bearer.{IsEbi, IsSeq};
 ghost use Rattle.bearer_state.specs.Lookup.{default_of, least_free};
 ghost use Rattle.bearer_state.specs.Qos.{IsQos};
@@ -11,7 +11,7 @@ ghost use Rattle.control_steps.specs.Steps.{Does};
 
 use crate::NoMemory;
 use crate::answer::{octets_of, silent};
-use crate::messages::{NewBearer, create_bearer_request, tft_octets};
+use crate::messages::{BearerAsked, create_bearer_request, tft_octets};
 use bearer_state::{ActiveBearer, Qos, Session};
 use pc_base::{Kbps, Outcome, Peer, Reply};
 use std::alloc::Global;
@@ -30,7 +30,8 @@ pub struct Order {
 
 /// The filters that a template gives to a new bearer.
 fn filters_given(alloc: Global, tft: &Tft) -> Result<Option<Filters>, NoMemory>
-    ensures { IfOk result (λ filters. filters ≡ filters_given tft.now) }
+    ensures given { IfOk result (λ filters. filters ≡ filters_given tft.now) }
+    ensures memory { IfErr result (λ no_memory. is_some (filters_given tft.now) ≡ true) }
 {
     match tft {
         Tft::Create(_) => match apply(alloc, &Filters::new(alloc), tft) {
@@ -104,7 +105,7 @@ fn ask(
     ensures { Does rows.asked (order asked.now tft.now) session.old session.new result }
 {
     let qos = qos_of(&found.default, asked);
-    let bearer = NewBearer {
+    let bearer = BearerAsked {
         index: found.index,
         tft: tft_octets(alloc, tft)?,
         qos,

@@ -4,7 +4,8 @@ ghost use Rattle.pc_base.specs.Addresses.{addr_of};
 ghost use Rattle.gtpv2_ie.specs.Validity.{IsEbi, IsOctets, IsContext, IsFteid};
 ghost use Rattle.gtpv2_ie.specs.Validity as elements;
 ghost use Rattle.bearer_state.specs.Qos.{IsQos};
-ghost use Rattle.control_steps.specs.Messages.{cause_element, accepted, new_context, changed_context, control_end, user_end, qos_ie};
+ghost use Rattle.control_steps.specs.Messages.{cause_element, accepted, new_context, changed_context};
+ghost use Rattle.control_steps.specs.Messages.{control_end, user_end, qos_ie};
 
 use crate::{NoMemory, REQUEST_ACCEPTED};
 use bearer_state::Qos;

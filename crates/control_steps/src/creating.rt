@@ -1,6 +1,4 @@
 //! A subscriber attaches: by a Create Session Request, or by order.
-ghost use Rattle.std.specs.Prelude.{◌≡◌};
-ghost use Rattle.bearer_state.specs.Qos.{is_guaranteed};
 ghost use Rattle.bearer_state.specs.Session.{HasRoom, IsAmbr};
 ghost use Rattle.control_steps.specs.declared.command.CommandKind.TheVariants as commands;
 ghost use Rattle.control_steps.specs.Command.{IsCreate};
@@ -12,7 +10,7 @@ ghost use Rattle.control_steps.specs.Steps.{Does};
 use crate::answer::{answer_to, cause_answer, given, silent};
 use crate::messages::create_session_response;
 use crate::{NoMemory, PREFERRED_PDN_TYPE_NOT_SUPPORTED, REQUEST_REJECTED};
-use bearer_state::{Qos, Session};
+use bearer_state::{Qos, Session, is_guaranteed};
 use gtpv2_msg::CREATE_SESSION_REQUEST;
 use pc_base::{Kbps, Outcome, Peer, Reply};
 use std::alloc::Global;
@@ -38,13 +36,6 @@ pub struct Creation {
     pub enb: Option<Peer>,
     pub up: Kbps,
     pub down: Kbps,
-}
-
-/// Whether a QoS class has a guaranteed rate (TS 23.203, 6.1.7).
-fn is_guaranteed(qci: u8) -> bool
-    ensures { result ≡ is_guaranteed qci }
-{
-    1 <= qci && qci <= 4
 }
 
 /// IPv6 alone is refused.

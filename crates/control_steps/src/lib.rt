@@ -27,6 +27,3 @@ pub use laws::{counts_rise_by_one, written_messages_read_back};
 pub use pc_base::{Outcome, Reply};
 pub use std::alloc::AllocError as NoMemory;
 pub use steps::step;
-
-#[cfg(test)]
-mod tests;

@@ -9,9 +9,9 @@ ghost use Rattle.bearer_state.specs.Bearer as bearers;
 ghost use Rattle.bearer_state.specs.Qos.{IsQos};
 ghost use Rattle.bearer_state.specs.Session.{IsAmbr};
 ghost use Rattle.control_steps.specs.Kinds.{IsAnswered};
-ghost use Rattle.control_steps.specs.Messages.{pdn_cause, cause_element, ask_accepted, cause_alone, create_session_response};
-ghost use Rattle.control_steps.specs.Messages.{modify_bearer_response, create_bearer_request, update_bearer_request};
-ghost use Rattle.control_steps.specs.Messages.{delete_bearer_request};
+ghost use Rattle.control_steps.specs.Messages.{pdn_cause, cause_element, ask_accepted, cause_alone};
+ghost use Rattle.control_steps.specs.Messages.{create_session_response, modify_bearer_response};
+ghost use Rattle.control_steps.specs.Messages.{create_bearer_request, update_bearer_request, delete_bearer_request};
 
 use crate::contexts::{
     accepted, cause_element, changed_context, control_end, new_context, user_address,
@@ -29,7 +29,7 @@ use tft_codec::Tft;
 
 /// A bearer that the MME is asked for.
 #[derive(Debug, Drop)]
-pub struct NewBearer {
+pub struct BearerAsked {
     /// 0 to 10.
     pub index: u8,
     /// Its filters as a template.
@@ -157,7 +157,7 @@ pub fn create_bearer_request(
     teid: u32,
     seq: u32,
     linked: u8,
-    bearer: NewBearer,
+    bearer: BearerAsked,
 ) -> Result<Msg, NoMemory>
     requires seq { IsSeq seq }
     requires linked { bearers.IsEbi linked }

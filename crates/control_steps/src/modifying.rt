@@ -54,7 +54,8 @@ fn acceptance(
     requires seq { IsSeq seq }
     requires asks { AreAsks asks.now }
     ensures { IfOk result (λ answer. Answers answer MODIFY_BEARER_REQUEST seq
-        (modify_bearer_response session.now.slot (teid_of_mme (option_or mme.now session.now.mme)) seq session.now.bearers asks.now)) }
+        (modify_bearer_response session.now.slot (teid_of_mme (option_or mme.now session.now.mme)) seq
+        session.now.bearers asks.now)) }
 {
     let teid = teid_of_mme(mme.or(session.mme));
     let message = modify_bearer_response(alloc, session.slot, teid, seq, &session.bearers, asks)?;

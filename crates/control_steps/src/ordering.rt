@@ -1,6 +1,6 @@
 //! Orders that change a bearer or the rates (TS 23.401, 5.4.2 to 5.4.4). What the MME is to know is sent
 //! where one is kept.
-ghost use Rattle.std.specs.Prelude.{◌≡◌, IfOk, IfSome};
+ghost use Rattle.std.specs.Prelude.{◌≡◌, true, is_some, IfOk, IfErr, IfSome};
 ghost use Rattle.std.specs.Option.{option_map};
 ghost use Rattle.std.specs.Result.{result_ok};
 ghost use Rattle.pc_base.specs.declared.packet.Peer.{Peer};
@@ -25,7 +25,8 @@ use tft_codec::{Filters, Tft, TftNo, apply};
 
 /// What a template makes of filters; None where it doesn't apply.
 fn applied(alloc: Global, filters: &Filters, tft: &Tft) -> Result<Option<Filters>, NoMemory>
-    ensures { IfOk result (λ made. made ≡ result_ok (applied filters.now tft.now)) }
+    ensures made { IfOk result (λ made. made ≡ result_ok (applied filters.now tft.now)) }
+    ensures memory { IfErr result (λ no_memory. is_some (result_ok (applied filters.now tft.now)) ≡ true) }
 {
     match apply(alloc, filters, tft) {
         Ok(made) => Ok(Some(made)),
@@ -41,7 +42,8 @@ fn filters_made(
     ebi: u8,
     tft: &Tft,
 ) -> Result<Option<Filters>, NoMemory>
-    ensures { IfOk result (λ made. made ≡ filters_made bearers.now ebi tft.now) }
+    ensures made { IfOk result (λ made. made ≡ filters_made bearers.now ebi tft.now) }
+    ensures memory { IfErr result (λ no_memory. is_some (filters_made bearers.now ebi tft.now) ≡ true) }
 {
     match bearers.active(ebi) {
         Some(bearer) => applied(alloc, &bearer.choice.filters, tft),
@@ -64,8 +66,8 @@ fn update_order(
     requires tft { IfSome tft (IsOctets 1000) }
     requires up { IsAmbr up }
     requires down { IsAmbr down }
-    ensures { IfOk result (λ octets. octets
-        ≡ option_map spelling (option_map (λ (peer : Peer). update_bearer_request peer.teid seq ebi tft up down) mme)) }
+    ensures { IfOk result (λ octets. octets ≡ option_map spelling
+        (option_map (λ (peer : Peer). update_bearer_request peer.teid seq ebi tft up down) mme)) }
 {
     match mme {
         Some(mme) => {

@@ -1,8 +1,8 @@
 //! One command after another.
-ghost use Rattle.std.specs.Prelude.{◌≡◌, true, false, Some, OnOk, OnErr, IfOk, IfSome, IfNone};
+ghost use Rattle.std.specs.Prelude.{◌≡◌, true, false, Some, OnOk, OnErr, IfOk, IfErr, IfSome, IfNone};
 ghost use Rattle.bearer_state.specs.Session.{HasRoom};
 ghost use Rattle.control_steps.specs.Command.{IsCommand, request_of};
-ghost use Rattle.control_steps.specs.Row.{first_row, is_repeat};
+ghost use Rattle.control_steps.specs.Row.{first_row, is_repeat, row_of, takes_memory};
 ghost use Rattle.control_steps.specs.Steps.{Does};
 ghost use Rattle.control_steps.specs.Table.{controlled, kept_reply};
 
@@ -143,7 +143,9 @@ pub fn step(alloc: Global, session: &mut Session, command: &Command) -> Result<R
     ensures session { OnOk result (session.new ≡ (controlled session.old command.now).0) }
     ensures reply { IfOk result (λ reply. reply ≡ (controlled session.old command.now).1) }
 
+    // A refused order and an answer of the MME take no memory.
     ensures unchanged { OnErr result (session.new ≡ session.old) }
+    ensures memory { IfErr result (λ no_memory. takes_memory (row_of session.old command.now) ≡ true) }
 {
     if let Some(reply) = kept_answer(session, &command.kind) {
         return Ok(Reply {

@@ -1,12 +1,11 @@
 -- Before anything is learnt or handled.
-use Rattle.std.proofs.Common.{◌≡◌, ℕ, ◌≤◌, ◌^◌, arith, List, [], ◌++◌, map, refl, ap, sym, ◌∙◌, subst, append-nil}
+use Rattle.std.proofs.Common.{◌≡◌, ℕ, List, [], ◌++◌, map, refl, ap, sym, ◌∙◌, subst, append-nil}
 use Rattle.control_steps.specs.declared.command.CommandKind.{CommandKind}
 use Rattle.packet_steps.specs.Standing as counters
 use Rattle.gate_model.specs.declared.event.Event.{Event}
 use Rattle.gate_model.specs.declared.event.Event.TheVariants as event
 use Rattle.gate_model.specs.SlotPast.{past_of, version_after}
-use Rattle.split_record.specs.Standing as subscriber
-use Rattle.split_record.proofs.CountLemmas.{counts_are_few}
+use Rattle.subscriber.specs.Standing as subscriber
 use Rattle.bearer_state.specs.Version.{VersionState}
 use Rattle.counter_half.specs.declared.items.PacketDone.{PacketDone}
 use Rattle.counter_half.specs.declared.items.VersionDone.{VersionDone}
@@ -31,12 +30,6 @@ tells_none start = λ slot before taken commands lawful.
       verdicts_are = refl;
       effects_are = refl;
     })
-
--- its counts may rise
-pub starts_few : (start : subscriber.SubscriberState) → subscriber.HasRoom start
-    → (start.version.number ≤ 2 ^ 60) × (start.packets ≤ 2 ^ 60)
-starts_few start room =
-    let few = counts_are_few start room in (omega (arith, few), omega (arith, few))
 
 module _ (start : subscriber.SubscriberState) (learnt : List (VersionState × ℕ)) (handled : List Handled)
     (notes : List PacketDone) (dones : List VersionDone)

@@ -23,8 +23,8 @@ use Rattle.gate_model.specs.Versions.{controlled_by, SessionsAreOfCommands, Vers
 use Rattle.gate_model.proofs.Sound.{version-learnt}
 use Rattle.lawful_run.specs.Outcomes.{verdicts, effects, effect_entry}
 use Rattle.lawful_run.proofs.Growing.{effects-append}
-use Rattle.split_record.specs.Standing as subscriber
-use Rattle.split_record.proofs.CountLemmas.{past_counts}
+use Rattle.subscriber.specs.Standing as subscriber
+use Rattle.subscriber.proofs.CountLemmas.{past_counts}
 use Rattle.control_half.specs.Published.{Published}
 use Rattle.counter_half.specs.declared.items.PacketDone.{PacketDone}
 use Rattle.counter_half.specs.declared.items.VersionDone.{VersionDone}

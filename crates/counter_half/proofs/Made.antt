@@ -11,7 +11,7 @@ use Rattle.gate_model.specs.declared.event.Event.TheVariants as event
 use Rattle.gate_model.specs.Events.{as_command, commands_of}
 use Rattle.gate_model.specs.SlotPast.{verdict_after}
 use Rattle.lawful_run.specs.Outcomes.{verdicts}
-use Rattle.split_record.specs.Standing as subscriber
+use Rattle.subscriber.specs.Standing as subscriber
 use Rattle.counter_half.specs.Handled.{Handled, met_in, counts_in}
 use Rattle.counter_half.specs.Interleaved.{Met, interleaved}
 use Rattle.counter_half.specs.Told.{versions_behind, AreLate, last_moment}

@@ -17,8 +17,8 @@ use Rattle.gate_model.specs.Versions.{PacketsAreJudged}
 use Rattle.gate_model.proofs.Sound.{version-judged}
 use Rattle.lawful_run.specs.Outcomes.{verdicts, effects}
 use Rattle.lawful_run.proofs.Growing.{effects-append}
-use Rattle.split_record.specs.Standing as subscriber
-use Rattle.split_record.proofs.LastMoment.{judged_last}
+use Rattle.subscriber.specs.Standing as subscriber
+use Rattle.subscriber.proofs.LastMoment.{judged_last}
 use Rattle.control_half.specs.Published.{Published}
 use Rattle.counter_half.specs.declared.items.FlowItem.{FlowItem}
 use Rattle.counter_half.specs.declared.items.PacketDone.{PacketDone}

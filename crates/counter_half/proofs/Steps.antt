@@ -5,7 +5,7 @@ use Rattle.bearer_state.specs.Version.{VersionState}
 use Rattle.packet_steps.specs.Standing as counters
 use Rattle.gate_model.specs.Few.{FewEventsAreFew, FewCommandsFollow}
 use Rattle.gate_model.specs.Versions.{SessionsAreOfCommands, VersionsAreOfCommands, CommandsAreLearnt, PacketsAreJudged}
-use Rattle.split_record.specs.Standing as subscriber
+use Rattle.subscriber.specs.Standing as subscriber
 use Rattle.control_half.specs.Published.{Published, under}
 use Rattle.counter_half.specs.declared.items.FlowItem.{FlowItem}
 use Rattle.counter_half.specs.declared.items.PacketDone.{PacketDone}

@@ -4,7 +4,7 @@ use Rattle.lane_core.specs.Ends.{Lane}
 use Rattle.bearer_state.specs.Session.{SessionState}
 use Rattle.bearer_state.specs.Version.{VersionState}
 use Rattle.packet_steps.specs.Standing.{CountersState}
-use Rattle.split_record.specs.Standing.{SubscriberState}
+use Rattle.subscriber.specs.Standing.{SubscriberState}
 
 -- what a subscriber was when it was split; where it was bound for doesn't matter
 abbrev pub started : SessionState → VersionState → CountersState → ℕ → SubscriberState

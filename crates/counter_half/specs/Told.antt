@@ -10,7 +10,7 @@ use Rattle.gate_model.specs.declared.event.Event.{Event}
 use Rattle.gate_model.specs.SlotPast.{past_of, version_after}
 use Rattle.lawful_run.specs.Outcomes.{verdicts, effects, effect_entry}
 use Rattle.report_lines.specs.Records.{Effected}
-use Rattle.split_record.specs.Standing as subscriber
+use Rattle.subscriber.specs.Standing as subscriber
 use Rattle.control_half.specs.Published.{Published}
 use Rattle.counter_half.specs.declared.items.PacketDone.{PacketDone}
 use Rattle.counter_half.specs.declared.items.VersionDone.{VersionDone}

@@ -7,8 +7,8 @@ ghost use Rattle.counter_half.specs.Learnt.{learnt_in};
 use crate::start::Start;
 use crate::{FlowItem, PacketDone, VersionDone};
 use bearer_state::Version;
-use http_server::Log;
 use packet_steps::Counters;
+use worker_core::Log;
 
 /// What a counter half knows, and what it noted, since its subscriber was split. What it learnt and what
 /// it handled, in order, only proofs read.

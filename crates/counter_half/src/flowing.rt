@@ -16,7 +16,7 @@ impl Carried for FlowHalf {}
 impl FlowKind for FlowHalf {
     type Item = FlowItem;
 
-    ghost slot_of_half = { λ half. half.state.started.session.slot };
+    ghost slot_of_half = { λ half. half.inner.value.state.started.session.slot };
 
     ghost slot_of_item = { λ item. item.slot };
 
@@ -34,6 +34,7 @@ impl Flow for FlowHalf {
     ghost use Rattle.counter_half.specs.declared.items.PacketDone.{PacketDone};
     ghost use Rattle.counter_half.specs.Handled.{Handled, note_of, noted};
     ghost use Rattle.counter_half.specs.Half.{name_of, handled_by, places_of, may_take};
+    ghost use Rattle.counter_half.specs.Half.{asks_of, learns_of, batches_of, empties_of, Awaits};
 
     type Name = FlowName;
 
@@ -49,9 +50,15 @@ impl Flow for FlowHalf {
 
     ghost takes = { may_take };
 
-    ghost asks = { λ half. half.asks };
+    ghost asks = { asks_of };
 
-    ghost learns = { λ half. half.learns };
+    ghost learns = { learns_of };
+
+    ghost batches = { batches_of };
+
+    ghost empties = { empties_of };
+
+    ghost awaits = { Awaits };
 
     fn learn<R: Wait>(&mut self, rt: &R, most: u32) -> Result<bool, NoMemory> {
         self.learn_at_most(rt, most)
@@ -65,10 +72,10 @@ impl Flow for FlowHalf {
         self.handle(place, item)
     }
 
-    ghost each_placed = { λ half. length-map half.state.notes.items (λ (done : PacketDone). done.place)
-        ∙ sym (length-map half.state.notes.items noted) ∙ ap length half.state.handles.notes_are
-        ∙ length-map half.state.handled.items note_of
-        ∙ sym (length-map half.state.handled.items (λ (h : Handled). h.0)) };
+    ghost each_placed = { λ half. length-map half.inner.value.state.notes.items (λ (done : PacketDone). done.place)
+        ∙ sym (length-map half.inner.value.state.notes.items noted) ∙ ap length half.inner.value.state.handles.notes_are
+        ∙ length-map half.inner.value.state.handled.items note_of
+        ∙ sym (length-map half.inner.value.state.handled.items (λ (h : Handled). h.0)) };
 
     ghost half_slots = { λ half. refl };
 

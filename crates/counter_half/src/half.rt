@@ -1,28 +1,13 @@
 //! The half that a subscriber's packets meet.
-ghost use Rattle.std.specs.Prelude.{◌≡◌, ◌+◌, ◌*◌, ◌≤◌, ◌^◌, ◌++◌, length};
-ghost use Rattle.lane_core.specs.Ends.{taken};
-ghost use Rattle.control_half.specs.Published.{in_batches, in_kept};
-ghost use Rattle.counter_half.specs.Kept.{kept_count};
-ghost use Rattle.counter_half.specs.Learnt.{learnt_in};
+ghost use Rattle.std.specs.Prelude.{◌≡◌};
 
-use crate::flow_state::FlowState;
-use bearer_state::Version;
-use lane_core::Receiver;
+use crate::inner::FlowInner;
 use pc_base::Slot;
-use update_batch::Batch;
 
-/// A subscriber's counter half.
+/// A subscriber's counter half. What it holds lies behind one pointer, since halves are handed from slice to slice.
 #[derive(Drop)]
 pub struct FlowHalf {
     pub(crate) slot: Slot,
-    pub(crate) state: FlowState,
-    /// A batch that was taken and isn't learnt, or not whole.
-    pub(crate) batch: Option<Batch<Version>>,
-    pub(crate) versions: Receiver<Batch<Version>>,
-    pub(crate) asks: u64,
-    pub(crate) learns: u64,
-    ghost of_slot: { slot ≡ state.started.session.slot },
-    pub ghost in_order: { in_batches (taken versions) ≡ learnt_in state.learnt.items ++ in_kept batch },
-    ghost came: { kept_count batch ≤ length (taken versions) },
-    pub ghost few: { (state.started.version.number ≤ 2 ^ 60) × (state.started.packets ≤ 2 ^ 60) },
+    pub(crate) inner: Box<FlowInner>,
+    ghost of_slot: { slot ≡ inner.value.state.started.session.slot },
 }

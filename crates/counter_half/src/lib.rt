@@ -6,6 +6,7 @@
 mod flow_state;
 mod flowing;
 mod half;
+mod inner;
 mod items;
 mod laws;
 mod learning;
@@ -20,6 +21,3 @@ pub use items::{FlowItem, PacketDone, VersionDone};
 pub use making::FlowRest;
 pub use name::FlowName;
 pub use std::alloc::AllocError as NoMemory;
-
-#[cfg(test)]
-mod tests;

@@ -1,19 +1,19 @@
 //! How a half is made, and what is left of it.
-ghost use Rattle.std.specs.Prelude.{◌≡◌, ◌≤◌, ◌^◌, [], ◌++◌};
+ghost use Rattle.std.specs.Prelude.{◌≡◌, ◌≤◌, ◌^◌, [], ◌++◌, IfOk, IfErr};
 ghost use Rattle.lane_core.specs.Ends.{receiver_lane, taken};
-ghost use Rattle.split_record.specs.Standing.{HasRoom};
 ghost use Rattle.control_half.specs.Published.{in_batches, in_kept};
 ghost use Rattle.counter_half.specs.Learnt.{learnt_in};
 ghost use Rattle.counter_half.specs.Named.{started};
 
 use crate::flow_state::FlowState;
 use crate::half::FlowHalf;
+use crate::inner::FlowInner;
 use crate::start::Start;
 use bearer_state::{Session, Version};
-use http_server::Log;
+use control_half::Batch;
 use lane_core::Receiver;
 use packet_steps::Counters;
-use update_batch::Batch;
+use worker_core::Log;
 
 /// What is left of a half that is turned no more.
 #[derive(Drop)]
@@ -29,28 +29,92 @@ impl FlowHalf {
     ghost use Rattle.counter_half.specs.Half.{name_of, rest_name, handled_by};
 
     /// The half of a subscriber with a session, version, counters and count of packets, and with its
-    /// end of a new lane.
+    /// end of a new lane. Version and counters come back when out of memory.
     pub fn new(
         session: &Session,
         version: Version,
         counters: Counters,
         packets: u64,
         versions: Receiver<Batch<Version>>,
-    ) -> FlowHalf
-        requires room { HasRoom (started session.now version counters packets) }
+    ) -> Result<FlowHalf, (Version, Counters)>
+        requires few { (version.number ≤ 2 ^ 60) × (packets ≤ 2 ^ 60) }
         requires new { taken versions ≡ [] }
 
-        ensures name { name_of result ≡ record {
+        ensures name { IfOk result (λ half. name_of half ≡ record {
+          started = started session.now version counters packets;
+          versions = receiver_lane versions;
+        }) }
+        ensures handled { IfOk result (λ half. handled_by half ≡ []) }
+        ensures version { IfOk result (λ half. half.inner.value.state.version ≡ version) }
+        ensures counters { IfOk result (λ half. half.inner.value.state.counters ≡ counters) }
+        ensures back { IfErr result (λ back. (back.0 ≡ version) × (back.1 ≡ counters)) }
+    {
+        let slot = session.slot;
+        let alloc = session.bearers.allocator();
+        let inner = FlowInner::start(session, version, counters, packets, versions);
+        match Box::new(alloc, inner) {
+            Ok(inner) => Ok(FlowHalf { slot, inner }),
+            Err(failed) => Err(parts_of(failed.value)),
+        }
+    }
+
+    /// Takes the half apart.
+    pub fn into_rest(self) -> FlowRest
+        ensures name { rest_name result ≡ name_of self }
+        ensures state { result.state ≡ self.inner.value.state }
+    {
+        let FlowInner {
+            state,
+            batch,
+            versions,
+            ..
+        } = Box::into_inner(self.inner);
+        FlowRest {
+            state,
+            batch,
+            versions,
+        }
+    }
+}
+
+/// The version and the counters that are held.
+fn parts_of(inner: FlowInner) -> (Version, Counters)
+    ensures { (result.0 ≡ inner.state.version) × (result.1 ≡ inner.state.counters) }
+{
+    let FlowInner { state, .. } = inner;
+    let FlowState {
+        version,
+        counters,
+        ..
+    } = state;
+    (version, counters)
+}
+
+impl FlowInner {
+    ghost use Rattle.counter_half.specs.Half.{inner_name, inner_handled};
+
+    /// What a new half holds.
+    fn start(
+        session: &Session,
+        version: Version,
+        counters: Counters,
+        packets: u64,
+        versions: Receiver<Batch<Version>>,
+    ) -> FlowInner
+        requires few { (version.number ≤ 2 ^ 60) × (packets ≤ 2 ^ 60) }
+        requires new { taken versions ≡ [] }
+        ensures name { inner_name result ≡ record {
           started = started session.now version counters packets;
           versions = receiver_lane versions;
         } }
-        ensures handled { handled_by result ≡ [] }
+        ensures handled { inner_handled result ≡ [] }
+        ensures version { result.state.version ≡ version }
+        ensures counters { result.state.counters ≡ counters }
     {
         let alloc = session.bearers.allocator();
         let started = Start::of(session, &version, &counters, packets);
         let met = version.number;
-        FlowHalf {
-            slot: session.slot,
+        FlowInner {
             state: FlowState {
                 started,
                 version,
@@ -66,25 +130,6 @@ impl FlowHalf {
             versions,
             asks: 0,
             learns: 0,
-        }
-    }
-
-    /// Takes the half apart.
-    pub fn into_rest(self) -> FlowRest
-        ensures name { rest_name result ≡ name_of self }
-        ensures handled { result.state.handled.items ≡ self.state.handled.items }
-        ensures notes { result.state.notes.items ≡ self.state.notes.items }
-    {
-        let FlowHalf {
-            state,
-            batch,
-            versions,
-            ..
-        } = self;
-        FlowRest {
-            state,
-            batch,
-            versions,
         }
     }
 }

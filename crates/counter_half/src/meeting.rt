@@ -4,7 +4,7 @@ ghost use Rattle.std.specs.Prelude.{false, length, map, IfOk, IfSome, OnOk, OnEr
 ghost use Rattle.packet_steps.specs.Past.{Past};
 ghost use Rattle.packet_steps.specs.Verdicts.{judged};
 ghost use Rattle.packet_steps.specs.Standing.{StandsFor, AreFew, last_of};
-ghost use Rattle.update_batch.specs.Batch.{versions_of, floor_of};
+ghost use Rattle.control_half.specs.Batch.{versions_of, floor_of};
 ghost use Rattle.control_half.specs.Published.{in_batch};
 ghost use Rattle.counter_half.specs.declared.items.PacketDone.{PacketDone};
 
@@ -12,9 +12,9 @@ use crate::flow_state::FlowState;
 use crate::laws::known_pasts;
 use crate::{FlowItem, NoMemory, PacketDone, VersionDone};
 use bearer_state::Version;
+use control_half::Batch;
 use packet_steps::{Counters, advance, handle};
 use pc_base::{Packet, Place, Verdict};
-use update_batch::Batch;
 
 impl FlowState {
     ghost use Rattle.counter_half.specs.State.{learnt_by};

@@ -23,7 +23,4 @@ pub use destinations::home_slice;
 pub use laws::{line_by_line, read_requests_are_whole};
 pub use packet::LentPacket;
 pub use pc_base::NoMemory;
-pub use texts::move_note;
-
-#[cfg(test)]
-mod tests;
+pub use texts::{move_note, move_word};

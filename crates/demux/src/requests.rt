@@ -4,7 +4,8 @@ ghost use Rattle.gtpv2_ie.specs.Validity.{IsValue, IsContext, IsEbi, IsQos};
 ghost use Rattle.gtpv2_msg.specs.Lookup.{is_of, first_value};
 ghost use Rattle.bearer_state.specs.Bearer as bearers;
 ghost use Rattle.bearer_state.specs.Qos as classes;
-ghost use Rattle.demux.specs.Requests.{imsi_in, cause_in, rates_in, pdn_in, mme_in, context_in, assigned, peer_of, enb_in};
+ghost use Rattle.demux.specs.Requests.{imsi_in, cause_in, rates_in, pdn_in, mme_in};
+ghost use Rattle.demux.specs.Requests.{context_in, assigned, peer_of, enb_in};
 ghost use Rattle.demux.specs.Requests.{qos_of, creation, modification, bearer_answer, session_command};
 
 use crate::asks::asks_in;

@@ -147,7 +147,9 @@ pub fn template_note(bad: TBad) -> &'static str
     }
 }
 
-fn move_word(destination: SliceNo, slice: SliceNo) -> &'static str
+/// The word for an order that moves a slot to a slice: `move`, or `stay` where the slice is its destination
+/// already.
+pub fn move_word(destination: SliceNo, slice: SliceNo) -> &'static str
     ensures { result.now ≡ move_word destination slice }
 {
     if slice == destination { "stay" } else { "move" }

@@ -1,6 +1,7 @@
 //! What octets of an eNodeB (S1-U, TS 29.281) and of the internet (SGi, RFC 791) mean.
 ghost use Rattle.std.specs.Prelude.{◌≡◌, ℕ, Option, unwrap_or, IfOk};
-ghost use Rattle.demux.specs.Tunnel.{tunnel_echo_note, unknown_note, carried, tunnelled, tunnel_asked, delivered, packet_asked};
+ghost use Rattle.demux.specs.Tunnel.{tunnel_echo_note, unknown_note, carried, tunnelled};
+ghost use Rattle.demux.specs.Tunnel.{tunnel_asked, delivered, packet_asked};
 ghost use Rattle.demux.specs.Resolved.{granted, bearer_in, addressee_in, resolved};
 
 use crate::booking::in_book;

@@ -1,7 +1,8 @@
 //! Counts by a report's text.
 ghost use Rattle.std.specs.Prelude.{◌≡◌};
 ghost use Rattle.text_fields.specs.Fields.{pieces_left};
-ghost use Rattle.entry_counts.specs.Counts.{Counts, all_held, counts_of, down_octets, line_counts, nothing, packet_counts, plus, up_octets};
+ghost use Rattle.entry_counts.specs.Counts.{Counts, all_held, counts_of, down_octets, line_counts, nothing};
+ghost use Rattle.entry_counts.specs.Counts.{packet_counts, plus, up_octets};
 
 use std::marker::Model;
 use text_fields::{cut, next_piece};

@@ -7,6 +7,3 @@ mod summary;
 
 pub use counts::EntryCounts;
 pub use summary::push_summary;
-
-#[cfg(test)]
-mod tests;

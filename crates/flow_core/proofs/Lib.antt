@@ -1,4 +1,5 @@
 pub mod Causes
+pub mod Chains
 pub mod Changes
 pub mod Knowing
 pub mod Runs

@@ -1,4 +1,6 @@
 pub mod Counts
+pub mod Doing
+pub mod Handing
 pub mod Orders
 pub mod Picks
 pub mod Places

@@ -1,5 +1,5 @@
 -- What a clause says of a worker, of its end and of its desk.
-use Rattle.std.specs.Prelude.{◌≡◌, ℕ, List, [], Option}
+use Rattle.std.specs.Prelude.{◌≡◌, ℕ, Bool, List, [], Option}
 use Rattle.lane_core.specs.declared.ends.Sender.{Sender}
 use Rattle.lane_core.specs.declared.ends.Receiver.{Receiver}
 use Rattle.lane_core.specs.Ends.{Lane, sender_lane, receiver_lane, sent, taken, full_answers, empty_answers}
@@ -9,6 +9,12 @@ use Rattle.flow_core.specs.declared.pairing.FlowDesk.{FlowDesk}
 use Rattle.flow_core.specs.declared.flow.Flow.{Ghosts}
 use Rattle.flow_core.specs.declared.worker.FlowWorker.{FlowWorker}
 use Rattle.flow_core.specs.declared.worker.FlowEnd.{FlowEnd}
+use Rattle.lane_core.specs.declared.did.Did.{Did}
+use Rattle.flow_core.specs.declared.serving.Tried.{Tried}
+use Rattle.flow_core.specs.declared.serving.Took.{Took}
+use Rattle.flow_core.specs.declared.serving.Step.{Step}
+use Rattle.flow_core.specs.declared.serving.Served.{Served}
+use Rattle.flow_core.specs.Doing.{TakesAs, HandsKept, DoesOne, DoesOrders, LearnsNext, TurnsAs}
 use Rattle.flow_core.specs.Turns.{View}
 
 module _ {H I : Type 0} where
@@ -57,3 +63,22 @@ module _ {H N I : Type 0} {g : Ghosts H N I} where
     fulls = full_answers worker.home;
     empties = empty_answers worker.orders;
   }
+
+  -- what its steps and its turn come to, whole
+  abbrev pub Takes : Took → FlowWorker H N I g → FlowWorker H N I g → Type 0
+  Takes took old new = TakesAs g (place_of old) took (view_of old) (view_of new)
+
+  abbrev pub Hands : Tried → FlowWorker H N I g → FlowWorker H N I g → Type 0
+  Hands tried old new = HandsKept g (place_of old) tried (view_of old) (view_of new)
+
+  abbrev pub Does : Step → FlowWorker H N I g → FlowWorker H N I g → Type 0
+  Does step old new = DoesOne g (place_of old) step (view_of old) (view_of new)
+
+  abbrev pub DoesAll : Served → FlowWorker H N I g → FlowWorker H N I g → Type 0
+  DoesAll served old new = DoesOrders g (place_of old) served (view_of old) (view_of new)
+
+  abbrev pub AsksOne : Bool → FlowWorker H N I g → FlowWorker H N I g → Type 0
+  AsksOne learnt old new = LearnsNext g (place_of old) learnt (view_of old) (view_of new)
+
+  abbrev pub Turns : Did → FlowWorker H N I g → FlowWorker H N I g → Type 0
+  Turns answer old new = TurnsAs g (place_of old) answer (view_of old) (view_of new)

@@ -1,9 +1,10 @@
 //! What stands on a slice's lane, and what a worker asks of a half there.
-ghost use Rattle.std.specs.Prelude.{◌≡◌, ◌≤◌, [], ◌∷◌, ◌++◌, ℕ, Bool, true, false, List, length, Ok, OnOk, OnErr};
+ghost use Rattle.std.specs.Prelude.{◌≡◌, ◌≤◌, ◌<◌, ◌+◌, [], ◌∷◌, ◌++◌, ℕ, Bool, true, false};
+ghost use Rattle.std.specs.Prelude.{List, length, Ok, IfOk, OnOk, OnErr};
 ghost use Rattle.pc_base.specs.declared.packet.Place.{Place};
 ghost use Rattle.pc_base.specs.declared.packet.Place.TheVariants.{At};
 ghost use Rattle.lane_core.specs.Ends.{raised};
-ghost use Rattle.flow_core.specs.Counts.{learns_after};
+ghost use Rattle.flow_core.specs.Counts.{learns_after, LearnStops};
 
 use lane_core::{Carried, NoMemory};
 use pc_base::{SliceNo, Slot};
@@ -48,7 +49,16 @@ pub trait Flow: FlowKind {
 
     ghost learns: { Self → ℕ };
 
-    /// Learns at most so many batches of what its items wait for, and tells whether it learnt any.
+    /// How many batches it has learnt whole, and how often it found none.
+    ghost batches: { Self → ℕ };
+
+    ghost empties: { Self → ℕ };
+
+    /// The floor of the batch that it has to learn next isn't met.
+    ghost awaits: { Self → Type 0 };
+
+    /// Learns at most so many batches of what its items wait for, as long as they come and their floors
+    /// are met. Tells whether it learnt any.
     fn learn<R: Wait>(&mut self, rt: &R, most: u32) -> Result<bool, NoMemory>
         requires { 1 ≤ most }
         ensures name { name self.new ≡ name self.old }
@@ -56,6 +66,11 @@ pub trait Flow: FlowKind {
         ensures places { places self.new ≡ places self.old }
         ensures asks { asks self.new ≡ raised (asks self.old) }
         ensures learns { learns self.new ≡ learns_after result (learns self.old) }
+        ensures most { OnOk result (batches self.new ≤ batches self.old + most) }
+        ensures more { IfOk result (λ learnt. learnt ≡ true → batches self.old < batches self.new) }
+        ensures none { IfOk result (λ learnt. learnt ≡ false → batches self.new ≡ batches self.old) }
+        ensures stopped { OnOk result (LearnStops most (batches self.old) (batches self.new)
+            (empties self.old) (empties self.new) (awaits self.new)) }
         ensures takes { result ≡ Ok false → (item : Self.Item) → takes self.new item ≡ takes self.old item };
 
     /// Whether it may handle an item.
@@ -70,7 +85,8 @@ pub trait Flow: FlowKind {
         ensures place { OnOk result (places self.new ≡ places self.old ++ At place ∷ []) }
         ensures err { OnErr result (handled self.new ≡ handled self.old) }
         ensures no_place { OnErr result (places self.new ≡ places self.old) }
-        ensures counts { (asks self.new ≡ asks self.old) × (learns self.new ≡ learns self.old) };
+        ensures counts { (asks self.new ≡ asks self.old) × (learns self.new ≡ learns self.old) }
+        ensures batches { OnOk result (batches self.new ≡ batches self.old) };
 
     /// Each item was handled at one place. The name's slot is the half's, an item has one slot, and any half may go home
     /// after any others.

@@ -8,8 +8,6 @@ mod order;
 mod pairing;
 mod seen;
 mod serving;
-#[cfg(test)]
-mod tests;
 mod worker;
 
 pub use flow::{Flow, FlowKind};

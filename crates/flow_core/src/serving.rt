@@ -4,6 +4,8 @@ ghost use Rattle.std.specs.Prelude.{true, false, Ok, OnErr, IfOk, vec_len};
 ghost use Rattle.flow_core.specs.Places.{before_here};
 ghost use Rattle.flow_core.specs.Turns.{wrapped, cursor_without};
 ghost use Rattle.flow_core.specs.Steps.{ChangedAt, Asks, Handed};
+ghost use Rattle.flow_core.specs.Handing.{LearnsAs, HandsAs};
+ghost use Rattle.flow_core.specs.Doing.{did_of};
 
 use crate::Flow;
 use lane_core::{Did, NoMemory};
@@ -70,6 +72,7 @@ pub fn answer(sent: Sent, worked: bool, learnt: bool) -> Did
     ensures worked { result ≡ Did.Worked → (sent ≡ Sent.Home) ⊎ (worked ≡ true) ⊎ (learnt ≡ true) }
     ensures idle { result ≡ Did.Idle → (sent ≢ Sent.Home) × (worked ≡ false) × (learnt ≡ false) }
     ensures held_never { result ≡ Did.Held → ⊥ }
+    ensures is { result ≡ did_of sent worked learnt }
 {
     if let Sent::Home = sent {
         return Did::Worked;
@@ -94,7 +97,9 @@ pub fn hand_at<H: Flow, R: Wait>(
     ensures changed { IfOk result (λ tried. (before : H) × (after : H)
         × ChangedAt H.name at before after held.old.items held.new.items
         × Handed H.handled H.takes H.asks H.learns tried item.now before after
-        × (before_here place (H.places after) ≡ before_here place (H.places before))) }
+        × (before_here place (H.places after) ≡ before_here place (H.places before))
+        × HandsAs H.handled H.places H.takes H.asks H.learns H.batches H.empties H.awaits
+        place tried item.now before after) }
     ensures err { OnErr result ((before : H) × (after : H)
         × ChangedAt H.name at before after held.old.items held.new.items
         × (H.handled after ≡ H.handled before)
@@ -111,7 +116,9 @@ fn hand<H: Flow, R: Wait>(
     item: &H::Item,
 ) -> Result<Tried, NoMemory>
     ensures name { H.name half.new ≡ H.name half.old }
-    ensures handed { IfOk result (λ tried. Handed H.handled H.takes H.asks H.learns tried item.now half.old half.new) }
+    ensures handed { IfOk result (λ tried. Handed H.handled H.takes H.asks H.learns tried item.now half.old half.new
+        × HandsAs H.handled H.places H.takes H.asks H.learns H.batches H.empties H.awaits
+        place tried item.now half.old half.new) }
     ensures err { OnErr result (H.handled half.new ≡ H.handled half.old) }
     ensures here { before_here place (H.places half.new) ≡ before_here place (H.places half.old) }
 {
@@ -129,7 +136,9 @@ pub fn learn_at<H: Flow, R: Wait>(rt: &R, held: &mut Vec<H>, at: usize) -> Resul
     ensures len { vec_len held.new ≡ vec_len held.old }
     ensures changed { (before : H) × (after : H) × ChangedAt H.name at before after held.old.items held.new.items
         × Asks H.handled H.takes H.asks H.learns result before after
-        × (H.places after ≡ H.places before) }
+        × (H.places after ≡ H.places before)
+        × IfOk result (λ learnt. LearnsAs H.handled H.places H.takes H.asks H.learns H.batches H.empties H.awaits
+        16 learnt before after) }
 {
     held[at].learn(rt, BATCHES)
 }

@@ -68,9 +68,13 @@ pub struct FlowEnd<H: Flow> {
 }
 
 impl<H: Flow> FlowWorker<H> {
-    ghost use Rattle.flow_core.specs.Workers.{worker_lanes, orders_of, home_of, held_of, waiting_of, kept_of, place_of, end_lanes, view_of};
+    ghost use Rattle.flow_core.specs.Workers.{worker_lanes, orders_of, home_of, held_of, waiting_of};
+    ghost use Rattle.flow_core.specs.Workers.{kept_of, place_of, end_lanes, view_of};
     ghost use Rattle.flow_core.specs.Turns.{TookMarker, HasWorked, Rested, HasIdled};
-    ghost use Rattle.flow_core.specs.Steps.{Along, Ordered, step_of, WasSent, TookOrder, TriedKept, LearntNext, HasServed, NotServed};
+    ghost use Rattle.flow_core.specs.Workers.{Takes, Hands, Does, DoesAll, AsksOne, Turns};
+    ghost use Rattle.flow_core.specs.Doing.{SendsAs};
+    ghost use Rattle.flow_core.specs.Steps.{Along, Ordered, step_of, WasSent, TookOrder};
+    ghost use Rattle.flow_core.specs.Steps.{TriedKept, LearntNext, HasServed, NotServed};
 
     pub(crate) fn new(
         alloc: Global,
@@ -97,7 +101,8 @@ impl<H: Flow> FlowWorker<H> {
     }
 
     /// Sends home a half that waits, does at most 8 orders, and lets the half at the cursor learn. It
-    /// ends early where the lane home is full, or after an order to leave. `Held` never comes.
+    /// ends early where the lane home is full, or after an order to leave; it goes on after a half went
+    /// home. `Held` never comes.
     pub fn turn<R: Wait>(&mut self, rt: &R) -> Result<Did, NoMemory>
         ensures lanes { worker_lanes self.new ≡ worker_lanes self.old }
         ensures place { place_of self.new ≡ place_of self.old }
@@ -112,6 +117,11 @@ impl<H: Flow> FlowWorker<H> {
         ensures idle_why { result ≡ Ok Did.Idle → HasIdled H.asks (λ half. H.slot_at (H.name half)) H.item_slot H.takes
             (view_of self.old) (view_of self.new) }
         ensures held_never { result ≡ Ok Did.Held → ⊥ }
+
+        // All of it: the half that waited went home, or was refused and nothing followed. Then eight orders
+        // were done, or fewer, each as it came: a half that arrives stands last, one that is to leave waits,
+        // an item meets its half once that has learnt. The half at the cursor learns last.
+        ensures whole { IfOk result (λ did. Turns did self.old self.new) }
     {
         let sent = self.send_waiting(rt);
         if let Sent::Refused = sent {
@@ -129,6 +139,7 @@ impl<H: Flow> FlowWorker<H> {
         ensures lanes { worker_lanes self.new ≡ worker_lanes self.old }
         ensures place { place_of self.new ≡ place_of self.old }
         ensures sent { WasSent result (view_of self.old) (view_of self.new) }
+        ensures whole { SendsAs result (view_of self.old) (view_of self.new) }
         ensures none { result ≢ Sent.Refused → waiting_of self.new ≡ None }
     {
         let Some(half) = self.waiting.take() else {
@@ -158,6 +169,7 @@ impl<H: Flow> FlowWorker<H> {
         ensures idle { result ≡ Ok (Served.Stopped false)
             → NotServed H.name (λ half. H.slot_at (H.name half)) H.item_slot H.handled H.takes H.asks H.learns
             (view_of self.old) (view_of self.new) }
+        ensures whole { IfOk result (λ served. DoesAll served self.old self.new) }
     {
         let mut worked = false;
         for _ in 0..ORDERS {
@@ -182,6 +194,7 @@ impl<H: Flow> FlowWorker<H> {
         ensures done { IfOk result
             (λ step. Ordered H.name (λ half. H.slot_at (H.name half)) H.item_slot H.handled H.takes H.asks H.learns step
             (view_of self.old) (view_of self.new)) }
+        ensures whole { IfOk result (λ step. Does step self.old self.new) }
     {
         if self.kept.is_some() {
             return self.do_kept(rt);
@@ -201,7 +214,7 @@ impl<H: Flow> FlowWorker<H> {
         ensures place { place_of self.new ≡ place_of self.old }
         ensures done { IfOk result (λ step. (tried : Tried) × (step ≡ step_of tried)
             × TriedKept H.name (λ half. H.slot_at (H.name half)) H.item_slot H.handled H.takes H.asks H.learns tried
-            (view_of self.old) (view_of self.new)) }
+            (view_of self.old) (view_of self.new) × Hands tried self.old self.new) }
     {
         match self.try_kept(rt)? {
             Tried::Handled => Ok(Step::Done),
@@ -216,6 +229,7 @@ impl<H: Flow> FlowWorker<H> {
         ensures lanes { worker_lanes self.new ≡ worker_lanes self.old }
         ensures place { place_of self.new ≡ place_of self.old }
         ensures took { IfOk result (λ took. TookOrder took (view_of self.old) (view_of self.new)) }
+        ensures whole { IfOk result (λ took. Takes took self.old self.new) }
     {
         self.held.reserve(1)?;
         let Some(order) = self.orders.take(rt) else {
@@ -253,6 +267,7 @@ impl<H: Flow> FlowWorker<H> {
             (λ tried. TriedKept H.name
             (λ half. H.slot_at (H.name half)) H.item_slot H.handled H.takes H.asks H.learns tried
             (view_of self.old) (view_of self.new)) }
+        ensures whole { IfOk result (λ tried. Hands tried self.old self.new) }
     {
         let Some(item) = self.kept.take() else {
             unreachable!()
@@ -281,6 +296,7 @@ impl<H: Flow> FlowWorker<H> {
             (λ learnt. LearntNext H.name
             (λ half. H.slot_at (H.name half)) H.item_slot H.handled H.takes H.asks H.learns learnt
             (view_of self.old) (view_of self.new)) }
+        ensures whole { IfOk result (λ learnt. AsksOne learnt self.old self.new) }
     {
         if self.held.is_empty() {
             return Ok(false);
@@ -289,6 +305,13 @@ impl<H: Flow> FlowWorker<H> {
         let learnt = learn_at(rt, &mut self.held, at)?;
         self.cursor = wrap(at + 1, self.held.len());
         Ok(learnt)
+    }
+
+    /// The slice that it serves.
+    pub fn place(&self) -> SliceNo
+        ensures { result ≡ place_of self.now }
+    {
+        self.place
     }
 
     /// Gives what the worker has.

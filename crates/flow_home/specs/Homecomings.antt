@@ -18,7 +18,8 @@ use Rattle.flow_migration.specs.declared.place.HalfAside.{HalfAside}
 use Rattle.flow_migration.specs.Desks.{sent_at, home_at, sent_weight, home_weight}
 use Rattle.flow_migration.specs.Places.{place_at, queue_at, accepted_by, accepted_at, front_at, names_of}
 use Rattle.flow_migration.specs.Sides.{weight_at, PlaceIs, asides_of}
-use Rattle.flow_migration.specs.Stays.{Stay, Where, AtFront, Here, Away, reaches, backs, stay_items, Chain, came_of, since_of}
+use Rattle.flow_migration.specs.Stays.{Stay, Where, AtFront, Here, Away, reaches}
+use Rattle.flow_migration.specs.Stays.{backs, stay_items, Chain, came_of, since_of}
 use Rattle.flow_migration.specs.Stays.{now_at, away_at}
 use Rattle.flow_home.specs.declared.hand.Hand.{Hand}
 use Rattle.flow_home.specs.declared.home_lane.HomeLane.{HomeLane}

@@ -9,8 +9,6 @@ mod home_lane;
 mod homecoming;
 mod parts;
 mod steps;
-#[cfg(test)]
-mod tests;
 
 pub use home::Home;
 pub use homecoming::gather_flow;

@@ -7,8 +7,6 @@
 mod place;
 mod side;
 mod steps;
-#[cfg(test)]
-mod tests;
 
 pub use place::{FlowNo, FlowPlace, FlowState, HalfAside};
 pub use side::{FlowEnded, FlowSide};

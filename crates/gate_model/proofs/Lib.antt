@@ -13,3 +13,4 @@ pub mod Charges
 pub mod RoomLemmas
 pub mod FewBearers
 pub mod FewCharges
+pub mod SlotLemmas

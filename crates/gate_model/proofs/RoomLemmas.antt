@@ -4,7 +4,7 @@ use Rattle.control_steps.specs.declared.command.CommandKind.{CommandKind}
 use Rattle.gate_model.specs.declared.event.Event.{Event}
 use Rattle.gate_model.specs.declared.event.Event.TheVariants as event
 use Rattle.gate_model.specs.SlotPast.{SlotPast, new_slot, commanded, met, happens, behind, past_of}
-use Rattle.gate_model.specs.Room.{HasRoom, FewEventsLeaveRoom}
+use Rattle.gate_model.specs.Room.{FewEventsLeaveRoom, EventsBoundCounts}
 use Rattle.gate_model.proofs.SessionSteps.{GoesTo, session_goes}
 use Rattle.gate_model.proofs.Sound.{IsSound, new_sound, behind_sound}
 
@@ -42,16 +42,25 @@ all_within most all past [] is within = record {
 all_within most all past (now ∷ later) is within =
     all_within (most + 1) all (behind past now) later (omega arith) (within_behind most past now within)
 
-pub room_left : FewEventsLeaveRoom
-room_left slot events few =
+within_events : (slot : ℕ) (events : List Event) → IsWithin (length events) (past_of slot events)
+within_events slot events =
     let start : IsWithin 0 (new_slot slot) = record {
       sound = new_sound slot;
       rates = omega arith;
       lives = omega arith;
       commands = omega arith;
     } in
-    let is = all_within 0 (length events) (new_slot slot) events (omega arith) start in
+    all_within 0 (length events) (new_slot slot) events (omega arith) start
+
+pub counts_within : EventsBoundCounts
+counts_within slot events =
+    let is = within_events slot events in
+    record { rates = is.rates; lives = is.lives; commands = is.commands }
+
+pub room_left : FewEventsLeaveRoom
+room_left slot events few =
+    let is = within_events slot events in
     record {
-      session = record { rates = omega (arith, is.rates); lives = omega (arith, is.lives) };
-      commands = omega (arith, is.commands);
+      session = record { rates = omega (arith, is.rates, few); lives = omega (arith, is.lives, few) };
+      commands = omega (arith, is.commands, few);
     }

@@ -12,3 +12,13 @@ pub record HasRoom (past : SlotPast) : Type 0 where
 -- fewer events than that leave room
 abbrev pub FewEventsLeaveRoom : Type 0
 FewEventsLeaveRoom = (slot : ℕ) (events : List Event) → length events ≤ 2 ^ 61 - 20 → HasRoom (past_of slot events)
+
+-- the counts of a past are at most a number
+pub record CountsAreWithin (most : ℕ) (past : SlotPast) : Type 0 where
+  pub rates : past.session.rates ≤ most
+  pub lives : past.session.lives ≤ most
+  pub commands : past.commands ≤ most
+
+-- each event raises each count by one at most
+abbrev pub EventsBoundCounts : Type 0
+EventsBoundCounts = (slot : ℕ) (events : List Event) → CountsAreWithin (length events) (past_of slot events)

@@ -22,6 +22,10 @@ abbrev pub SessionsAreOfCommands : Type 0
 SessionsAreOfCommands = (slot : ℕ) (events : List Event)
     → session_after slot events ≡ controlled_by (new_session slot) (commands_of events)
 
+-- no event changes a session's slot
+abbrev pub SessionsKeepTheirSlot : Type 0
+SessionsKeepTheirSlot = (slot : ℕ) (events : List Event) → (session_after slot events).slot ≡ slot
+
 -- packets go by the session's version, under the number of commands so far
 abbrev pub VersionsAreOfCommands : Type 0
 VersionsAreOfCommands = (slot : ℕ) (events : List Event)

@@ -40,7 +40,8 @@ impl Gateway {
     ghost use Rattle.std.specs.Prelude.{◌≡◌, ℕ, List, [], ◌∷◌, ◌++◌, map, OnOk, OnErr, IfOk, IsTrue, ◌↔◌};
     ghost use Rattle.charging_book.specs.Postings.{happening_of};
     ghost use Rattle.gate_model.specs.declared.event.Event.{Event};
-    ghost use Rattle.gate_model.specs.SlotPast.{past_of, happens, happened_after, commanded, met, command_happens, packet_happens};
+    ghost use Rattle.gate_model.specs.SlotPast.{past_of, happens, happened_after, commanded, met};
+    ghost use Rattle.gate_model.specs.SlotPast.{command_happens, packet_happens};
     ghost use Rattle.gate_model.specs.Room.{HasRoom};
 
     /// The gateway of a slot before its first event.
@@ -62,7 +63,7 @@ impl Gateway {
         self.session.has_room() && self.commands <= MOST_COUNT
     }
 
-    /// What becomes of an event. Where memory is wanting, the gateway is as before.
+    /// What becomes of an event. Where memory runs out, the gateway is as before.
     #[tactic(auto, unfolding(crate::specs::SlotPast::happens))]
     pub fn event(&mut self, event: &Event) -> Result<Happened, NoMemory>
         requires { HasRoom self.old }

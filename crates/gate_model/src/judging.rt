@@ -1,24 +1,19 @@
 //! What becomes of a packet, by the plain lists.
-ghost use Rattle.std.specs.Prelude.{◌≡◌, ℕ, ◌<◌, ◌^◌, false, length, IfOk, IfSome, IsNone};
+ghost use Rattle.std.specs.Prelude.{◌≡◌, ℕ, ◌<◌, ◌^◌, length, IfOk, IfSome};
 ghost use Rattle.std.specs.Option.{option_copied};
-ghost use Rattle.ipv4_packet.specs.Packet.{IsPacket};
 ghost use Rattle.bearer_state.specs.Bearer.{IsEbi};
 ghost use Rattle.bearer_state.specs.Version.{bearer_at};
-ghost use Rattle.packet_steps.specs.Verdicts.{bearer_for, is_packet, notice, judged, judged_now, judged_up, judged_down};
-ghost use Rattle.packet_steps.specs.Verdicts.{judged_to, judged_waiting};
+ghost use Rattle.packet_steps.specs.Verdicts.{bearer_for, notice, judged, judged_now, judged_up};
+ghost use Rattle.packet_steps.specs.Verdicts.{judged_down, judged_to, judged_waiting};
 ghost use Rattle.gate_model.specs.Memory.{past_at};
 
 use crate::NoMemory;
 use crate::memory::Memory;
-use crate::messages::{gpdu, notification};
 use bearer_state::{ActiveBearer, Version};
 use ipv4_packet::Ip4;
-use packet_steps::HeldPacket;
+use packet_steps::{HeldPacket, MOST_HELD, gpdu, notification, packet_len, whole};
 use pc_base::{Octets, Packet, Peer, Verdict, Way, addr_of};
 use tft_match::choose;
-
-/// As many packets are held at most.
-const MOST_HELD: usize = 16;
 
 impl Memory {
     ghost use Rattle.std.specs.Prelude.{Some};
@@ -151,26 +146,6 @@ impl Memory {
             None => Ok(None),
         }
     }
-}
-
-/// The packet that octets are, whole.
-fn whole(octets: &[u8]) -> Option<Ip4<'_>>
-    ensures packet { IfSome result (λ ip. (ip ≡ octets.now) × IsPacket octets.now) }
-    ensures none { IsNone result → is_packet octets.now ≡ false }
-{
-    match Ip4::read(octets) {
-        Ok(ip) if ip.octets().len() == octets.len() => Some(ip),
-        _ => None,
-    }
-}
-
-/// How many octets a packet has, as it says itself.
-fn packet_len(octets: &[u8]) -> u32
-    requires { IsPacket octets.now }
-    ensures len { result ≡ length octets.now }
-    ensures bound { result < 2 ^ 16 }
-{
-    0x100 * u32::from(octets[2]) + u32::from(octets[3])
 }
 
 /// The active bearer that a downlink packet takes.

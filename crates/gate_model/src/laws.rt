@@ -1,16 +1,22 @@
 //! What holds of every past of a slot.
 ghost use Rattle.gate_model.specs.Versions.{SessionsAreOfCommands, VersionsAreOfCommands, EachVersionFollows};
 ghost use Rattle.gate_model.specs.Versions.{OpenLivesAreActive, CommandsAreLearnt, PacketsAreJudged};
+ghost use Rattle.gate_model.specs.Versions.{SessionsKeepTheirSlot};
 ghost use Rattle.gate_model.specs.Rates.{LivesArePoliced, SharesArePoliced};
 ghost use Rattle.gate_model.specs.Holding.{EachHeldPacketOnce};
 ghost use Rattle.gate_model.specs.Ledger.{ForwardedIsTold, EachPacketInOnePiece, RecordsAreAdded};
-ghost use Rattle.gate_model.specs.Room.{FewEventsLeaveRoom};
+ghost use Rattle.gate_model.specs.Room.{FewEventsLeaveRoom, EventsBoundCounts};
 ghost use Rattle.gate_model.specs.Few.{FewEventsAreFew, FewCommandsFollow, AtMostSixteenAreHeld};
 
 /// A session depends on the commands alone, and packets go by its version under their number.
 pub fn sessions_are_of_commands()
     ensures sessions { SessionsAreOfCommands }
     ensures versions { VersionsAreOfCommands }
+{}
+
+/// No event changes a session's slot.
+pub fn sessions_keep_their_slot()
+    ensures { SessionsKeepTheirSlot }
 {}
 
 /// The version that a command leaves may follow on the past before it, so that running counters that
@@ -45,6 +51,11 @@ pub fn each_packet_in_one_piece()
 /// Where fewer than 2^61 - 20 events came, the counts may rise.
 pub fn few_events_leave_room()
     ensures { FewEventsLeaveRoom }
+{}
+
+/// Each count is at most that of the events.
+pub fn events_bound_counts()
+    ensures { EventsBoundCounts }
 {}
 
 /// Behind fewer than 2^40 events every count of what is charged may rise, and the version that one command

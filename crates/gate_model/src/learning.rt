@@ -6,11 +6,9 @@ ghost use Rattle.packet_steps.specs.Change.{learnt, released, released_to};
 ghost use Rattle.gate_model.specs.Memory.{past_at};
 
 use crate::NoMemory;
-use crate::marks::{bearer_of, markers, marks};
 use crate::memory::{Memory, row_of};
-use crate::messages::gpdu;
 use bearer_state::{ActiveBearer, Version};
-use packet_steps::{Effects, HeldPacket};
+use packet_steps::{Effects, HeldPacket, bearer_of, gpdu, markers, marks};
 use pc_base::{Effect, Fate, Peer};
 
 impl Memory {

@@ -2,11 +2,10 @@
 ghost use Rattle.std.specs.Prelude.{◌≡◌, IfOk, OnOk, unwrap_or};
 ghost use Rattle.packet_steps.specs.Past.{row_for, with_row, with_held};
 ghost use Rattle.packet_steps.specs.Policing.{costs, history_for, is_policed_with, same_way, rate_for, passes};
-ghost use Rattle.bearer_state.specs.Qos.{is_guaranteed};
 ghost use Rattle.gate_model.specs.Memory.{past_at};
 
 use crate::NoMemory;
-use bearer_state::{ActiveBearer, Version};
+use bearer_state::{ActiveBearer, Version, is_guaranteed};
 use charging_book::Posting;
 use packet_steps::HeldPacket;
 use pc_base::{Kbps, Moment};
@@ -17,7 +16,7 @@ use std::marker::Model;
 /// A packet as it was forwarded: the life of its bearer, which way, how many octets it has, when; and the
 /// bearer's class of service and how often the AMBR had been set then.
 #[derive(Clone, Copy, Debug)]
-pub struct Row {
+pub struct Forwarded {
     life: u64,
     up: bool,
     octets: u32,
@@ -26,21 +25,35 @@ pub struct Row {
     rates: u64,
 }
 
-impl Model for Row {
+impl Model for Forwarded {
     ghost use Rattle.packet_steps.specs.Rows.{ForwardedRow};
 
     ghost Value = { ForwardedRow };
 
-    ghost view = { λ row. record { life = row.life; up = row.up; octets = row.octets; at = row.at; qci = row.qci; rates = row.rates } };
+    ghost view = { λ row. record {
+      life = row.life;
+      up = row.up;
+      octets = row.octets;
+      at = row.at;
+      qci = row.qci;
+      rates = row.rates;
+    } };
 
-    ghost inverse = { λ row. record { life = row.life; up = row.up; octets = row.octets; at = row.at; qci = row.qci; rates = row.rates } };
+    ghost inverse = { λ row. record {
+      life = row.life;
+      up = row.up;
+      octets = row.octets;
+      at = row.at;
+      qci = row.qci;
+      rates = row.rates;
+    } };
 }
 
 /// The plain lists of what was forwarded, what is held and what the book heard, and the moment of the last
 /// packet.
 #[derive(Drop)]
 pub struct Memory {
-    forwarded: Vec<Row>,
+    forwarded: Vec<Forwarded>,
     held: Vec<HeldPacket>,
     last: Option<Moment>,
     charged: Vec<Posting>,
@@ -163,7 +176,7 @@ impl Memory {
         if !self.passes(version, bearer, up, octets)? {
             return Ok(false);
         }
-        self.push(Row {
+        self.push(Forwarded {
             life: bearer.life,
             up,
             octets,
@@ -174,7 +187,7 @@ impl Memory {
         Ok(true)
     }
 
-    fn push(&mut self, row: Row) -> Result<(), NoMemory>
+    fn push(&mut self, row: Forwarded) -> Result<(), NoMemory>
         ensures { OnOk result (self.new ≡ record self.old {
           forwarded = self.old.forwarded ++ row ∷ [];
           charged = self.old.charged ++ happening_for row ∷ [];
@@ -235,18 +248,11 @@ pub(crate) fn row_of(held: &HeldPacket) -> Result<HeldPacket, NoMemory>
     })
 }
 
-/// Whether a class of service has a guaranteed rate.
-pub(crate) fn has_guaranteed_rate(qci: u8) -> bool
-    ensures { result ≡ is_guaranteed qci }
-{
-    qci >= 1 && qci <= 4
-}
-
 /// The rate that polices a bearer one way.
 fn rate_for(version: &Version, bearer: &ActiveBearer, up: bool) -> Kbps
     ensures { result ≡ rate_for version.now bearer.now up }
 {
-    match (has_guaranteed_rate(bearer.qos.qci), up) {
+    match (is_guaranteed(bearer.qos.qci), up) {
         (true, true) => bearer.qos.mbr_up,
         (true, false) => bearer.qos.mbr_down,
         (false, true) => version.up,
@@ -255,13 +261,13 @@ fn rate_for(version: &Version, bearer: &ActiveBearer, up: bool) -> Kbps
 }
 
 /// Whether a row is policed by that rate too.
-fn is_policed_with(version: &Version, bearer: &ActiveBearer, up: bool, row: &Row) -> bool
+fn is_policed_with(version: &Version, bearer: &ActiveBearer, up: bool, row: &Forwarded) -> bool
     ensures { result ≡ is_policed_with version.now bearer.now up row.now }
 {
-    if has_guaranteed_rate(bearer.qos.qci) {
+    if is_guaranteed(bearer.qos.qci) {
         row.life == bearer.life && same_way(row.up, up)
     } else {
-        !has_guaranteed_rate(row.qci) && row.rates == version.rates && same_way(row.up, up)
+        !is_guaranteed(row.qci) && row.rates == version.rates && same_way(row.up, up)
     }
 }
 
@@ -277,7 +283,7 @@ fn costs_of(
     version: &Version,
     bearer: &ActiveBearer,
     up: bool,
-    rows: &[Row],
+    rows: &[Forwarded],
 ) -> Result<Vec<Cost>, NoMemory>
     ensures { IfOk result (λ list. list.items ≡ costs (history_for version.now bearer.now up rows.now)) }
 {

@@ -6,8 +6,6 @@ mod home_lane;
 mod homecoming;
 mod parts;
 mod steps;
-#[cfg(test)]
-mod tests;
 
 pub use homecoming::gather;
 pub use parts::Parts;

@@ -1,6 +1,25 @@
 -- Extension headers (TS 29.281, section 5.2.1): a length in units of four octets, the content, and the
 -- type of what comes next. Every one is skipped, whatever its type.
-use Rattle.std.specs.Prelude.{◌≡◌, ◌≢◌, ℕ, zero, suc, ◌+◌, ◌*◌, ◌<◌, List, [], ◌∷◌, ◌++◌, length, slice_index, drop, Option, Some, None}
+use Rattle.std.specs.Prelude.{
+  ◌≡◌,
+  ◌≢◌,
+  ℕ,
+  zero,
+  suc,
+  ◌+◌,
+  ◌*◌,
+  ◌<◌,
+  List,
+  [],
+  ◌∷◌,
+  ◌++◌,
+  length,
+  slice_index,
+  drop,
+  Option,
+  Some,
+  None,
+}
 
 -- headers from one of this type on, then the body; type 0 says that none follows
 pub data IsChain : ℕ → List ℕ → List ℕ → Type 0 where

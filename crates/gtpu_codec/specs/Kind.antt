@@ -1,7 +1,13 @@
 -- The types of message (TS 29.281, table 6.1-1).
 use Rattle.std.specs.Prelude.{ℕ, ◌==◌, List, [], ◌∷◌, Option, find}
 use Rattle.gtpu_codec.specs.declared.kind.GtpUKind.{GtpUKind}
-use Rattle.gtpu_codec.specs.declared.kind.GtpUKind.TheVariants.{EchoRequest, EchoResponse, ErrorIndication, EndMarker, Gpdu}
+use Rattle.gtpu_codec.specs.declared.kind.GtpUKind.TheVariants.{
+  EchoRequest,
+  EchoResponse,
+  ErrorIndication,
+  EndMarker,
+  Gpdu,
+}
 
 -- octet 2 of a message
 abbrev pub type_octet : GtpUKind → ℕ

@@ -1,8 +1,32 @@
 -- Why octets are no message.
-use Rattle.std.specs.Prelude.{ℕ, Bool, ◌&&◌, ◌||◌, not, nat_lt, List, length, drop, Option, Some, None, is_none, if◌then◌else◌}
+use Rattle.std.specs.Prelude.{
+  ℕ,
+  Bool,
+  ◌&&◌,
+  ◌||◌,
+  not,
+  nat_lt,
+  List,
+  length,
+  drop,
+  Option,
+  Some,
+  None,
+  is_none,
+  if◌then◌else◌,
+}
 use Rattle.gtpu_codec.specs.declared.fault.UBad.{UBad}
 use Rattle.gtpu_codec.specs.declared.fault.UBad.TheVariants as bad
-use Rattle.gtpu_codec.specs.Head.{flags_in, type_in, length_in, counted_in, has_version, is_gtp, has_extensions, has_options}
+use Rattle.gtpu_codec.specs.Head.{
+  flags_in,
+  type_in,
+  length_in,
+  counted_in,
+  has_version,
+  is_gtp,
+  has_extensions,
+  has_options,
+}
 use Rattle.gtpu_codec.specs.Extension.{behind_headers}
 use Rattle.gtpu_codec.specs.Kind.{kind_of}
 

@@ -1,8 +1,35 @@
 -- What octets spell a message (TS 29.281, section 5.1).
-use Rattle.std.specs.Prelude.{◌≡◌, ℕ, ◌≤◌, Bool, true, false, List, length, slice_index, drop, IsTrue, Option, Some, None, if◌then◌else◌}
+use Rattle.std.specs.Prelude.{
+  ◌≡◌,
+  ℕ,
+  ◌≤◌,
+  Bool,
+  true,
+  false,
+  List,
+  length,
+  slice_index,
+  drop,
+  IsTrue,
+  Option,
+  Some,
+  None,
+  if◌then◌else◌,
+}
 use Rattle.wire_octets.specs.Numbers.{be16_at}
 use Rattle.gtpu_codec.specs.declared.head.GtpUHead.{GtpUHead}
-use Rattle.gtpu_codec.specs.Head.{flags_in, type_in, length_in, teid_in, counted_in, has_version, is_gtp, has_extensions, has_seq, has_options}
+use Rattle.gtpu_codec.specs.Head.{
+  flags_in,
+  type_in,
+  length_in,
+  teid_in,
+  counted_in,
+  has_version,
+  is_gtp,
+  has_extensions,
+  has_seq,
+  has_options,
+}
 use Rattle.gtpu_codec.specs.Extension.{IsChain}
 use Rattle.gtpu_codec.specs.Kind.{type_octet}
 

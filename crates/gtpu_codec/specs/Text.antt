@@ -5,7 +5,13 @@ use Rattle.gtpu_codec.specs.declared.head.GtpUHead.{GtpUHead}
 use Rattle.gtpu_codec.specs.declared.kind.GtpUKind.{GtpUKind}
 use Rattle.gtpu_codec.specs.declared.kind.GtpUKind.TheVariants as kind
 use Rattle.gtpu_codec.specs.declared.message.GtpU.{GtpU}
-use Rattle.gtpu_codec.specs.declared.message.GtpU.TheVariants.{EchoRequest, EchoResponse, ErrorIndication, EndMarker, Gpdu}
+use Rattle.gtpu_codec.specs.declared.message.GtpU.TheVariants.{
+  EchoRequest,
+  EchoResponse,
+  ErrorIndication,
+  EndMarker,
+  Gpdu,
+}
 use Rattle.gtpu_codec.specs.Kind.{type_octet}
 
 -- A message with this head and body: octet 1 says version 1 and GTP, and S where there is a sequence
@@ -14,6 +20,10 @@ abbrev pub text : GtpUKind → ℕ → Option ℕ → List ℕ → List ℕ
 text kind teid None body = 0x30 ∷ type_octet kind ∷ be16_octets (length body) ++ be32_octets teid ++ body
 text kind teid (Some seq) body =
     0x32 ∷ type_octet kind ∷ be16_octets (length body + 4) ++ be32_octets teid ++ be16_octets seq ++ 0 ∷ 0 ∷ body
+
+-- the octets of a G-PDU before its payload of so many octets
+abbrev pub gpdu_head : ℕ → ℕ → List ℕ
+gpdu_head teid payload_len = 0x30 ∷ type_octet kind.Gpdu ∷ be16_octets payload_len ++ be32_octets teid
 
 -- what stands behind the head: the Recovery of an answer (8.2), the TEID Data I and the GTP-U Peer
 -- Address of an error (8.3 and 8.4), the payload of a G-PDU

@@ -1,5 +1,19 @@
 //! Extension headers, which are skipped whatever their type.
-ghost use Rattle.std.specs.Prelude.{◌≡◌, ◌≢◌, ℕ, ◌∷◌, ◌<◌, List, length, MatchOption, IfSome, IsSomeAnd, is_none, option_map, None};
+ghost use Rattle.std.specs.Prelude.{
+  ◌≡◌,
+  ◌≢◌,
+  ℕ,
+  ◌∷◌,
+  ◌<◌,
+  List,
+  length,
+  MatchOption,
+  IfSome,
+  IsSomeAnd,
+  is_none,
+  option_map,
+  None,
+};
 ghost use Rattle.gtpu_codec.specs.Extension.{IsChain, body_behind};
 
 /// The type that says that no extension header follows (TS 29.281, section 5.2.1).

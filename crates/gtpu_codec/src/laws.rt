@@ -1,11 +1,12 @@
 //! Laws of the grammar, each the contract of a function that does nothing.
-ghost use Rattle.std.specs.Prelude.{◌≡◌, ℕ, ◌++◌, ◌↔◌, List, Some, None};
+ghost use Rattle.std.specs.Prelude.{◌≡◌, ℕ, ◌++◌, ◌↔◌, List, length, Some, None};
 ghost use Rattle.gtpu_codec.specs.declared.head.GtpUHead.{GtpUHead};
 ghost use Rattle.gtpu_codec.specs.declared.message.GtpU.{GtpU};
+ghost use Rattle.gtpu_codec.specs.declared.message.GtpU.TheVariants.{Gpdu};
 ghost use Rattle.gtpu_codec.specs.Message.{message_of};
 ghost use Rattle.gtpu_codec.specs.Refusal.{first_fault};
 ghost use Rattle.gtpu_codec.specs.Spelling.{Spells};
-ghost use Rattle.gtpu_codec.specs.Text.{IsMessage, body_of, head_of, spelling};
+ghost use Rattle.gtpu_codec.specs.Text.{IsMessage, body_of, gpdu_head, head_of, spelling};
 
 /// What is written is read again, whatever octets follow.
 pub fn reads_back()
@@ -25,4 +26,10 @@ pub fn faults_or_spells()
         → Spells octets head body → first_fault octets ≡ None }
     ensures spells { (octets : List ℕ) → first_fault octets ≡ None
         → (head : GtpUHead) × (body : List ℕ) × Spells octets head body }
+{}
+
+/// A G-PDU is its eight octets and then the payload.
+pub fn gpdu_is_head_and_payload()
+    ensures { (teid : ℕ) (payload : List ℕ)
+        → spelling (Gpdu teid payload) ≡ gpdu_head teid (length payload) ++ payload }
 {}

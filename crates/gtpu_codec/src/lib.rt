@@ -3,12 +3,19 @@
 //! of a received message and what a message does are left to others.
 //!
 //! ```
-//! let gpdu = [0x30, 0xff, 0, 2, 0, 0, 0, 0x11, 0x45, 0];
-//! let Ok((head, payload)) = read(&gpdu) else {
-//!     return Err("a message".into());
-//! };
-//! assert_eq!((head.kind, head.teid), (GtpUKind::Gpdu, Teid(0x11)));
-//! assert_eq!(payload, [0x45, 0]);
+//! use gtpu_codec::{GtpUKind, read};
+//! use pc_base::Teid;
+//! use std::test::Fail;
+//!
+//! fn packet_in_its_tunnel(rt: HostRuntime) -> Result<(), Fail> {
+//!     let gpdu = [0x30, 0xff, 0, 2, 0, 0, 0, 0x11, 0x45, 0];
+//!     let Ok((head, payload)) = read(&gpdu) else {
+//!         return Err("a message".into());
+//!     };
+//!     assert_eq!(rt; (head.kind, head.teid), (GtpUKind::Gpdu, Teid(0x11)));
+//!     assert_eq!(rt; payload, [0x45, 0].as_slice());
+//!     Ok(())
+//! }
 //! ```
 #![tactic(auto)]
 
@@ -19,17 +26,15 @@ mod kind;
 mod laws;
 mod message;
 mod reading;
-#[cfg(test)]
-mod tests;
 mod writing;
 
 pub use fault::UBad;
 pub use head::GtpUHead;
 pub use kind::GtpUKind;
-pub use laws::{faults_or_spells, message_is_spelled, reads_back};
+pub use laws::{faults_or_spells, gpdu_is_head_and_payload, message_is_spelled, reads_back};
 pub use message::GtpU;
 pub use reading::read;
-pub use writing::{write, write_gpdu};
+pub use writing::{gpdu_head, write, write_gpdu};
 
 /// The octets of every message: flags, type, length and TEID (TS 29.281, section 5.1).
 pub const MANDATORY_LEN: usize = 8;

@@ -1,9 +1,9 @@
 //! Writing a message.
-ghost use Rattle.std.specs.Prelude.{◌≡◌, ◌^◌, ◌<◌, length, IfOk, Some, None};
+ghost use Rattle.std.specs.Prelude.{◌≡◌, ℕ, ◌^◌, ◌<◌, ◌++◌, List, length, IfOk, Some, None};
 ghost use Rattle.gtpu_codec.specs.declared.message.GtpU.TheVariants.{Gpdu};
-ghost use Rattle.gtpu_codec.specs.Text.{counted_len, payload_len, spelling, text};
+ghost use Rattle.gtpu_codec.specs.Text.{counted_len, gpdu_head, payload_len, spelling, text};
 
-use crate::{GtpU, GtpUHead, GtpUKind, OPTIONS_LEN};
+use crate::{GtpU, GtpUHead, GtpUKind, MANDATORY_LEN, OPTIONS_LEN};
 use pc_base::{NoMemory, Octets, Teid};
 use std::alloc::Global;
 use wire_octets::{be16_octets, be32_octets};
@@ -66,6 +66,31 @@ pub fn write_gpdu(alloc: Global, teid: Teid, payload: &[u8]) -> Result<Octets, N
     ensures { IfOk result (λ octets. octets ≡ spelling (Gpdu teid payload.now)) }
 {
     spell(alloc, plain(GtpUKind::Gpdu, teid), payload)
+}
+
+/// The octets of a G-PDU before its payload of so many octets (TS 29.281, section 5.1): for a caller that
+/// writes the payload itself.
+#[inline]
+pub fn gpdu_head(teid: Teid, payload_len: u16) -> [u8; MANDATORY_LEN]
+    ensures head { result ≡ gpdu_head teid payload_len }
+
+    // These octets and then the payload are the G-PDU's text.
+    ensures text { (payload : List ℕ) → length payload ≡ payload_len
+        → spelling (Gpdu teid payload) ≡ result ++ payload }
+{
+    let [length_high, length_low] = be16_octets(payload_len);
+    let [teid_1, teid_2, teid_3, teid_4] = be32_octets(teid.0);
+    let kind = GtpUKind::Gpdu.octet();
+    [
+        PLAIN,
+        kind,
+        length_high,
+        length_low,
+        teid_1,
+        teid_2,
+        teid_3,
+        teid_4,
+    ]
 }
 
 fn plain(kind: GtpUKind, teid: Teid) -> GtpUHead

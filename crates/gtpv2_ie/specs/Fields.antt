@@ -1,6 +1,24 @@
 -- The values that octets spell, each at its least length or longer; octets past it are ignored, and
 -- so are spare bits. Places count from 0, where the standard's octets count from 5.
-use Rattle.std.specs.Prelude.{ℕ, ◌+◌, ◌*◌, ◌/◌, ◌%◌, ◌&&◌, ◌||◌, List, length, slice_index, Option, Some, None, if◌then◌else◌, ◌==◌, nat_lt, nat_le}
+use Rattle.std.specs.Prelude.{
+  ℕ,
+  ◌+◌,
+  ◌*◌,
+  ◌/◌,
+  ◌%◌,
+  ◌&&◌,
+  ◌||◌,
+  List,
+  length,
+  slice_index,
+  Option,
+  Some,
+  None,
+  if◌then◌else◌,
+  ◌==◌,
+  nat_lt,
+  nat_le,
+}
 use Rattle.gtpv2_ie.specs.declared.cause.CauseIe.{CauseIe}
 use Rattle.gtpv2_ie.specs.declared.fteid.Fteid.{Fteid}
 use Rattle.gtpv2_ie.specs.declared.qos.QosIe.{QosIe}

@@ -1,6 +1,28 @@
 -- The digits of an IMSI (TS 29.274, 8.3): two an octet, the low nibble first. Behind an odd count
 -- the last high nibble is 15.
-use Rattle.std.specs.Prelude.{ℕ, ◌+◌, ◌-◌, ◌*◌, ◌/◌, ◌%◌, ◌≤◌, Bool, ◌&&◌, List, [], ◌∷◌, ◌++◌, length, Option, Some, None, if◌then◌else◌, ◌==◌, nat_lt, nat_le}
+use Rattle.std.specs.Prelude.{
+  ℕ,
+  ◌+◌,
+  ◌-◌,
+  ◌*◌,
+  ◌/◌,
+  ◌%◌,
+  ◌≤◌,
+  Bool,
+  ◌&&◌,
+  List,
+  [],
+  ◌∷◌,
+  ◌++◌,
+  length,
+  Option,
+  Some,
+  None,
+  if◌then◌else◌,
+  ◌==◌,
+  nat_lt,
+  nat_le,
+}
 use Rattle.std.specs.List.{AllByRecursion}
 
 -- the character of a digit is so much above its value

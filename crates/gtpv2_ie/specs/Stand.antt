@@ -1,6 +1,25 @@
 -- Which elements stand in octets, and where (TS 29.274, 8.2.1): type, length of the value (2), spare
 -- and instance, value.
-use Rattle.std.specs.Prelude.{◌≡◌, ℕ, zero, suc, ◌+◌, ◌%◌, ◌^◌, ◌<◌, ◌≤◌, List, [], ◌∷◌, length, slice_index, slice_range, Result, Ok, Err}
+use Rattle.std.specs.Prelude.{
+  ◌≡◌,
+  ℕ,
+  zero,
+  suc,
+  ◌+◌,
+  ◌%◌,
+  ◌^◌,
+  ◌<◌,
+  ◌≤◌,
+  List,
+  [],
+  ◌∷◌,
+  length,
+  slice_index,
+  slice_range,
+  Result,
+  Ok,
+  Err,
+}
 use Rattle.std.specs.Global.{Vec}
 use Rattle.gtpv2_ie.specs.declared.raw.RawIe.{RawIe}
 use Rattle.gtpv2_ie.specs.declared.fault.IeBad.{IeBad}

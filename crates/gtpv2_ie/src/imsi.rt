@@ -1,4 +1,18 @@
-ghost use Rattle.std.specs.Prelude.{◌≡◌, ◌≤◌, ◌<◌, ◌+◌, ◌-◌, length, slice_index, IfOk, OnOk, ◌++◌, IfSome, if◌then◌else◌, nat_lt};
+ghost use Rattle.std.specs.Prelude.{
+  ◌≡◌,
+  ◌≤◌,
+  ◌<◌,
+  ◌+◌,
+  ◌-◌,
+  length,
+  slice_index,
+  IfOk,
+  OnOk,
+  ◌++◌,
+  IfSome,
+  if◌then◌else◌,
+  nat_lt,
+};
 ghost use Rattle.std.specs.Option.{option_map};
 ghost use Rattle.std.specs.List.{AllByRecursion};
 ghost use Rattle.gtpv2_ie.specs.Imsi.{IsImsi, octet_of, digit_pair, pair_digits, digits_of, imsi_of, imsi_octets};

@@ -3,13 +3,20 @@
 //! Which elements a message must have, and its own header, are left to the layer above.
 //!
 //! ```
-//! let ebi = b"\x49\x00\x01\x00\x05";
-//! for ie in &read_ies(alloc, ebi)? {
-//!     let value = read_value(alloc, ie.kind, &ebi[ie.from..ie.to])?;
-//!     assert_eq!(value, Some(IeValue::Ebi(5)));
+//! use gtpv2_ie::{Ie, IeValue, read_ies, read_value, write_ie};
+//! use std::test::Fail;
+//!
+//! fn bearer_identity_both_ways(rt: HostRuntime) -> Result<(), Fail> {
+//!     let ebi = b"\x49\x00\x01\x00\x05";
+//!     for ie in &read_ies(rt.alloc(), ebi)? {
+//!         assert!(rt; ie.from <= ie.to && ie.to <= ebi.len());
+//!         let value = read_value(rt.alloc(), ie.kind, &ebi[ie.from..ie.to])?;
+//!         assert_eq!(rt; value, Some(IeValue::Ebi(5)));
+//!     }
+//!     let ie = Ie { instance: 0, value: IeValue::Ebi(5) };
+//!     assert_eq!(rt; write_ie(rt.alloc(), &ie)?.as_slice(), ebi.as_slice());
+//!     Ok(())
 //! }
-//! let ie = Ie { instance: 0, value: IeValue::Ebi(5) };
-//! assert_eq!(write_ie(alloc, &ie)?.as_slice(), ebi);
 //! ```
 #![tactic(auto)]
 
@@ -46,6 +53,3 @@ pub use writing::write_ie;
 
 /// Memory ran out.
 pub use std::alloc::AllocError as NoMemory;
-
-#[cfg(test)]
-mod tests;

@@ -1,7 +1,17 @@
 ghost use Rattle.std.specs.Prelude.{◌≡◌, ◌≢◌, ◌+◌, ◌<◌, ◌≤◌, length, List, All, IfOk, Ok, Err};
 ghost use Rattle.gtpv2_ie.specs.declared.raw.RawIe.{RawIe};
 ghost use Rattle.gtpv2_ie.specs.declared.fault.IeBad.{IeBad};
-ghost use Rattle.gtpv2_ie.specs.Stand.{StandsAt, Stand, HasIes, EndsShort, PassesEnd, IsInside, value_len, ies_of, items_of};
+ghost use Rattle.gtpv2_ie.specs.Stand.{
+  StandsAt,
+  Stand,
+  HasIes,
+  EndsShort,
+  PassesEnd,
+  IsInside,
+  value_len,
+  ies_of,
+  items_of,
+};
 ghost use Rattle.wire_octets.specs.Memory.{OrNoMemory};
 
 use crate::fault::IeBad;

@@ -21,7 +21,7 @@ use Rattle.gtpv2_msg.specs.declared.table.Part.{Part}
 use Rattle.gtpv2_msg.specs.declared.table.Part.TheVariants as parts
 use Rattle.gtpv2_msg.specs.HasRequired.{Has, ContextHas, IsAssigned, HasPart, MeetsRow, as_read, context_as_read, contexts_as_read}
 use Rattle.gtpv2_msg.specs.Lookup.{is_of, first_context, contexts_of}
-use Rattle.gtpv2_msg.specs.Required.{Row}
+use Rattle.gtpv2_msg.specs.Required.{RequiredIes}
 use Rattle.gtpv2_msg.specs.RowFault.{is_first, element_fault, kind_fault, kinds_fault, part_fault, parts_fault, inside_fault, contexts_fault, row_fault}
 
 -- ---- none of two
@@ -340,7 +340,7 @@ no_fault_within false parts (c ∷ contexts) none = none
 
 -- ---- a row
 
-pub meets_no_fault : (row : Row) (ies : List Element) → MeetsRow row ies
+pub meets_no_fault : (row : RequiredIes) (ies : List Element) → MeetsRow row ies
     → row_fault row (map as_read ies) (contexts_as_read ies) ≡ None
 meets_no_fault row ies meets =
     let each = each_other (λ (c : Context) (part : Part). HasPart part c) (contexts_of ies) row.inside meets.inside in
@@ -350,7 +350,7 @@ meets_no_fault row ies meets =
     (inside_no_fault row.inside (contexts_of ies) each))
     (kinds_no_fault ies row.after meets.after))
 
-pub no_fault_meets : (row : Row) (ies : List Element) → row_fault row (map as_read ies) (contexts_as_read ies) ≡ None
+pub no_fault_meets : (row : RequiredIes) (ies : List Element) → row_fault row (map as_read ies) (contexts_as_read ies) ≡ None
     → MeetsRow row ies
 no_fault_meets row ies none =
     let contexts : Option CBad = contexts_fault row.must row.inside (contexts_as_read ies) in

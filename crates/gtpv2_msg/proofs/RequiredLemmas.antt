@@ -22,7 +22,7 @@ use Rattle.gtpv2_msg.specs.Elements.{read_ies, contexts_in}
 use Rattle.gtpv2_msg.specs.Header.{IsRight, version_of, has_piggyback, has_teid, kind_of, end_of, header_len, body_of}
 use Rattle.gtpv2_msg.specs.Kinds.{requests, is_request, is_kind}
 use Rattle.gtpv2_msg.specs.Refusal.{header_fault, has_wrong_length, elements_fault, body_fault, first_fault, IsRefusal, IsFraming}
-use Rattle.gtpv2_msg.specs.Required.{Row, required}
+use Rattle.gtpv2_msg.specs.Required.{RequiredIes, required}
 use Rattle.gtpv2_msg.specs.RowFault.{is_first, element_fault, kind_fault, first_ebi, held_ebi, is_zero, zero_fault, part_fault, kinds_fault, parts_fault, context_fault, inside_fault, contexts_fault, row_fault}
 
 -- a fault of a header
@@ -106,7 +106,7 @@ of_contexts true inside [] = refl
 of_contexts true inside (context ∷ contexts) = of_inside inside (context ∷ contexts)
 of_contexts false inside contexts = of_inside inside contexts
 
-of_row : (row : Row) (ies : List ReadIe) (contexts : List (Option (List ReadIe)))
+of_row : (row : RequiredIes) (ies : List ReadIe) (contexts : List (Option (List ReadIe)))
     → IfSome (row_fault row ies contexts) OfElement
 of_row row ies contexts =
     let inside : Option CBad = contexts_fault row.must row.inside contexts in

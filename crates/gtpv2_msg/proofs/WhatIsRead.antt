@@ -31,7 +31,7 @@ use Rattle.gtpv2_msg.specs.Lookup.{is_of, first_context, contexts_of}
 use Rattle.gtpv2_msg.specs.Header.{body_of}
 use Rattle.gtpv2_msg.specs.Message.{Message}
 use Rattle.gtpv2_msg.specs.Reading.{IsBody, Spells}
-use Rattle.gtpv2_msg.specs.Required.{Row, table, row_in, required}
+use Rattle.gtpv2_msg.specs.Required.{RequiredIes, table, row_in, required}
 use Rattle.gtpv2_msg.specs.RowFault.{is_first, element_fault, kind_fault, first_ebi, held_ebi, is_zero, part_fault, kinds_fault, parts_fault, context_fault, inside_fault, contexts_fault, row_fault}
 use Rattle.gtpv2_msg.proofs.MeetsLemmas.{none_first, none_second, holds, holds_has, each_other, is_context_here, is_any, any_context}
 
@@ -424,13 +424,13 @@ contexts_found parts octets (raw ∷ raws) inner none =
 
 -- ---- a row
 
-inner_entry : (test : Bool) (row rest : Row) → AllByRecursion IsInner row.inside → AllByRecursion IsInner rest.inside
+inner_entry : (test : Bool) (row rest : RequiredIes) → AllByRecursion IsInner row.inside → AllByRecursion IsInner rest.inside
     → AllByRecursion IsInner (cond test row rest).inside
 inner_entry true row rest is others = is
 inner_entry false row rest is others = others
 
-inner_row : (entries : List (ℕ × Row)) (kind : ℕ)
-    → AllByRecursion (λ (entry : ℕ × Row). AllByRecursion IsInner entry.1.inside) entries
+inner_row : (entries : List (ℕ × RequiredIes)) (kind : ℕ)
+    → AllByRecursion (λ (entry : ℕ × RequiredIes). AllByRecursion IsInner entry.1.inside) entries
     → AllByRecursion IsInner (row_in entries kind).inside
 inner_row [] kind all = tt
 inner_row (entry ∷ entries) kind all =
@@ -469,7 +469,7 @@ no_fault_inside true parts (first ∷ rest) none = none
 no_fault_inside false parts [] none = none
 no_fault_inside false parts (first ∷ rest) none = none
 
-row_found : (row : Row) (octets : List ℕ) (raws : List RawIe) → AllByRecursion IsInner row.inside
+row_found : (row : RequiredIes) (octets : List ℕ) (raws : List RawIe) → AllByRecursion IsInner row.inside
     → row_fault row (read_ies octets raws) (contexts_in octets raws) ≡ None
     → MeetsRow row (known_of (read_ies octets raws))
 row_found row octets raws inner none =

@@ -14,7 +14,7 @@ use Rattle.gtpv2_msg.specs.declared.table.Part.{Part}
 use Rattle.gtpv2_msg.specs.declared.table.Part.TheVariants as parts
 use Rattle.gtpv2_msg.specs.Lookup.{is_of, contexts_of}
 use Rattle.gtpv2_msg.specs.Message.{Message}
-use Rattle.gtpv2_msg.specs.Required.{Row, required}
+use Rattle.gtpv2_msg.specs.Required.{RequiredIes, required}
 
 -- an element of a kind and instance 0 is there; the elements of a message are inside their grammar
 abbrev pub Has : List Element → IeKind → Type 0
@@ -39,7 +39,7 @@ HasPart (parts.Ie kind) context = ContextHas context kind
 HasPart parts.AssignedEbi context = IsAssigned context.ebi
 
 -- elements have what a row asks for
-pub record MeetsRow (row : Row) (ies : List Element) : Type 0 where
+pub record MeetsRow (row : RequiredIes) (ies : List Element) : Type 0 where
   pub before : AllByRecursion (Has ies) row.before
   pub context : row.must ≡ true → Has ies kinds.Context
   pub inside : AllByRecursion (λ part. AllByRecursion (HasPart part) (contexts_of ies)) row.inside

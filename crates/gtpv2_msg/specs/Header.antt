@@ -1,6 +1,25 @@
 -- The header (TS 29.274, 5.1) by its octets, which count from 0 here: version (3), P, T and spare;
 -- type; length without the first four octets (2); with T the TEID (4); sequence number (3); spare.
-use Rattle.std.specs.Prelude.{◌≡◌, ℕ, ◌+◌, ◌/◌, ◌%◌, ◌≤◌, Bool, true, false, List, length, slice_index, slice_range, Option, Some, None, if◌then◌else◌, ◌==◌}
+use Rattle.std.specs.Prelude.{
+  ◌≡◌,
+  ℕ,
+  ◌+◌,
+  ◌/◌,
+  ◌%◌,
+  ◌≤◌,
+  Bool,
+  true,
+  false,
+  List,
+  length,
+  slice_index,
+  slice_range,
+  Option,
+  Some,
+  None,
+  if◌then◌else◌,
+  ◌==◌,
+}
 use Rattle.wire_octets.specs.Numbers.{be16_at, be24_at, be32_at}
 use Rattle.gtpv2_msg.specs.Kinds.{is_kind}
 

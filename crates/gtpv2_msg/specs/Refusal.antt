@@ -1,5 +1,25 @@
 -- Why octets are no message, in the order of looking, and the reply to a refused request.
-use Rattle.std.specs.Prelude.{◌≡◌, ℕ, Bool, not, ◌||◌, ◌⊎◌, List, [], ◌∷◌, length, Option, Some, None, Result, Ok, Err, if◌then◌else◌, ◌==◌, nat_lt}
+use Rattle.std.specs.Prelude.{
+  ◌≡◌,
+  ℕ,
+  Bool,
+  not,
+  ◌||◌,
+  ◌⊎◌,
+  List,
+  [],
+  ◌∷◌,
+  length,
+  Option,
+  Some,
+  None,
+  Result,
+  Ok,
+  Err,
+  if◌then◌else◌,
+  ◌==◌,
+  nat_lt,
+}
 use Rattle.std.specs.Option.{option_or, option_map}
 use Rattle.gtpv2_ie.specs.declared.fault.IeBad.{IeBad}
 use Rattle.gtpv2_ie.specs.declared.raw.RawIe.{RawIe}
@@ -7,7 +27,16 @@ use Rattle.gtpv2_ie.specs.declared.value.IeValue.TheVariants as values
 use Rattle.gtpv2_ie.specs.Element.{Element}
 use Rattle.gtpv2_ie.specs.Stand.{ies_of}
 use Rattle.gtpv2_msg.specs.declared.fault.CBad.{CBad}
-use Rattle.gtpv2_msg.specs.declared.fault.CBad.TheVariants.{Short, Version, Piggyback, Length, Kind, Missing, Incorrect, NoMemory}
+use Rattle.gtpv2_msg.specs.declared.fault.CBad.TheVariants.{
+  Short,
+  Version,
+  Piggyback,
+  Length,
+  Kind,
+  Missing,
+  Incorrect,
+  NoMemory,
+}
 use Rattle.gtpv2_msg.specs.Elements.{read_ies, contexts_in}
 use Rattle.gtpv2_msg.specs.Header.{version_of, has_piggyback, has_teid, kind_of, end_of, header_len, seq_of, body_of}
 use Rattle.gtpv2_msg.specs.Kinds.{is_kind, is_request, answer_of}

@@ -8,24 +8,24 @@ use Rattle.gtpv2_msg.specs.declared.table.Part.TheVariants as parts
 
 -- What a message must have, all of instance 0: elements before its Contexts, whether a Context must
 -- be there, what each Context must have, and elements behind them.
-pub record Row : Type 0 where
+pub record RequiredIes : Type 0 where
   pub before : List IeKind
   pub must : Bool
   pub inside : List Part
   pub after : List IeKind
 
-abbrev pub row : List IeKind → Bool → List Part → List IeKind → Row
+abbrev pub row : List IeKind → Bool → List Part → List IeKind → RequiredIes
 row before must inside after = record { before = before; must = must; inside = inside; after = after }
 
 -- no Context must be there
-abbrev pub only : List IeKind → Row
+abbrev pub only : List IeKind → RequiredIes
 only before = row before false [] []
 
 abbrev pub an : IeKind → Part
 an kind = parts.Ie kind
 
 -- The table, each row behind its message type (TS 29.274, table 6.1-1).
-abbrev pub table : List (ℕ × Row)
+abbrev pub table : List (ℕ × RequiredIes)
 table =
     (32, row (kinds.Imsi ∷ kinds.Fteid ∷ kinds.Pdn ∷ kinds.Ambr ∷ []) true (parts.AssignedEbi ∷ an kinds.Qos ∷ []) [])
     ∷ (33, only (kinds.Cause ∷ []))
@@ -41,10 +41,10 @@ table =
     ∷ (177, only (kinds.Cause ∷ []))
     ∷ []
 
-abbrev pub row_in : List (ℕ × Row) → ℕ → Row
+abbrev pub row_in : List (ℕ × RequiredIes) → ℕ → RequiredIes
 row_in [] kind = only []
 row_in (entry ∷ entries) kind = if entry.0 == kind then entry.1 else row_in entries kind
 
 -- the row of a message type: nothing is required of one that isn't in the table
-unfoldable pub required : ℕ → Row
+unfoldable pub required : ℕ → RequiredIes
 required kind = row_in table kind

@@ -13,7 +13,7 @@ use Rattle.gtpv2_msg.specs.declared.fault.CBad.TheVariants.{Missing, Incorrect}
 use Rattle.gtpv2_msg.specs.declared.table.Part.{Part}
 use Rattle.gtpv2_msg.specs.declared.table.Part.TheVariants as parts
 use Rattle.gtpv2_msg.specs.Elements.{known_of}
-use Rattle.gtpv2_msg.specs.Required.{Row}
+use Rattle.gtpv2_msg.specs.Required.{RequiredIes}
 
 -- an element of a type and instance 0
 abbrev pub is_first : ℕ → ReadIe → Bool
@@ -79,7 +79,7 @@ contexts_fault must inside contexts = inside_fault inside contexts
 
 -- The one reading of the table: the first fault of a message's elements, and of its Contexts of
 -- instance 0, each by its own elements, in the order of a row.
-abbrev pub row_fault : Row → List ReadIe → List (Option (List ReadIe)) → Option CBad
+abbrev pub row_fault : RequiredIes → List ReadIe → List (Option (List ReadIe)) → Option CBad
 row_fault row ies contexts =
     option_or (kinds_fault ies row.before)
     (option_or (contexts_fault row.must row.inside contexts) (kinds_fault ies row.after))

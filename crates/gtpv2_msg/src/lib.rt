@@ -4,11 +4,18 @@
 //! What a message means to a session is left to the layers above.
 //!
 //! ```
-//! let echo = b"\x40\x01\x00\x09\x00\x00\x07\x00\x03\x00\x01\x00\x05";
-//! let message = read(alloc, echo)?;
-//! assert_eq!((message.kind, message.seq), (ECHO_REQUEST, 7));
-//! assert_eq!(message.first(IeKind::Recovery, 0), Some(&IeValue::Recovery(5)));
-//! assert_eq!(write(alloc, &message)?.as_slice(), echo);
+//! use gtpv2_ie::{IeKind, IeValue};
+//! use gtpv2_msg::{ECHO_REQUEST, read, write};
+//! use std::test::Fail;
+//!
+//! fn echo_both_ways(rt: HostRuntime) -> Result<(), Fail> {
+//!     let echo = b"\x40\x01\x00\x09\x00\x00\x07\x00\x03\x00\x01\x00\x05";
+//!     let message = read(rt.alloc(), echo)?;
+//!     assert_eq!(rt; (message.kind, message.seq), (ECHO_REQUEST, 7));
+//!     assert!(rt; message.first(IeKind::Recovery, 0) == Some(&IeValue::Recovery(5)));
+//!     assert_eq!(rt; write(rt.alloc(), &message)?.as_slice(), echo.as_slice());
+//!     Ok(())
+//! }
 //! ```
 #![tactic(auto)]
 
@@ -50,6 +57,3 @@ pub use gtpv2_ie::cause_value::{MANDATORY_IE_INCORRECT, MANDATORY_IE_MISSING};
 
 /// Memory ran out.
 pub use std::alloc::AllocError as NoMemory;
-
-#[cfg(test)]
-mod tests;

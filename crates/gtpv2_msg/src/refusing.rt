@@ -2,7 +2,15 @@ ghost use Rattle.std.specs.Prelude.{◌≡◌, [], ◌∷◌, ◌<◌, ◌^◌, 
 ghost use Rattle.std.specs.Option.{option_map};
 ghost use Rattle.gtpv2_msg.specs.Header.{IsRight};
 ghost use Rattle.gtpv2_msg.specs.Kinds as kinds;
-ghost use Rattle.gtpv2_msg.specs.Refusal.{IsRefusal, no_teid, cause_element, refusing, if_request, refusal_message, refusal_of};
+ghost use Rattle.gtpv2_msg.specs.Refusal.{
+  IsRefusal,
+  no_teid,
+  cause_element,
+  refusing,
+  if_request,
+  refusal_message,
+  refusal_of,
+};
 ghost use Rattle.gtpv2_msg.specs.Spelling.{spelling};
 
 use crate::fault::CBad;

@@ -20,7 +20,7 @@ pub enum Part {
 /// What a message must have: elements before its Contexts, whether a Context must be there, what
 /// each Context must have, and elements behind them.
 #[derive(Clone, Copy, Debug)]
-pub struct Row {
+pub struct RequiredIes {
     pub before: &'static [IeKind],
     pub must: bool,
     pub inside: &'static [Part],
@@ -29,26 +29,26 @@ pub struct Row {
 
 /// The row of a message type in the table of required elements.
 #[tactic(auto, unfolding(crate::specs::Required::required))]
-pub fn required(kind: u8) -> Row
+pub fn required(kind: u8) -> RequiredIes
     ensures before { result.before.now ≡ (required.required kind).before }
     ensures must { result.must ≡ (required.required kind).must }
     ensures inside { result.inside.now ≡ (required.required kind).inside }
     ensures after { result.after.now ≡ (required.required kind).after }
 {
     match kind {
-        CREATE_SESSION_REQUEST => Row {
+        CREATE_SESSION_REQUEST => RequiredIes {
             before: &[IeKind::Imsi, IeKind::Fteid, IeKind::Pdn, IeKind::Ambr],
             must: true,
             inside: &[Part::AssignedEbi, Part::Ie(IeKind::Qos)],
             after: &[],
         },
-        MODIFY_BEARER_REQUEST => Row {
+        MODIFY_BEARER_REQUEST => RequiredIes {
             before: &[],
             must: false,
             inside: &[Part::AssignedEbi],
             after: &[],
         },
-        CREATE_BEARER_REQUEST => Row {
+        CREATE_BEARER_REQUEST => RequiredIes {
             before: &[IeKind::Ebi],
             must: true,
             inside: &[
@@ -58,13 +58,13 @@ pub fn required(kind: u8) -> Row
             ],
             after: &[],
         },
-        CREATE_BEARER_RESPONSE => Row {
+        CREATE_BEARER_RESPONSE => RequiredIes {
             before: &[IeKind::Cause],
             must: true,
             inside: &[Part::Ie(IeKind::Ebi), Part::Ie(IeKind::Cause)],
             after: &[],
         },
-        UPDATE_BEARER_REQUEST => Row {
+        UPDATE_BEARER_REQUEST => RequiredIes {
             before: &[],
             must: true,
             inside: &[Part::Ie(IeKind::Ebi)],
@@ -76,13 +76,13 @@ pub fn required(kind: u8) -> Row
         | UPDATE_BEARER_RESPONSE
         | DELETE_BEARER_RESPONSE
         | RELEASE_ACCESS_BEARERS_RESPONSE
-        | DOWNLINK_DATA_NOTIFICATION_ACKNOWLEDGE => Row {
+        | DOWNLINK_DATA_NOTIFICATION_ACKNOWLEDGE => RequiredIes {
             before: &[IeKind::Cause],
             must: false,
             inside: &[],
             after: &[],
         },
-        _ => Row {
+        _ => RequiredIes {
             before: &[],
             must: false,
             inside: &[],

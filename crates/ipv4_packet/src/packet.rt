@@ -1,9 +1,16 @@
 //! An IPv4 packet where it lies.
-ghost use Rattle.std.specs.Prelude.{◌≡◌, ℕ, List, OnOk, IfOk, IfErr, IfSome, IsOkAnd, nat_eq};
+ghost use Rattle.std.specs.Prelude.{◌≡◌, ℕ, List, length, OnOk, IfOk, IfErr, IfSome, IsOkAnd, IsSomeAnd, nat_eq};
 ghost use Rattle.std.specs.Cmp.Rules.{comparing};
 ghost use Rattle.std.specs.Cmp.Lexicographic.{pointwise};
 ghost use Rattle.std.proofs.Common.{rules};
-ghost use Rattle.ipv4_packet.specs.Fields.{tos_of, fragment_offset_of, protocol_of, source_of, destination_of};
+ghost use Rattle.ipv4_packet.specs.Fields.{
+  total_length,
+  tos_of,
+  fragment_offset_of,
+  protocol_of,
+  source_of,
+  destination_of,
+};
 ghost use Rattle.ipv4_packet.specs.Packet.{IsPacket, Spells, packet_of};
 ghost use Rattle.ipv4_packet.specs.Refusal.{first_fault};
 ghost use Rattle.ipv4_packet.specs.Payload.{payload_of, begins, ports_of, spi_of};
@@ -73,6 +80,25 @@ impl<'a> Ip4<'a> {
         Ok(Ip4 {
             octets: &bytes[..total],
         })
+    }
+
+    /// The packet that octets are, whole; None exactly where they aren't one packet, of just its length.
+    pub fn whole(octets: &'a [u8]) -> Option<Ip4<'a>>
+        ensures packet { IfSome result (λ ip. (ip ≡ octets.now) × IsPacket octets.now) }
+        ensures found { IsPacket octets.now → IsSomeAnd result (λ ip. ip ≡ octets.now) }
+    {
+        match Ip4::read(octets) {
+            Ok(ip) if ip.octets().len() == octets.len() => Some(ip),
+            _ => None,
+        }
+    }
+
+    /// How many octets the packet has, as it says itself: its total length, 20 to 65,535.
+    pub fn total_len(&self) -> u16
+        ensures total { result ≡ total_length self.now }
+        ensures len { result ≡ length self.now }
+    {
+        be16_at(self.octets, 2)
     }
 
     /// All octets of the packet, header and payload.

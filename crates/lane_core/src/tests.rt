@@ -1,4 +1,4 @@
-//! A lane on one thread, and one between two threads.
+//! A lane between two threads.
 ghost use Rattle.std.specs.Prelude.{◌≡◌, ◌≤◌, ◌<◌, [], ◌∷◌, ◌++◌, ◌^◌, length};
 ghost use Rattle.lane_core.specs.Ends.{sender_lane, receiver_lane, sent};
 
@@ -12,44 +12,6 @@ use std::thread;
 struct Parcel(u32);
 
 impl Carried for Parcel {}
-
-#[test]
-fn lane_of_two(rt: HostRuntime) -> Result<(), Fail> {
-    let (mut tx, mut rx) = lane(rt.alloc(), 2)?;
-    assert_eq!(rt; rx.take(&rt), None);
-    assert_eq!(rt; rx.empties(), 1);
-
-    assert_eq!(rt; tx.offer(&rt, Parcel(7)), Ok(()));
-    assert_eq!(rt; tx.offer(&rt, Parcel(8)), Ok(()));
-    assert_eq!(rt; tx.offer(&rt, Parcel(9)), Err(Full(Parcel(9))));
-    assert_eq!(rt; (tx.offers(), tx.fulls()), (2, 1));
-
-    assert_eq!(rt; rx.take(&rt), Some(Parcel(7)));
-    assert_eq!(rt; rx.empties(), 1);
-    let Ok(rest) = close(&rt, rt.alloc(), tx, rx) else {
-        return Err("memory".into());
-    };
-    assert_eq!(rt; rest.as_slice(), [Parcel(8)].as_slice());
-    Ok(())
-}
-
-#[test]
-fn rooms_of_one_and_of_most(rt: HostRuntime) -> Result<(), Fail> {
-    for room in [1, 65_536] {
-        let (tx, rx) = lane(rt.alloc(), room)?;
-        let mut tx = send_numbers(&rt, tx, room);
-        assert_eq!(rt; tx.fulls(), 0);
-        assert_eq!(rt; tx.offer(&rt, Parcel(room)), Err(Full(Parcel(room))));
-        let Ok(rest) = close(&rt, rt.alloc(), tx, rx) else {
-            return Err("memory".into());
-        };
-        assert_eq!(rt; rest.len(), room as usize);
-        for (n, parcel) in rest.iter().enumerate() {
-            assert_eq!(rt; parcel.0 as usize, n);
-        }
-    }
-    Ok(())
-}
 
 /// How many parcels go from one thread to another, the last three of which are left to `close`.
 const PARCELS: u32 = 100_000;

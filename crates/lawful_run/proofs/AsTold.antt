@@ -14,7 +14,7 @@ use Rattle.report_lines.specs.declared.entry.LineEntry.TheVariants as line
 use Rattle.lawful_run.specs.Accepted.{Placed, commands_accepted, packets_accepted, command_count}
 use Rattle.lawful_run.specs.Answers.{AnswersAll}
 use Rattle.lawful_run.specs.Bounds.{Rises, MeetsBounds, MeetsAs, MayMeet, count_before}
-use Rattle.lawful_run.specs.Job.{Job, solo, sliced}
+use Rattle.lawful_run.specs.Setup.{Setup, solo, sliced}
 use Rattle.lawful_run.specs.LinesTold.{LineTold, lines_told, EachFrom}
 use Rattle.lawful_run.specs.Moves.{moves, before_next_move}
 use Rattle.lawful_run.specs.Order.{Histories, ordered}
@@ -121,8 +121,8 @@ fewer_before_move slot other [] = omega arith
 fewer_before_move slot other (now ∷ later) =
     fewer_with (moves other now) slot now later (before_next_move other later) (fewer_before_move slot other later)
 
-pub met_at_most : (job : Job) (start : Histories) (slot : ℕ) (front later : List LineTold) (now : LineTold) (count : ℕ)
-    → MayMeet job start slot front later count
+pub met_at_most : (setup : Setup) (start : Histories) (slot : ℕ) (front later : List LineTold) (now : LineTold) (count : ℕ)
+    → MayMeet setup start slot front later count
     → count ≤ count_before start slot + command_count slot (front ++ now ∷ later)
 met_at_most solo start slot front later now count meets =
     let parts : command_count slot (front ++ now ∷ later) ≡ command_count slot front
@@ -146,54 +146,54 @@ above_first : (test : Bool) (count most : ℕ) (counts : List ℕ) → (test ≡
 above_first true count most counts own none = (own refl, none)
 above_first false count most counts own none = none
 
-by_entry : (slot : ℕ) (job : Job) (start : Histories) (front : List LineTold) (now : Meaning) (entry : LineEntry)
+by_entry : (slot : ℕ) (setup : Setup) (start : Histories) (front : List LineTold) (now : Meaning) (entry : LineEntry)
     (later : List LineTold)
-    (counts : List ℕ) → MeetsAs job start front entry later
+    (counts : List ℕ) → MeetsAs setup start front entry later
     → NoneAbove (count_before start slot + command_count slot (front ++ record { meaning = now; entry = entry }
     ∷ later)) counts
     → NoneAbove (count_before start slot + command_count slot (front ++ record { meaning = now; entry = entry }
     ∷ later))
     (cons_option (commands_told slot entry) counts)
-by_entry slot job start front now (line.N noted) later counts meets none = none
-by_entry slot job start front now (line.C answered) later counts meets none = none
-by_entry slot job start front now (line.P judged) later counts meets none =
+by_entry slot setup start front now (line.N noted) later counts meets none = none
+by_entry slot setup start front now (line.C answered) later counts meets none = none
+by_entry slot setup start front now (line.P judged) later counts meets none =
     above_first (judged.slot == slot) judged.commands
     (count_before start slot + command_count slot (front ++ record { meaning = now; entry = line.P judged }
     ∷ later)) counts
     (λ own. subst (λ s. judged.commands ≤ count_before start s
     + command_count s (front ++ record { meaning = now; entry = line.P judged } ∷ later))
     (eqb-true judged.slot slot own)
-    (met_at_most job start judged.slot front later (record { meaning = now; entry = line.P judged })
+    (met_at_most setup start judged.slot front later (record { meaning = now; entry = line.P judged })
     judged.commands meets)) none
-by_entry slot job start front now (line.F refused) later counts meets none = none
+by_entry slot setup start front now (line.F refused) later counts meets none = none
 
-none_above : (slot n : ℕ) (job : Job) (start : Histories) (front : List LineTold) (made : List Meaning)
+none_above : (slot n : ℕ) (setup : Setup) (start : Histories) (front : List LineTold) (made : List Meaning)
     (entries : List LineEntry)
-    → AnswersAll n made entries → EachFrom (MeetsBounds job start) front (lines_told made entries)
+    → AnswersAll n made entries → EachFrom (MeetsBounds setup start) front (lines_told made entries)
     → NoneAbove (count_before start slot + command_count slot (front ++ lines_told made entries))
     (filter_map (commands_told slot) entries)
-none_above slot n job start front [] [] answers each = tt
-none_above slot n job start front [] (entry ∷ entries) answers each = absurd answers
-none_above slot n job start front (now ∷ made) [] answers each = absurd answers
-none_above slot n job start front (now ∷ made) (entry ∷ entries) answers each =
+none_above slot n setup start front [] [] answers each = tt
+none_above slot n setup start front [] (entry ∷ entries) answers each = absurd answers
+none_above slot n setup start front (now ∷ made) [] answers each = absurd answers
+none_above slot n setup start front (now ∷ made) (entry ∷ entries) answers each =
     let told : LineTold = record { meaning = now; entry = entry } in
     let rest = subst (λ lines. NoneAbove (count_before start slot + command_count slot lines)
     (filter_map (commands_told slot) entries))
     (append_assoc front (told ∷ []) (lines_told made entries))
-    (none_above slot (n + 1) job start (front ++ told ∷ []) made entries answers.1 each.1) in
-    by_entry slot job start front now entry (lines_told made entries)
+    (none_above slot (n + 1) setup start (front ++ told ∷ []) made entries answers.1 each.1) in
+    by_entry slot setup start front now entry (lines_told made entries)
     (filter_map (commands_told slot) entries) each.0 rest
 
-pub counts_within : (job : Job) (slots first : ℕ) (before : Histories) (made : List Meaning) (told : EpochReport)
+pub counts_within : (setup : Setup) (slots first : ℕ) (before : Histories) (made : List Meaning) (told : EpochReport)
     (slot : ℕ)
-    → IsEpochRun job slots first before made told
+    → IsEpochRun setup slots first before made told
     → NoneAbove (length (commands_of (before slot)) + length (commands_accepted slot (told_in made told)))
     (filter_map (commands_told slot) told.lines)
-counts_within job slots first before made told slot run =
-    none_above slot first job before [] made told.lines run.one_each run.bounds
+counts_within setup slots first before made told slot run =
+    none_above slot first setup before [] made told.lines run.one_each run.bounds
 
 pub stand_as_told : EventsStandAsTold
-stand_as_told job slots first before made told slot run =
+stand_as_told setup slots first before made told slot run =
     let placed = placed_counts slot first made told.lines run.one_each in
     let done : ℕ = length (commands_of (before slot)) in
     let commands : List CommandKind = commands_accepted slot (told_in made told) in
@@ -204,6 +204,6 @@ stand_as_told job slots first before made told slot run =
       counts = ordered-places done (length (packets_of (before slot))) commands packets
           (subst (Rises done) (sym placed) (run.counts_rise slot))
           (subst (NoneAbove (done + length commands)) (sym placed)
-          (counts_within job slots first before made told slot run))
+          (counts_within setup slots first before made told slot run))
           ∙ placed;
     }

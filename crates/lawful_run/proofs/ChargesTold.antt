@@ -9,7 +9,7 @@ use Rattle.gate_model.specs.SlotPast.{records_after, records_made}
 use Rattle.gate_model.specs.declared.event.Event.{Event}
 use Rattle.gate_model.proofs.Charges.{records_added}
 use Rattle.report_lines.specs.declared.entry.ChargeEntry.TheVariants.{R, O}
-use Rattle.lawful_run.specs.Job.{Job}
+use Rattle.lawful_run.specs.Setup.{Setup}
 use Rattle.lawful_run.specs.Ledger.{row_by, counters_by, rows_told, opens_told}
 use Rattle.lawful_run.specs.Order.{Histories, events_in, behind}
 use Rattle.lawful_run.specs.Outcomes as made_of
@@ -38,11 +38,11 @@ other_opens slot s (counters ∷ opens) other = rw (ne_eqb s slot other) (other_
 abbrev pub now_events : Histories → List Meaning → EpochReport → ℕ → List Event
 now_events before made told slot = events_in (before slot) (told_in made told) slot
 
-epoch_rows : (job : Job) (slots first : ℕ) (before : Histories) (made : List Meaning) (told : EpochReport)
+epoch_rows : (setup : Setup) (slots first : ℕ) (before : Histories) (made : List Meaning) (told : EpochReport)
     (slot : ℕ) → slot < slots
-    → IsEpochRun job slots first before made told
+    → IsEpochRun setup slots first before made told
     → filter_map (row_by slot) told.rows ≡ records_made slot (before slot) (now_events before made told slot)
-epoch_rows job slots first before made told slot within run =
+epoch_rows setup slots first before made told slot within run =
     ap (filter_map (row_by slot)) run.rows
     ∙ one_of (filter_map (row_by slot)) refl (filter_map-append (row_by slot))
     (λ s. made_of.rows s (before s) (now_events before made told s))
@@ -50,37 +50,37 @@ epoch_rows job slots first before made told slot within run =
     (λ s other. other_rows slot s (records_made s (before s) (now_events before made told s)) other)
     ∙ own_rows slot (records_made slot (before slot) (now_events before made told slot))
 
-rows_from : (job : Job) (slots first : ℕ) (before : Histories) (epochs : List (List Meaning))
+rows_from : (setup : Setup) (slots first : ℕ) (before : Histories) (epochs : List (List Meaning))
     (others : List EpochReport) (slot : ℕ) → slot < slots
-    → AreEpochRuns job slots first before epochs others
+    → AreEpochRuns setup slots first before epochs others
     → records_after slot (before slot) ++ flat_map (λ (told : EpochReport). filter_map (row_by slot) told.rows) others
     ≡ records_after slot (behind_all before epochs others slot)
-rows_from job slots first before [] [] slot within runs = append-nil (records_after slot (before slot))
-rows_from job slots first before [] (told ∷ others) slot within runs = absurd runs
-rows_from job slots first before (made ∷ epochs) [] slot within runs = absurd runs
-rows_from job slots first before (made ∷ epochs) (told ∷ others) slot within runs =
+rows_from setup slots first before [] [] slot within runs = append-nil (records_after slot (before slot))
+rows_from setup slots first before [] (told ∷ others) slot within runs = absurd runs
+rows_from setup slots first before (made ∷ epochs) [] slot within runs = absurd runs
+rows_from setup slots first before (made ∷ epochs) (told ∷ others) slot within runs =
     let rest : List Charged = flat_map (λ (t : EpochReport). filter_map (row_by slot) t.rows) others in
     ap (λ rows. records_after slot (before slot) ++ (rows ++ rest))
-    (epoch_rows job slots first before made told slot within runs.0)
+    (epoch_rows setup slots first before made told slot within runs.0)
     ∙ sym (append_assoc (records_after slot (before slot))
     (records_made slot (before slot) (now_events before made told slot)) rest)
     ∙ ap (λ rows. rows ++ rest) (sym (records_added slot (before slot) (now_events before made told slot)))
-    ∙ rows_from job slots (first + length made) (behind before (told_in made told)) epochs others slot within runs.1
+    ∙ rows_from setup slots (first + length made) (behind before (told_in made told)) epochs others slot within runs.1
 
 -- the events of a slot in all epochs
 abbrev pub all_events : List (List Meaning) → Report → ℕ → List Event
 all_events made report slot = behind_all no_events made report.epochs slot
 
-pub rows_are : (job : Job) (slots : ℕ) (made : List (List Meaning)) (report : Report) (slot : ℕ) → slot < slots
-    → IsRun job slots made report
+pub rows_are : (setup : Setup) (slots : ℕ) (made : List (List Meaning)) (report : Report) (slot : ℕ) → slot < slots
+    → IsRun setup slots made report
     → rows_told slot report ≡ records_after slot (all_events made report slot)
-rows_are job slots made report slot within run =
-    rows_from job slots 1 no_events made report.epochs slot within run.epochs
+rows_are setup slots made report slot within run =
+    rows_from setup slots 1 no_events made report.epochs slot within run.epochs
 
-pub opens_are : (job : Job) (slots : ℕ) (made : List (List Meaning)) (report : Report) (slot : ℕ) → slot < slots
-    → IsRun job slots made report
+pub opens_are : (setup : Setup) (slots : ℕ) (made : List (List Meaning)) (report : Report) (slot : ℕ) → slot < slots
+    → IsRun setup slots made report
     → opens_told slot report ≡ made_of.open_counters slot (all_events made report slot)
-opens_are job slots made report slot within run =
+opens_are setup slots made report slot within run =
     ap (filter_map (counters_by slot)) run.opens
     ∙ one_of (filter_map (counters_by slot)) refl (filter_map-append (counters_by slot))
     (λ s. made_of.opens s (all_events made report s))

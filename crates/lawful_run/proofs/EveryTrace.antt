@@ -6,7 +6,7 @@ use Rattle.gate_model.specs.declared.event.Event.{Event}
 use Rattle.gate_model.specs.declared.event.Event.TheVariants as event
 use Rattle.lawful_run.specs.AnsweredRun.{answered_run, answered_from, answered_epoch, entries_from, behind_lines, behind_epochs, events_after, brought, brings, with_line}
 use Rattle.lawful_run.specs.AtOnce.{LineAtOnce, EpochsAtOnce, AnswersAtOnce}
-use Rattle.lawful_run.specs.Job.{Job}
+use Rattle.lawful_run.specs.Setup.{Setup}
 use Rattle.lawful_run.specs.LinesTold.{lines_told, EachFrom}
 use Rattle.demux.specs.Packets.{numbered}
 use Rattle.lawful_run.specs.Order.{Histories, behind}
@@ -56,22 +56,22 @@ module _ (slots first : ℕ) (before : Histories) (made : List Meaning) where
       (answered_each first before made)
       (at_once_meets before [] (lines_told made (entries_from first before made)) at_once) (counted_none before slot)
 
-  pub answered_epoch_lawful : (job : Job) → IsEpochRun job slots first before made
+  pub answered_epoch_lawful : (setup : Setup) → IsEpochRun setup slots first before made
       (answered_epoch slots first before made)
-  answered_epoch_lawful job = record {
+  answered_epoch_lawful setup = record {
     one_each = answered_each first before made;
     command_numbers = λ slot. (answered_slot slot first before made).command_numbers;
     packet_numbers = λ slot. (answered_slot slot first before made).packet_numbers;
     counts_rise = λ slot. (in_order slot).rises;
-    bounds = within job before (lines_told made (entries_from first before made)) at_once;
+    bounds = within setup before (lines_told made (entries_from first before made)) at_once;
     replies = λ slot. (answered_slot slot first before made).replies
         ∙ sym (ap (made_of.replies slot (before slot)) (in_order slot).events);
     verdicts = λ slot. (answered_slot slot first before made).verdicts
         ∙ sym (ap (made_of.verdicts slot (before slot)) (in_order slot).events);
     effects = λ i. by_slot slots (λ slot. made_of.effects slot (before slot) (sym (in_order slot).events i));
     rows = λ i. by_slot slots (λ slot. made_of.rows slot (before slot) (sym (in_order slot).events i));
-    refusals = not_refused job before (lines_told made (entries_from first before made)) at_once;
-    parking = not_parked job before (lines_told made (entries_from first before made)) at_once;
+    refusals = not_refused setup before (lines_told made (entries_from first before made)) at_once;
+    parking = not_parked setup before (lines_told made (entries_from first before made)) at_once;
   }
 
   pub answered_epoch_at_once : EachFrom (LineAtOnce before) [] (told_in made (answered_epoch slots first before made))
@@ -82,14 +82,14 @@ module _ (slots first : ℕ) (before : Histories) (made : List Meaning) where
   behind_answered = λ i slot. (ap (λ events. before slot ++ events) (in_order slot).events
       ∙ with_brought slot (before slot) made) i
 
-pub answered_from_lawful : (job : Job) (slots first : ℕ) (before : Histories) (epochs : List (List Meaning))
-    → AreEpochRuns job slots first before epochs (answered_from slots first before epochs)
-answered_from_lawful job slots first before [] = tt
-answered_from_lawful job slots first before (made ∷ epochs) = (
-  answered_epoch_lawful slots first before made job,
-  subst (λ h. AreEpochRuns job slots (first + length made) h epochs
+pub answered_from_lawful : (setup : Setup) (slots first : ℕ) (before : Histories) (epochs : List (List Meaning))
+    → AreEpochRuns setup slots first before epochs (answered_from slots first before epochs)
+answered_from_lawful setup slots first before [] = tt
+answered_from_lawful setup slots first before (made ∷ epochs) = (
+  answered_epoch_lawful slots first before made setup,
+  subst (λ h. AreEpochRuns setup slots (first + length made) h epochs
       (answered_from slots (first + length made) (behind_lines before made) epochs))
-      (sym (behind_answered slots first before made)) (answered_from_lawful job slots (first + length made)
+      (sym (behind_answered slots first before made)) (answered_from_lawful setup slots (first + length made)
       (behind_lines before made) epochs),
 )
 
@@ -111,10 +111,10 @@ behind_all_answered slots first before (made ∷ epochs) =
     (behind_answered slots first before made)
     ∙ behind_all_answered slots (first + length made) (behind_lines before made) epochs
 
-pub answered_is_run : (job : Job) (slots : ℕ) (made : List (List Meaning))
-    → IsRun job slots made (answered_run slots made)
-answered_is_run job slots made = record {
-  epochs = answered_from_lawful job slots 1 no_events made;
+pub answered_is_run : (setup : Setup) (slots : ℕ) (made : List (List Meaning))
+    → IsRun setup slots made (answered_run slots made)
+answered_is_run setup slots made = record {
+  epochs = answered_from_lawful setup slots 1 no_events made;
   opens = λ i. by_slot slots (λ slot. made_of.opens slot (sym (behind_all_answered slots 1 no_events made) i slot));
 }
 

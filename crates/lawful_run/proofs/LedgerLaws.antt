@@ -17,7 +17,7 @@ use Rattle.gate_model.specs.declared.event.Event.{Event}
 use Rattle.gate_model.proofs.Charges.{forwarded_told, in_one_piece}
 use Rattle.gate_model.proofs.Sound.{past_sound}
 use Rattle.packet_steps.specs.Rows.{ForwardedRow}
-use Rattle.lawful_run.specs.Job.{Job}
+use Rattle.lawful_run.specs.Setup.{Setup}
 use Rattle.lawful_run.specs.Ledger.{is_of_life, packets_told, sent_for, octets_sent, packets_sent, ReportsArePartitions, EachOctetCharged, EachPacketCharged}
 use Rattle.lawful_run.specs.Outcomes.{open_counters}
 use Rattle.lawful_run.specs.Report.{Report}
@@ -49,8 +49,8 @@ module _ (slot life : ℕ) (events : List Event) where
       ∙ life_rows life (forwarded_after slot events)
       ∙ ap (filter (is_of_life life)) (forwarded_told slot events)
 
-module _ (job : Job) (slots : ℕ) (made : List (List Meaning)) (report : Report) (slot life : ℕ)
-    (run : IsRun job slots made report)
+module _ (setup : Setup) (slots : ℕ) (made : List (List Meaning)) (report : Report) (slot life : ℕ)
+    (run : IsRun setup slots made report)
     (within : slot < slots) where
   story : List Happening
   story = (past_of slot (all_events made report slot)).packets.charged
@@ -61,7 +61,7 @@ module _ (job : Job) (slots : ℕ) (made : List (List Meaning)) (report : Report
   packets_are =
       subst (λ xs. IsPermutation xs (packets_told slot life report))
       (sym (pieces_told slot life (all_events made report slot)))
-      (run_parts slot (is_of_life life) job slots made report within run)
+      (run_parts slot (is_of_life life) setup slots made report within run)
 
 counters_are : (slot life : ℕ) (events : List Event)
     → opens_for life (open_counters slot events) ≡ opens_for life (opens_of (past_of slot events).packets.charged)
@@ -69,17 +69,17 @@ counters_are slot life events =
     let parts = (in_one_piece slot events life).partition in counters_of_life slot life events parts.last parts.counters
 
 pub reports_are_partitions : ReportsArePartitions
-reports_are_partitions job slots made report slot life run within =
+reports_are_partitions setup slots made report slot life run within =
     let events : List Event = all_events made report slot in
     let parts = (in_one_piece slot events life).partition in
     record {
       pieces = parts.pieces;
       last = parts.last;
-      records = rw (rows_are job slots made report slot within run) parts.rows;
-      counters = rw (opens_are job slots made report slot within run)
+      records = rw (rows_are setup slots made report slot within run) parts.rows;
+      counters = rw (opens_are setup slots made report slot within run)
           (subst (λ opens. TellLast opens parts.last) (sym
           (counters_of_life slot life events parts.last parts.counters)) parts.counters);
-      packets = rw (parts.packets) (packets_are job slots made report slot life run within);
+      packets = rw (parts.packets) (packets_are setup slots made report slot life run within);
     }
 
 -- what is counted of packets, with their moments or without
@@ -109,31 +109,31 @@ packets_alike life false ps =
     counted_alike life (λ p. cond (not p.up) 1 0) (λ sent. cond (not sent.up) 1 0) (λ p. refl) ps
 
 pub each_octet_charged : EachOctetCharged
-each_octet_charged job slots made report slot life up run within =
+each_octet_charged setup slots made report slot life up run within =
     let events : List Event = all_events made report slot in
     let happened : List Happening = (past_of slot events).packets.charged in
     rw (
-      rows_are job slots made report slot within run,
-      opens_are job slots made report slot within run,
+      rows_are setup slots made report slot within run,
+      opens_are setup slots made report slot within run,
       counters_are slot life events,
     )
     (each_octet_once happened up life (past_sound slot events).packets.lawful
     ∙ octets_alike life up (packets_of life happened)
     ∙ sym (sum_by-IsPermutation (λ sent. cond up (cond sent.up sent.octets 0) (cond sent.up 0 sent.octets))
     (map (sent_for life) (packets_of life happened))
-    (packets_told slot life report) (packets_are job slots made report slot life run within)))
+    (packets_told slot life report) (packets_are setup slots made report slot life run within)))
 
 pub each_packet_charged : EachPacketCharged
-each_packet_charged job slots made report slot life up run within =
+each_packet_charged setup slots made report slot life up run within =
     let events : List Event = all_events made report slot in
     let happened : List Happening = (past_of slot events).packets.charged in
     rw (
-      rows_are job slots made report slot within run,
-      opens_are job slots made report slot within run,
+      rows_are setup slots made report slot within run,
+      opens_are setup slots made report slot within run,
       counters_are slot life events,
     )
     (each_packet_once happened up life (past_sound slot events).packets.lawful
     ∙ packets_alike life up (packets_of life happened)
     ∙ sym (sum_by-IsPermutation (λ sent. cond (cond up sent.up (not sent.up)) 1 0)
     (map (sent_for life) (packets_of life happened))
-    (packets_told slot life report) (packets_are job slots made report slot life run within)))
+    (packets_told slot life report) (packets_are setup slots made report slot life run within)))

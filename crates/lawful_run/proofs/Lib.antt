@@ -16,7 +16,9 @@ pub mod SentTold
 pub mod OpenCounters
 pub mod LedgerLaws
 pub mod CutEpochs
+pub mod CutLines
 pub mod AsTold
 pub mod WorkedRows
 pub mod ParkedRow
+pub mod LaneRows
 pub mod WholeRow

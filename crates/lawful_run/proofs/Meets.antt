@@ -4,7 +4,7 @@ use Rattle.report_lines.specs.declared.entry.LineEntry.{LineEntry}
 use Rattle.report_lines.specs.declared.entry.LineEntry.TheVariants as line
 use Rattle.lawful_run.specs.AtOnce.{LineAtOnce, EntryAtOnce}
 use Rattle.lawful_run.specs.Bounds.{MeetsBounds, MeetsAs, count_at_once}
-use Rattle.lawful_run.specs.Job.{solo}
+use Rattle.lawful_run.specs.Setup.{solo}
 use Rattle.lawful_run.specs.LinesTold.{LineTold, EachFrom}
 use Rattle.lawful_run.specs.Order.{Histories}
 use Rattle.lawful_run.specs.Refusals.{RefusedWhereFull, RefusedAs}

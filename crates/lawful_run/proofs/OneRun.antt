@@ -9,7 +9,7 @@ use Rattle.report_lines.specs.declared.entry.LineEntry.TheVariants as line
 use Rattle.lawful_run.specs.Answers.{AnswersAll}
 use Rattle.lawful_run.specs.AnsweredRun.{answered_run, answered_from, answered_epoch, entries_from, behind_lines, behind_epochs, brought}
 use Rattle.lawful_run.specs.AtOnce.{LineAtOnce, EntryAtOnce, EpochsAtOnce, AnswersAtOnce}
-use Rattle.lawful_run.specs.Job.{Job, solo}
+use Rattle.lawful_run.specs.Setup.{Setup, solo}
 use Rattle.lawful_run.specs.LinesTold.{LineTold, lines_told, EachFrom}
 use Rattle.lawful_run.specs.Order.{Histories, events_in, behind}
 use Rattle.lawful_run.specs.Outcomes as made_of
@@ -39,8 +39,8 @@ none_refused n start front (now ∷ made) (entry ∷ entries) answers each =
     (not_refused start front entry each.0, none_refused (n + 1) start _ made entries answers.1 each.1)
 
 -- an epoch
-module _ (job : Job) (slots first : ℕ) (before : Histories) (made : List Meaning) (told : EpochReport)
-    (run : IsEpochRun job slots first before made told)
+module _ (setup : Setup) (slots first : ℕ) (before : Histories) (made : List Meaning) (told : EpochReport)
+    (run : IsEpochRun setup slots first before made told)
     (each : EachFrom (LineMeets before) [] (told_in made told)) where
   order : (slot : ℕ) → InLineOrder slot (before slot) made told.lines
   order slot = met_slot slot first before [] (before slot) made told.lines run.one_each each (counted_none before slot)
@@ -48,8 +48,8 @@ module _ (job : Job) (slots first : ℕ) (before : Histories) (made : List Meani
   known : EpochReport
   known = answered_epoch slots first before made
 
-  known_run : IsEpochRun job slots first before made (answered_epoch slots first before made)
-  known_run = answered_epoch_lawful slots first before made job
+  known_run : IsEpochRun setup slots first before made (answered_epoch slots first before made)
+  known_run = answered_epoch_lawful slots first before made setup
 
   known_each : EachFrom (LineMeets before) [] (told_in made (answered_epoch slots first before made))
   known_each = at_once_meets before [] _ (answered_epoch_at_once slots first before made)
@@ -128,34 +128,34 @@ settled_lines n start front (now ∷ made) (entry ∷ entries) answers each =
     λ i. head i ∷ tail i
 
 -- where each line is answered at once, the epoch is that of a gateway that does so
-pub epoch_is_one : (job : Job) (slots first : ℕ) (before : Histories) (made : List Meaning) (told : EpochReport)
-    → IsEpochRun job slots first before made told → EachFrom (LineAtOnce before) [] (told_in made told)
+pub epoch_is_one : (setup : Setup) (slots first : ℕ) (before : Histories) (made : List Meaning) (told : EpochReport)
+    → IsEpochRun setup slots first before made told → EachFrom (LineAtOnce before) [] (told_in made told)
     → told ≡ answered_epoch slots first before made
-epoch_is_one job slots first before made told run once =
+epoch_is_one setup slots first before made told run once =
     let each = at_once_meets before [] (told_in made told) once in
     let lines : told.lines ≡ entries_from first before made =
     sym (settled_lines first before [] made told.lines run.one_each once)
-    ∙ ap (map settled) (lines_are_one job slots first before made told run each)
+    ∙ ap (map settled) (lines_are_one setup slots first before made told run each)
     ∙ settled_lines first before [] made (entries_from first before made)
-    (answered_epoch_lawful slots first before made job).one_each
+    (answered_epoch_lawful slots first before made setup).one_each
     (answered_epoch_at_once slots first before made) in
-    let effects = effects_are_one job slots first before made told run each in
-    let rows = rows_are_one job slots first before made told run each in
+    let effects = effects_are_one setup slots first before made told run each in
+    let rows = rows_are_one setup slots first before made told run each in
     λ i. record { lines = lines i; effects = effects i; rows = rows i }
 
-pub epochs_are_one : (job : Job) (slots first : ℕ) (before : Histories) (epochs : List (List Meaning))
+pub epochs_are_one : (setup : Setup) (slots first : ℕ) (before : Histories) (epochs : List (List Meaning))
     (others : List EpochReport)
-    → AreEpochRuns job slots first before epochs others → EpochsAtOnce before epochs others
+    → AreEpochRuns setup slots first before epochs others → EpochsAtOnce before epochs others
     → others ≡ answered_from slots first before epochs
-epochs_are_one job slots first before [] [] run once = refl
-epochs_are_one job slots first before [] (told ∷ others) run once = absurd run
-epochs_are_one job slots first before (made ∷ epochs) [] run once = absurd run
-epochs_are_one job slots first before (made ∷ epochs) (told ∷ others) run once =
-    let head = epoch_is_one job slots first before made told run.0 once.0 in
-    let same = behind_is_one job slots first before made told run.0
+epochs_are_one setup slots first before [] [] run once = refl
+epochs_are_one setup slots first before [] (told ∷ others) run once = absurd run
+epochs_are_one setup slots first before (made ∷ epochs) [] run once = absurd run
+epochs_are_one setup slots first before (made ∷ epochs) (told ∷ others) run once =
+    let head = epoch_is_one setup slots first before made told run.0 once.0 in
+    let same = behind_is_one setup slots first before made told run.0
     (at_once_meets before [] (told_in made told) once.0) in
-    let tail = epochs_are_one job slots (first + length made) (behind_lines before made) epochs others
-    (subst (λ h. AreEpochRuns job slots (first + length made) h epochs others) same run.1)
+    let tail = epochs_are_one setup slots (first + length made) (behind_lines before made) epochs others
+    (subst (λ h. AreEpochRuns setup slots (first + length made) h epochs others) same run.1)
     (subst (λ h. EpochsAtOnce h epochs others) same once.1) in
     λ i. head i ∷ tail i
 
@@ -185,26 +185,26 @@ solo_epochs_meet slots first before (made ∷ epochs) (told ∷ others) runs = (
   solo_epochs_meet slots (first + length made) (behind before (told_in made told)) epochs others runs.1,
 )
 
-pub events_behind : (job : Job) (slots first : ℕ) (before : Histories) (epochs : List (List Meaning))
+pub events_behind : (setup : Setup) (slots first : ℕ) (before : Histories) (epochs : List (List Meaning))
     (others : List EpochReport)
-    → AreEpochRuns job slots first before epochs others → EpochsMeet before epochs others
+    → AreEpochRuns setup slots first before epochs others → EpochsMeet before epochs others
     → behind_all before epochs others ≡ behind_epochs before epochs
-events_behind job slots first before [] others runs meet = refl
-events_behind job slots first before (made ∷ epochs) [] runs meet = absurd runs
-events_behind job slots first before (made ∷ epochs) (told ∷ others) runs meet =
-    let same = behind_is_one job slots first before made told runs.0 meet.0 in
+events_behind setup slots first before [] others runs meet = refl
+events_behind setup slots first before (made ∷ epochs) [] runs meet = absurd runs
+events_behind setup slots first before (made ∷ epochs) (told ∷ others) runs meet =
+    let same = behind_is_one setup slots first before made told runs.0 meet.0 in
     ap (λ h. behind_all h epochs others) same
-    ∙ events_behind job slots (first + length made) (behind_lines before made) epochs others
-    (subst (λ h. AreEpochRuns job slots (first + length made) h epochs others) same runs.1)
+    ∙ events_behind setup slots (first + length made) (behind_lines before made) epochs others
+    (subst (λ h. AreEpochRuns setup slots (first + length made) h epochs others) same runs.1)
     (subst (λ h. EpochsMeet h epochs others) same meet.1)
 
 -- the run that answers at once is one
-pub run_is_one : (job : Job) (slots : ℕ) (made : List (List Meaning)) (report : Report)
-    → IsRun job slots made report → AnswersAtOnce made report
+pub run_is_one : (setup : Setup) (slots : ℕ) (made : List (List Meaning)) (report : Report)
+    → IsRun setup slots made report → AnswersAtOnce made report
     → report ≡ answered_run slots made
-run_is_one job slots made report run once =
-    let epochs = epochs_are_one job slots 1 no_events made report.epochs run.epochs once in
-    let events = events_behind job slots 1 no_events made report.epochs run.epochs
+run_is_one setup slots made report run once =
+    let epochs = epochs_are_one setup slots 1 no_events made report.epochs run.epochs once in
+    let events = events_behind setup slots 1 no_events made report.epochs run.epochs
     (at_once_epochs_meet no_events made report.epochs once) in
     let opens : report.opens ≡ by_slot slots (λ slot. made_of.opens slot (behind_epochs no_events made slot)) =
     run.opens ∙ (λ i. by_slot slots (λ slot. made_of.opens slot (events i slot))) in

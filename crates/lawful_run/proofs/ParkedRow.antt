@@ -7,7 +7,7 @@ use Rattle.rate_policer.specs.Conforming.{conforms}
 use Rattle.std.proofs.lemmas.List.Elements.{All-nil, All-cons}
 use Rattle.lawful_run.specs.Accepted.{commands_accepted, packets_accepted}
 use Rattle.lawful_run.specs.Bounds.{Rises}
-use Rattle.lawful_run.specs.Job.{sliced}
+use Rattle.lawful_run.specs.Setup.{sliced}
 use Rattle.lawful_run.specs.Order.{events_in}
 use Rattle.lawful_run.specs.Outcomes as made_of
 use Rattle.lawful_run.specs.Report.{EpochReport}

@@ -18,7 +18,7 @@ use Rattle.gate_model.specs.declared.event.Event.TheVariants as event
 use Rattle.gate_model.proofs.Following.{past-append}
 use Rattle.report_lines.specs.declared.entry.LineEntry.{LineEntry}
 use Rattle.report_lines.specs.declared.entry.LineEntry.TheVariants as line
-use Rattle.lawful_run.specs.Job.{Job}
+use Rattle.lawful_run.specs.Setup.{Setup}
 use Rattle.lawful_run.specs.Ledger.{sent_by_line, sent_by_effected, lines_sent, effects_sent}
 use Rattle.lawful_run.specs.Order.{Histories, behind}
 use Rattle.lawful_run.specs.Outcomes as made_of
@@ -158,12 +158,12 @@ module _ (slot : ℕ) (p : Sent → Bool) where
       (IsPermutation-refl (filter p sent))) (event_parts more events)))
 
   -- an epoch
-  epoch_parts : (job : Job) (slots first : ℕ) (before : Histories) (made : List Meaning) (told : EpochReport)
+  epoch_parts : (setup : Setup) (slots first : ℕ) (before : Histories) (made : List Meaning) (told : EpochReport)
       → slot < slots
-      → IsEpochRun job slots first before made told
+      → IsEpochRun setup slots first before made told
       → IsPermutation (filter p (sent_in (told_from (past_of slot (before slot)) (now_events before made told slot))))
       (filter p (flat_map (sent_by_line slot) told.lines) ++ filter p (flat_map (sent_by_effected slot) told.effects))
-  epoch_parts job slots first before made told within run =
+  epoch_parts setup slots first before made told within run =
       let now : List Event = now_events before made told slot in
       let lines_are : flat_map (sent_by_line slot) told.lines ≡ by_verdicts (made_of.verdicts slot (before slot) now) =
       lines_forward slot told.lines ∙ ap by_verdicts (run.verdicts slot) in
@@ -198,16 +198,16 @@ module _ (slot : ℕ) (p : Sent → Bool) where
       ∙ append_assoc (before slot) (now_events before made told slot)
       (events_told (behind before (told_in made told)) epochs others)
 
-  parts_from : (job : Job) (slots first : ℕ) (before : Histories) (epochs : List (List Meaning))
+  parts_from : (setup : Setup) (slots first : ℕ) (before : Histories) (epochs : List (List Meaning))
       (others : List EpochReport) → slot < slots
-      → AreEpochRuns job slots first before epochs others
+      → AreEpochRuns setup slots first before epochs others
       → IsPermutation (filter p (sent_in (told_from (past_of slot (before slot)) (events_told before epochs others))))
       (filter p (lines_sent slot others) ++ filter p (effects_sent slot others))
   unfolding events_told
-  parts_from job slots first before [] [] within runs = IsPermutation-refl []
-  parts_from job slots first before [] (told ∷ others) within runs = absurd runs
-  parts_from job slots first before (made ∷ epochs) [] within runs = absurd runs
-  parts_from job slots first before (made ∷ epochs) (told ∷ others) within runs =
+  parts_from setup slots first before [] [] within runs = IsPermutation-refl []
+  parts_from setup slots first before [] (told ∷ others) within runs = absurd runs
+  parts_from setup slots first before (made ∷ epochs) [] within runs = absurd runs
+  parts_from setup slots first before (made ∷ epochs) (told ∷ others) within runs =
       let now : List Event = now_events before made told slot in
       let next : Histories = behind before (told_in made told) in
       let later : List Event = events_told next epochs others in
@@ -226,18 +226,18 @@ module _ (slot : ℕ) (p : Sent → Bool) where
       (sym (filter-append p effects (effects_sent slot others)))
       (four_parts (filter p here) (filter p there) (filter p lines) (filter p effects)
       (filter p (lines_sent slot others)) (filter p (effects_sent slot others))
-      (epoch_parts job slots first before made told within runs.0)
-      (parts_from job slots (first + length made) next epochs others within runs.1))))
+      (epoch_parts setup slots first before made told within runs.0)
+      (parts_from setup slots (first + length made) next epochs others within runs.1))))
 
   -- so in a whole run
-  pub run_parts : (job : Job) (slots : ℕ) (made : List (List Meaning)) (report : Report) → slot < slots
-      → IsRun job slots made report
+  pub run_parts : (setup : Setup) (slots : ℕ) (made : List (List Meaning)) (report : Report) → slot < slots
+      → IsRun setup slots made report
       → IsPermutation (filter p (sent_in (story_of slot (all_events made report slot))))
       (filter p (lines_sent slot report.epochs ++ effects_sent slot report.epochs))
-  run_parts job slots made report within run =
+  run_parts setup slots made report within run =
       subst (λ events. IsPermutation (filter p (sent_in (story_of slot events)))
       (filter p (lines_sent slot report.epochs ++ effects_sent slot report.epochs)))
       (sym (events_behind_all no_events made report.epochs))
       (subst (IsPermutation (filter p (sent_in (story_of slot (events_told no_events made report.epochs)))))
       (sym (filter-append p (lines_sent slot report.epochs) (effects_sent slot report.epochs)))
-      (parts_from job slots 1 no_events made report.epochs within run.epochs))
+      (parts_from setup slots 1 no_events made report.epochs within run.epochs))

@@ -5,7 +5,7 @@ use Rattle.rate_policer.specs.Conforming.{conforms}
 use Rattle.report_lines.specs.declared.entry.ChargeEntry.{ChargeEntry}
 use Rattle.report_lines.specs.declared.entry.ChargeEntry.TheVariants.{R, O}
 use Rattle.lawful_run.specs.AnsweredRun.{answered_run}
-use Rattle.lawful_run.specs.Job.{Job, solo, sliced}
+use Rattle.lawful_run.specs.Setup.{Setup, solo, sliced}
 use Rattle.lawful_run.specs.Run.{IsRun}
 use Rattle.lawful_run.specs.Worked.{attach, rerate, uplink, moved, attached, forwarded, forwarded_parked, refused_command, refused_packet, moved_entry, open_with, open_again, gone_row, epoch_of, epoch_with, report_of, answered_late, nothing_counted}
 use Rattle.lawful_run.proofs.EveryTrace.{answered_is_run}
@@ -23,17 +23,17 @@ first_slot (O slot counters ∷ others) = slot
 untrue : IsTrue false → ⊥
 untrue is = cc
 
--- An order to attach and a packet: answered at once, this is lawful under any job.
+-- An order to attach and a packet: answered at once, this is lawful under any setup.
 answered : answered_run 1 ((attach 0 ∷ uplink ∷ []) ∷ [])
     ≡ report_of (epoch_of (attached 1 0 0 ∷ forwarded 2 0 1 ∷ []) ∷ []) (open_with 20 1 ∷ [])
 unfolding happens conforms
 answered = refl
 
-attach_and_uplink : (job : Job)
-    → IsRun job 1 ((attach 0 ∷ uplink ∷ []) ∷ []) (report_of (epoch_of (attached 1 0 0 ∷ forwarded 2 0 1 ∷ [])
+attach_and_uplink : (setup : Setup)
+    → IsRun setup 1 ((attach 0 ∷ uplink ∷ []) ∷ []) (report_of (epoch_of (attached 1 0 0 ∷ forwarded 2 0 1 ∷ [])
     ∷ []) (open_with 20 1 ∷ []))
-attach_and_uplink job = subst (IsRun job 1 ((attach 0 ∷ uplink ∷ []) ∷ [])) answered
-    (answered_is_run job 1 ((attach 0 ∷ uplink ∷ []) ∷ []))
+attach_and_uplink setup = subst (IsRun setup 1 ((attach 0 ∷ uplink ∷ []) ∷ [])) answered
+    (answered_is_run setup 1 ((attach 0 ∷ uplink ∷ []) ∷ []))
 
 -- The packet can't have met no command: the order came in an epoch before, or before a move.
 stale_after_epoch : (slices room lane : ℕ) (opens : List ChargeEntry)
@@ -79,20 +79,20 @@ refused_packet_with_room slices room opens run = elim run.epochs.0.refusals.1.1.
 ]
 
 -- A packet isn't parked without a move, nor behind one that isn't.
-parked_without_move : (job : Job) (opens : List ChargeEntry)
-    → IsRun job 1 ((attach 0 ∷ uplink ∷ []) ∷ []) (report_of
+parked_without_move : (setup : Setup) (opens : List ChargeEntry)
+    → IsRun setup 1 ((attach 0 ∷ uplink ∷ []) ∷ []) (report_of
     (epoch_of (attached 1 0 0 ∷ forwarded_parked 2 0 1 ∷ []) ∷ []) opens) → ⊥
-parked_without_move job opens run = untrue run.epochs.0.parking.1.0.0
+parked_without_move setup opens run = untrue run.epochs.0.parking.1.0.0
 
 -- The commands of a slot are numbered from 0 on, and each line has its entry.
-number_left_out : (job : Job) (opens : List ChargeEntry)
-    → IsRun job 1 ((attach 0 ∷ []) ∷ []) (report_of (epoch_of (attached 1 0 1 ∷ []) ∷ []) opens) → ⊥
-number_left_out job opens run =
+number_left_out : (setup : Setup) (opens : List ChargeEntry)
+    → IsRun setup 1 ((attach 0 ∷ []) ∷ []) (report_of (epoch_of (attached 1 0 1 ∷ []) ∷ []) opens) → ⊥
+number_left_out setup opens run =
     let is : 1 ≡ 0 = ap first_of (run.epochs.0.command_numbers 0) in absurd (omega (arith, is))
 
-entry_left_out : (job : Job) (opens : List ChargeEntry)
-    → IsRun job 1 ((attach 0 ∷ uplink ∷ []) ∷ []) (report_of (epoch_of (attached 1 0 0 ∷ []) ∷ []) opens) → ⊥
-entry_left_out job opens run = run.epochs.0.one_each.1
+entry_left_out : (setup : Setup) (opens : List ChargeEntry)
+    → IsRun setup 1 ((attach 0 ∷ uplink ∷ []) ∷ []) (report_of (epoch_of (attached 1 0 0 ∷ []) ∷ []) opens) → ⊥
+entry_left_out setup opens run = run.epochs.0.one_each.1
 
 -- Two subscribers attach, and attach again: the records of an epoch stand by slot.
 records_by_slot : answered_run 2 ((attach 0 ∷ attach 1 ∷ attach 1 ∷ attach 0 ∷ []) ∷ []) ≡ report_of
@@ -102,12 +102,12 @@ records_by_slot : answered_run 2 ((attach 0 ∷ attach 1 ∷ attach 1 ∷ attach
 unfolding happens
 records_by_slot = refl
 
-records_out_of_order : (job : Job) (opens : List ChargeEntry)
-    → IsRun job 2 ((attach 0 ∷ attach 1 ∷ attach 1 ∷ attach 0 ∷ []) ∷ []) (report_of
+records_out_of_order : (setup : Setup) (opens : List ChargeEntry)
+    → IsRun setup 2 ((attach 0 ∷ attach 1 ∷ attach 1 ∷ attach 0 ∷ []) ∷ []) (report_of
     (epoch_with (attached 1 0 0 ∷ attached 2 1 0 ∷ attached 3 1 1 ∷ attached 4 0 1 ∷ []) (gone_row 1 ∷ gone_row 0
     ∷ []) ∷ []) opens) → ⊥
 unfolding happens
-records_out_of_order job opens run = let is : 1 ≡ 0 = ap first_slot run.epochs.0.rows in absurd (omega (arith, is))
+records_out_of_order setup opens run = let is : 1 ≡ 0 = ap first_slot run.epochs.0.rows in absurd (omega (arith, is))
 
 -- The open counters of a slot stand by index, whichever bearer became active first.
 opens_by_index : (answered_run 1 (answered_late ∷ [])).opens ≡ nothing_counted 0 5 ∷ nothing_counted 1 6

@@ -4,7 +4,7 @@ use Rattle.gate_model.specs.Events.{commands_of}
 use Rattle.report_lines.specs.declared.entry.LineEntry.{LineEntry}
 use Rattle.report_lines.specs.declared.entry.LineEntry.TheVariants as line
 use Rattle.lawful_run.specs.Accepted.{command_count}
-use Rattle.lawful_run.specs.Job.{Job, solo, sliced}
+use Rattle.lawful_run.specs.Setup.{Setup, solo, sliced}
 use Rattle.lawful_run.specs.LinesTold.{LineTold}
 use Rattle.lawful_run.specs.Moves.{before_last_move, before_next_move}
 use Rattle.lawful_run.specs.Order.{Histories}
@@ -27,19 +27,19 @@ abbrev pub count_at_once : Histories → ℕ → List LineTold → ℕ
 count_at_once histories slot before = count_before histories slot + command_count slot before
 
 -- a packet meets a count within the bounds, and on one thread just the commands before it
-abbrev pub MayMeet : Job → Histories → ℕ → List LineTold → List LineTold → ℕ → Type 0
+abbrev pub MayMeet : Setup → Histories → ℕ → List LineTold → List LineTold → ℕ → Type 0
 MayMeet solo histories slot before later commands = commands ≡ count_at_once histories slot before
 MayMeet (sliced slices room lane) histories slot before later commands =
     (least_count histories slot before ≤ commands) × (commands ≤ most_count histories slot before later)
 
-abbrev pub MeetsAs : Job → Histories → List LineTold → LineEntry → List LineTold → Type 0
-MeetsAs job histories before (line.N noted) later = Unit {0}
-MeetsAs job histories before (line.C answered) later = Unit {0}
-MeetsAs job histories before (line.P judged) later = MayMeet job histories judged.slot before later judged.commands
-MeetsAs job histories before (line.F refused) later = Unit {0}
+abbrev pub MeetsAs : Setup → Histories → List LineTold → LineEntry → List LineTold → Type 0
+MeetsAs setup histories before (line.N noted) later = Unit {0}
+MeetsAs setup histories before (line.C answered) later = Unit {0}
+MeetsAs setup histories before (line.P judged) later = MayMeet setup histories judged.slot before later judged.commands
+MeetsAs setup histories before (line.F refused) later = Unit {0}
 
-abbrev pub MeetsBounds : Job → Histories → List LineTold → LineTold → List LineTold → Type 0
-MeetsBounds job histories before now later = MeetsAs job histories before now.entry later
+abbrev pub MeetsBounds : Setup → Histories → List LineTold → LineTold → List LineTold → Type 0
+MeetsBounds setup histories before now later = MeetsAs setup histories before now.entry later
 
 -- counts don't fall, and begin from the least
 abbrev pub Rises : ℕ → List ℕ → Type 0

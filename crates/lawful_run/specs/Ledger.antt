@@ -12,7 +12,7 @@ use Rattle.report_lines.specs.declared.entry.ChargeEntry.{ChargeEntry}
 use Rattle.report_lines.specs.declared.entry.ChargeEntry.TheVariants.{R, O}
 use Rattle.report_lines.specs.declared.entry.LineEntry.{LineEntry}
 use Rattle.report_lines.specs.declared.entry.LineEntry.TheVariants as line
-use Rattle.lawful_run.specs.Job.{Job}
+use Rattle.lawful_run.specs.Setup.{Setup}
 use Rattle.lawful_run.specs.Report.{EpochReport, Report}
 use Rattle.lawful_run.specs.Run.{IsRun}
 
@@ -71,8 +71,8 @@ pub record IsPartition (slot life : ℕ) (report : Report) : Type 0 where
       (packets_told slot life report)
 
 abbrev pub ReportsArePartitions : Type 0
-ReportsArePartitions = (job : Job) (slots : ℕ) (made : List (List Meaning)) (report : Report) (slot life : ℕ)
-    → IsRun job slots made report → slot < slots → IsPartition slot life report
+ReportsArePartitions = (setup : Setup) (slots : ℕ) (made : List (List Meaning)) (report : Report) (slot life : ℕ)
+    → IsRun setup slots made report → slot < slots → IsPartition slot life report
 
 -- the octets of packets one way · how many go one way
 abbrev pub octets_sent : Bool → List Sent → ℕ
@@ -84,14 +84,16 @@ packets_sent up packets = count_by (λ sent. if up then sent.up else not sent.up
 
 -- so records and open counters have the octets of the forwarded packets, for each slot, life and direction
 abbrev pub EachOctetCharged : Type 0
-EachOctetCharged = (job : Job) (slots : ℕ) (made : List (List Meaning)) (report : Report) (slot life : ℕ) (up : Bool)
-    → IsRun job slots made report → slot < slots
+EachOctetCharged =
+    (setup : Setup) (slots : ℕ) (made : List (List Meaning)) (report : Report) (slot life : ℕ) (up : Bool)
+    → IsRun setup slots made report → slot < slots
     → charged_octets up life (rows_told slot report) + open_octets up life (opens_told slot report)
     ≡ octets_sent up (packets_told slot life report)
 
 -- and these packets themselves
 abbrev pub EachPacketCharged : Type 0
-EachPacketCharged = (job : Job) (slots : ℕ) (made : List (List Meaning)) (report : Report) (slot life : ℕ) (up : Bool)
-    → IsRun job slots made report → slot < slots
+EachPacketCharged =
+    (setup : Setup) (slots : ℕ) (made : List (List Meaning)) (report : Report) (slot life : ℕ) (up : Bool)
+    → IsRun setup slots made report → slot < slots
     → charged_packets up life (rows_told slot report) + open_packets up life (opens_told slot report)
     ≡ packets_sent up (packets_told slot life report)

@@ -1,4 +1,4 @@
-pub mod Job
+pub mod Setup
 pub mod Report
 pub mod LinesTold
 pub mod Answers
@@ -14,6 +14,7 @@ pub mod Run
 pub mod AtOnce
 pub mod AnsweredRun
 pub mod Trace
+pub mod Cut
 pub mod Ledger
 pub mod Placing
 pub mod Worked

@@ -46,7 +46,8 @@ rows slot before events = map (R slot) (records_made slot before events)
 -- the open counters of the bearers that are active behind all events, by index
 abbrev pub open_counters : ℕ → List Event → List Counters
 open_counters slot events =
-    map (λ (bearer : ActiveBearer). open_at (past_of slot events).packets.charged bearer.life) (version_after slot events).bearers
+    map (λ (bearer : ActiveBearer). open_at (past_of slot events).packets.charged bearer.life)
+    (version_after slot events).bearers
 
 abbrev pub opens : ℕ → List Event → List ChargeEntry
 opens slot events = map (O slot) (open_counters slot events)

@@ -1,5 +1,6 @@
 -- Where a packet may be parked: behind a move of its slot, and before those that aren't.
-use Rattle.std.specs.Prelude.{ℕ, ◌==◌, Bool, true, false, if◌then◌else◌, IsTrue, Option, Some, None, List, filter_map, All}
+use Rattle.std.specs.Prelude.{ℕ, ◌==◌, Bool, true, false, if◌then◌else◌, IsTrue, Option, Some, None, List}
+use Rattle.std.specs.Prelude.{filter_map, All}
 use Rattle.report_lines.specs.declared.entry.LineEntry.{LineEntry}
 use Rattle.report_lines.specs.declared.entry.LineEntry.TheVariants as line
 use Rattle.lawful_run.specs.LinesTold.{LineTold}

@@ -7,7 +7,7 @@ use Rattle.gate_model.specs.declared.event.Event.{Event}
 use Rattle.gate_model.specs.declared.event.Event.TheVariants as event
 use Rattle.pc_base.specs.declared.packet.Packet.{Packet}
 use Rattle.lawful_run.specs.Accepted.{Placed, commands_accepted, packets_accepted}
-use Rattle.lawful_run.specs.Job.{Job}
+use Rattle.lawful_run.specs.Setup.{Setup}
 use Rattle.lawful_run.specs.Order.{Histories, events_in}
 use Rattle.lawful_run.specs.Report.{EpochReport}
 use Rattle.lawful_run.specs.Run.{told_in, IsEpochRun}
@@ -33,7 +33,7 @@ pub record StandAsTold (before events : List Event) (slot : ℕ) (made : List Me
   pub counts : places (length (commands_of before)) events ≡ filter_map (commands_told slot) told.lines
 
 abbrev pub EventsStandAsTold : Type 0
-EventsStandAsTold = (job : Job) (slots first : ℕ) (before : Histories) (made : List Meaning) (told : EpochReport)
+EventsStandAsTold = (setup : Setup) (slots first : ℕ) (before : Histories) (made : List Meaning) (told : EpochReport)
     (slot : ℕ)
-    → IsEpochRun job slots first before made told
+    → IsEpochRun setup slots first before made told
     → StandAsTold (before slot) (events_in (before slot) (told_in made told) slot) slot made told

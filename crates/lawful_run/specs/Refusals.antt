@@ -6,7 +6,7 @@ use Rattle.demux.specs.Trace.{Meaning, command, packet, move, note}
 use Rattle.report_lines.specs.declared.entry.LineEntry.{LineEntry}
 use Rattle.report_lines.specs.declared.entry.LineEntry.TheVariants as line
 use Rattle.lawful_run.specs.Accepted.{is_refused, command_count, packets_accepted}
-use Rattle.lawful_run.specs.Job.{Job, solo, sliced}
+use Rattle.lawful_run.specs.Setup.{Setup, solo, sliced}
 use Rattle.lawful_run.specs.LinesTold.{LineTold}
 use Rattle.lawful_run.specs.Moves.{is_moved}
 
@@ -62,16 +62,16 @@ abbrev pub MayRefuseCommand : ℕ → ℕ → List LineTold → Type 0
 MayRefuseCommand room slot before = room ≤ command_count slot before
 
 -- on one thread nothing is refused
-abbrev pub MayRefuse : Job → ℕ → Bool → List LineTold → LineTold → Type 0
+abbrev pub MayRefuse : Setup → ℕ → Bool → List LineTold → LineTold → Type 0
 MayRefuse solo slot of_packet before now = ⊥
 MayRefuse (sliced slices room lane) slot true before now = MayRefusePacket room lane slot before now
 MayRefuse (sliced slices room lane) slot false before now = MayRefuseCommand room slot before
 
-abbrev pub RefusedAs : Job → List LineTold → LineTold → LineEntry → Type 0
-RefusedAs job before now (line.N noted) = Unit {0}
-RefusedAs job before now (line.C answered) = Unit {0}
-RefusedAs job before now (line.P judged) = Unit {0}
-RefusedAs job before now (line.F refused) = MayRefuse job refused.slot refused.packet before now
+abbrev pub RefusedAs : Setup → List LineTold → LineTold → LineEntry → Type 0
+RefusedAs setup before now (line.N noted) = Unit {0}
+RefusedAs setup before now (line.C answered) = Unit {0}
+RefusedAs setup before now (line.P judged) = Unit {0}
+RefusedAs setup before now (line.F refused) = MayRefuse setup refused.slot refused.packet before now
 
-abbrev pub RefusedWhereFull : Job → List LineTold → LineTold → List LineTold → Type 0
-RefusedWhereFull job before now later = RefusedAs job before now now.entry
+abbrev pub RefusedWhereFull : Setup → List LineTold → LineTold → List LineTold → Type 0
+RefusedWhereFull setup before now later = RefusedAs setup before now now.entry

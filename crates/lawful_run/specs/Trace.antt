@@ -6,7 +6,7 @@ use Rattle.trace_lines.specs.Line.{Line}
 use Rattle.trace_lines.specs.Word.{word_of}
 use Rattle.demux.specs.Trace.{Meaning, command, packet, move, note, book_of, meaning, destination_after}
 use Rattle.lawful_run.specs.AnsweredRun.{answered_run}
-use Rattle.lawful_run.specs.Job.{Job, slices_of}
+use Rattle.lawful_run.specs.Setup.{Setup, slices_of}
 use Rattle.lawful_run.specs.Report.{Report}
 use Rattle.lawful_run.specs.Run.{IsRun}
 
@@ -69,9 +69,9 @@ open_epoch (line ∷ lines) = (line ∷ lines) ∷ []
 abbrev pub slots_of : Input → ℕ
 slots_of input = length (book_of input.lines)
 
--- a report that the trace may have under a job, and that of a gateway which answers at once
-abbrev pub IsReport : Job → Input → Report → Type 0
-IsReport job input report = IsRun job (slots_of input) (epochs_told (slices_of job) input) report
+-- a report that the trace may have under a setup, and that of a gateway which answers at once
+abbrev pub IsReport : Setup → Input → Report → Type 0
+IsReport setup input report = IsRun setup (slots_of input) (epochs_told (slices_of setup) input) report
 
-abbrev pub answered_report : Job → Input → Report
-answered_report job input = answered_run (slots_of input) (epochs_told (slices_of job) input)
+abbrev pub answered_report : Setup → Input → Report
+answered_report setup input = answered_run (slots_of input) (epochs_told (slices_of setup) input)

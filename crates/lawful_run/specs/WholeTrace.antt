@@ -1,4 +1,5 @@
--- A whole trace: a session by signalling and one by order, a second bearer, packets both ways, moves, and the session's end
+-- A whole trace: a session by signalling and one by order, a second bearer, packets both ways, moves,
+-- and the session's end
 -- over four epochs; and its report.
 use Rattle.std.specs.Prelude.{ℕ, false, Option, Some, None, List, [], ◌∷◌, ◌++◌, codes}
 use Rattle.pc_base.specs.declared.packet.Place.TheVariants.{Closing}

@@ -1,5 +1,5 @@
 -- Small traces, and reports that they may and may not have.
-use Rattle.std.specs.Prelude.{ℕ, Bool, true, false, Some, None, List, [], ◌∷◌}
+use Rattle.std.specs.Prelude.{ℕ, Bool, true, false, Some, None, List, [], ◌∷◌, codes}
 use Rattle.pc_base.specs.declared.packet.Place.TheVariants.{Closing}
 use Rattle.pc_base.specs.declared.packet.Verdict.TheVariants as verdict
 use Rattle.pc_base.specs.declared.packet.Way.TheVariants as way
@@ -10,6 +10,9 @@ use Rattle.tft_codec.specs.declared.tft.Tft.{Tft}
 use Rattle.tft_codec.specs.declared.tft.Tft.TheVariants.{Create}
 use Rattle.control_steps.specs.declared.command.CommandKind.TheVariants as order
 use Rattle.demux.specs.Trace.{Meaning, command, packet, move}
+use Rattle.trace_lines.specs.Line.{Line}
+use Rattle.trace_lines.specs.declared.line.LineKind.{LineKind}
+use Rattle.trace_lines.specs.declared.line.LineKind.TheVariants as kind
 use Rattle.report_lines.specs.declared.entry.LineEntry.{LineEntry}
 use Rattle.report_lines.specs.declared.entry.LineEntry.TheVariants as line
 use Rattle.report_lines.specs.declared.entry.ChargeEntry.{ChargeEntry}
@@ -25,8 +28,11 @@ octets =
     0x45 ∷ 0 ∷ 0 ∷ 20 ∷ 0 ∷ 0 ∷ 0 ∷ 0 ∷ 0x40 ∷ 0xfd ∷ 0 ∷ 0 ∷ 10 ∷ 45 ∷ 0 ∷ 2 ∷ 203 ∷
     0 ∷ 113 ∷ 9 ∷ []
 
+abbrev pub uplink_of : ℕ → Meaning
+uplink_of slot = packet slot (record { moment = 5; way = way.Up 0; ip = octets })
+
 abbrev pub uplink : Meaning
-uplink = packet 0 (record { moment = 5; way = way.Up 0; ip = octets })
+uplink = uplink_of 0
 
 abbrev pub moved : Meaning
 moved = move 0 1 (109 ∷ [])
@@ -66,8 +72,11 @@ moved_entry n = line.N (record { line = n; note = 109 ∷ [] })
 abbrev pub refused_command : ℕ → LineEntry
 refused_command n = line.F (record { line = n; slot = 0; packet = false })
 
+abbrev pub refused_packet_of : ℕ → ℕ → LineEntry
+refused_packet_of slot n = line.F (record { line = n; slot = slot; packet = true })
+
 abbrev pub refused_packet : ℕ → LineEntry
-refused_packet n = line.F (record { line = n; slot = 0; packet = true })
+refused_packet = refused_packet_of 0
 
 -- the open counters of a first life, and the record of one that is gone
 abbrev pub open_with : ℕ → ℕ → ChargeEntry
@@ -145,3 +154,16 @@ nothing_counted life ebi = O 0 (record {
   up_packets = 0;
   down_packets = 0;
 })
+
+-- lines of a trace: an order to attach, and moves of this subscriber
+abbrev pub imsi : List ℕ
+imsi = codes "001010123456789"
+
+abbrev pub line_of : ℕ → LineKind → Line
+line_of n says = record { number = n; moment = n; kind = says }
+
+abbrev pub attach_line : Line
+attach_line = line_of 1 (kind.Attach imsi (record { teid = 0xa01; addr = 0xc633_6407 }) 1000 1000)
+
+abbrev pub move_line : ℕ → ℕ → Line
+move_line n slice = line_of n (kind.Move imsi slice)

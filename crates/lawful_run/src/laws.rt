@@ -2,10 +2,11 @@
 ghost use Rattle.std.specs.Prelude.{◌≡◌, ℕ, ◌+◌, ◌≤◌, List, [], ◌∷◌, ◌++◌, length, flat_map, false};
 ghost use Rattle.demux.specs.Trace.{Meaning};
 ghost use Rattle.gate_model.specs.declared.event.Event.{Event};
-ghost use Rattle.lawful_run.specs.AnsweredRun.{answered_run, answered_from, answered_epoch, behind_epochs, behind_lines};
+ghost use Rattle.lawful_run.specs.AnsweredRun.{answered_run, answered_from, answered_epoch, behind_epochs};
+ghost use Rattle.lawful_run.specs.AnsweredRun.{behind_lines};
 ghost use Rattle.lawful_run.specs.AnsweredRun.{entries_from, entry_after, events_after, with_line, brought, brings};
 ghost use Rattle.lawful_run.specs.AtOnce.{AnswersAtOnce};
-ghost use Rattle.lawful_run.specs.Job.{Job, solo};
+ghost use Rattle.lawful_run.specs.Setup.{Setup, solo};
 ghost use Rattle.lawful_run.specs.Ledger.{ReportsArePartitions, EachOctetCharged, EachPacketCharged};
 ghost use Rattle.lawful_run.specs.Order.{Histories};
 ghost use Rattle.lawful_run.specs.Outcomes.{opens};
@@ -15,20 +16,20 @@ ghost use Rattle.lawful_run.specs.Run.{IsRun, by_slot};
 ghost use Rattle.lawful_run.specs.Trace.{IsReport, answered_report};
 ghost use Rattle.trace_lines.specs.Input.{Input};
 
-/// Every trace has a lawful run that answers at once, whatever the job.
+/// Every trace has a lawful run that answers at once, whatever the setup.
 pub fn every_trace_has_a_run()
-    ensures lawful { (job : Job) (slots : ℕ) (made : List (List Meaning))
-        → IsRun job slots made (answered_run slots made) }
+    ensures lawful { (setup : Setup) (slots : ℕ) (made : List (List Meaning))
+        → IsRun setup slots made (answered_run slots made) }
     ensures at_once { (slots : ℕ) (made : List (List Meaning)) → AnswersAtOnce made (answered_run slots made) }
 
     // So has each input, whatever its octets say and wherever it stops.
-    ensures report { (job : Job) (input : Input) → IsReport job input (answered_report job input) }
+    ensures report { (setup : Setup) (input : Input) → IsReport setup input (answered_report setup input) }
 {}
 
-/// No other lawful run answers at once, whatever the job.
+/// No other lawful run answers at once, whatever the setup.
 pub fn one_run_answers_at_once()
-    ensures { (job : Job) (slots : ℕ) (made : List (List Meaning)) (report : Report)
-        → IsRun job slots made report → AnswersAtOnce made report → report ≡ answered_run slots made }
+    ensures { (setup : Setup) (slots : ℕ) (made : List (List Meaning)) (report : Report)
+        → IsRun setup slots made report → AnswersAtOnce made report → report ≡ answered_run slots made }
 {}
 
 /// With places left out, one thread has one report.

@@ -6,8 +6,6 @@
 mod place;
 mod side;
 mod steps;
-#[cfg(test)]
-mod tests;
 
 pub use place::{Place, State};
 pub use side::{Side, SideEnd};

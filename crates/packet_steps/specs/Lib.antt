@@ -1,5 +1,6 @@
 pub mod Rows
 pub mod Messages
+pub mod Lent
 pub mod Past
 pub mod Policing
 pub mod Verdicts

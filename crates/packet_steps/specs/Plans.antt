@@ -8,8 +8,6 @@ use Rattle.rate_policer.specs.Buckets.{BucketState}
 use Rattle.bearer_state.specs.declared.version.ActiveBearer.{ActiveBearer}
 use Rattle.packet_steps.specs.declared.plan.Plan.{Plan}
 use Rattle.packet_steps.specs.declared.plan.Plan.TheVariants as plan
-use Rattle.packet_steps.specs.declared.judged.Judged.{Judged}
-use Rattle.packet_steps.specs.declared.judged.Judged.TheVariants as lent
 use Rattle.packet_steps.specs.Messages.{gpdu}
 use Rattle.packet_steps.specs.Past.{Past, moment_of, row_for, with_row, with_held}
 use Rattle.packet_steps.specs.Policing.{rate_for, history_for, passes}
@@ -34,7 +32,7 @@ pub record Passes (past : Past) (bearer : ActiveBearer) (up : Bool) (octets : �
   pub there : Contains past.version.bearers bearer
   pub behind : PolicesBehind past bearer up octets bucket
 
--- the verdict of a plan on these octets · the same of what is lent
+-- the verdict of a plan on these octets
 abbrev pub verdict_by : Plan → List ℕ → Verdict
 verdict_by plan.NoBearer octets = verdict.NoBearer
 verdict_by plan.Spoof octets = verdict.Spoof
@@ -43,15 +41,6 @@ verdict_by (plan.Hold life message) octets = verdict.Held life message
 verdict_by (plan.Policed life) octets = verdict.Policed life
 verdict_by (plan.Up bearer bucket) octets = verdict.Up bearer.life octets
 verdict_by (plan.Down bearer peer bucket) octets = verdict.Down bearer.life peer.addr (gpdu peer octets)
-
-abbrev pub verdict_of : Judged → Verdict
-verdict_of (lent.Up life octets) = verdict.Up life octets.now
-verdict_of (lent.Down life peer octets) = verdict.Down life peer.addr (gpdu peer octets.now)
-verdict_of lent.NoBearer = verdict.NoBearer
-verdict_of lent.Spoof = verdict.Spoof
-verdict_of (lent.Idle life) = verdict.Idle life
-verdict_of (lent.Held life message) = verdict.Held life message
-verdict_of (lent.Policed life) = verdict.Policed life
 
 -- what a plan makes of a past
 abbrev pub Does : Plan → Past → Packet → Past → Type 0

@@ -1,5 +1,5 @@
--- Which octets a bearer's rate lets through (TS 23.401, 4.7.3): a bearer with a guaranteed rate has its own maximum each
--- way; all others share the APN-AMBR each way, anew whenever it is set.
+-- Which octets a bearer's rate lets through (TS 23.401, 4.7.3): a bearer with a guaranteed rate has its own maximum
+-- each way; all others share the APN-AMBR each way, anew whenever it is set.
 use Rattle.std.specs.Prelude.{ℕ, ◌==◌, ◌&&◌, Bool, true, false, not, if◌then◌else◌, List, map, filter}
 use Rattle.rate_policer.specs.declared.cost.Cost.{Cost}
 use Rattle.rate_policer.specs.Conforming.{cost_of, conforms}

@@ -4,15 +4,15 @@ ghost use Rattle.packet_steps.specs.Past.{Past};
 ghost use Rattle.packet_steps.specs.Change.{waits, learnt};
 ghost use Rattle.packet_steps.specs.Standing.{StandsFor, Follows, last_of};
 
+use crate::changing::{markers, marks};
 use crate::counters::Counters;
-use crate::marks::{markers, marks};
 use crate::releasing::{Release, look_at_all, waits};
 use crate::{Effects, HeldPacket, NoMemory};
 use bearer_state::{ActiveBearer, Version};
 use pc_base::Moment;
 
 /// Learns the version that comes next, and tells its effects: End Markers to eNodeBs that bearers left,
-/// and what becomes of held packets. Where memory is wanting, the counters are as before.
+/// and what becomes of held packets. Where memory runs out, the counters are as before.
 pub fn advance(
     counters: &mut Counters,
     before: &Version,

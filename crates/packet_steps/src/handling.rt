@@ -1,20 +1,20 @@
 //! A packet is judged and done.
-ghost use Rattle.std.specs.Prelude.{◌≡◌, ℕ, ◌≤◌, IfOk, IfSome, OnOk, OnErr, IsNone, false};
+ghost use Rattle.std.specs.Prelude.{◌≡◌, ℕ, ◌≤◌, IfOk, IfSome, OnOk, OnErr, IsNone, Some, false};
 ghost use Rattle.pc_base.specs.declared.packet.Packet.{Packet};
 ghost use Rattle.ipv4_packet.specs.Packet.{IsPacket};
 ghost use Rattle.packet_steps.specs.Past.{Past};
 ghost use Rattle.packet_steps.specs.Verdicts.{judged, is_packet};
 ghost use Rattle.packet_steps.specs.Standing.{StandsFor, AreFew, last_of};
-ghost use Rattle.packet_steps.specs.Plans.{verdict_of};
+ghost use Rattle.packet_steps.specs.Lent.{verdict_of};
 
 use crate::counters::Counters;
-use crate::{Judged, NoMemory};
+use crate::{LentVerdict, NoMemory};
 use bearer_state::Version;
 use ipv4_packet::Ip4;
 use pc_base::{Moment, Packet, Verdict, Way};
 
 /// What becomes of a packet by a version, its octets lent. The moment isn't earlier than that of the
-/// last packet. Where memory is wanting, the counters are as before.
+/// last packet. Where memory runs out, the counters are as before.
 pub fn judge<'a>(
     counters: &mut Counters,
     version: &Version,
@@ -22,7 +22,7 @@ pub fn judge<'a>(
     moment: Moment,
     way: Way,
     ip: &'a Ip4<'_>,
-) -> Result<Judged<'a>, NoMemory>
+) -> Result<LentVerdict<'a>, NoMemory>
     requires { IfSome (last_of counters.old) (λ last. last ≤ moment) }
 
     ensures verdict { (past : Past) (taken : ℕ) (packet : Packet) → StandsFor counters.old past taken
@@ -33,6 +33,7 @@ pub fn judge<'a>(
         → past.version ≡ version.now → AreFew past.charged
         → packet ≡ record { number = number; moment = moment; way = way; octets = ip.now }
         → OnOk result (StandsFor counters.new (judged past packet).0 taken) }
+    ensures moment { OnOk result (last_of counters.new ≡ Some moment) }
     ensures unchanged { OnErr result (counters.new ≡ counters.old) }
 {
     match way {
@@ -43,7 +44,7 @@ pub fn judge<'a>(
 }
 
 /// What becomes of a packet by a version. The moment isn't earlier than that of the last packet.
-/// Where memory is wanting, the counters are as before.
+/// Where memory runs out, the counters are as before.
 pub fn handle(
     counters: &mut Counters,
     version: &Version,
@@ -57,6 +58,7 @@ pub fn handle(
     ensures stands { (past : Past) (taken : ℕ) → StandsFor counters.old past taken → past.version ≡ version.now
         → AreFew past.charged
         → OnOk result (StandsFor counters.new (judged past packet.now).0 taken) }
+    ensures moment { OnOk result (last_of counters.new ≡ Some packet.now.moment) }
     ensures unchanged { OnErr result (counters.new ≡ counters.old) }
 {
     let octets = packet.octets.as_slice();
@@ -93,7 +95,7 @@ fn lent<'a>(
     moment: Moment,
     way: Way,
     ip: &'a Ip4<'_>,
-) -> Result<Judged<'a>, NoMemory>
+) -> Result<LentVerdict<'a>, NoMemory>
     requires { IfSome (last_of counters.old) (λ last. last ≤ moment) }
 
     ensures verdict { (past : Past) (taken : ℕ) (packet : Packet) → StandsFor counters.old past taken
@@ -104,6 +106,7 @@ fn lent<'a>(
         → past.version ≡ version.now → AreFew past.charged
         → packet ≡ record { number = number; moment = moment; way = way; octets = ip.now }
         → OnOk result (StandsFor counters.new (judged past packet).0 taken) }
+    ensures moment { OnOk result (last_of counters.new ≡ Some moment) }
     ensures unchanged { OnErr result (counters.new ≡ counters.old) }
 {
     let octets = ip.octets();
@@ -132,6 +135,7 @@ fn owned(
         → past.version ≡ version.now → AreFew past.charged
         → packet ≡ record { number = number; moment = moment; way = way; octets = ip.now }
         → OnOk result (StandsFor counters.new (judged past packet).0 taken) }
+    ensures moment { OnOk result (last_of counters.new ≡ Some moment) }
     ensures unchanged { OnErr result (counters.new ≡ counters.old) }
 {
     let octets = ip.octets();
@@ -143,7 +147,7 @@ fn owned(
 }
 
 /// The packet that octets are, whole.
-fn whole(octets: &[u8]) -> Option<Ip4<'_>>
+pub fn whole(octets: &[u8]) -> Option<Ip4<'_>>
     ensures packet { IfSome result (λ ip. (ip ≡ octets.now) × IsPacket octets.now) }
     ensures none { IsNone result → is_packet octets.now ≡ false }
 {

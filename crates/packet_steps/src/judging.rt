@@ -7,7 +7,8 @@ ghost use Rattle.bearer_state.specs.Bearer.{IsEbi};
 ghost use Rattle.bearer_state.specs.Version.{bearer_at};
 ghost use Rattle.ipv4_packet.specs.Packet.{IsPacket};
 ghost use Rattle.packet_steps.specs.Past.{Past, moment_of};
-ghost use Rattle.packet_steps.specs.Verdicts.{at_moment, bearer_for, judged_now, judged_up, judged_down, judged_waiting, notice};
+ghost use Rattle.packet_steps.specs.Verdicts.{at_moment, bearer_for, judged_now, judged_up, judged_down};
+ghost use Rattle.packet_steps.specs.Verdicts.{judged_waiting, notice};
 ghost use Rattle.packet_steps.specs.Standing.{StandsFor, AreFew, last_of};
 ghost use Rattle.packet_steps.specs.Plans.{Plans, Does, PolicesBehind};
 
@@ -20,8 +21,8 @@ use ipv4_packet::Ip4;
 use pc_base::{Moment, Octets, Way, addr_of};
 use tft_match::choose;
 
-/// As many packets are held at most.
-const MOST_HELD: usize = 16;
+/// As many packets of a subscriber are held at most.
+pub const MOST_HELD: usize = 16;
 
 impl Counters {
     ghost use Rattle.std.specs.Prelude.{[], ◌∷◌, ◌++◌, Bool};
@@ -186,7 +187,7 @@ fn taking<'v>(version: &'v Version, ip: &Ip4<'_>) -> Option<&'v ActiveBearer>
 }
 
 /// How many octets a packet has, as it says itself.
-pub(crate) fn packet_len(octets: &[u8]) -> u32
+pub fn packet_len(octets: &[u8]) -> u32
     requires { IsPacket octets.now }
     ensures len { result ≡ length octets.now }
     ensures bound { result < 2 ^ 16 }

@@ -4,13 +4,13 @@
 #![tactic(auto)]
 
 mod advancing;
+mod changing;
 mod counters;
 mod effects;
 mod handling;
 mod held;
-mod judged;
 mod judging;
-mod marks;
+mod lent;
 mod messages;
 mod meters;
 mod plan;
@@ -18,12 +18,12 @@ mod releasing;
 mod stepping;
 
 pub use advancing::advance;
+pub use changing::{bearer_of, markers, marks};
 pub use counters::Counters;
 pub use effects::Effects;
-pub use handling::{handle, judge};
+pub use handling::{handle, judge, whole};
 pub use held::HeldPacket;
-pub use judged::Judged;
+pub use judging::{MOST_HELD, packet_len};
+pub use lent::LentVerdict;
+pub use messages::{gpdu, notification};
 pub use std::alloc::AllocError as NoMemory;
-
-#[cfg(test)]
-mod tests;

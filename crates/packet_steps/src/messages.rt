@@ -11,7 +11,7 @@ use std::alloc::Global;
 
 /// A packet in the tunnel to an eNodeB.
 #[tactic(auto, unfolding(crate::specs::Messages::gpdu))]
-pub(crate) fn gpdu(alloc: Global, peer: Peer, octets: &[u8]) -> Result<Octets, NoMemory>
+pub fn gpdu(alloc: Global, peer: Peer, octets: &[u8]) -> Result<Octets, NoMemory>
     requires { length octets.now < 2 ^ 16 }
     ensures { IfOk result (λ text. text ≡ gpdu peer octets.now) }
 {
@@ -28,12 +28,7 @@ pub(crate) fn end_marker(alloc: Global, peer: Peer) -> Result<Octets, NoMemory>
 
 /// The Downlink Data Notification of a packet that is held, for the bearer of an EBI.
 #[tactic(auto, unfolding(crate::specs::Messages::notification))]
-pub(crate) fn notification(
-    alloc: Global,
-    mme: Peer,
-    number: u64,
-    ebi: u8,
-) -> Result<Octets, NoMemory>
+pub fn notification(alloc: Global, mme: Peer, number: u64, ebi: u8) -> Result<Octets, NoMemory>
     requires least { 5 ≤ ebi }
     requires most { ebi ≤ 15 }
     ensures { IfOk result (λ text. text ≡ notification mme number ebi) }

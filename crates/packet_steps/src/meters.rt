@@ -3,11 +3,10 @@ ghost use Rattle.std.specs.Prelude.{◌≡◌, ◌<◌, ◌≤◌, List, [], ◌
 ghost use Rattle.rate_policer.specs.declared.cost.Cost.{Cost};
 ghost use Rattle.rate_policer.specs.Conforming.{cost_of, conforms};
 ghost use Rattle.rate_policer.specs.Buckets.{StandsFor, rate_of, last_of};
-ghost use Rattle.bearer_state.specs.Qos.{is_guaranteed};
 ghost use Rattle.packet_steps.specs.Meters.{bucket_of, with_bucket, new_meter, bucket_for, put_bucket};
 
-use crate::marks::has_life;
-use bearer_state::{ActiveBearer, Version};
+use crate::changing::has_life;
+use bearer_state::{ActiveBearer, Version, is_guaranteed};
 use pc_base::{Kbps, Moment};
 use rate_policer::Bucket;
 
@@ -60,7 +59,7 @@ impl Meters {
         requires { bearer.now.index < 11 }
         ensures { result ≡ bucket_for self.now bearer.now up }
     {
-        if has_guaranteed_rate(bearer) {
+        if is_guaranteed(bearer.qos.qci) {
             self.own[bearer.index as usize].bucket(up)
         } else {
             self.shared.bucket(up)
@@ -72,7 +71,7 @@ impl Meters {
     pub(crate) fn put(&mut self, bearer: &ActiveBearer, up: bool, bucket: Bucket)
         ensures { self.new ≡ put_bucket self.old bearer.now up bucket }
     {
-        if !has_guaranteed_rate(bearer) {
+        if !is_guaranteed(bearer.qos.qci) {
             self.shared.put(up, bucket);
         } else if bearer.index < 11 {
             self.own[bearer.index as usize].put(up, bucket);
@@ -114,7 +113,7 @@ impl Meters {
     fn begin(&mut self, before: &Version, bearer: &ActiveBearer)
         ensures { self.new ≡ with_begun before.now self.old bearer.now }
     {
-        if has_guaranteed_rate(bearer)
+        if is_guaranteed(bearer.qos.qci)
             && !has_life(before.bearers(), bearer.life)
             && bearer.index < 11
         {
@@ -153,17 +152,15 @@ fn ask(bucket: &mut Bucket, at: Moment, octets: u32) -> bool
         → MatchBool result (StandsFor bucket.new (passed ++ cost_of octets at ∷ [])) (StandsFor bucket.new passed) }
     ensures rate { rate_of bucket.new ≡ rate_of bucket.old }
     ensures asked { last_of bucket.old ≤ at → last_of bucket.new ≡ at }
+
+    // Of an earlier moment, it is as one at the last ask's.
+    ensures earlier { (passed : List Cost) → StandsFor bucket.old passed → at < last_of bucket.old
+        → result ≡ conforms (rate_of bucket.old) passed (cost_of octets (last_of bucket.old)) }
+    ensures stays { at < last_of bucket.old → last_of bucket.new ≡ last_of bucket.old }
 {
     let last = bucket.last();
     if at < last {
         return bucket.ask(last, octets);
     }
     bucket.ask(at, octets)
-}
-
-/// Whether a bearer is policed by itself.
-pub(crate) fn has_guaranteed_rate(bearer: &ActiveBearer) -> bool
-    ensures { result ≡ is_guaranteed bearer.now.qos.qci }
-{
-    bearer.qos.qci >= 1 && bearer.qos.qci <= 4
 }

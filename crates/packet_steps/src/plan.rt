@@ -1,9 +1,10 @@
 //! What is decided of a packet before it is done.
 ghost use Rattle.std.specs.Prelude.{◌≡◌, ◌<◌, ◌^◌, length, IfOk};
-ghost use Rattle.packet_steps.specs.Plans.{verdict_by, verdict_of};
+ghost use Rattle.packet_steps.specs.Lent.{verdict_of};
+ghost use Rattle.packet_steps.specs.Plans.{verdict_by};
 
 use crate::messages::gpdu;
-use crate::{Judged, NoMemory};
+use crate::{LentVerdict, NoMemory};
 use bearer_state::ActiveBearer;
 use pc_base::{Octets, Peer, Verdict};
 use rate_policer::Bucket;
@@ -38,20 +39,20 @@ pub enum Plan {
 impl Plan {
     /// The verdict, of octets that are lent.
     #[inline(always)]
-    pub(crate) fn lend<'a>(self, octets: &'a [u8]) -> Judged<'a>
+    pub(crate) fn lend<'a>(self, octets: &'a [u8]) -> LentVerdict<'a>
         ensures { verdict_of result ≡ verdict_by self octets.now }
     {
         match self {
-            Plan::NoBearer => Judged::NoBearer,
-            Plan::Spoof => Judged::Spoof,
-            Plan::Idle { life } => Judged::Idle { life },
-            Plan::Hold { life, message } => Judged::Held { life, message },
-            Plan::Policed { life } => Judged::Policed { life },
-            Plan::Up { bearer, .. } => Judged::Up {
+            Plan::NoBearer => LentVerdict::NoBearer,
+            Plan::Spoof => LentVerdict::Spoof,
+            Plan::Idle { life } => LentVerdict::Idle { life },
+            Plan::Hold { life, message } => LentVerdict::Held { life, message },
+            Plan::Policed { life } => LentVerdict::Policed { life },
+            Plan::Up { bearer, .. } => LentVerdict::Up {
                 life: bearer.life,
                 octets,
             },
-            Plan::Down { bearer, peer, .. } => Judged::Down {
+            Plan::Down { bearer, peer, .. } => LentVerdict::Down {
                 life: bearer.life,
                 peer,
                 octets,

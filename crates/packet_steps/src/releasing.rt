@@ -10,7 +10,7 @@ ghost use Rattle.packet_steps.specs.Past.{Past, moment_of};
 ghost use Rattle.packet_steps.specs.Change.{bearer_of, released, released_to, waits};
 ghost use Rattle.packet_steps.specs.Releases.{Releases};
 
-use crate::marks::bearer_of;
+use crate::changing::bearer_of;
 use crate::messages::gpdu;
 use crate::meters::Meters;
 use crate::{HeldPacket, NoMemory};

@@ -1,12 +1,12 @@
 //! What becomes of a packet is done.
-ghost use Rattle.std.specs.Prelude.{◌≡◌, ℕ, ◌<◌, ◌≤◌, ◌^◌, length, OnOk, OnErr};
+ghost use Rattle.std.specs.Prelude.{◌≡◌, ℕ, ◌<◌, ◌≤◌, ◌^◌, length, Some, OnOk, OnErr};
 ghost use Rattle.std.specs.List.{Contains};
 ghost use Rattle.pc_base.specs.declared.packet.Packet.{Packet};
 ghost use Rattle.pc_base.specs.declared.packet.Way.TheVariants as way;
 ghost use Rattle.ipv4_packet.specs.Packet.{IsPacket};
 ghost use Rattle.packet_steps.specs.Past.{Past, moment_of, row_for, with_row, with_held};
 ghost use Rattle.packet_steps.specs.Verdicts.{at_moment};
-ghost use Rattle.packet_steps.specs.Standing.{StandsFor, AreFew};
+ghost use Rattle.packet_steps.specs.Standing.{StandsFor, AreFew, last_of};
 ghost use Rattle.packet_steps.specs.Plans.{Does, PolicesBehind};
 
 use crate::counters::Counters;
@@ -21,7 +21,7 @@ use rate_policer::Bucket;
 impl Counters {
     ghost use Rattle.std.specs.Prelude.{[], ◌∷◌, ◌++◌};
 
-    /// Does what a plan says of a packet, or nothing where memory is wanting.
+    /// Does what a plan says of a packet, or nothing where memory runs out.
     #[inline(always)]
     pub(crate) fn carry_out(
         &mut self,
@@ -36,6 +36,7 @@ impl Counters {
             → moment_of past ≤ moment
             → AreFew past.charged → packet ≡ record { number = number; moment = moment; way = way; octets = octets.now }
             → Does plan.now (at_moment past moment) packet next → OnOk result (StandsFor self.new next taken) }
+        ensures moment { OnOk result (last_of self.new ≡ Some moment) }
         ensures unchanged { OnErr result (self.new ≡ self.old) }
     {
         let len = packet_len(octets);
@@ -52,8 +53,9 @@ impl Counters {
 
     /// A packet came that changes nothing.
     pub(crate) fn stay(&mut self, moment: Moment)
-        ensures { (past : Past) (taken : ℕ) → StandsFor self.old past taken → moment_of past ≤ moment
+        ensures stands { (past : Past) (taken : ℕ) → StandsFor self.old past taken → moment_of past ≤ moment
             → StandsFor self.new (at_moment past moment) taken }
+        ensures moment { last_of self.new ≡ Some moment }
     {
         self.last = Some(moment);
     }
@@ -69,7 +71,11 @@ impl Counters {
         requires { length octets.now < 2 ^ 16 }
         ensures stands { (past : Past) (taken : ℕ) → StandsFor self.old past taken → moment_of past ≤ moment
             → OnOk result (StandsFor self.new (with_held (at_moment past moment)
-            (record { packet = record { number = number; moment = moment; way = way; octets = octets.now }; life = life })) taken) }
+            (record {
+              packet = record { number = number; moment = moment; way = way; octets = octets.now };
+              life = life;
+            })) taken) }
+        ensures moment { OnOk result (last_of self.new ≡ Some moment) }
         ensures unchanged { OnErr result (self.new ≡ self.old) }
     {
         let alloc = *self.held.allocator();
@@ -99,6 +105,7 @@ impl Counters {
             → PolicesBehind (at_moment past moment) bearer.now up octets bucket
             → OnOk result (StandsFor self.new
             (with_row (at_moment past moment) (row_for (at_moment past moment) bearer.now up octets)) taken) }
+        ensures moment { OnOk result (last_of self.new ≡ Some moment) }
         ensures unchanged { OnErr result (self.new ≡ self.old) }
     {
         self.book.post_one(&Posting::Packet {

@@ -19,8 +19,6 @@ mod octets;
 mod packet;
 mod reply;
 mod teids;
-#[cfg(test)]
-mod tests;
 
 pub use addresses::{addr_of, addresses_are_distinct, slot_of_addr};
 pub use effect::{Effect, Fate};
@@ -39,6 +37,12 @@ pub const LAST_SLOT: u32 = 65_532;
 
 /// The last index of a bearer: a subscriber has at most 11 (TS 23.401, section 5.7.1: EBI 5 to 15).
 pub const LAST_BEARER: u8 = 10;
+
+/// The last moment, 2^50 − 1 microseconds.
+pub const LAST_MOMENT: u64 = (1 << 50) - 1;
+
+/// The address of the gateway's end of every tunnel, 192.0.2.1.
+pub const GATEWAY_ADDR: Addr4 = Addr4(0xc000_0201);
 
 /// The address of slot 0, 10.45.0.2.
 pub const FIRST_ADDR: u32 = 0x0a2d_0002;

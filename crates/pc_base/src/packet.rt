@@ -19,7 +19,7 @@ pub enum Place {
     Closing,
 }
 
-/// What a TEID of the gateway stands for in its slot.
+/// What a TEID of the gateway is for in its slot.
 #[derive(Clone, Copy, Debug, PartialEq, Eq)]
 pub enum TeidUse {
     /// The control plane (S11).

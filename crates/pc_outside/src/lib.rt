@@ -21,6 +21,3 @@ pub use std::alloc::AllocError as NoMemory;
 pub use std_streams::{StdSink, StdSource};
 pub use sure::{SureSink, SureSource};
 pub use writing::{WriteFault, write_whole};
-
-#[cfg(test)]
-mod tests;

@@ -3,3 +3,9 @@ pub mod CaptureLemmas
 pub mod PacketLemmas
 pub mod ExportLemmas
 pub mod OrderLemmas
+pub mod ToldLemmas
+pub mod BlockLemmas
+pub mod ReadLemmas
+pub mod StopLemmas
+pub mod RunLemmas
+pub mod ReportLemmas

@@ -7,3 +7,8 @@ pub mod Trace
 pub mod Export
 pub mod Lent
 pub mod Law
+pub mod Ahead
+pub mod Inside
+pub mod Reading
+pub mod Report
+pub mod Progress

@@ -4,8 +4,8 @@ ghost use Rattle.pcap_form.specs.Export.{captured, framed, is_packet, message_in
 ghost use Rattle.pcap_form.specs.Export.{record_of, wrapped, wrapped_head};
 ghost use Rattle.pcap_form.specs.Packet.{is_for_user};
 
-use crate::import::is_for_user;
-use crate::{NoMemory, S1U_PORT, S11_PORT};
+use crate::NoMemory;
+use crate::record_line::{S1U_PORT, S11_PORT, is_for_user};
 use ipv4_packet::{Ip4, UDP};
 use pc_base::{Moment, Octets};
 use std::alloc::Global;

@@ -1,7 +1,7 @@
 //! Classic pcap captures and the lines of a trace, both ways: which header and which records octets
 //! are, what a record's captured octets say as a line, and the record that a line gives. Left out
-//! are pcapng, other link types, VLAN tags and IPv6. Records are read and written one by one by the
-//! crates above; `specs/Capture` says what a whole capture is.
+//! are pcapng, other link types, VLAN tags and IPv6. `specs/Capture` says what a whole capture is. An import reads one
+//! record by record, through a block of 640 KiB, and writes its trace.
 //!
 //! ```
 //! let head = CaptureHead { little: false, nanos: false, ethernet: false };
@@ -10,22 +10,24 @@
 //! ```
 #![tactic(auto)]
 
+mod block;
 mod export;
 mod head;
-mod import;
+mod importing;
 mod laws;
 mod lent;
 mod numbers;
+mod reading;
 mod record;
-#[cfg(test)]
-mod tests;
+mod record_line;
 mod text;
 
-pub use export::{HEADER, MESSAGE_MAX, export_one, push_record};
+pub use export::{HEADER, export_one, push_record};
 pub use head::{CaptureHead, HEAD_LEN, read_head};
-pub use import::{GATEWAY_ADDR, S1U_PORT, S11_PORT, import_one, lent_kind};
+pub use importing::{Imported, import};
 pub use laws::{kept_lines_come_back, traces_come_back};
 pub use lent::LentKind;
-pub use record::{RECORD_LEN, RecordHead, SNAPSHOT_MAX, moment_of, read_record_head};
+pub use record::{RecordHead, moment_of, read_record_head};
+pub use record_line::{import_one, lent_kind};
 pub use std::alloc::AllocError as NoMemory;
 pub use text::push_line;

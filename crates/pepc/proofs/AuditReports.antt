@@ -1,7 +1,7 @@
 -- What an audit wrote, by its status.
 use Rattle.std.proofs.Common.{◌≡◌, ℕ, inl, inr, List, [], Option, None, Some, refl, sym, ◌∙◌, subst}
 use Rattle.std.proofs.KnownBytes.{Appends-nil}
-use Rattle.lawful_run.specs.Job.{Job}
+use Rattle.lawful_run.specs.Setup.{Setup}
 use Rattle.audit_run.specs.Findings.{Finds}
 use Rattle.audit_run.specs.Report.{Reports}
 use Rattle.audit_run.specs.Report.{Audits as AuditsThere, WhereTold as WhereToldThere}
@@ -14,15 +14,15 @@ use Rattle.pepc.specs.declared.status.Status.{Status}
 use Rattle.pepc.specs.declared.status.Status.TheVariants as status
 use Rattle.pepc.specs.Told.{WhereTold}
 
-reports_are : (one : Audited) (job : Job) (octets left text : List ℕ) → Reports one job octets left text
-    → AuditReports (status_of one) job octets left text
-reports_are audited.Confirmed job octets left text reports = reports
-reports_are audited.Refuted job octets left text reports = reports
-reports_are audited.ReadFault job octets left text reports = reports
-reports_are audited.WriteFault job octets left text reports = reports
-reports_are audited.NoMemory job octets left text reports = reports
-reports_are audited.LineLong job octets left text reports = reports
-reports_are audited.TooLong job octets left text reports = reports
+reports_are : (one : Audited) (setup : Setup) (octets left text : List ℕ) → Reports one setup octets left text
+    → AuditReports (status_of one) setup octets left text
+reports_are audited.Confirmed setup octets left text reports = reports
+reports_are audited.Refuted setup octets left text reports = reports
+reports_are audited.ReadFault setup octets left text reports = reports
+reports_are audited.WriteFault setup octets left text reports = reports
+reports_are audited.NoMemory setup octets left text reports = reports
+reports_are audited.LineLong setup octets left text reports = reports
+reports_are audited.TooLong setup octets left text reports = reports
 
 told_are : (start left : Option (List ℕ)) (P Q : List ℕ → List ℕ → Type 0)
     → ((octets rest : List ℕ) → P octets rest → Q octets rest)
@@ -31,22 +31,22 @@ told_are None left P Q follows told = tt
 told_are (Some octets) None P Q follows told = absurd told
 told_are (Some octets) (Some rest) P Q follows told = follows octets rest told
 
-pub audits_are : (job : Job) (one : Audited) (start left old new : Option (List ℕ))
-    → AuditsThere one job start left old new → Audits job (status_of one) start left old new
-audits_are job one start left old new audits = record {
+pub audits_are : (setup : Setup) (one : Audited) (start left old new : Option (List ℕ))
+    → AuditsThere one setup start left old new → Audits setup (status_of one) start left old new
+audits_are setup one start left old new audits = record {
   text = audits.text;
   written = audits.written;
-  report = told_are start left (λ octets rest. Reports one job octets rest audits.text)
-      (λ octets rest. AuditReports (status_of one) job octets rest audits.text)
-      (λ octets rest reports. reports_are one job octets rest audits.text reports) audits.report;
+  report = told_are start left (λ octets rest. Reports one setup octets rest audits.text)
+      (λ octets rest. AuditReports (status_of one) setup octets rest audits.text)
+      (λ octets rest reports. reports_are one setup octets rest audits.text reports) audits.report;
 }
 
 -- memory ran out before anything was read
-pub nothing_audited : (job : Job) (start sink : Option (List ℕ)) → Audits job status.NoMemory start start sink sink
-nothing_audited job start sink = record { text = []; written = Appends-nil sink; report = told start }
+pub nothing_audited : (setup : Setup) (start sink : Option (List ℕ)) → Audits setup status.NoMemory start start sink sink
+nothing_audited setup start sink = record { text = []; written = Appends-nil sink; report = told start }
   where
     told : (start : Option (List ℕ)) → WhereTold start start
-        (λ octets rest. AuditReports status.NoMemory job octets rest [])
+        (λ octets rest. AuditReports status.NoMemory setup octets rest [])
     told None = tt
     told (Some octets) = refl
 
@@ -55,20 +55,20 @@ nothing_settles None = inr refl
 nothing_settles (Some k) = inr refl
 
 -- Where the input ends with its last line and nothing failed, the status is that of what is found, unless memory ran out.
-pub audit_complete : (job : Job) (ending : Status) (source_failed sink_failed : Type 0) (octets : List ℕ)
+pub audit_complete : (setup : Setup) (ending : Status) (source_failed sink_failed : Type 0) (octets : List ℕ)
     (start left old new : Option (List ℕ)) (found : Option ℕ) → start ≡ Some octets
     → (texts_of octets).stop ≡ ended → (source_failed → ⊥) → (sink_failed → ⊥)
     → (ending ≡ status.ReadFault → source_failed) → (ending ≡ status.WriteFault → sink_failed)
-    → Finds job (texts_of octets).lines found
-    → Audits job ending start left old new → Settles found ending
-audit_complete job ending source_failed sink_failed octets start left old new found is stop no_fault no_sink read_fault
+    → Finds setup (texts_of octets).lines found
+    → Audits setup ending start left old new → Settles found ending
+audit_complete setup ending source_failed sink_failed octets start left old new found is stop no_fault no_sink read_fault
     write_fault finds runs =
-    by_left left (subst (λ s. WhereTold s left (λ o l. AuditReports ending job o l runs.text)) is runs.report)
+    by_left left (subst (λ s. WhereTold s left (λ o l. AuditReports ending setup o l runs.text)) is runs.report)
   where
-    by_status : (s : Status) (l text : List ℕ) → AuditReports s job octets l text
+    by_status : (s : Status) (l text : List ℕ) → AuditReports s setup octets l text
         → (s ≡ status.ReadFault → source_failed) → (s ≡ status.WriteFault → sink_failed) → Settles found s
     by_status status.Ok l text reports read write =
-        subst (λ f. Settles f status.Ok) (one_finding job (texts_of octets).lines None found reports.1.finds finds)
+        subst (λ f. Settles f status.Ok) (one_finding setup (texts_of octets).lines None found reports.1.finds finds)
         (inl refl)
     by_status status.Usage l text reports read write = absurd reports
     by_status status.ReadFault l text reports read write = absurd (no_fault (read refl))
@@ -79,10 +79,10 @@ audit_complete job ending source_failed sink_failed octets start left old new fo
     by_status status.TooLong l text reports read write = let clash : ended ≡ big = sym stop ∙ reports.0 in cc
     by_status status.Refuted l text reports read write =
         subst (λ f. Settles f status.Refuted)
-        (one_finding job (texts_of octets).lines (Some reports.1.0) found reports.1.1.finds finds) (inl refl)
+        (one_finding setup (texts_of octets).lines (Some reports.1.0) found reports.1.1.finds finds) (inl refl)
     by_status status.BadCapture l text reports read write = absurd reports
 
-    by_left : (l : Option (List ℕ)) → WhereTold (Some octets) l (λ o rest. AuditReports ending job o rest runs.text)
+    by_left : (l : Option (List ℕ)) → WhereTold (Some octets) l (λ o rest. AuditReports ending setup o rest runs.text)
         → Settles found ending
     by_left None told = absurd told
     by_left (Some rest) told = by_status ending rest runs.text told read_fault write_fault

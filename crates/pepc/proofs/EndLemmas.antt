@@ -23,13 +23,16 @@ use Rattle.pepc.specs.declared.run.Ending.TheVariants.{Ended, ReadFault, BadLine
 use Rattle.pepc.specs.declared.run.Unwritten.{Unwritten}
 use Rattle.pepc.specs.declared.run.Unwritten.TheVariants as unwritten
 use Rattle.pepc.specs.declared.solo.Solo.{Solo}
-use Rattle.pepc.specs.Cut.{Counts, IsCut, lines_in}
+use Rattle.lawful_run.specs.Cut.{IsCut, lines_in}
+use Rattle.pepc.specs.Cut.{Counts}
 use Rattle.pepc.specs.Entries.{text_line}
 use Rattle.pepc.specs.Next.{Tells}
 use Rattle.pepc.specs.Progress.{Begins, Cuts, Ends, Fails, GoesOn, HasRead, IsClosed, Progress, Reached, SaysClosed, Stops, Takes, closed_events, end_text, entries_text, next_story, next_text, open_entries, open_meant, stop_of}
 use Rattle.pepc.specs.Standing.{Stands, meant_next, story_of}
 use Rattle.pepc.specs.Told.{WhereTold}
-use Rattle.pepc.proofs.CutLemmas.{cut_closed, cut_nothing, cut_open, cut_whole, length-meant_from, short_open}
+use Rattle.pepc.specs.Report.{slices}
+use Rattle.lawful_run.proofs.CutLines.{cut_closed, cut_nothing, cut_open, cut_whole, length-meant_from}
+use Rattle.pepc.proofs.CutLemmas.{short_open}
 use Rattle.pepc.proofs.ReadLemmas.{begins_so, stops_so, begins_more, none_left, told_next, fails_so, GivesLine}
 use Rattle.pepc.proofs.RunLemmas.{ended_story, ended_text, open_meant-push, waits_more}
 use Rattle.pepc.proofs.TextLemmas.{entries_text-push}
@@ -148,7 +151,7 @@ bad_waits done closed open_ why number waiting cut counted waits =
       counted,
       ap length cut.parts,
       length-append (lines_in closed) open_,
-      length-meant_from (lines_in closed) open_,
+      length-meant_from slices (lines_in closed) open_,
     ) in
     ap (λ front. front ++ text_line (entry.Line (line_entry.N (record { line = number; note = text }))))
     (waits ∙ ap (λ m. entries_text (entries_from first (closed_events closed) m)) (append-nil made))

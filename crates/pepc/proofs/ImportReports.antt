@@ -1,10 +1,10 @@
 -- What an import wrote, by its status.
 use Rattle.std.proofs.Common.{◌≡◌, ℕ, inl, inr, List, [], Option, None, Some, refl, sym, ◌∙◌, subst}
 use Rattle.std.proofs.KnownBytes.{Appends-nil}
-use Rattle.capture_run.specs.Report.{Reports, Runs}
-use Rattle.capture_run.specs.Report.{WhereTold as WhereToldThere}
-use Rattle.capture_run.specs.declared.importing.Imported.{Imported}
-use Rattle.capture_run.specs.declared.importing.Imported.TheVariants as imported
+use Rattle.pcap_form.specs.Report.{Reports, Runs}
+use Rattle.pcap_form.specs.Report.{WhereTold as WhereToldThere}
+use Rattle.pcap_form.specs.declared.importing.Imported.{Imported}
+use Rattle.pcap_form.specs.declared.importing.Imported.TheVariants as imported
 use Rattle.pcap_form.specs.Capture.{bad, big, ended, input_capture, stop_of}
 use Rattle.pepc.specs.declared.status.Status.{Status}
 use Rattle.pepc.specs.declared.status.Status.TheVariants as status

@@ -7,7 +7,7 @@ use Rattle.trace_lines.specs.Line.{Line}
 use Rattle.trace_maker.specs.Generated.{made}
 use Rattle.pepc.specs.declared.status.Status.{Status}
 use Rattle.pepc.specs.declared.status.Status.TheVariants as status
-use Rattle.pepc.specs.Audit.{audit_job}
+use Rattle.pepc.specs.Audit.{audit_setup}
 use Rattle.pepc.specs.Jobs.{Completes, Does}
 use Rattle.pepc.specs.Make.{IsMakeFront, Made, Makes}
 use Rattle.pepc.specs.Report.{IsDone}
@@ -35,7 +35,7 @@ nothing_done (Some (job.Make seed subs lines summary)) source_failed start old =
 nothing_done (Some job.Import) source_failed start old = nothing_imported source_failed start old
 nothing_done (Some job.Export) source_failed start old = nothing_exported source_failed start old
 nothing_done (Some (job.Audit solo slices room lane)) source_failed start old =
-    nothing_audited (audit_job solo slices room lane) start old
+    nothing_audited (audit_setup solo slices room lane) start old
 
 pub nothing_completes : (asked : Option Job) (start : Option (List ℕ)) → Completes asked status.NoMemory start
 nothing_completes None start = tt
@@ -80,5 +80,5 @@ job_completes job.Export ending source_failed sink_failed start left old new no_
 job_completes (job.Audit solo slices room lane) ending source_failed sink_failed start left old new no_source no_sink
     read write usage does =
     λ octets is stop found finds.
-    audit_complete (audit_job solo slices room lane) ending source_failed sink_failed octets start left old new found is
+    audit_complete (audit_setup solo slices room lane) ending source_failed sink_failed octets start left old new found is
     stop no_source no_sink read write finds does

@@ -10,7 +10,7 @@ use Rattle.demux.specs.Trace.{Meaning, book_of, decisions, destination_after, me
 use Rattle.demux.proofs.TraceLemmas.{book_of-push, destination_after-push}
 use Rattle.lawful_run.specs.Order.{Histories}
 use Rattle.lawful_run.specs.Trace.{settled_by}
-use Rattle.split_record.specs.Standing as subscribers
+use Rattle.subscriber.specs.Standing as subscribers
 use Rattle.pepc.specs.declared.solo.Solo.{Solo}
 use Rattle.pepc.specs.Report.{slices}
 use Rattle.pepc.specs.Standing.{BringsNothing, SlotStands, Stands, Story, entry_line, events_of, meant_next, story_of, with_meaning}

@@ -1,7 +1,7 @@
 -- Lines have one report.
 use Rattle.std.proofs.Common.{◌≡◌, ℕ, false, List, sym, ap, ◌∙◌}
 use Rattle.trace_lines.specs.Input.{Input}
-use Rattle.lawful_run.specs.Job.{solo}
+use Rattle.lawful_run.specs.Setup.{solo}
 use Rattle.lawful_run.specs.Report.{report_text}
 use Rattle.lawful_run.specs.Trace.{answered_report, epochs_told, slots_of}
 use Rattle.lawful_run.proofs.OneRun.{run_is_one}

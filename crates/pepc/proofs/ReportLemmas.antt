@@ -8,7 +8,7 @@ use Rattle.trace_lines.specs.Input.{Input, Stop, bad, long, big, ended, stopped,
 use Rattle.trace_lines.specs.Line.{Line}
 use Rattle.demux.specs.Trace.{book_of}
 use Rattle.lawful_run.specs.AnsweredRun.{answered_run}
-use Rattle.lawful_run.specs.Job.{solo}
+use Rattle.lawful_run.specs.Setup.{solo}
 use Rattle.lawful_run.specs.Report.{epoch_entries, report_text, texts_of}
 use Rattle.lawful_run.specs.Trace.{answered_report, epochs_from, epochs_told, meant_epochs, slots_of}
 use Rattle.lawful_run.proofs.CutEpochs.{cut_means}
@@ -20,12 +20,12 @@ use Rattle.pepc.specs.declared.run.Unwritten.TheVariants as unwritten
 use Rattle.pepc.specs.declared.status.Status.{Status}
 use Rattle.pepc.specs.declared.status.Status.TheVariants as status
 use Rattle.pepc.specs.declared.solo.Solo.{Solo}
-use Rattle.pepc.specs.Cut.{IsCut, lines_in}
+use Rattle.lawful_run.specs.Cut.{IsCut, lines_in}
 use Rattle.pepc.specs.Progress.{Begins, Cuts, Ends, Fails, Reached, SaysClosed, Stops, closed_events, open_meant, rest_text, status_at, status_without, stop_of}
 use Rattle.pepc.specs.Report.{IsBad, IsCutText, IsDone, IsEpochsText, IsFaultText, IsLong, IsText, Reports, Runs, input_with, slices}
 use Rattle.pepc.specs.Standing.{Stands, Story, story_of}
 use Rattle.pepc.specs.Told.{WhereTold}
-use Rattle.pepc.proofs.CutLemmas.{cut_closed, cut_nothing, epochs_are}
+use Rattle.lawful_run.proofs.CutLines.{cut_closed, cut_nothing, epochs_are}
 use Rattle.pepc.proofs.EndLemmas.{begins_front}
 use Rattle.pepc.proofs.TextLemmas.{book_grows_all, whole_text}
 use Rattle.pepc.proofs.ToldLemmas.{told_map}
@@ -61,6 +61,7 @@ epochs_of_cut octets closed text cut begins said =
       first = closed;
       rest = epochs_behind [] begins.0.lines;
       parts = ap (λ (i : Input). epochs_of i.lines) begins.1 ∙ cut.closes begins.0.lines;
+      whole = cut.whole;
       report = answered_report solo input;
       solo = record {
         lawful = answered_is_run solo (slots_of input) (epochs_told slices input);

@@ -14,14 +14,14 @@ use Rattle.lawful_run.proofs.Growing.{behind_epochs-push}
 use Rattle.pepc.specs.declared.epoch.Size.{Size}
 use Rattle.pepc.specs.declared.reading.Next.TheVariants as next
 use Rattle.pepc.specs.declared.solo.Solo.{Solo}
-use Rattle.pepc.specs.Cut.{IsCut, lines_in}
+use Rattle.lawful_run.specs.Cut.{IsCut, lines_in}
 use Rattle.pepc.specs.Entries.{text_line}
 use Rattle.pepc.specs.Gathering.{closing_text}
 use Rattle.pepc.specs.Next.{Tells}
 use Rattle.pepc.specs.Progress.{GoesOn, IsClosed, Progress, SaysClosed, Takes, closed_events, closed_text, end_text, entries_text, next_story, next_text, open_entries, open_meant}
 use Rattle.pepc.specs.Report.{slices}
 use Rattle.pepc.specs.Standing.{Stands, Story, entry_line, events_of, meant_next, story_of, with_end}
-use Rattle.pepc.proofs.CutLemmas.{cut_open, cut_whole, length-meant_from, lines_in-push, meant_epochs-push}
+use Rattle.lawful_run.proofs.CutLines.{cut_open, cut_whole, length-meant_from, lines_in-push, meant_epochs-push}
 use Rattle.pepc.proofs.ReadLemmas.{told_more}
 use Rattle.pepc.proofs.TextLemmas.{book_grows_all, closed_text-push, closing_wider, entries_text-push}
 
@@ -49,7 +49,7 @@ waits_more done closed open_ line latest waiting cut waits =
       arith,
       ap length cut.parts,
       length-append (lines_in closed) open_,
-      length-meant_from (lines_in closed) open_,
+      length-meant_from slices (lines_in closed) open_,
     ) in
     ap (λ text. text ++ entry_line (story_of done latest before made) now)
     (waits ∙ ap (λ m. entries_text (entries_from first before m)) (append-nil made))
@@ -63,7 +63,7 @@ waits_more done closed open_ line latest waiting cut waits =
 closed_events-push : (closed : List (List Line)) (epoch : List Line)
     → closed_events (closed ++ epoch ∷ []) ≡ behind_lines (closed_events closed) (open_meant closed epoch)
 closed_events-push closed epoch =
-    ap (λ epochs. behind_epochs no_events epochs) (meant_epochs-push [] closed epoch)
+    ap (λ epochs. behind_epochs no_events epochs) (meant_epochs-push slices [] closed epoch)
     ∙ behind_epochs-push no_events (meant_epochs slices [] closed) (open_meant closed epoch)
 
 said_more : (closed : List (List Line)) (epoch : List Line) (sent lines : List ℕ) (book : ℕ) → SaysClosed sent closed
@@ -85,7 +85,7 @@ said_more closed epoch sent lines book said book_is lines_are none = λ slots kn
     ++ (entries_text (entries_from (1 + length (lines_in closed)) before made) ++ text))
     (sym (closing_wider book slots before made (omega (arith, grown, book_is)) none))
     ∙ sym (closed_text-push slots closed (meant_epochs slices [] (closed ++ epoch ∷ [])) made
-    (meant_epochs-push [] closed epoch))
+    (meant_epochs-push slices [] closed epoch))
 
 -- a line was read and answered, and its epoch is open still
 goes_open : (start a b old mid new : Option (List ℕ)) (gateway after_it : Solo) (size next_size : Size)

@@ -3,11 +3,11 @@ use Rattle.std.proofs.Common.{◌≡◌, ℕ, ◌+◌, ◌<◌, ◌^◌, ◌==�
 use Rattle.bearer_state.specs.declared.version.ActiveBearer.{ActiveBearer}
 use Rattle.gate_model.proofs.Outcomes.{length-gpdu}
 use Rattle.ipv4_packet.specs.Fields.{source_of}
-use Rattle.packet_steps.specs.declared.judged.Judged.{Judged}
-use Rattle.packet_steps.specs.declared.judged.Judged.TheVariants as lent
+use Rattle.packet_steps.specs.declared.lent.LentVerdict.{LentVerdict as Judged}
+use Rattle.packet_steps.specs.declared.lent.LentVerdict.TheVariants as lent
 use Rattle.packet_steps.specs.Messages.{gpdu}
 use Rattle.packet_steps.specs.Past.{Past, row_for, with_held, with_row}
-use Rattle.packet_steps.specs.Plans.{verdict_of}
+use Rattle.packet_steps.specs.Lent.{verdict_of}
 use Rattle.packet_steps.specs.Policing.{passes}
 use Rattle.packet_steps.specs.Verdicts.{at_moment, bearer_for, is_packet, judged, judged_by_way, judged_down, judged_to, judged_up, notice, tried}
 use Rattle.bearer_state.specs.Version.{bearer_at}

@@ -21,7 +21,7 @@ use Rattle.gate_model.specs.declared.event.Event.{Event}
 use Rattle.gate_model.specs.declared.event.Event.TheVariants as event
 use Rattle.gate_model.specs.Events.{commands_of, packets_of}
 use Rattle.demux.specs.Packets.{numbered}
-use Rattle.split_record.specs.Standing as subscribers
+use Rattle.subscriber.specs.Standing as subscribers
 use Rattle.lawful_run.specs.AnsweredRun.{brings, events_after}
 use Rattle.lawful_run.proofs.EveryTrace.{with_brought}
 use Rattle.lawful_run.proofs.Growing.{events_after-push}

@@ -17,7 +17,8 @@ use Rattle.pepc.specs.declared.epoch.Size.{Size}
 use Rattle.pepc.specs.declared.run.Ending.TheVariants.{Ended}
 use Rattle.pepc.specs.declared.solo.Solo.{Solo}
 use Rattle.pepc.specs.Counting.{Counting, CountsLine, CountsMore}
-use Rattle.pepc.specs.Cut.{Counts, lines_in}
+use Rattle.lawful_run.specs.Cut.{lines_in}
+use Rattle.pepc.specs.Cut.{Counts}
 use Rattle.pepc.specs.Entries.{text_line}
 use Rattle.pepc.specs.Make.{IsCounted}
 use Rattle.pepc.specs.Progress.{Ends, Progress, SaysClosed, Takes, closed_events, end_text, next_story, next_text, open_meant, rest_text}

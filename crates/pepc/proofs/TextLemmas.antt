@@ -22,13 +22,13 @@ use Rattle.lawful_run.specs.Trace.{epochs_from, epochs_told, meant_epochs, own_e
 use Rattle.lawful_run.proofs.CutEpochs.{cut_means}
 use Rattle.lawful_run.proofs.EveryTrace.{with_brought}
 use Rattle.lawful_run.proofs.Growing.{answered_from-push, behind_epochs-push, brought-push, entries_from-push, epoch_slots, by_slot-more}
-use Rattle.pepc.specs.Cut.{IsCut, lines_in}
+use Rattle.lawful_run.specs.Cut.{IsCut, lines_in}
 use Rattle.pepc.specs.Entries.{text_line}
 use Rattle.pepc.specs.Gathering.{charges_text, closing_text, effects_text}
 use Rattle.pepc.specs.Progress.{SaysClosed, closed_events, closed_text, entries_text, open_entries, open_meant, rest_text}
 use Rattle.pepc.specs.Report.{slices}
 use Rattle.pepc.specs.Standing.{story_of}
-use Rattle.pepc.proofs.CutLemmas.{count_meant, epochs_are}
+use Rattle.lawful_run.proofs.CutLines.{count_meant, epochs_are}
 use Rattle.pepc.proofs.GatherLemmas.{no_rows}
 
 -- entries, one behind another
@@ -86,7 +86,7 @@ closed_text-push slots closed epochs made is =
     ∙ epochs_text-push slots (meant_epochs slices [] closed) made
     ∙ ap (λ n. closed_text slots closed ++ (entries_text (entries_from (1 + n) (closed_events closed) made)
     ++ closing_text slots (closed_events closed) made))
-    (count_meant [] closed)
+    (count_meant slices [] closed)
 
 -- nothing before, and nothing brought
 both_none : (xs ys : List Event) → xs ++ ys ≡ [] → (xs ≡ []) × (ys ≡ [])

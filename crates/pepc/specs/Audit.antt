@@ -1,7 +1,7 @@
 -- What a run of `audit` wrote, by its status.
 use Rattle.std.specs.Prelude.{◌≡◌, ℕ, ◌⊎◌, Bool, List, [], Option, None, Some, if◌then◌else◌}
 use Rattle.std.specs.Io.KnownBytes.{Appends}
-use Rattle.lawful_run.specs.Job.{Job, sliced, solo}
+use Rattle.lawful_run.specs.Setup.{Setup, sliced, solo}
 use Rattle.audit_run.specs.Report.{IsReadWhole, IsTaken, SaysPart, SaysWhole}
 use Rattle.audit_run.specs.Texts.{big, long, texts_of}
 use Rattle.audit_run.specs.declared.auditing.Audited.{Audited}
@@ -12,8 +12,8 @@ use Rattle.pepc.specs.Report.{IsDone}
 use Rattle.pepc.specs.Told.{WhereTold}
 
 -- the gateway whose report it should be
-abbrev pub audit_job : Bool → ℕ → ℕ → ℕ → Job
-audit_job alone slices room lane = if alone then solo else sliced slices room lane
+abbrev pub audit_setup : Bool → ℕ → ℕ → ℕ → Setup
+audit_setup alone slices room lane = if alone then solo else sliced slices room lane
 
 abbrev pub status_of : Audited → Status
 status_of audited.Confirmed = status.Ok
@@ -25,24 +25,24 @@ status_of audited.LineLong = status.LineLong
 status_of audited.TooLong = status.TooLong
 
 -- An audit stops at no bad line, and its input is no capture.
-abbrev pub AuditReports : Status → Job → List ℕ → List ℕ → List ℕ → Type 0
-AuditReports status.Ok job octets left text = IsReadWhole octets left × SaysWhole job octets text None
-AuditReports status.Usage job octets left text = ⊥
-AuditReports status.ReadFault job octets left text = IsTaken octets left × (text ≡ [])
-AuditReports status.WriteFault job octets left text = IsReadWhole octets left × SaysPart job octets text
-AuditReports status.NoMemory job octets left text = text ≡ []
-AuditReports status.BadLine job octets left text = ⊥
-AuditReports status.LineLong job octets left text = ((texts_of octets).stop ≡ long) × (text ≡ [])
-AuditReports status.TooLong job octets left text = ((texts_of octets).stop ≡ big) × (text ≡ [])
-AuditReports status.Refuted job octets left text =
-    IsReadWhole octets left × ((k : ℕ) × SaysWhole job octets text (Some k))
-AuditReports status.BadCapture job octets left text = ⊥
+abbrev pub AuditReports : Status → Setup → List ℕ → List ℕ → List ℕ → Type 0
+AuditReports status.Ok setup octets left text = IsReadWhole octets left × SaysWhole setup octets text None
+AuditReports status.Usage setup octets left text = ⊥
+AuditReports status.ReadFault setup octets left text = IsTaken octets left × (text ≡ [])
+AuditReports status.WriteFault setup octets left text = IsReadWhole octets left × SaysPart setup octets text
+AuditReports status.NoMemory setup octets left text = text ≡ []
+AuditReports status.BadLine setup octets left text = ⊥
+AuditReports status.LineLong setup octets left text = ((texts_of octets).stop ≡ long) × (text ≡ [])
+AuditReports status.TooLong setup octets left text = ((texts_of octets).stop ≡ big) × (text ≡ [])
+AuditReports status.Refuted setup octets left text =
+    IsReadWhole octets left × ((k : ℕ) × SaysWhole setup octets text (Some k))
+AuditReports status.BadCapture setup octets left text = ⊥
 
 -- octets were appended to what a sink tells, and they say what is found of those that a source told
-pub record Audits (job : Job) (ending : Status) (start left old new : Option (List ℕ)) : Type 0 where
+pub record Audits (setup : Setup) (ending : Status) (start left old new : Option (List ℕ)) : Type 0 where
   pub text : List ℕ
   pub written : Appends old new text
-  pub report : WhereTold start left (λ octets rest. AuditReports ending job octets rest text)
+  pub report : WhereTold start left (λ octets rest. AuditReports ending setup octets rest text)
 
 -- the status that a finding comes to, unless memory ran out
 abbrev pub Settles : Option ℕ → Status → Type 0

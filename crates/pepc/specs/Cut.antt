@@ -1,21 +1,8 @@
--- Lines cut into epochs, and how large the open one is.
-use Rattle.std.specs.Prelude.{◌≡◌, true, false, All, List, [], ◌++◌, length, flat_map}
-use Rattle.trace_lines.specs.Epochs.{epochs_behind, epochs_of, octets_in}
+-- How large an open epoch is.
+use Rattle.std.specs.Prelude.{◌≡◌, List, length}
+use Rattle.trace_lines.specs.Epochs.{octets_in}
 use Rattle.trace_lines.specs.Line.{Line}
-use Rattle.lawful_run.specs.Trace.{is_whole}
 use Rattle.pepc.specs.declared.epoch.Size.{Size}
-
--- the lines of epochs
-abbrev pub lines_in : List (List Line) → List Line
-lines_in epochs = flat_map (λ epoch. epoch) epochs
-
--- These lines are whole epochs and those of one that is open still, which is what any lines behind them come to.
-pub record IsCut (done : List Line) (closed : List (List Line)) (open_ : List Line) : Type 0 where
-  pub parts : done ≡ lines_in closed ++ open_
-  pub closes : (later : List Line) → epochs_of (lines_in closed ++ later) ≡ closed ++ epochs_behind [] later
-  pub opens : (later : List Line) → epochs_behind [] (open_ ++ later) ≡ epochs_behind open_ later
-  pub whole : All (λ epoch. is_whole [] epoch ≡ true) closed
-  pub unfinished : is_whole [] open_ ≡ false
 
 -- so many lines and octets are open
 pub record Counts (size : Size) (open_ : List Line) : Type 0 where

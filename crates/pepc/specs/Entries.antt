@@ -1,7 +1,7 @@
 -- The lines of a report.
 use Rattle.std.specs.Prelude.{ℕ, ◌<◌, ◌^◌, false, Some, List, [], ◌∷◌, ◌++◌, length}
-use Rattle.packet_steps.specs.declared.judged.Judged.{Judged}
-use Rattle.packet_steps.specs.declared.judged.Judged.TheVariants.{Up, Down, NoBearer, Spoof, Idle, Held, Policed}
+use Rattle.packet_steps.specs.declared.lent.LentVerdict.{LentVerdict as Judged}
+use Rattle.packet_steps.specs.declared.lent.LentVerdict.TheVariants.{Up, Down, NoBearer, Spoof, Idle, Held, Policed}
 use Rattle.pc_base.specs.declared.packet.Place.TheVariants.{Closing}
 use Rattle.pc_base.specs.declared.packet.Verdict.{Verdict}
 use Rattle.report_lines.specs.Records.{Judged as JudgedEntry}

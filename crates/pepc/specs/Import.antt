@@ -1,9 +1,9 @@
 -- What a run of `import` wrote, by its status.
 use Rattle.std.specs.Prelude.{◌≡◌, ℕ, List, [], Option}
 use Rattle.std.specs.Io.KnownBytes.{Appends}
-use Rattle.capture_run.specs.Report.{IsCutText, IsFaultText, IsFirstText, input_text}
-use Rattle.capture_run.specs.declared.importing.Imported.{Imported}
-use Rattle.capture_run.specs.declared.importing.Imported.TheVariants as imported
+use Rattle.pcap_form.specs.Report.{IsCutText, IsFaultText, IsFirstText, input_text}
+use Rattle.pcap_form.specs.declared.importing.Imported.{Imported}
+use Rattle.pcap_form.specs.declared.importing.Imported.TheVariants as imported
 use Rattle.pcap_form.specs.Capture.{bad, big, ended, stop_of}
 use Rattle.pepc.specs.declared.status.Status.{Status}
 use Rattle.pepc.specs.declared.status.Status.TheVariants as status

@@ -7,7 +7,7 @@ use Rattle.trace_lines.specs.Input.{ended, input_of}
 use Rattle.pepc.specs.declared.status.Status.{Status}
 use Rattle.audit_run.specs.Findings.{Finds}
 use Rattle.audit_run.specs.Texts as texts
-use Rattle.pepc.specs.Audit.{Audits, Settles, audit_job}
+use Rattle.pepc.specs.Audit.{Audits, Settles, audit_setup}
 use Rattle.pepc.specs.Export.{Exports}
 use Rattle.pepc.specs.Import.{Imports}
 use Rattle.pepc.specs.Make.{Makes}
@@ -24,7 +24,7 @@ Does (Some (job.Make seed subs lines summary)) ending source_failed start left o
 Does (Some job.Import) ending source_failed start left old new = Imports ending source_failed start left old new
 Does (Some job.Export) ending source_failed start left old new = Exports ending source_failed start left old new
 Does (Some (job.Audit solo slices room lane)) ending source_failed start left old new =
-    Audits (audit_job solo slices room lane) ending start left old new
+    Audits (audit_setup solo slices room lane) ending start left old new
 
 -- Where nothing failed and the octets end as they should, a job is done, unless memory ran out.
 abbrev pub Completes : Option Job → Status → Option (List ℕ) → Type 0
@@ -38,4 +38,4 @@ Completes (Some job.Export) ending start =
     (octets : List ℕ) → start ≡ Some octets → (input_of octets).stop ≡ ended → IsDone ending
 Completes (Some (job.Audit solo slices room lane)) ending start =
     (octets : List ℕ) → start ≡ Some octets → (texts.texts_of octets).stop ≡ texts.ended → (found : Option ℕ)
-    → Finds (audit_job solo slices room lane) (texts.texts_of octets).lines found → Settles found ending
+    → Finds (audit_setup solo slices room lane) (texts.texts_of octets).lines found → Settles found ending

@@ -22,7 +22,8 @@ use Rattle.pepc.specs.declared.status.Status.{Status}
 use Rattle.pepc.specs.declared.status.Status.TheVariants as status
 use Rattle.pepc.specs.declared.solo.Solo.{Solo}
 use Rattle.pepc.specs.Gathering.{charges_text, closing_text}
-use Rattle.pepc.specs.Cut.{Counts, IsCut, lines_in}
+use Rattle.lawful_run.specs.Cut.{IsCut, lines_in}
+use Rattle.pepc.specs.Cut.{Counts}
 use Rattle.pepc.specs.Report.{IsWholeLines, Taken, slices}
 use Rattle.pepc.specs.Standing.{Stands, Story, entry_line, events_of, meant_next, story_of, with_end}
 use Rattle.pepc.specs.Told.{WhereTold}

@@ -1,5 +1,5 @@
 -- The report of a trace, and what a status says of it.
-use Rattle.std.specs.Prelude.{◌≡◌, ℕ, ◌+◌, ◌^◌, ◌<◌, ◌≤◌, ◌⊎◌, false, List, [], ◌∷◌}
+use Rattle.std.specs.Prelude.{◌≡◌, ℕ, ◌+◌, ◌^◌, ◌<◌, ◌≤◌, ◌⊎◌, All, false, true, List, [], ◌∷◌}
 use Rattle.std.specs.Prelude.{◌++◌, length, Option, flat_map}
 use Rattle.std.specs.Io.KnownBytes.{Appends}
 use Rattle.pc_outside.specs.Line.{NoNewline}
@@ -8,9 +8,9 @@ use Rattle.trace_lines.specs.Epochs.{epochs_of}
 use Rattle.trace_lines.specs.Input.{Input, Stop, bad, long, big, ended, input_of}
 use Rattle.trace_lines.specs.Line.{Line}
 use Rattle.lawful_run.specs.AtOnce.{AnswersAtOnce}
-use Rattle.lawful_run.specs.Job.{solo}
+use Rattle.lawful_run.specs.Setup.{solo}
 use Rattle.lawful_run.specs.Report.{Report, epoch_entries, report_text, texts_of}
-use Rattle.lawful_run.specs.Trace.{IsReport, epochs_told}
+use Rattle.lawful_run.specs.Trace.{IsReport, epochs_told, is_whole}
 use Rattle.pepc.specs.declared.status.Status.{Status}
 use Rattle.pepc.specs.declared.status.Status.TheVariants as status
 use Rattle.pepc.specs.Told.{WhereTold}
@@ -34,11 +34,13 @@ pub record IsText (input : Input) (text : List ℕ) : Type 0 where
 abbrev pub input_with : List Line → Input
 input_with lines = record { lines = lines; stop = ended }
 
--- the text is that of some first whole epochs of an input, and no open counters
+-- The text is that of some first epochs of an input, and no open counters. Each of these epochs is whole: its last line
+-- ends an epoch, so none is cut by the input's end, nor by a bad or a long line.
 pub record IsEpochsText (input : Input) (text : List ℕ) : Type 0 where
   pub first : List (List Line)
   pub rest : List (List Line)
   pub parts : epochs_of input.lines ≡ first ++ rest
+  pub whole : All (λ epoch. is_whole [] epoch ≡ true) first
   pub report : Report
   pub solo : IsSoloReport (input_with (flat_map (λ epoch. epoch) first)) report
   pub written : text ≡ texts_of false (flat_map epoch_entries report.epochs)

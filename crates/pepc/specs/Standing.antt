@@ -7,7 +7,7 @@ use Rattle.demux.specs.Trace.{Meaning, book_of, destination_after, meaning}
 use Rattle.gate_model.specs.SlotPast.{records_after}
 use Rattle.gate_model.specs.declared.event.Event.{Event}
 use Rattle.report_lines.specs.declared.entry.Entry.TheVariants as entry
-use Rattle.split_record.specs.Standing as subscribers
+use Rattle.subscriber.specs.Standing as subscribers
 use Rattle.lawful_run.specs.AnsweredRun.{behind_lines, brings, entry_after}
 use Rattle.lawful_run.specs.Order.{Histories}
 use Rattle.lawful_run.specs.Trace.{settled_by}

@@ -1,21 +1,26 @@
 //! A run of `audit`: the status of what `audit_run` does.
 ghost use Rattle.std.specs.Prelude.{◌≡◌, ◌≤◌};
 ghost use Rattle.pc_outside.specs.Faults.{Rises};
-ghost use Rattle.audit_reading.specs.Rules.{IsRule, job_of};
+ghost use Rattle.audit_reading.specs.Setups.{IsSetup, setup_of};
 ghost use Rattle.pepc.specs.Audit.{Audits, status_of};
 
 use crate::status::Status;
-use audit_reading::Rule;
+use audit_reading::Setup;
 use audit_run::Audited;
 use pc_outside::{Sink, Source};
 use std::alloc::Global;
 
 /// Does the command `audit`: reads a trace and its report from the source, and writes to the sink whether
 /// the report is a lawful one.
-pub fn audit<S: Source, K: Sink>(alloc: Global, rule: &Rule, source: &mut S, sink: &mut K) -> Status
-    requires { IsRule rule.now }
+pub fn audit<S: Source, K: Sink>(
+    alloc: Global,
+    setup: &Setup,
+    source: &mut S,
+    sink: &mut K,
+) -> Status
+    requires { IsSetup setup.now }
 
-    ensures audits { Audits (job_of rule.now) result (S.left source.old) (S.left source.new) (K.written sink.old)
+    ensures audits { Audits (setup_of setup.now) result (S.left source.old) (S.left source.new) (K.written sink.old)
         (K.written sink.new) }
     ensures no_usage { result ≡ Status.Usage → ⊥ }
 
@@ -24,7 +29,7 @@ pub fn audit<S: Source, K: Sink>(alloc: Global, rule: &Rule, source: &mut S, sin
     ensures read_fault { result ≡ Status.ReadFault → Rises (S.faults source.old) (S.faults source.new) }
     ensures write_fault { result ≡ Status.WriteFault → Rises (K.faults sink.old) (K.faults sink.new) }
 {
-    status_of(audit_run::audit(alloc, rule, source, sink))
+    status_of(audit_run::audit(alloc, setup, source, sink))
 }
 
 fn status_of(audited: Audited) -> Status

@@ -1,7 +1,7 @@
 //! The lines of a report: an entry's text and a newline, made of lent parts.
 ghost use Rattle.std.specs.Prelude.{◌≡◌, ℕ, ◌<◌, ◌^◌, ◌++◌, ◌∷◌, [], length, codes, OnOk};
 ghost use Rattle.demux.specs.Texts.{move_note, move_word};
-ghost use Rattle.packet_steps.specs.Plans.{verdict_of};
+ghost use Rattle.packet_steps.specs.Lent.{verdict_of};
 ghost use Rattle.pc_base.specs.declared.packet.Verdict.TheVariants as verdict;
 ghost use Rattle.packet_steps.specs.Messages.{gpdu};
 ghost use Rattle.report_lines.specs.declared.entry.ChargeEntry.TheVariants as charge;
@@ -13,11 +13,11 @@ ghost use Rattle.pepc.specs.Entries.{text_line, judged_by, IsShort};
 
 use charging_book::{ChargeRow, Open};
 use gtpu_codec::write_gpdu;
-use packet_steps::Judged;
+use packet_steps::LentVerdict as Judged;
 use pc_base::{Effect, Peer, Reply, SliceNo, Slot};
 use report_lines::LentVerdict;
-use split_record::Handled;
 use std::alloc::{AllocError, Global};
+use subscriber::Handled;
 use text_fields::{push_field, push_number};
 use trace_lines::LineBad;
 

@@ -1,11 +1,11 @@
-//! A run of `import`: the status of what `capture_run` does.
+//! A run of `import`: the status of what `import` of pcap_form does.
 ghost use Rattle.std.specs.Prelude.{◌≡◌, ◌≤◌};
 ghost use Rattle.pc_outside.specs.Faults.{Rises};
 ghost use Rattle.pepc.specs.Import.{Imports, status_of};
 
 use crate::status::Status;
-use capture_run::Imported;
 use pc_outside::{Sink, Source};
+use pcap_form::Imported;
 use std::alloc::Global;
 
 /// Does the command `import`: reads a capture from the source, and writes its trace to the sink.
@@ -19,7 +19,7 @@ pub fn import<S: Source, K: Sink>(alloc: Global, source: &mut S, sink: &mut K) -
     ensures read_fault { result ≡ Status.ReadFault → Rises (S.faults source.old) (S.faults source.new) }
     ensures write_fault { result ≡ Status.WriteFault → Rises (K.faults sink.old) (K.faults sink.new) }
 {
-    status_of(capture_run::import(alloc, source, sink))
+    status_of(pcap_form::import(alloc, source, sink))
 }
 
 fn status_of(imported: Imported) -> Status

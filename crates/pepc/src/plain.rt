@@ -1,5 +1,5 @@
 //! All commands of the program, on one thread.
-ghost use Rattle.std.specs.Prelude.{◌≡◌, ◌≤◌, ◌⊎◌, None, Some, map};
+ghost use Rattle.std.specs.Prelude.{◌≡◌, ◌≤◌, ◌⊎◌, ℕ, Bool, None, Some, map};
 ghost use Rattle.std.specs.String.{string_bytes};
 ghost use Rattle.command_words.specs.Job.{IsInRange, job_of};
 ghost use Rattle.pc_outside.specs.Faults.{Rises};
@@ -11,7 +11,7 @@ use crate::import::import;
 use crate::make::make;
 use crate::run::solo;
 use crate::status::Status;
-use audit_reading::Rule;
+use audit_reading::Setup;
 use command_words::{Job, job};
 use pc_outside::{Sink, Source};
 use std::alloc::{AllocError, Global};
@@ -23,6 +23,8 @@ fn do_job<S: Source, K: Sink>(alloc: Global, asked: Job, source: &mut S, sink: &
     ensures does { Does (Some asked) result (Rises (S.faults source.old) (S.faults source.new)) (S.left source.old)
         (S.left source.new) (K.written sink.old) (K.written sink.new) }
     ensures no_usage { result ≡ Status.Usage → ⊥ }
+    ensures unread { (seed subs lines : ℕ) (summary : Bool) → asked ≡ Job.Make seed subs lines summary
+        → source.new ≡ source.old }
 
     ensures source_later { S.faults source.old ≤ S.faults source.new }
     ensures sink_later { K.faults sink.old ≤ K.faults sink.new }
@@ -45,21 +47,21 @@ fn do_job<S: Source, K: Sink>(alloc: Global, asked: Job, source: &mut S, sink: &
             room,
             lane,
         } => {
-            let rule = Rule {
+            let setup = Setup {
                 solo,
                 slices,
                 room,
                 lane,
             };
-            audit(alloc, &rule, source, sink)
+            audit(alloc, &setup, source, sink)
         }
     }
 }
 
 /// Does what the words say, without the program's name. `solo` reads a trace from the source and writes
 /// its report to the sink, epoch by epoch; `make` writes a generated trace, or the summary of its report;
-/// `import` makes a trace of a capture, and `export` a capture of a trace; `audit` reads a trace and a report of it, and
-/// writes whether the report is a lawful one. Other words are Usage.
+/// `import` makes a trace of a capture, and `export` a capture of a trace; `audit` reads a trace and a report of it,
+/// and writes whether the report is a lawful one. Other words are Usage.
 pub fn run_plain<S: Source, K: Sink>(
     alloc: Global,
     words: &[String],
@@ -72,6 +74,10 @@ pub fn run_plain<S: Source, K: Sink>(
 
     // Words that ask for no job touch nothing.
     ensures untouched { job_of (map string_bytes words.now) ≡ None → (source.new ≡ source.old) × (sink.new ≡ sink.old) }
+
+    // `make` reads nothing.
+    ensures unread { (seed subs lines : ℕ) (summary : Bool)
+        → job_of (map string_bytes words.now) ≡ Some (Job.Make seed subs lines summary) → source.new ≡ source.old }
 
     // What is written is that of the job and the status, where source and sink tell their octets.
     ensures report { Does (job_of (map string_bytes words.now)) result

@@ -12,7 +12,8 @@ ghost use Rattle.demux.specs.Trace.{Meaning};
 ghost use Rattle.lawful_run.specs.Order.{Histories};
 ghost use Rattle.lawful_run.specs.Run.{no_events};
 ghost use Rattle.pepc.specs.Cut.{Counts};
-ghost use Rattle.pepc.specs.Progress.{Ends, Cuts, Takes, end_text, next_story, next_text, rest_text, status_at, status_without};
+ghost use Rattle.pepc.specs.Progress.{Ends, Cuts, Takes, end_text, next_story, next_text, rest_text, status_at};
+ghost use Rattle.pepc.specs.Progress.{status_without};
 ghost use Rattle.pepc.specs.Report.{IsDone, Reports, Runs};
 ghost use Rattle.pepc.specs.Standing.{HasRoom, IsLate, NoneBeyond, Stands, Story, story_of, with_end};
 

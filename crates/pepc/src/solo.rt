@@ -8,7 +8,7 @@ ghost use Rattle.demux.specs.Resolved.{IsDue, book_with, slot_of};
 ghost use Rattle.demux.specs.declared.decision.Whose.TheVariants.{New};
 ghost use Rattle.ipv4_packet.specs.Packet.{IsPacket};
 ghost use Rattle.gate_model.specs.declared.event.Event.{Event};
-ghost use Rattle.split_record.specs.Standing.{StandsFor};
+ghost use Rattle.subscriber.specs.Standing.{StandsFor};
 ghost use Rattle.demux.specs.Texts.{move_note};
 ghost use Rattle.demux.specs.Trace.{Meaning, note as noted, command as commanded, packet as carried};
 ghost use Rattle.lawful_run.specs.Order.{Histories};
@@ -27,8 +27,8 @@ use charging_book::Open;
 use control_steps::Command;
 use demux::{Decision, LentPacket, Whose, decide, home_slice};
 use pc_base::{Imsi, SliceNo, Slot};
-use split_record::Subscriber;
 use std::alloc::{AllocError, Global};
+use subscriber::{Subscriber, few_events_leave_room};
 use trace_lines::TraceLine;
 
 /// How many slices there are for an order to move.
@@ -175,6 +175,7 @@ impl Solo {
         let subscriber = &mut self.subscribers[place];
         // Below 2^16, as a G-PDU asks.
         let _len = packet_len(packet.ip.octets());
+        few_events_leave_room();
         let handled = subscriber.judge(packet.moment, packet.way, &packet.ip)?;
         push_handled(alloc, report, line, slot, handled)?;
         self.gathered.add_rows(slot, subscriber.take_closed())?;
@@ -231,6 +232,7 @@ impl Solo {
         let place = slot.0 as usize;
         let subscriber = &mut self.subscribers[place];
         let number = subscriber.commands();
+        few_events_leave_room();
         let (reply, effects) = subscriber.command(alloc, command)?;
         push_answer(report, line, slot, number, &reply)?;
         self.gathered.add_effects(slot, number, effects)?;

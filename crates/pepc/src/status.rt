@@ -11,7 +11,7 @@ pub enum Status {
     Usage,
     /// The source failed; the report of the lines that a newline had ended by then was written.
     ReadFault,
-    /// The sink failed; a front of a report was written.
+    /// The sink failed; a prefix of a report was written.
     WriteFault,
     /// Memory ran out; the texts of some first whole epochs were written.
     NoMemory,

@@ -1,5 +1,5 @@
--- A bucket as contracts see it, and the lists of passed costs that it stands for.
-use Rattle.std.specs.Prelude.{ℕ, ◌+◌, ◌-◌, ◌*◌, ◌≤◌, ◌↔◌, min, List, All}
+-- A bucket as contracts see it, and the lists of passed costs that it represents.
+use Rattle.std.specs.Prelude.{ℕ, ◌+◌, ◌-◌, ◌*◌, ◌≤◌, ◌↔◌, nat_le, min, Bool, List, All, if◌then◌else◌}
 use Rattle.rate_policer.specs.declared.cost.Cost.{Cost}
 use Rattle.rate_policer.specs.Conforming.{burst, Conforms}
 
@@ -9,9 +9,12 @@ pub record BucketState : Type 0 where
   pub level : ℕ
   pub last : ℕ
 
--- the rate of a bucket · the moment of its last ask
+-- the rate of a bucket · its level · the moment of its last ask
 abbrev pub rate_of : BucketState → ℕ
 rate_of bucket = bucket.rate
+
+abbrev pub level_of : BucketState → ℕ
+level_of bucket = bucket.level
 
 abbrev pub last_of : BucketState → ℕ
 last_of bucket = bucket.last
@@ -27,6 +30,18 @@ level_at bucket at = min (burst bucket.rate) (bucket.level + bucket.rate * (at -
 -- a cost is within the level at its moment
 abbrev pub LetsThrough : BucketState → Cost → Type 0
 LetsThrough bucket cost = cost.millibits ≤ level_at bucket cost.at
+
+-- the same as a test
+abbrev pub lets_through : BucketState → Cost → Bool
+lets_through bucket cost = nat_le cost.millibits (level_at bucket cost.at)
+
+-- the bucket behind an ask: what passes is taken off the level
+abbrev pub asked : BucketState → Cost → BucketState
+asked bucket cost = record {
+  rate = bucket.rate;
+  level = if lets_through bucket cost then level_at bucket cost.at - cost.millibits else level_at bucket cost.at;
+  last = cost.at;
+}
 
 -- these costs passed, and from its last ask on the bucket lets through just what conforms to them
 pub record StandsFor (bucket : BucketState) (passed : List Cost) : Type 0 where

@@ -1,5 +1,27 @@
 -- What a rate lets through, by the list of the costs that passed before.
-use Rattle.std.specs.Prelude.{◌≡◌, ℕ, ◌+◌, ◌-◌, ◌*◌, ◌≤◌, ◌==◌, ◌&&◌, ◌↔◌, nat_le, max, Bool, true, List, [], ◌∷◌, ◌++◌, sum_by, All, IsTrue, if◌then◌else◌}
+use Rattle.std.specs.Prelude.{
+  ◌≡◌,
+  ℕ,
+  ◌+◌,
+  ◌-◌,
+  ◌*◌,
+  ◌≤◌,
+  ◌==◌,
+  ◌&&◌,
+  ◌↔◌,
+  nat_le,
+  max,
+  Bool,
+  true,
+  List,
+  [],
+  ◌∷◌,
+  ◌++◌,
+  sum_by,
+  All,
+  IsTrue,
+  if◌then◌else◌,
+}
 use Rattle.rate_policer.specs.declared.cost.Cost.{Cost}
 
 -- what an ask for these octets at this moment costs

@@ -1,5 +1,21 @@
 //! A bucket: one level and one moment, which answer as the whole list of what passed.
-ghost use Rattle.std.specs.Prelude.{◌≡◌, ◌+◌, ◌-◌, ◌*◌, ◌^◌, ◌<◌, ◌≤◌, ◌↔◌, List, [], ◌∷◌, ◌++◌, IsTrue, MatchBool};
+ghost use Rattle.std.specs.Prelude.{
+  ◌≡◌,
+  ◌+◌,
+  ◌-◌,
+  ◌*◌,
+  ◌^◌,
+  ◌<◌,
+  ◌≤◌,
+  ◌↔◌,
+  List,
+  [],
+  ◌∷◌,
+  ◌++◌,
+  IsTrue,
+  MatchBool,
+};
+ghost use Rattle.std.specs.Option.{SomeIff};
 
 use crate::Cost;
 use crate::rate::{brought, burst};
@@ -7,7 +23,7 @@ use pc_base::{Kbps, Moment};
 use std::marker::Model;
 
 /// The bucket of a rate. A clause speaks of it by the list of the costs that it let through since it
-/// was new: it stands for these.
+/// was new: it represents these.
 #[derive(Clone, Copy, Debug)]
 pub struct Bucket {
     rate: Kbps,
@@ -33,8 +49,18 @@ impl Model for Bucket {
 
 impl Bucket {
     ghost use Rattle.rate_policer.specs.declared.cost.Cost.{Cost};
-    ghost use Rattle.rate_policer.specs.Conforming.{cost_of, Conforms, conforms};
-    ghost use Rattle.rate_policer.specs.Buckets.{StandsFor, full_bucket, level_at, rate_of, last_of};
+    ghost use Rattle.rate_policer.specs.Conforming.{burst, cost_of, Conforms, conforms};
+    ghost use Rattle.rate_policer.specs.Buckets.{
+      BucketState,
+      StandsFor,
+      asked,
+      full_bucket,
+      lets_through,
+      level_at,
+      level_of,
+      rate_of,
+      last_of,
+    };
 
     /// The bucket of a rate that nothing passed yet, full at moment 0.
     pub fn new(rate: Kbps) -> Bucket
@@ -48,6 +74,18 @@ impl Bucket {
             level: burst(rate),
             last: Moment(0),
         }
+    }
+
+    /// The bucket with these parts, as they were read of one; None exactly where the level is above the
+    /// burst of the rate. The level is in millibits, and `last` the moment of the last ask. It represents
+    /// what the bucket represented that they were read of.
+    pub fn of(rate: Kbps, level: u64, last: Moment) -> Option<Bucket>
+        ensures { SomeIff result (level ≤ burst rate) (record { rate = rate; level = level; last = last }) }
+    {
+        if level > burst(rate) {
+            return None;
+        }
+        Some(Bucket { rate, level, last })
     }
 
     /// Whether these octets pass at this moment. The bucket's level and moment move on also where
@@ -66,6 +104,10 @@ impl Bucket {
 
         ensures rate { rate_of self.new ≡ rate_of self.old }
         ensures asked { last_of self.new ≡ at }
+
+        // The same by the parts alone, also of a bucket that was made of some.
+        ensures within { result ≡ lets_through self.old (cost_of octets at) }
+        ensures parts { self.new ≡ asked self.old (cost_of octets at) }
     {
         let level = self.level_at(at);
         let millibits = Cost::of(octets, at).millibits;
@@ -90,6 +132,14 @@ impl Bucket {
         ensures { result ≡ last_of self.now }
     {
         self.last
+    }
+
+    /// What might pass at the moment of the last ask, in millibits.
+    pub fn level(&self) -> u64
+        ensures value { result ≡ level_of self.now }
+        ensures bound { result ≤ burst (rate_of self.now) }
+    {
+        self.level
     }
 
     // The level at a moment, in millibits.

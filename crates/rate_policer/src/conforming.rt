@@ -1,6 +1,16 @@
 //! What conforms to a rate, by the whole list of what passed.
 ghost use Rattle.std.specs.Prelude.{◌≡◌, ℕ, ◌+◌, ◌-◌, ◌*◌, ◌^◌, ◌≤◌, ◌↔◌, [], length, IsTrue};
-ghost use Rattle.rate_policer.specs.Conforming.{burst, volume, Conforms, conforms, ConformingIsTested, ArePoliced, PolicedListsGrow, NoWindowPassesMore, NoTimePassesMore};
+ghost use Rattle.rate_policer.specs.Conforming.{
+  burst,
+  volume,
+  Conforms,
+  conforms,
+  ConformingIsTested,
+  ArePoliced,
+  PolicedListsGrow,
+  NoWindowPassesMore,
+  NoTimePassesMore,
+};
 
 use crate::Cost;
 use crate::rate::{brought, burst};

@@ -21,7 +21,8 @@ pub record Answered : Type 0 where
   pub number : ℕ
   pub reply : Reply
 
--- the verdict on a packet of a slot, behind so many of the slot's commands; where it was handled, and whether it was parked
+-- the verdict on a packet of a slot, behind so many of the slot's commands; where it was handled, and whether it was
+-- parked
 pub record Judged : Type 0 where
   pub line : ℕ
   pub slot : ℕ

@@ -21,6 +21,3 @@ pub use std::alloc::AllocError as NoMemory;
 pub use writing::{
     push_answer, push_effect, push_note, push_open, push_packet, push_row, push_text, text,
 };
-
-#[cfg(test)]
-mod tests;

@@ -6,7 +6,8 @@ ghost use Rattle.text_fields.specs.Fields.{space, pieces_left, behind};
 ghost use Rattle.report_lines.specs.Lent.{verdict_of};
 ghost use Rattle.report_lines.specs.Text.{verdict_fields, fate_fields, place_fields};
 ghost use Rattle.report_lines.specs.Words.{message_word, place_word};
-ghost use Rattle.report_lines.specs.Reading.{Gives, down_of, up_of, held_of, verdict_at, verdict_of as verdict_of_fields};
+ghost use Rattle.report_lines.specs.Reading.{Gives, down_of, up_of};
+ghost use Rattle.report_lines.specs.Reading.{held_of, verdict_at, verdict_of as verdict_of_fields};
 ghost use Rattle.report_lines.specs.Reading.{fate_at, fate_of, slice_at, place_at, place_of};
 
 use crate::fields::{next_address, next_message, next_number, next_octets};

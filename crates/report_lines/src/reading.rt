@@ -5,8 +5,10 @@ ghost use Rattle.text_fields.specs.Fields.{space, pieces_left};
 ghost use Rattle.report_lines.specs.declared.entry.Entry.{Entry};
 ghost use Rattle.report_lines.specs.Ranges.{IsEntry};
 ghost use Rattle.report_lines.specs.Text.{entry_text};
-ghost use Rattle.report_lines.specs.Reading.{Gives, next, outcome_of, is_printable, is_note, note_of, head_of, answered_of};
-ghost use Rattle.report_lines.specs.Reading.{judged_of, marker_of, settlement_of, refusal_of, slot_row, slot_open, entry_of};
+ghost use Rattle.report_lines.specs.Reading.{Gives, next, outcome_of, is_printable};
+ghost use Rattle.report_lines.specs.Reading.{is_note, note_of, head_of, answered_of};
+ghost use Rattle.report_lines.specs.Reading.{judged_of, marker_of, settlement_of, refusal_of};
+ghost use Rattle.report_lines.specs.Reading.{slot_row, slot_open, entry_of};
 
 use crate::charges::{read_open, read_row};
 use crate::fields::{next_address, next_message, next_number, next_octets, next_slot};

@@ -6,7 +6,8 @@ ghost use Rattle.report_lines.specs.declared.entry.LineEntry.TheVariants as line
 ghost use Rattle.report_lines.specs.declared.entry.ChargeEntry.TheVariants as charge;
 ghost use Rattle.pc_base.specs.declared.effect.Effect.TheVariants as effect;
 ghost use Rattle.report_lines.specs.Lent.{verdict_of};
-ghost use Rattle.report_lines.specs.Text.{entry_text, effect_fields, charge_fields, line_fields, line_shown, without_place, shown};
+ghost use Rattle.report_lines.specs.Text.{entry_text, effect_fields, charge_fields, line_fields};
+ghost use Rattle.report_lines.specs.Text.{line_shown, without_place, shown};
 
 use crate::charges::{push_counters, push_row_fields};
 use crate::packets::{push_fate, push_lent, push_message, push_place, push_verdict};
@@ -70,7 +71,12 @@ pub fn push_answer(
     reply: &Reply,
 ) -> Result<(), NoMemory>
     ensures { OnOk result (out.new.items ≡ out.old.items
-        ++ entry_text (entry.Line (line_entry.C (record { line = line; slot = slot; number = number; reply = reply.now })))) }
+        ++ entry_text (entry.Line (line_entry.C (record {
+          line = line;
+          slot = slot;
+          number = number;
+          reply = reply.now;
+        })))) }
 {
     out.push(b'C')?;
     push_number(out, line)?;

@@ -1,4 +1,13 @@
-pub mod CountLemmas
-pub mod LastMoment
-pub mod SlotLemmas
-pub mod StandingLemmas
+pub mod Accepting
+pub mod Orders
+pub mod Lists
+pub mod Lanes
+pub mod Floors
+pub mod Leaving
+pub mod Waiting
+pub mod Handling
+pub mod Joins
+pub mod Stood
+pub mod Together
+pub mod Stages
+pub mod Ending

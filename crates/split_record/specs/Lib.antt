@@ -1,1 +1,9 @@
-pub mod Standing
+pub mod Accepted
+pub mod Closing
+pub mod Finishing
+pub mod Joined
+pub mod Origin
+pub mod Parts
+pub mod Places
+pub mod Props
+pub mod Rejoined

@@ -1,15 +1,20 @@
-//! A subscriber's whole record, as one value at rest: its session, the version that its packets go by,
-//! its running counters and its counts. Commands and packets, one after another, are answered as by the
-//! one-thread gateway (TS 23.401, in this gateway's profile). Which line is whose is left to others.
+//! A subscriber in two halves, and one again: it is split into a front end, which numbers what
+//! comes, a control half and a counter half; brought together they finish what is left. Who turns the
+//! halves meanwhile, and where, is left to others.
 #![tactic(auto)]
 
-mod handled;
+mod closing;
+mod finishing;
+mod front;
+mod joining;
 mod laws;
-mod subscriber;
+mod origin;
+mod parts;
+mod splitting;
 
-pub use handled::Handled;
+pub use finishing::{Finished, finish};
+pub use front::FrontEnd;
+pub use joining::events_are_of_lines;
+pub use parts::Parts;
+pub use splitting::split;
 pub use std::alloc::AllocError as NoMemory;
-pub use subscriber::Subscriber;
-
-#[cfg(test)]
-mod tests;

@@ -1,5 +1,5 @@
 -- Decimal texts and the numbers that they write.
-use Rattle.std.proofs.Common.{◌≡◌, ℕ, ◌+◌, ◌*◌, ◌^◌, ◌<◌, ◌≤◌, ◌-◌, Bool, true, false, List, length, get_or, refl, sym, ap, ◌∙◌, arith, take, rules, nat_le, Some, None, inl, inr, cond, ◌&&◌}
+use Rattle.std.proofs.Common.{◌≡◌, ℕ, ◌+◌, ◌*◌, ◌^◌, ◌%◌, ◌<◌, ◌≤◌, ◌-◌, Bool, true, false, List, length, get_or, add-one, refl, sym, ap, ◌∙◌, arith, take, rules, nat_le, Some, None, inl, inr, cond, ◌&&◌}
 use Rattle.std.specs.Char.{is_ascii_digit, digit_value}
 use Rattle.std.specs.Int.{IsInRange}
 use Rattle.std.specs.List.{list_all}
@@ -7,7 +7,9 @@ use Rattle.std.specs.Str.Parse.{digits_value}
 use Rattle.std.proofs.lemmas.Bool.Decides.{nat_tests}
 use Rattle.std.proofs.lemmas.Int.Digits.{digits_value_more}
 use Rattle.std.proofs.lemmas.Str.Parse.{IsNumeralModel, numerals_by_value, digits_value-take-le, digit_at}
-use Rattle.std.proofs.lemmas.Bool.{cases_eq}
+use Rattle.std.proofs.lemmas.Bool.{cases_eq, cases_lt, and_from}
+use Rattle.std.proofs.lemmas.List.Folds.{list_all_more}
+use Rattle.std.proofs.Math.Nat.{pow-suc, pow-le-pow_right}
 use Rattle.std.proofs.lemmas.Fmt.{decimal_is_IsNumeral, decimal_nonempty, first_decimal, decimal_digit, decimal-digits_value}
 use Rattle.std.specs.Fmt.{decimal}
 use Rattle.text_fields.specs.Number.{has_leading_zero, is_decimal, number_in}
@@ -34,6 +36,47 @@ pub more_at_least : (digits : List ℕ) (i : ℕ) → list_all is_ascii_digit di
     → digits_value 10 (take i digits) * 10 + (get_or digits i 0 - 48) ≤ digits_value 10 digits
 more_at_least digits i all inside =
     omega (arith, one_digit_more digits i all inside, digits_value-take-le 10 digits (i + 1) (omega arith))
+
+-- an octet less `0`, as it is computed
+pub is_digit : (octet : ℕ) → octet < 256 → (octet + 208) % 256 ≤ 9
+    → (is_ascii_digit octet ≡ true) × (digit_value octet ≡ (octet + 208) % 256)
+is_digit octet fits small =
+    let low : 48 ≤ octet = omega arith in
+    let high : octet ≤ 57 = omega arith in
+    let less : (octet + 208) % 256 ≡ octet - 48 = omega arith in
+    let digit : digit_value octet ≡ octet - 48 = grind (arith, nat_tests) in
+    (grind (arith, nat_tests), digit ∙ sym less)
+
+pub no_digit : (octet : ℕ) → octet < 256 → 9 < (octet + 208) % 256 → is_ascii_digit octet ≡ false
+no_digit octet fits large =
+    elim (cases_lt octet 48) [
+      | inl below ↦ grind (arith, nat_tests)
+      | inr above ↦ let high : 57 < octet = omega arith in grind (arith, nat_tests)
+    ]
+
+-- one digit more of a short text
+pub record Counted (text : List ℕ) (number i : ℕ) : Type 0 where
+  pub digits : list_all is_ascii_digit (take i text) ≡ true
+  pub value : number ≡ digits_value 10 (take i text)
+  pub small : number < 10 ^ i
+
+pub counted_more : (text : List ℕ) (number i value : ℕ) → list_all is_ascii_digit (take i text) ≡ true
+    → number ≡ digits_value 10 (take i text) → number < 10 ^ i → i < length text → get_or text i 0 < 256
+    → value ≡ (get_or text i 0 + 208) % 256 → value ≤ 9 → Counted text (number * 10 + value) (i + 1)
+counted_more text number i value all is small inside fits value_is few =
+    let digit = is_digit (get_or text i 0) fits (omega arith) in
+    let ten : 10 ^ (i + 1) ≡ 10 ^ i * 10 = ap (λ n. 10 ^ n) (add-one i) ∙ pow-suc 10 i in
+    record {
+      digits = list_all_more is_ascii_digit text i 0 inside
+          ∙ and_from (list_all is_ascii_digit (take i text)) (is_ascii_digit (get_or text i 0)) all digit.0;
+      value = sym (digits_value_more 10 text i inside ∙ ap (λ d. digits_value 10 (take i text) * 10 + d) (digit.1 ∙ sym value_is)
+          ∙ ap (λ n. n * 10 + value) (sym is));
+      small = omega (arith, ten);
+    }
+
+pub short_fits : (number i : ℕ) → i < 18 → number < 10 ^ i → number < 10 ^ 17
+short_fits number i few small =
+    omega (arith, pow-le-pow_right {n = 10} (omega arith) {i = i} {j = 17} (omega arith))
 
 -- what `decimal` writes is a number's text
 begins_above_zero : (n : ℕ) → n < 2 ^ 64 → has_leading_zero (decimal n) ≡ false

@@ -1,7 +1,11 @@
 pub mod CutLemmas
+pub mod LaneLemmas
+pub mod BlockLemmas
 pub mod DigitLemmas
 pub mod HexadecimalLemmas
 pub mod FieldLemmas
 pub mod AddressLemmas
 pub mod PlainLemmas
 pub mod LowerLemmas
+pub mod EncodeLemmas
+pub mod PlaceLemmas

@@ -2,3 +2,4 @@ pub mod Fields
 pub mod Number
 pub mod Address
 pub mod Hexadecimal
+pub mod Blocks

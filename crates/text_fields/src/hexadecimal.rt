@@ -1,11 +1,13 @@
-//! Octets in hexadecimal. No loop here branches on a digit: on digits in no order a guessed branch
-//! costs more than all else.
+//! Octets in hexadecimal: sixteen at a time, and one by one where they are fewer. No loop here branches on a
+//! digit: on digits in no order a guessed branch costs more than all else.
 ghost use Rattle.std.specs.Prelude.{◌≡◌, ◌*◌, ◌%◌, ◌<◌, Some, Ok, true, length, slice_index, IfOk, OnErr};
 ghost use Rattle.std.specs.List.{list_all, list_any};
 ghost use Rattle.std.specs.Option.{option_map};
 ghost use Rattle.hex.specs.Hex.{decode_of, encode_lower, lower_digits, hex_digit_value, is_hex_digit};
 ghost use Rattle.text_fields.specs.Hexadecimal.{is_upper, octets_of, lower_octets_of};
 
+use crate::blocks::decode_blocks;
+use crate::encoding::encode_blocks;
 use std::alloc::{AllocError, Global};
 
 /// The octets that the text is: an even number of digits in either case, at least two.
@@ -53,6 +55,19 @@ pub fn decode(digits: &[u8], octets: &mut [u8]) -> bool
     ensures digits { result ≡ list_all is_hex_digit digits.now }
     ensures octets { result ≡ true → decode_of digits.now ≡ Ok octets.new }
 {
+    if octets.len() < 16 {
+        decode_each(digits, octets)
+    } else {
+        decode_blocks(digits, octets)
+    }
+}
+
+// The same, an octet at a time.
+fn decode_each(digits: &[u8], octets: &mut [u8]) -> bool
+    requires { length digits.now ≡ 2 * length octets.old }
+    ensures digits { result ≡ list_all is_hex_digit digits.now }
+    ensures octets { result ≡ true → decode_of digits.now ≡ Ok octets.new }
+{
     let mut all = true;
     for place in 0..octets.len() {
         let high = digits[2 * place];
@@ -81,6 +96,18 @@ fn nibble(digit: u8) -> u8
 
 /// Each octet as two digits, in lower case.
 pub(crate) fn encode(octets: &[u8], digits: &mut [u8])
+    requires { length digits.old ≡ 2 * length octets.now }
+    ensures { digits.new ≡ encode_lower octets.now }
+{
+    if octets.len() < 16 {
+        encode_each(octets, digits);
+    } else {
+        encode_blocks(octets, digits);
+    }
+}
+
+// The same, an octet at a time.
+fn encode_each(octets: &[u8], digits: &mut [u8])
     requires { length digits.old ≡ 2 * length octets.now }
     ensures { digits.new ≡ encode_lower octets.now }
 {

@@ -4,7 +4,10 @@
 #![tactic(auto)]
 
 mod address;
+mod blocks;
+mod encoding;
 mod fields;
+mod head;
 mod hexadecimal;
 mod laws;
 mod number;
@@ -12,6 +15,7 @@ mod writing;
 
 pub use address::read_address;
 pub use fields::{cut, has_empty_field, next_piece};
+pub use head::{HEAD_LEN, Head};
 pub use hexadecimal::{decode, read_lower_octets, read_octets};
 pub use laws::{
     fields_stand_apart, one_lower_text_of_octets, one_text_of_a_number, one_text_of_an_address,
@@ -19,6 +23,3 @@ pub use laws::{
 };
 pub use number::read_number;
 pub use writing::{push_address, push_field, push_number, push_octets};
-
-#[cfg(test)]
-mod tests;

@@ -1,5 +1,5 @@
 //! Decimal numbers.
-ghost use Rattle.std.specs.Prelude.{◌≡◌, ◌^◌, ◌≤◌, true, MatchOption};
+ghost use Rattle.std.specs.Prelude.{◌≡◌, ◌^◌, ◌≤◌, true, false, length, MatchOption};
 ghost use Rattle.std.specs.Char.{is_ascii_digit};
 ghost use Rattle.std.specs.List.{list_all};
 ghost use Rattle.std.specs.Str.Parse.{digits_value};
@@ -8,6 +8,49 @@ ghost use Rattle.text_fields.specs.Number.{has_leading_zero, is_decimal, number_
 /// The number that the text is, where it is one from `least` to `last`: decimal digits alone, without
 /// a leading zero.
 pub fn read_number(text: &[u8], least: u64, last: u64) -> Option<u64>
+    ensures { result ≡ number_in least last text.now }
+{
+    if text.len() <= 18 {
+        read_short(text, least, last)
+    } else {
+        read_long(text, least, last)
+    }
+}
+
+// Up to 18 digits: no product or sum of theirs passes 64 bits.
+fn read_short(text: &[u8], least: u64, last: u64) -> Option<u64>
+    requires { length text.now ≤ 18 }
+    ensures { result ≡ number_in least last text.now }
+{
+    if text.is_empty() || has_leading_zero(text) {
+        return None;
+    }
+    let number = short_value(text)?;
+    if least <= number && number <= last {
+        Some(number)
+    } else {
+        None
+    }
+}
+
+// The number of these digits; None where an octet is none.
+fn short_value(text: &[u8]) -> Option<u64>
+    requires { length text.now ≤ 18 }
+    ensures { MatchOption result (list_all is_ascii_digit text.now ≡ false)
+        (λ n. (list_all is_ascii_digit text.now ≡ true) × (n ≡ digits_value 10 text.now)) }
+{
+    let mut number: u64 = 0;
+    for digit in text {
+        let value = digit.wrapping_sub(b'0');
+        if value > 9 {
+            return None;
+        }
+        number = number * 10 + u64::from(value);
+    }
+    Some(number)
+}
+
+fn read_long(text: &[u8], least: u64, last: u64) -> Option<u64>
     ensures { result ≡ number_in least last text.now }
 {
     if !is_decimal(text) {

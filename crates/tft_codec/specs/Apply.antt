@@ -1,5 +1,21 @@
 -- What a template makes of the filters of a bearer.
-use Rattle.std.specs.Prelude.{ℕ, ◌==◌, ◌++◌, nat_eq, not, Bool, if◌then◌else◌, List, [], ◌∷◌, map, Result, Ok, Err, unwrap_or}
+use Rattle.std.specs.Prelude.{
+  ℕ,
+  ◌==◌,
+  ◌++◌,
+  nat_eq,
+  not,
+  Bool,
+  if◌then◌else◌,
+  List,
+  [],
+  ◌∷◌,
+  map,
+  Result,
+  Ok,
+  Err,
+  unwrap_or,
+}
 use Rattle.std.specs.List.{list_any, list_all, filter, find}
 use Rattle.tft_codec.specs.declared.fault.TftNo.{TftNo}
 use Rattle.tft_codec.specs.declared.fault.TftNo.TheVariants as no

@@ -3,8 +3,28 @@ use Rattle.std.specs.Prelude.{ℕ, ◌<◌, ◌^◌, ◌++◌, nat_eq, List, [],
 use Rattle.std.specs.List.{flat_map, list_any, AllByRecursion, IsDistinct}
 use Rattle.wire_octets.specs.Numbers.{be16_octets, be32_octets}
 use Rattle.tft_codec.specs.declared.component.Component.{Component}
-use Rattle.tft_codec.specs.declared.component.Component.TheVariants.{RemoteAddr, LocalAddr, Protocol, LocalPort, LocalRange, RemotePort, RemoteRange, Spi, Tos}
-use Rattle.tft_codec.specs.Types.{remote_address_type, local_address_type, protocol_type, local_port_type, local_range_type, remote_port_type, remote_range_type, spi_type, tos_type}
+use Rattle.tft_codec.specs.declared.component.Component.TheVariants.{
+  RemoteAddr,
+  LocalAddr,
+  Protocol,
+  LocalPort,
+  LocalRange,
+  RemotePort,
+  RemoteRange,
+  Spi,
+  Tos,
+}
+use Rattle.tft_codec.specs.Types.{
+  remote_address_type,
+  local_address_type,
+  protocol_type,
+  local_port_type,
+  local_range_type,
+  remote_port_type,
+  remote_range_type,
+  spi_type,
+  tos_type,
+}
 
 -- the table of components: the type octet, and the octets after it (an address and its mask, a range from low to high)
 abbrev pub row : Component → ℕ × List ℕ

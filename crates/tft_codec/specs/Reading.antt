@@ -1,13 +1,62 @@
 -- What stands at the front of octets, by place.
-use Rattle.std.specs.Prelude.{◌≡◌, ℕ, zero, suc, ◌/◌, ◌%◌, ◌==◌, nat_lt, if◌then◌else◌, List, [], ◌∷◌, ◌++◌, length, take, drop, Option, Some, None, slice_index, unwrap_or, map}
+use Rattle.std.specs.Prelude.{
+  ◌≡◌,
+  ℕ,
+  zero,
+  suc,
+  ◌/◌,
+  ◌%◌,
+  ◌==◌,
+  nat_lt,
+  if◌then◌else◌,
+  List,
+  [],
+  ◌∷◌,
+  ◌++◌,
+  length,
+  take,
+  drop,
+  Option,
+  Some,
+  None,
+  slice_index,
+  unwrap_or,
+  map,
+}
 use Rattle.wire_octets.specs.Numbers.{be16_at, be32_at}
 use Rattle.tft_codec.specs.declared.component.Component.{Component}
-use Rattle.tft_codec.specs.declared.component.Component.TheVariants.{RemoteAddr, LocalAddr, Protocol, LocalPort, LocalRange, RemotePort, RemoteRange, Spi, Tos}
-use Rattle.tft_codec.specs.Types.{remote_address_type, local_address_type, protocol_type, local_port_type, local_range_type, remote_port_type, remote_range_type, spi_type, tos_type}
+use Rattle.tft_codec.specs.declared.component.Component.TheVariants.{
+  RemoteAddr,
+  LocalAddr,
+  Protocol,
+  LocalPort,
+  LocalRange,
+  RemotePort,
+  RemoteRange,
+  Spi,
+  Tos,
+}
+use Rattle.tft_codec.specs.Types.{
+  remote_address_type,
+  local_address_type,
+  protocol_type,
+  local_port_type,
+  local_range_type,
+  remote_port_type,
+  remote_range_type,
+  spi_type,
+  tos_type,
+}
 use Rattle.tft_codec.specs.declared.filter.Filter.{Filter}
 use Rattle.tft_codec.specs.declared.tft.Tft.{Tft}
 use Rattle.tft_codec.specs.declared.tft.Tft.TheVariants.{Create, Delete, Add, Replace, Remove, Nothing}
-use Rattle.tft_codec.specs.Types.{create_operation, delete_operation, add_operation, replace_operation, remove_operation}
+use Rattle.tft_codec.specs.Types.{
+  create_operation,
+  delete_operation,
+  add_operation,
+  replace_operation,
+  remove_operation,
+}
 use Rattle.tft_codec.specs.Component.{has}
 
 infixl 10 ◌>>=◌

@@ -1,9 +1,43 @@
 -- Why octets are no traffic flow template: the first fault from left to right.
-use Rattle.std.specs.Prelude.{◌≡◌, ℕ, zero, suc, ◌+◌, ◌/◌, ◌%◌, ◌==◌, ◌||◌, not, Bool, nat_lt, if◌then◌else◌, List, [], ◌∷◌, ◌++◌, length, Option, Some, None, is_none, slice_index, Result, Ok, Err}
+use Rattle.std.specs.Prelude.{
+  ◌≡◌,
+  ℕ,
+  zero,
+  suc,
+  ◌+◌,
+  ◌/◌,
+  ◌%◌,
+  ◌==◌,
+  ◌||◌,
+  not,
+  Bool,
+  nat_lt,
+  if◌then◌else◌,
+  List,
+  [],
+  ◌∷◌,
+  ◌++◌,
+  length,
+  Option,
+  Some,
+  None,
+  is_none,
+  slice_index,
+  Result,
+  Ok,
+  Err,
+}
 use Rattle.std.specs.Borrow.{Bor}
 use Rattle.tft_codec.specs.declared.fault.TBad.{TBad}
 use Rattle.tft_codec.specs.declared.fault.TBad.TheVariants as bad
-use Rattle.tft_codec.specs.Types.{create_operation, delete_operation, add_operation, replace_operation, remove_operation, no_operation}
+use Rattle.tft_codec.specs.Types.{
+  create_operation,
+  delete_operation,
+  add_operation,
+  replace_operation,
+  remove_operation,
+  no_operation,
+}
 use Rattle.tft_codec.specs.Component.{has}
 use Rattle.tft_codec.specs.Reading.{components_of, id_at, contents_at, after_filter}
 

@@ -4,7 +4,14 @@ use Rattle.std.specs.List.{flat_map}
 use Rattle.tft_codec.specs.declared.filter.Filter.{Filter}
 use Rattle.tft_codec.specs.declared.tft.Tft.{Tft}
 use Rattle.tft_codec.specs.declared.tft.Tft.TheVariants.{Create, Delete, Add, Replace, Remove, Nothing}
-use Rattle.tft_codec.specs.Types.{create_operation, delete_operation, add_operation, replace_operation, remove_operation, no_operation}
+use Rattle.tft_codec.specs.Types.{
+  create_operation,
+  delete_operation,
+  add_operation,
+  replace_operation,
+  remove_operation,
+  no_operation,
+}
 use Rattle.tft_codec.specs.Component.{contents}
 use Rattle.tft_codec.specs.Tft.{IsTft}
 

@@ -4,12 +4,18 @@
 //! Whether a packet fits a filter, and which bearer it takes, is left to the layer above.
 //!
 //! ```
-//! let octets = [0x21, 0x30, 9, 2, 0x30, 17];
-//! let tft = read(alloc, &octets)?;
-//! assert_eq!(write(alloc, &tft)?.as_slice(), octets);
-//! let filters = apply(alloc, &Filters::new(alloc), &tft)?;
-//! for filter in filters.as_slice() {
-//!     assert_eq!(filter.components.as_slice(), [Component::Protocol(17)]);
+//! use std::test::Fail;
+//! use tft_codec::{Component, Filters, apply, read, write};
+//!
+//! fn template_both_ways(rt: HostRuntime) -> Result<(), Fail> {
+//!     let octets = [0x21, 0x30, 9, 2, 0x30, 17];
+//!     let tft = read(rt.alloc(), &octets)?;
+//!     assert_eq!(rt; write(rt.alloc(), &tft)?.as_slice(), octets.as_slice());
+//!     let filters = apply(rt.alloc(), &Filters::new(rt.alloc()), &tft)?;
+//!     for filter in filters.as_slice() {
+//!         assert_eq!(rt; filter.components.as_slice(), [Component::Protocol(17)].as_slice());
+//!     }
+//!     Ok(())
 //! }
 //! ```
 #![tactic(auto)]
@@ -41,6 +47,3 @@ pub use tft::{
     REPLACE_FILTERS, Tft,
 };
 pub use writing::write;
-
-#[cfg(test)]
-mod tests;

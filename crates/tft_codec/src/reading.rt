@@ -6,8 +6,29 @@ ghost use Rattle.wire_octets.specs.Numbers.{be16_at, be32_at};
 ghost use Rattle.tft_codec.specs.declared.tft.Tft.{Tft};
 ghost use Rattle.tft_codec.specs.Filter.{ids};
 ghost use Rattle.tft_codec.specs.Spelling.{Spells};
-ghost use Rattle.tft_codec.specs.Reading.{Finds, number_at, octet_at, pair_at, component_of, components_or_none, filter_at, after_filter, filters_at, ids_at, tft_at};
-ghost use Rattle.tft_codec.specs.Refusal.{Reads, ReadsFront, contents_fault, filter_fault, filters_fault, ids_fault, first_octet_fault, first_fault};
+ghost use Rattle.tft_codec.specs.Reading.{
+  Finds,
+  number_at,
+  octet_at,
+  pair_at,
+  component_of,
+  components_or_none,
+  filter_at,
+  after_filter,
+  filters_at,
+  ids_at,
+  tft_at,
+};
+ghost use Rattle.tft_codec.specs.Refusal.{
+  Reads,
+  ReadsFront,
+  contents_fault,
+  filter_fault,
+  filters_fault,
+  ids_fault,
+  first_octet_fault,
+  first_fault,
+};
 
 use crate::component::{
     Component, Components, LOCAL_ADDRESS, LOCAL_PORT, LOCAL_PORT_RANGE, PROTOCOL, REMOTE_ADDRESS,

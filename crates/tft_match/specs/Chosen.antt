@@ -1,5 +1,22 @@
 -- The bearer that a downlink packet takes, as a function: of the first among the ranks of all candidates.
-use Rattle.std.specs.Prelude.{ℕ, ◌==◌, ◌&&◌, ◌||◌, nat_lt, Bool, List, [], ◌∷◌, length, map, filter, Option, Some, None, if◌then◌else◌}
+use Rattle.std.specs.Prelude.{
+  ℕ,
+  ◌==◌,
+  ◌&&◌,
+  ◌||◌,
+  nat_lt,
+  Bool,
+  List,
+  [],
+  ◌∷◌,
+  length,
+  map,
+  filter,
+  Option,
+  Some,
+  None,
+  if◌then◌else◌,
+}
 use Rattle.std.specs.List.{flat_map, list_any}
 use Rattle.tft_codec.specs.declared.tft.BearerFilters.{BearerFilters}
 use Rattle.tft_match.specs.declared.direction.Direction.TheVariants.{Down}

@@ -6,7 +6,17 @@ use Rattle.ipv4_packet.specs.Fields.{tos_of, protocol_of, source_of, destination
 use Rattle.ipv4_packet.specs.Payload.{ports_of, spi_of}
 use Rattle.tft_codec.specs.Component.{has}
 use Rattle.tft_codec.specs.declared.component.Component.{Component}
-use Rattle.tft_codec.specs.declared.component.Component.TheVariants.{RemoteAddr, LocalAddr, Protocol, LocalPort, LocalRange, RemotePort, RemoteRange, Spi, Tos}
+use Rattle.tft_codec.specs.declared.component.Component.TheVariants.{
+  RemoteAddr,
+  LocalAddr,
+  Protocol,
+  LocalPort,
+  LocalRange,
+  RemotePort,
+  RemoteRange,
+  Spi,
+  Tos,
+}
 use Rattle.tft_codec.specs.declared.filter.Filter.{Filter}
 use Rattle.tft_match.specs.declared.direction.Direction.{Direction}
 use Rattle.tft_match.specs.declared.direction.Direction.TheVariants.{Up, Down}

@@ -6,3 +6,4 @@ pub mod MeaningLemmas
 pub mod ReadLemmas
 pub mod EpochLemmas
 pub mod InputLemmas
+pub mod AloneLemmas

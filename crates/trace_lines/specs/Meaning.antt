@@ -120,3 +120,8 @@ line_of_fields least number _ = Err Field
 abbrev pub line_meaning : ℕ → ℕ → List ℕ → Result Line LineBad
 line_meaning least number text =
     if has_empty_field text then Err Field else line_of_fields least number (fields_of text)
+
+-- a line's meaning, refused where its moment is below the least one
+abbrev pub not_before : ℕ → Result Line LineBad → Result Line LineBad
+not_before least (Ok line) = if nat_lt line.moment least then Err MomentBack else Ok line
+not_before least (Err why) = Err why

@@ -1,10 +1,12 @@
-ghost use Rattle.std.specs.Prelude.{◌≡◌};
+ghost use Rattle.std.specs.Prelude.{◌≡◌, Some};
 ghost use Rattle.trace_lines.specs.Word.{word_of};
 ghost use Rattle.trace_lines.specs.declared.bad.LineBad.TheVariants.{NoMemory};
 
 use std::alloc::AllocError;
+use std::fmt;
 
-/// Why a line is refused, in the order of looking; and want of memory, which comes at no fixed place.
+/// Why a line is refused, in the order of looking; and out of memory, which comes at no fixed place. It prints as
+/// its word.
 #[derive(Clone, Copy, Debug, Drop, PartialEq, Eq)]
 pub enum LineBad {
     /// Fewer than two fields, an empty field, or a wrong number of fields for the kind.
@@ -34,6 +36,14 @@ impl LineBad {
             LineBad::MomentBack => "moment",
             LineBad::NoMemory => "memory",
         }
+    }
+}
+
+impl fmt::Display for LineBad {
+    ghost output = { λ bad. Some (word_of bad) };
+
+    fn fmt<W: fmt::Write>(&self, f: &mut fmt::Formatter<W>) -> fmt::Result {
+        f.write_str(self.word())
     }
 }
 

@@ -2,7 +2,8 @@
 ghost use Rattle.std.specs.Prelude.{◌≡◌, ◌≢◌, ◌⊎◌, ◌∷◌, [], Err, IfOk, IfErr, MatchResult, true, false};
 ghost use Rattle.text_fields.specs.Fields.{space, pieces_left};
 ghost use Rattle.trace_lines.specs.Memory.{is_message, has_octets};
-ghost use Rattle.trace_lines.specs.Meaning.{kind_meaning, attach_meaning, bearer_meaning, filters_meaning, drop_meaning};
+ghost use Rattle.trace_lines.specs.Meaning.{kind_meaning, attach_meaning, bearer_meaning};
+ghost use Rattle.trace_lines.specs.Meaning.{filters_meaning, drop_meaning};
 ghost use Rattle.trace_lines.specs.Meaning.{ambr_meaning, move_meaning, fence_meaning};
 ghost use Rattle.trace_lines.specs.declared.bad.LineBad.TheVariants.{NoMemory, Field};
 

@@ -3,7 +3,7 @@ ghost use Rattle.std.specs.Prelude.{◌≡◌, ℕ, ◌≤◌, ◌<◌, ◌^◌,
 ghost use Rattle.std.specs.Result.{result_err};
 ghost use Rattle.trace_lines.specs.Line.{Line, IsLine};
 ghost use Rattle.trace_lines.specs.Text.{Means, line_text};
-ghost use Rattle.trace_lines.specs.Meaning.{line_meaning};
+ghost use Rattle.trace_lines.specs.Meaning.{line_meaning, not_before};
 ghost use Rattle.trace_lines.specs.Refusal.{first_fault};
 ghost use Rattle.trace_lines.specs.Epochs.{epochs_of, AreEpochs};
 
@@ -28,4 +28,11 @@ pub fn lines_mean_their_texts()
 /// Epochs are the lines in their order, cut just behind each line that ends one.
 pub fn epochs_are_runs()
     ensures { (lines : List Line) → AreEpochs lines (epochs_of lines) }
+{}
+
+/// What a line means under a least moment is what it means alone, or a moment back where its moment is
+/// below: so lines can be read apart from each other, and their moments compared afterwards.
+pub fn lines_mean_alone()
+    ensures { (least number : ℕ) (text : List ℕ)
+        → line_meaning least number text ≡ not_before least (line_meaning 0 number text) }
 {}

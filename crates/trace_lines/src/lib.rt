@@ -15,10 +15,7 @@ mod writing;
 
 pub use bad::LineBad;
 pub use epoch::ends_epoch;
-pub use laws::{epochs_are_runs, lines_mean_their_texts};
+pub use laws::{epochs_are_runs, lines_mean_alone, lines_mean_their_texts};
 pub use line::{LineKind, TraceLine};
 pub use reading::read_line;
 pub use writing::{push_text, text};
-
-#[cfg(test)]
-mod tests;

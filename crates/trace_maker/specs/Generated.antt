@@ -19,7 +19,8 @@ abbrev pub chosen : ℕ → ℕ → ℕ → ℕ → Drawn
 chosen slot choice len state =
     if nat_lt choice 8 then record { said = Up slot len; state = state }
     else if nat_lt choice 14 then record { said = Down slot len; state = state }
-    else if choice == 14 then record { said = Rates slot (1000 * (1 + number_at 100 (moved state))); state = moved state }
+    else if choice == 14
+    then record { said = Rates slot (1000 * (1 + number_at 100 (moved state))); state = moved state }
     else record { said = Move slot (number_at 2 (moved state)); state = moved state }
 
 -- a subscriber, a choice and a length are drawn for every line, in this order, whatever the choice needs

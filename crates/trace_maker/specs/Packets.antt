@@ -4,6 +4,7 @@ use Rattle.pc_base.specs.Addresses.{addr_of}
 use Rattle.pc_base.specs.Teids.{teid_of}
 use Rattle.pc_base.specs.declared.packet.TeidUse.TheVariants.{Bearer}
 use Rattle.wire_octets.specs.Numbers.{be16_octets, be32_octets}
+use Rattle.gtpu_codec.specs.Text.{gpdu_head}
 
 -- 203.0.113.9
 abbrev pub server : ℕ
@@ -20,8 +21,7 @@ packet len source destination =
 
 -- a packet of the subscriber of this slot to the server, in a G-PDU (TS 29.281, 5.1) to its bearer of index 0
 abbrev pub uplink : ℕ → ℕ → List ℕ
-uplink slot len =
-    0x30 ∷ 0xff ∷ be16_octets len ++ be32_octets (teid_of slot (Bearer 0)) ++ packet len (addr_of slot) server
+uplink slot len = gpdu_head (teid_of slot (Bearer 0)) len ++ packet len (addr_of slot) server
 
 -- a packet of the server to the subscriber
 abbrev pub downlink : ℕ → ℕ → List ℕ

@@ -15,8 +15,8 @@ digit number power = 48 + number / power % 10
 abbrev pub imsi_of : ℕ → List ℕ
 imsi_of slot =
     codes "00101"
-    ++ digit slot 1_000_000_000 ∷ digit slot 100_000_000 ∷ digit slot 10_000_000 ∷ digit slot 1_000_000 ∷ digit slot 100_000
-    ∷ digit slot 10_000 ∷ digit slot 1_000 ∷ digit slot 100 ∷ digit slot 10 ∷ digit slot 1 ∷ []
+    ++ digit slot 1_000_000_000 ∷ digit slot 100_000_000 ∷ digit slot 10_000_000 ∷ digit slot 1_000_000
+    ∷ digit slot 100_000 ∷ digit slot 10_000 ∷ digit slot 1_000 ∷ digit slot 100 ∷ digit slot 10 ∷ digit slot 1 ∷ []
 
 -- Every subscriber is behind the eNodeB at 198.51.100.1, under a TEID of its own.
 abbrev pub kind_of : Said → LineKind

@@ -1,6 +1,5 @@
 //! A trace made of a seed: so many subscribers attach, and then packets both ways, rates and moves are
-//! drawn for them. A line is made at a time, and nothing grows with the trace. What becomes of the
-//! lines is left to who reads them.
+//! drawn for them. A line is made at a time. What becomes of the lines is left to who reads them.
 #![tactic(auto)]
 
 mod draws;
@@ -14,12 +13,3 @@ pub use draws::Draws;
 pub use laws::{a_made_trace_is_read, made_lines_stand_in_order};
 pub use maker::{Maker, made_line};
 pub use making::{MakeNo, make};
-
-#[cfg(test)]
-mod tests;
-
-/// The most subscribers of a trace: as many as the gateway has slots.
-pub const MOST_SUBSCRIBERS: u32 = 65_533;
-
-/// The most lines behind those that attach the subscribers.
-pub const MOST_LINES: u32 = 100_000;

@@ -31,7 +31,8 @@ impl Model for Maker {
     ghost view = { λ maker. attach_lines maker.attached (maker.subscribers - maker.attached)
         ++ drawn_lines maker.subscribers maker.draws (maker.drawn + 1) (maker.lines - maker.drawn) };
 
-    ghost invariant = { λ maker. (0 < maker.subscribers) × (maker.subscribers ≤ 65533) × (maker.attached ≤ maker.subscribers)
+    ghost invariant = { λ maker. (0 < maker.subscribers) × (maker.subscribers ≤ 65533)
+        × (maker.attached ≤ maker.subscribers)
         × (maker.drawn ≤ maker.lines) × (maker.lines ≤ 100000) };
 }
 

@@ -54,7 +54,8 @@ pub fn make<K: Sink>(
     requires slots { subscribers ≤ 65533 }
     requires most { lines ≤ 100000 }
 
-    ensures whole { OnOk result (Appends (K.written sink.old) (K.written sink.new) (text_of (made seed subscribers lines))) }
+    ensures whole { OnOk result (Appends (K.written sink.old) (K.written sink.new)
+        (text_of (made seed subscribers lines))) }
 
     // A fault leaves a front of the text; without memory the lines before are whole.
     ensures cut { result ≡ Err MakeNo.WriteFault

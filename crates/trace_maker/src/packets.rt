@@ -1,11 +1,9 @@
 //! The octets of packets.
-ghost use Rattle.std.specs.Prelude.{◌≡◌, ◌≤◌, ◌∷◌, ◌++◌, replicate, OnOk};
-ghost use Rattle.pc_base.specs.Teids.{teid_of};
-ghost use Rattle.pc_base.specs.declared.packet.TeidUse.TheVariants.{Bearer};
-ghost use Rattle.wire_octets.specs.Numbers.{be16_octets, be32_octets};
+ghost use Rattle.std.specs.Prelude.{◌≡◌, ◌≤◌, ◌++◌, replicate, OnOk};
 ghost use Rattle.trace_maker.specs.Packets.{downlink, packet, uplink};
 ghost use Rattle.trace_maker.specs.Said.{IsLength};
 
+use gtpu_codec::gpdu_head;
 use pc_base::{Addr4, NoMemory, Slot, TeidUse, addr_of, teid_of};
 use wire_octets::{be16_octets, be32_octets};
 
@@ -21,21 +19,10 @@ pub(crate) fn push_uplink(octets: &mut Vec<u8>, slot: Slot, len: u16) -> Result<
     requires { IsLength len }
     ensures { OnOk result (octets.new.items ≡ octets.old.items ++ uplink slot len) }
 {
-    octets.extend_from_slice(&tunnel_header(slot, len))?;
+    let teid = teid_of(slot, TeidUse::Bearer(0));
+    octets.extend_from_slice(&gpdu_head(teid, len))?;
     push_packet(octets, len, addr_of(slot), SERVER)?;
     Ok(())
-}
-
-// The header of a G-PDU to the first bearer.
-fn tunnel_header(slot: Slot, len: u16) -> [u8; 8]
-    ensures { result ≡ 0x30 ∷ 0xff ∷ be16_octets len ++ be32_octets (teid_of slot (Bearer 0)) }
-{
-    let teid = teid_of(slot, TeidUse::Bearer(0));
-    let [len_high, len_low] = be16_octets(len);
-    let [teid_0, teid_1, teid_2, teid_3] = be32_octets(teid.0);
-    [
-        0x30, 0xff, len_high, len_low, teid_0, teid_1, teid_2, teid_3,
-    ]
 }
 
 // Appends a packet to the subscriber.

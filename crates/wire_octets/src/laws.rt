@@ -1,6 +1,16 @@
 //! Laws of the numbers, each the contract of a function that does nothing.
 ghost use Rattle.std.specs.Prelude.{◌≡◌, ℕ, ◌+◌, ◌^◌, ◌<◌, ◌≤◌, List, ◌++◌, length, take, drop};
-ghost use Rattle.wire_octets.specs.Numbers.{AreOctets, be16_at, be24_at, be32_at, be40_at, be16_octets, be24_octets, be32_octets, be40_octets};
+ghost use Rattle.wire_octets.specs.Numbers.{
+  AreOctets,
+  be16_at,
+  be24_at,
+  be32_at,
+  be40_at,
+  be16_octets,
+  be24_octets,
+  be32_octets,
+  be40_octets,
+};
 
 /// What is written is read again, wherever it stands.
 pub fn reads_back()

@@ -1,6 +1,6 @@
 //! Big-endian numbers of two to five octets (network byte order, RFC 791, appendix B): read at any
 //! place of a slice, and written. No call takes memory. `specs/Memory.antt` has the one word for an
-//! answer or want of memory that the crates above cite.
+//! answer or out of memory that the crates above cite.
 //!
 //! ```
 //! let octets = be24_octets(0x0102_03);
@@ -11,8 +11,6 @@
 
 mod laws;
 mod reading;
-#[cfg(test)]
-mod tests;
 mod writing;
 
 pub use laws::{reads_back, stays_below, writes_back};

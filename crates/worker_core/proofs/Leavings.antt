@@ -133,33 +133,42 @@ module _ {H : Type 0} (slot_at : H → ℕ) (held : List H) (slot until : ℕ) w
   -- the half of the slot isn't held
   pub noted_none : (leaving : List Leaving) → is_held slot_at slot held ≡ false
       → IsNoted slot_at held (Leave slot until) leaving leaving
-  noted_none leaving none = ((λ some. absurd (true≢false (sym some ∙ none))), λ other done apart. refl)
+  noted_none leaving none = record {
+    due = λ some. absurd (true≢false (sym some ∙ none));
+    elsewhere = λ other done apart. refl;
+    none = λ _. refl;
+  }
 
   -- it was noted before
-  pub noted_set : (leaving looked : List Leaving) (k : ℕ) → looked ≡ leaving
+  pub noted_set : (leaving looked : List Leaving) (k : ℕ) → is_held slot_at slot held ≡ true → looked ≡ leaving
       → Some k ≡ position (λ x. nat_eq x.slot slot) looked
       → IsNoted slot_at held (Leave slot until) leaving (set leaving k note)
-  noted_set leaving looked k same found =
+  noted_set leaving looked k here same found =
       let found : position (λ (x : Leaving). nat_eq x.slot slot) leaving ≡ Some k =
       sym (found ∙ ap (position (λ (x : Leaving). nat_eq x.slot slot)) same) in
       let at = position-Some (λ (x : Leaving). nat_eq x.slot slot) leaving k note found in
       let is_slot : (none : Leaving) → k < length leaving → nat_eq (get_or leaving k none).slot slot ≡ true =
-      λ none within. (position-Some (λ (x : Leaving). nat_eq x.slot slot) leaving k none found).1 in (
-        (λ _. any_set (is_met slot until) leaving k note at.0 (own_meets slot until)),
-        λ other done apart. any_set_same (is_met other done) leaving k note (other_fails slot until other done apart)
-            (λ none within. other_fails_at slot other done (get_or leaving k none) apart (is_slot none within)),
-      )
+      λ none within. (position-Some (λ (x : Leaving). nat_eq x.slot slot) leaving k none found).1 in
+      record {
+        due = λ _. any_set (is_met slot until) leaving k note at.0 (own_meets slot until);
+        elsewhere = λ other done apart. any_set_same (is_met other done) leaving k note
+            (other_fails slot until other done apart)
+            (λ none within. other_fails_at slot other done (get_or leaving k none) apart (is_slot none within));
+        none = λ none. absurd (true≢false (sym here ∙ none));
+      }
 
   -- it wasn't
-  pub noted_push : (leaving : List Leaving) → IsNoted slot_at held (Leave slot until) leaving (leaving ++ note ∷ [])
-  noted_push leaving = (
-    (λ _. any_push (is_met slot until) leaving note ∙ ap (λ b. list_any (is_met slot until) leaving || b)
+  pub noted_push : (leaving : List Leaving) → is_held slot_at slot held ≡ true
+      → IsNoted slot_at held (Leave slot until) leaving (leaving ++ note ∷ [])
+  noted_push leaving here = record {
+    due = λ _. any_push (is_met slot until) leaving note ∙ ap (λ b. list_any (is_met slot until) leaving || b)
         (own_meets slot until)
-        ∙ or_true (list_any (is_met slot until) leaving)),
-    λ other done apart. any_push (is_met other done) leaving note
+        ∙ or_true (list_any (is_met slot until) leaving);
+    elsewhere = λ other done apart. any_push (is_met other done) leaving note
         ∙ ap (λ b. list_any (is_met other done) leaving || b) (other_fails slot until other done apart)
-        ∙ sym (or_false (list_any (is_met other done) leaving)),
-  )
+        ∙ sym (or_false (list_any (is_met other done) leaving));
+    none = λ none. absurd (true≢false (sym here ∙ none));
+  }
 
   pub noted_same : (leaving new made : List Leaving) → new ≡ made → IsNoted slot_at held (Leave slot until) leaving made
       → IsNoted slot_at held (Leave slot until) leaving new

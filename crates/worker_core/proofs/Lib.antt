@@ -2,3 +2,4 @@ pub mod Arrivals
 pub mod Leavings
 pub mod Rounds
 pub mod Views
+mod Walks

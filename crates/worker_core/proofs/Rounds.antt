@@ -1,6 +1,6 @@
 -- Which halves were turned, step by step.
 use Rattle.std.proofs.Common.{◌≡◌, ◌≢◌, ℕ, zero, suc, ◌+◌, ◌-◌, ◌<◌, ◌≤◌, inl, inr, true, false, List, [], ◌∷◌, length, map, set, get_or, refl, sym, ap, ◌∙◌, subst, arith}
-use Rattle.std.specs.Prelude.{nat_eq, nat_lt, if◌then◌else◌, Result, Ok, Option, IsNone, IfOk, IfSome}
+use Rattle.std.specs.Prelude.{nat_eq, nat_lt, if◌then◌else◌, Result, Ok, Err, Option, Some, None, IsNone, IfOk, IfSome}
 use Rattle.std.proofs.lemmas.Result.{IfOk-weaker}
 use Rattle.std.proofs.lemmas.Option.{IfSome_then}
 use Rattle.std.proofs.lemmas.List.{length-map, map-set, get_or-map, get_or-set_same, get_or-set_other}
@@ -10,6 +10,7 @@ use borrow.Author.Tests.{eqb-true, eqb-false, ltb-true, ltb-false}
 use Rattle.lane_core.specs.Ends.{raised}
 use Rattle.lane_core.specs.declared.did.Did.{Did}
 use Rattle.lane_core.specs.declared.did.Did.TheVariants.{Idle, Held, Worked}
+use Rattle.worker_core.specs.Answered.{AnswersAt, RestsAt, AllRest, AnswersRound}
 use Rattle.worker_core.specs.Turns.{count_at, AreTurned, AllTurned, NoneWorked, WorkedAlone, WorkedRound, steps_to, works_after}
 
 module _ {H : Type 0} (count : H → ℕ) where
@@ -261,3 +262,165 @@ pub names_kept : {H N : Type 0} (name : H → N) (held : List H) (i : ℕ) (old 
     → name new ≡ name old
     → map name (set held i new) ≡ map name held
 names_kept name held i old new is same = map-set_same name held i new old (same ∙ ap name is)
+
+-- one value of a list, whatever stands for none
+get_any : {H : Type 0} (xs : List H) (k : ℕ) (a b : H) → k < length xs → get_or xs k a ≡ get_or xs k b
+get_any [] k a b within = absurd (omega arith)
+get_any (x ∷ xs) zero a b within = refl
+get_any (x ∷ xs) (suc k) a b within = get_any xs k a b (omega arith)
+
+module _ {H : Type 0} (came_to : Did → H → H → Type 0) where
+  answers_same : (did : Did) (k : ℕ) (first old new last : List H)
+      → ((none : H) → get_or old k none ≡ get_or first k none) → ((none : H) → get_or last k none ≡ get_or new k none)
+      → AnswersAt came_to did k old new → AnswersAt came_to did k first last
+  answers_same did k first old new last same still came none =
+      subst (λ (p : H × H). came_to did p.0 p.1) (λ i. (same none i, sym (still none) i)) (came none)
+
+  rests_same : (k : ℕ) (first old new last : List H)
+      → ((none : H) → get_or old k none ≡ get_or first k none) → ((none : H) → get_or last k none ≡ get_or new k none)
+      → RestsAt came_to k old new → RestsAt came_to k first last
+  rests_same k first old new last same still came = elim came [
+    | inl idle ↦ inl (answers_same Idle k first old new last same still idle)
+    | inr held ↦ inr (answers_same Held k first old new last same still held)
+  ]
+
+  -- the half at i answered
+  pub answers_here : (did : Did) (i : ℕ) (first old : List H) (half turned : H)
+      → ((none : H) → get_or old i none ≡ get_or first i none) → i < length old → half ≡ get_or old i half
+      → came_to did half turned → AnswersAt came_to did i first (set old i turned)
+  answers_here did i first old half turned same within is came none =
+      let was : half ≡ get_or first i none = is ∙ get_any old i half none within ∙ same none in
+      let now : turned ≡ get_or (set old i turned) i none = sym (get_or-set_same old i turned none within) in
+      subst (λ (p : H × H). came_to did p.0 p.1) (λ j. (was j, now j)) came
+
+  -- those before it rest as they did
+  pub rest_still : (from i : ℕ) (first old : List H) (turned : H) → AllRest came_to from i first old
+      → AllRest came_to from i first (set old i turned)
+  rest_still from i first old turned rest = record {
+    rests = λ k low high. rests_same k first first old (set old i turned) (λ none. refl)
+        (λ none. get_or-set_other old i k turned none (λ e. absurd (omega arith))) (rest.rests k low high);
+  }
+
+  rests_by : (did : Did) (i : ℕ) (first new : List H) → (did ≡ Worked → ⊥)
+      → AnswersAt came_to did i first new → RestsAt came_to i first new
+  rests_by Idle i first new other came = inl came
+  rests_by Held i first new other came = inr came
+  rests_by Worked i first new other came = absurd (other refl)
+
+  -- and it rests
+  pub rest_more : (did : Did) (from i : ℕ) (first old : List H) (half turned : H) → AllRest came_to from i first old
+      → ((none : H) → get_or old i none ≡ get_or first i none) → i < length old → half ≡ get_or old i half
+      → (did ≡ Worked → ⊥) → came_to did half turned → AllRest came_to from (i + 1) first (set old i turned)
+  rest_more did from i first old half turned rest same within is other came =
+      let here : RestsAt came_to i first (set old i turned) =
+      rests_by did i first (set old i turned) other (answers_here did i first old half turned same within is came) in
+      record {
+        rests = λ k low high. elim (nat_eq k i) as (λ b. nat_eq k i ≡ b → RestsAt came_to k first (set old i turned)) [
+          | true ↦ λ e. subst (λ (n : ℕ). RestsAt came_to n first (set old i turned)) (sym (eqb-true k i e)) here
+          | false ↦ λ e. let apart : k ≢ i = eqb-false k i e in
+              (rest_still from i first old turned rest).rests k low (omega arith)
+        ] refl;
+      }
+
+  -- all halves rest, those from the cursor on and then those before it
+  pub rest_round : (turns : H → ℕ) (turned_at : H → ℕ → Type 0) (place cursor : ℕ) (first mid new : List H)
+      → AreTurned turns turned_at place cursor (length first) first mid
+      → AreTurned turns turned_at place 0 cursor mid new
+      → AllRest came_to cursor (length first) first mid → AllRest came_to 0 cursor mid new
+      → AllRest came_to 0 (length first) first new
+  rest_round turns turned_at place cursor first mid new before after rest again = record {
+    rests = λ k low high. elim (nat_lt k cursor) as (λ b. nat_lt k cursor ≡ b → RestsAt came_to k first new) [
+      | true ↦ λ e. let below : k < cursor = ltb-true k cursor e in
+          rests_same k first mid new new (λ none. before.others k none (inl below)) (λ none. refl)
+          (again.rests k low below)
+      | false ↦ λ e. let above : cursor ≤ k = ltb-false k cursor e in
+          rests_same k first first mid new (λ none. refl) (λ none. after.others k none (inr above))
+          (rest.rests k above high)
+    ] refl;
+  }
+
+  pub answers_first : (cursor at : ℕ) (first new : List H) → cursor ≤ at → at < length first
+      → AllRest came_to cursor at first new → AnswersAt came_to Worked at first new
+      → AnswersRound came_to cursor at first new
+  answers_first cursor at first new after within rest worked =
+      let len : ℕ = length first in
+      let there = steps_high cursor len at after in
+      record {
+        worked = worked;
+        before = λ k low near. elim (nat_lt k cursor) as (λ b. nat_lt k cursor ≡ b → RestsAt came_to k first new) [
+          | true ↦ λ e. let below : k < cursor = ltb-true k cursor e in
+              let s = steps_low cursor len k below in absurd (omega arith)
+          | false ↦ λ e. let above : cursor ≤ k = ltb-false k cursor e in
+              let s = steps_high cursor len k above in rest.rests k above (omega arith)
+        ] refl;
+      }
+
+  pub first_answers : (turns works : H → ℕ) (turned_at : H → ℕ → Type 0) (place cursor end : ℕ) (first new : List H)
+      (at : Option ℕ) (k : ℕ) → end ≡ length first → at ≡ Some k
+      → IfSome at (λ k. (cursor ≤ k) × (k < end)
+      × AreTurned turns turned_at place cursor (k + 1) first new × WorkedAlone works k first new)
+      → IfSome at (λ k. AllRest came_to cursor k first new × AnswersAt came_to Worked k first new)
+      → AnswersRound came_to cursor k first new
+  first_answers turns works turned_at place cursor end first new None k ends is turned came =
+      absurd (let no : ⊥ = cc in no)
+  first_answers turns works turned_at place cursor end first new (Some j) k ends is turned came =
+      subst (λ (n : ℕ). AnswersRound came_to cursor n first new) (some_is j k is)
+      (answers_first cursor j first new turned.0 (let t = turned.1 in omega arith) came.0 came.1) where
+        some_is : (a b : ℕ) → ◌≡◌ {A = Option ℕ} (Some a) (Some b) → a ≡ b
+        some_is a b e = ap out e where
+          out : Option ℕ → ℕ
+          out None = 0
+          out (Some n) = n
+
+  pub answers_second : (turns : H → ℕ) (turned_at : H → ℕ → Type 0) (place cursor at : ℕ) (first mid new : List H)
+      → at < cursor → cursor ≤ length first
+      → AreTurned turns turned_at place cursor (length first) first mid
+      → AreTurned turns turned_at place 0 (at + 1) mid new
+      → AllRest came_to cursor (length first) first mid → AllRest came_to 0 at mid new
+      → AnswersAt came_to Worked at mid new
+      → AnswersRound came_to cursor at first new
+  answers_second turns turned_at place cursor at first mid new before within turned again rest more worked =
+      let len : ℕ = length first in
+      let there = steps_low cursor len at before in
+      record {
+        worked = answers_same Worked at first mid new new (λ none. turned.others at none (inl before)) (λ none. refl)
+            worked;
+        before = λ k low near. elim (nat_lt k cursor) as (λ b. nat_lt k cursor ≡ b → RestsAt came_to k first new) [
+          | true ↦ λ e. let below : k < cursor = ltb-true k cursor e in
+              let s = steps_low cursor len k below in
+              rests_same k first mid new new (λ none. turned.others k none (inl below)) (λ none. refl)
+              (more.rests k (omega arith) (omega arith))
+          | false ↦ λ e. let above : cursor ≤ k = ltb-false k cursor e in
+              rests_same k first first mid new (λ none. refl) (λ none. again.others k none (inr (omega arith)))
+              (rest.rests k above low)
+        ] refl;
+      }
+
+  -- the second part of a round, whatever it came to
+  module _ (turns : H → ℕ) (turned_at : H → ℕ → Type 0) (works : H → ℕ) (place cursor end : ℕ)
+      (first mid new : List H) (ends : end ≡ length first) (within : cursor ≤ length first)
+      (before : AreTurned turns turned_at place cursor end first mid × NoneWorked works first mid)
+      (rest : AllRest came_to cursor end first mid) where
+    turned_before : AreTurned turns turned_at place cursor (length first) first mid
+    turned_before = subst (λ (n : ℕ). AreTurned turns turned_at place cursor n first mid) ends before.0
+
+    rest_before : AllRest came_to cursor (length first) first mid
+    rest_before = subst (λ (n : ℕ). AllRest came_to cursor n first mid) ends rest
+
+    pub then_rests : {E : Type 0} (result : Result (Option ℕ) E)
+        → IfOk result (λ at. IsNone at → AreTurned turns turned_at place 0 cursor mid new × NoneWorked works mid new)
+        → IfOk result (λ at. IsNone at → AllRest came_to 0 cursor mid new)
+        → IfOk result (λ at. IsNone at → AllRest came_to 0 (length first) first new)
+    then_rests (Ok at) turned again = λ none. rest_round turns turned_at place cursor first mid new turned_before
+        (turned none).0 rest_before (again none)
+    then_rests (Err e) turned again = tt
+
+    pub then_answers : {E : Type 0} (result : Result (Option ℕ) E)
+        → IfOk result (λ at. IfSome at (λ k. (0 ≤ k) × (k < cursor)
+        × AreTurned turns turned_at place 0 (k + 1) mid new × WorkedAlone works k mid new))
+        → IfOk result (λ at. IfSome at (λ k. AllRest came_to 0 k mid new × AnswersAt came_to Worked k mid new))
+        → IfOk result (λ at. IfSome at (λ k. AnswersRound came_to cursor k first new))
+    then_answers (Ok (Some k)) turned again = answers_second turns turned_at place cursor k first mid new turned.1 within
+        turned_before turned.2 rest_before again.0 again.1
+    then_answers (Ok None) turned again = tt
+    then_answers (Err e) turned again = tt

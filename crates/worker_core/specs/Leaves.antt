@@ -34,8 +34,14 @@ is_held slot_at slot held = list_any (λ half. slot_at half == slot) held
 abbrev pub SameElsewhere : ℕ → List Leaving → List Leaving → Type 0
 SameElsewhere slot old new = (other done : ℕ) → other ≢ slot → is_due new other done ≡ is_due old other done
 
--- after an order to leave the half of its slot, if it is held, is due once it has done so much
+-- the half of this slot, if it is held, is due once it has done so much; if it isn't held, nothing is noted
+pub record NotesLeave {H : Type 0} (slot_at : H → ℕ) (held : List H) (slot until : ℕ) (old new : List Leaving) : Type 0
+  where
+    pub due : is_held slot_at slot held ≡ true → is_due new slot until ≡ true
+    pub elsewhere : SameElsewhere slot old new
+    pub none : is_held slot_at slot held ≡ false → new ≡ old
+
+-- what an order makes of the notes
 abbrev pub IsNoted : {H : Type 0} → (H → ℕ) → List H → Order H → List Leaving → List Leaving → Type 0
 IsNoted slot_at held (Arrive _) old new = new ≡ old
-IsNoted slot_at held (Leave slot until) old new =
-    (is_held slot_at slot held ≡ true → is_due new slot until ≡ true) × SameElsewhere slot old new
+IsNoted slot_at held (Leave slot until) old new = NotesLeave slot_at held slot until old new

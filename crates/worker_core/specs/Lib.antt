@@ -1,3 +1,4 @@
+pub mod Answered
 pub mod Leaves
 pub mod Names
 pub mod Steps

@@ -1,12 +1,14 @@
 -- What a turn of a worker does: it takes an order, sends a half home, or turns halves until one has worked.
-use Rattle.std.specs.Prelude.{◌≡◌, ℕ, ◌+◌, ◌-◌, if◌then◌else◌, nat_lt, Option, Some, List, []}
+use Rattle.std.specs.Prelude.{◌≡◌, ℕ, ◌+◌, ◌-◌, ◌==◌, if◌then◌else◌, not, nat_lt, Option, Some, List, []}
 use Rattle.std.specs.Prelude.{◌∷◌, ◌++◌, length, map, slice_get}
-use Rattle.std.specs.List.{position, remove}
+use Rattle.std.specs.List.{position, remove, filter}
+use Rattle.lane_core.specs.declared.did.Did.{Did}
 use Rattle.worker_core.specs.declared.order.Order.{Order}
 use Rattle.worker_core.specs.declared.order.Order.TheVariants.{Arrive, Leave}
 use Rattle.worker_core.specs.declared.worker.Leaving.{Leaving}
 use Rattle.worker_core.specs.Leaves.{is_due, IsNoted, SameElsewhere}
 use Rattle.worker_core.specs.Turns.{WorkedRound}
+use Rattle.worker_core.specs.Answered.{AnswersRound}
 
 -- what a worker has: the orders that it took and the halves that it sent home; those that it holds, in the order in
 -- which they came; which are to leave; and where its next turn begins
@@ -43,7 +45,7 @@ pub record TookOrder {H : Type 0} (slot_at : H → ℕ) (old new : View H) : Typ
 abbrev pub first_due : {H : Type 0} → (H → ℕ) → (H → ℕ) → View H → Option ℕ
 first_due slot_at done view = position (λ half. is_due view.leaving (slot_at half) (done half)) view.held
 
--- the first half that was due went home
+-- the first half that was due went home, and its notes with it
 pub record WentHome {H : Type 0} (slot_at done : H → ℕ) (old new : View H) : Type 0 where
   pub at : ℕ
   pub half : H
@@ -53,17 +55,19 @@ pub record WentHome {H : Type 0} (slot_at done : H → ℕ) (old new : View H) :
   pub gone : new.gone ≡ old.gone ++ half ∷ []
   pub held : new.held ≡ remove old.held at
   pub noted : SameElsewhere (slot_at half) old.leaving new.leaving
+  pub forgotten : new.leaving ≡ filter (λ leaving. not (leaving.slot == slot_at half)) old.leaving
   pub cursor : new.cursor ≡ cursor_without old.cursor at (length new.held)
 
--- from the cursor round halves were turned until one worked, and the cursor stands behind that one
+-- from the cursor round halves were turned until one worked, as they tell, and the cursor stands behind that one
 pub record Turned {H N : Type 0} (name : H → N) (turns works : H → ℕ) (turned_at : H → ℕ
-    → Type 0) (place : ℕ) (old new : View H) : Type 0 where
+    → Type 0) (came_to : Did → H → H → Type 0) (place : ℕ) (old new : View H) : Type 0 where
   pub at : ℕ
   pub took : new.took ≡ old.took
   pub gone : new.gone ≡ old.gone
   pub leaving : new.leaving ≡ old.leaving
   pub names : map name new.held ≡ map name old.held
   pub round : WorkedRound turns works turned_at place old.cursor at old.held new.held
+  pub answers : AnswersRound came_to old.cursor at old.held new.held
   pub cursor : new.cursor ≡ wrapped (at + 1) (length old.held)
 
 -- nothing was taken, sent or noted, the cursor stands where it stood, and the halves have their names

@@ -3,14 +3,14 @@
 //! to do before. What a half does in its turn is left to the half.
 #![tactic(auto)]
 
+mod log;
 mod order;
 mod pairing;
-#[cfg(test)]
-mod tests;
 mod traveller;
 mod turning;
 mod worker;
 
+pub use log::Log;
 pub use order::Order;
 pub use pairing::{Desk, pair};
 pub use traveller::Traveller;

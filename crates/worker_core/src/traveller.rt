@@ -1,5 +1,7 @@
 //! What a worker asks of a half.
 ghost use Rattle.std.specs.Prelude.{◌≡◌, ◌≤◌, ◌^◌, ℕ, List};
+ghost use Rattle.std.specs.Prelude.{IfOk};
+ghost use Rattle.lane_core.specs.declared.did.Did.{Did};
 ghost use Rattle.lane_core.specs.Ends.{raised};
 ghost use Rattle.worker_core.specs.Turns.{works_after};
 
@@ -26,6 +28,9 @@ pub trait Traveller: Carried {
 
     ghost works: { Self → ℕ };
 
+    /// Why a turn of at most so many items came to its answer.
+    ghost came_to: { ℕ → Did → Self → Self → Type 0 };
+
     /// What a half knows of the slice at which it had its last turn; most know nothing of it.
     ghost turned_at: { Self → ℕ → Type 0 } = { λ half place. Unit {0} };
 
@@ -50,7 +55,8 @@ pub trait Traveller: Carried {
         ensures hop { hop_of self.new ≡ hop_of self.old }
         ensures turns { turns self.new ≡ raised (turns self.old) }
         ensures works { works self.new ≡ works_after result (works self.old) }
-        ensures place { turned_at self.new place };
+        ensures place { turned_at self.new place }
+        ensures came { IfOk result (λ did. came_to grain did self.old self.new) };
 
     /// Any half may be sent after any others.
     ghost free: { (before : List Self) (half : Self) → Self.follows before half };

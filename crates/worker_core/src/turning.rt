@@ -6,6 +6,8 @@ ghost use Rattle.worker_core.specs.declared.order.Order.{Order};
 ghost use Rattle.worker_core.specs.Leaves.{IsOrdered, IsTold, IsNoted, is_held, is_due};
 ghost use Rattle.worker_core.specs.declared.order.Order.TheVariants.{Leave};
 ghost use Rattle.worker_core.specs.Turns.{AreTurned, AllTurned, NoneWorked, WorkedAlone, WorkedRound};
+ghost use Rattle.worker_core.specs.Answered.{AnswersAt, AllRest, AnswersRound};
+ghost use Rattle.lane_core.specs.declared.did.Did.TheVariants as answers;
 
 use crate::Traveller;
 use crate::worker::Leaving;
@@ -98,6 +100,10 @@ pub fn turn_round<H: Traveller, R: Wait>(
         held.new.items) }
     ensures worked { IfOk result (λ at. IfSome at (λ k.
         WorkedRound H.turns H.works H.turned_at place cursor k held.old.items held.new.items)) }
+    ensures rests { IfOk result (λ at. IsNone at
+        → AllRest (H.came_to 8) 0 (length held.old.items) held.old.items held.new.items) }
+    ensures answers { IfOk result (λ at. IfSome at (λ k.
+        AnswersRound (H.came_to 8) cursor k held.old.items held.new.items)) }
 {
     let end = held.len();
     match turn_some(rt, held, place, cursor, end)? {
@@ -123,6 +129,9 @@ fn turn_some<H: Traveller, R: Wait>(
     ensures worked { IfOk result (λ at. IfSome at (λ k. (from ≤ k) × (k < to)
         × AreTurned H.turns H.turned_at place from (k + 1) held.old.items held.new.items
         × WorkedAlone H.works k held.old.items held.new.items)) }
+    ensures rests { IfOk result (λ at. IsNone at → AllRest (H.came_to 8) from to held.old.items held.new.items) }
+    ensures answers { IfOk result (λ at. IfSome at (λ k. AllRest (H.came_to 8) from k held.old.items held.new.items
+        × AnswersAt (H.came_to 8) answers.Worked k held.old.items held.new.items)) }
 {
     for i in from..to {
         if let Did::Worked = held[i].turn(rt, place, GRAIN)? {

@@ -5,6 +5,7 @@ ghost use Rattle.lane_core.specs.Ends.{sender_lane, receiver_lane, sent, taken, 
 ghost use Rattle.worker_core.specs.Names.{Kept};
 ghost use Rattle.worker_core.specs.Leaves.{IsTold};
 ghost use Rattle.worker_core.specs.Turns.{AllTurned};
+ghost use Rattle.worker_core.specs.Answered.{AllRest};
 ghost use Rattle.worker_core.specs.Steps.{TookOrder, WentHome, Turned, SameButHalves, first_due, wrapped, cursor_without};
 
 use crate::turning::{find_due, forget, mark, put_back, turn_round};
@@ -88,7 +89,7 @@ impl<H: Traveller> Worker<H> {
         ensures worked { result ≡ Ok Did.Worked
             → TookOrder (λ half. H.slot_of (H.name half)) (view_of self.old) (view_of self.new)
             ⊎ WentHome (λ half. H.slot_of (H.name half)) H.done_of (view_of self.old) (view_of self.new)
-            ⊎ Turned H.name H.turns H.works H.turned_at (place_of self.old) (view_of self.old) (view_of self.new) }
+            ⊎ Turned H.name H.turns H.works H.turned_at (H.came_to 8) (place_of self.old) (view_of self.old) (view_of self.new) }
 
         // Idle comes only where no order was there, each half was turned and none worked, and, if one
         // was due home, the lane home was full.
@@ -99,6 +100,8 @@ impl<H: Traveller> Worker<H> {
         ensures idle_home { result ≡ Ok Did.Idle → IsSome
             (first_due (λ half. H.slot_of (H.name half)) H.done_of (view_of self.old))
             → full_answers (home_of self.new) ≡ raised (full_answers (home_of self.old)) }
+        ensures idle_answers { result ≡ Ok Did.Idle → AllRest (H.came_to 8) 0 (length (held_of self.old))
+            (held_of self.old) (held_of self.new) }
         ensures idle { result ≡ Ok Did.Idle → SameButHalves H.name (view_of self.old) (view_of self.new) }
         ensures held_never { result ≡ Ok Did.Held → ⊥ }
 
@@ -184,9 +187,11 @@ impl<H: Traveller> Worker<H> {
         ensures orders { orders_of self.new ≡ orders_of self.old }
         ensures home { home_of self.new ≡ home_of self.old }
         ensures worked { result ≡ Ok Did.Worked
-            → Turned H.name H.turns H.works H.turned_at (place_of self.old) (view_of self.old) (view_of self.new) }
+            → Turned H.name H.turns H.works H.turned_at (H.came_to 8) (place_of self.old) (view_of self.old) (view_of self.new) }
         ensures idle { result ≡ Ok Did.Idle
             → AllTurned H.turns H.works H.turned_at (place_of self.old) (held_of self.old) (held_of self.new) }
+        ensures idle_answers { result ≡ Ok Did.Idle → AllRest (H.came_to 8) 0 (length (held_of self.old))
+            (held_of self.old) (held_of self.new) }
         ensures idle_rest { result ≡ Ok Did.Idle → SameButHalves H.name (view_of self.old) (view_of self.new) }
         ensures held_never { result ≡ Ok Did.Held → ⊥ }
         ensures err { OnErr result (SameButHalves H.name (view_of self.old) (view_of self.new)) }

@@ -39,7 +39,7 @@ impl Book {
     ghost use Rattle.charging_book.specs.Happenings.{rows_of};
     ghost use Rattle.charging_book.specs.Postings.{MayStart, MayGoOn};
 
-    /// Posts these, one after another, or nothing where memory is wanting. One that may not happen
+    /// Posts these, one after another, or nothing when out of memory. One that may not happen
     /// by then is passed over.
     pub fn post(&mut self, postings: &[Posting]) -> Result<(), NoMemory>
         ensures stands { (happened : List Happening) (taken : ℕ) → StandsFor self.old happened taken
@@ -60,7 +60,7 @@ impl Book {
         Ok(())
     }
 
-    /// Posts one. Where it may not happen, or memory is wanting, the book stays as it was.
+    /// Posts one. Where it may not happen, or when out of memory, the book stays as it was.
     pub fn post_one(&mut self, posting: &Posting) -> Result<(), NoMemory>
         ensures stands { (happened : List Happening) (taken : ℕ) → StandsFor self.old happened taken
             → MayFollow happened (happening_of posting.now)

@@ -2,8 +2,8 @@ use Rattle.std.proofs.Common.{◌≡◌, ◌+◌, ◌^◌, [], length, drop, sym
 use Rattle.std.specs.Global.{Vec}
 use Rattle.std.specs.Prelude.{option_map}
 use Rattle.std.proofs.lemmas.List.{drop_all, map-append}
-use Rattle.audit_lines.specs.declared.told.Told.{Told}
-use Rattle.audit_lines.specs.Meant.{lines_of}
+use Rattle.audit_sentences.specs.declared.told.Told.{Told}
+use Rattle.audit_sentences.specs.Meant.{lines_of}
 use Rattle.audit_reading.specs.Answering.{matched_all, matched_on}
 use Rattle.audit_reading.specs.Holding.{epochs_held, epochs_meant, meant_of}
 use Rattle.audit_reading.specs.Matching.{lent}

@@ -2,7 +2,7 @@ use Rattle.std.proofs.Common.{◌+◌, take, subst, sym}
 use Rattle.std.specs.Global.{Vec}
 use Rattle.std.specs.Borrow.{Bor}
 use Rattle.report_lines.specs.declared.entry.LineEntry.{LineEntry}
-use Rattle.audit_lines.specs.declared.sharing.Keyed.{Keyed}
+use Rattle.audit_sentences.specs.declared.sharing.Keyed.{Keyed}
 use Rattle.audit_sentences.specs.Entries.{line_entries}
 use Rattle.audit_reading.specs.Matching.{IsKeyed}
 use Rattle.audit_reading.proofs.KeyLemmas.{keyed_line, keyed_other, no_line}

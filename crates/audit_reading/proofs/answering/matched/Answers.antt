@@ -1,6 +1,6 @@
 use Rattle.std.proofs.Common.{◌∙◌, sym, ap}
 use Rattle.std.proofs.lemmas.List.{map-append}
-use Rattle.audit_lines.specs.Meant.{line_told, lines_of}
+use Rattle.audit_sentences.specs.Meant.{line_told, lines_of}
 use Rattle.audit_reading.proofs.MatchSteps.{match_next, match_other}
 use Rattle.audit_reading.proofs.answering.matched.Goals as goal
 

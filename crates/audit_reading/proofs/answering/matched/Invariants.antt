@@ -1,5 +1,5 @@
 use Rattle.std.proofs.Common.{◌≡◌, ◌+◌, [], drop}
-use Rattle.audit_lines.specs.Meant.{lines_of}
+use Rattle.audit_sentences.specs.Meant.{lines_of}
 use Rattle.audit_reading.specs.Answering.{matched_on}
 use Rattle.audit_reading.specs.Holding.{meant_of}
 use Rattle.audit_reading.specs.Matching.{lent}

@@ -1,5 +1,5 @@
 use Rattle.std.proofs.Common.{◌+◌, take, subst, sym}
-use Rattle.audit_lines.specs.Meant.{lines_of, meaning_of}
+use Rattle.audit_sentences.specs.Meant.{lines_of, meaning_of}
 use Rattle.audit_reading.specs.Holding.{IsKnown}
 use Rattle.audit_reading.specs.Waiting.{AreWaiting}
 use Rattle.audit_reading.proofs.RefuseLemmas.{breaks_off, front_more, goes_on, known_at}
@@ -13,7 +13,7 @@ take-requires-clause-known c =
 
 pub returns-then-not-take : goal.returns-then-not-take
 returns-then-not-take c = λ first answers.
-    breaks_off c.args.rule.now c.args.lines.now c.loop-told.told-index c.told-item.result first c.take.result
+    breaks_off c.args.setup.now c.args.lines.now c.loop-told.told-index c.told-item.result first c.take.result
     c.if-not-take.true
     (c.take.ensures.holds c.args.slots (first + c.loop-told.told-index)
     (take c.loop-told.told-index (lines_of c.args.lines.now)) c.loop-told.invariant.waits)
@@ -27,7 +27,7 @@ loop-told-preserved c = record {
       (c.take.ensures.waits c.args.slots (take c.loop-told.told-index (lines_of c.args.lines.now))
       c.loop-told.invariant.waits);
   holds = λ first answers.
-      goes_on c.args.rule.now c.args.lines.now c.loop-told.told-index c.told-item.result first c.take.result
+      goes_on c.args.setup.now c.args.lines.now c.loop-told.told-index c.told-item.result first c.take.result
       c.if-not-take.false
       (c.take.ensures.holds c.args.slots (first + c.loop-told.told-index)
       (take c.loop-told.told-index (lines_of c.args.lines.now)) c.loop-told.invariant.waits)

@@ -1,5 +1,5 @@
 use Rattle.std.proofs.Common.{inl, refl}
-use Rattle.audit_reading.specs.Rules.{job_of}
+use Rattle.audit_reading.specs.Setups.{setup_of}
 use Rattle.audit_run.proofs.FoundLemmas.{broken_by, confirmed_by}
 use Rattle.audit_run.proofs.HeardLemmas.{outside_heard}
 use Rattle.audit_run.proofs.auditing.found.Goals as goal
@@ -10,14 +10,14 @@ returns-then-heard-clause-finds c = λ texts hears.
 
 pub returns-in-Yes-clause-finds : goal.returns-in-Yes-clause-finds
 returns-in-Yes-clause-finds c = λ texts hears.
-    confirmed_by (job_of c.args.rule.now) c.args.heard.now texts c.as_slice.result.now c.as_slice-2.result.now
-    c.if-heard.false c.as_slice.ensures.value c.as_slice-2.ensures.value (c.in_ok-audit.ensures.yes.0 c.in-Yes.is) hears
+    confirmed_by (setup_of c.args.setup.now) c.args.heard.now texts c.as_slice.result.now c.as_slice-2.result.now
+    c.if-heard.false c.as_slice.ensures.value c.as_slice-2.ensures.value (c.in_ok-finding_of.ensures.yes.0 c.in-Yes.is) hears
 
 pub returns-in-No-clause-finds : goal.returns-in-No-clause-finds
 returns-in-No-clause-finds c = λ texts hears.
-    broken_by (job_of c.args.rule.now) c.args.heard.now texts c.as_slice.result.now c.as_slice-2.result.now c.in-No.k
-    c.if-heard.false c.as_slice.ensures.value c.as_slice-2.ensures.value ((c.in_ok-audit.ensures.no c.in-No.k).0
+    broken_by (setup_of c.args.setup.now) c.args.heard.now texts c.as_slice.result.now c.as_slice-2.result.now c.in-No.k
+    c.if-heard.false c.as_slice.ensures.value c.as_slice-2.ensures.value ((c.in_ok-finding_of.ensures.no c.in-No.k).0
     c.in-No.is) hears
 
 pub returns-in-No-clause-few : goal.returns-in-No-clause-few
-returns-in-No-clause-few c = ((c.in_ok-audit.ensures.no c.in-No.k).0 c.in-No.is).2
+returns-in-No-clause-few c = ((c.in_ok-finding_of.ensures.no c.in-No.k).0 c.in-No.is).2

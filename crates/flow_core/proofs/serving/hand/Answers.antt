@@ -1,4 +1,4 @@
-use Rattle.std.proofs.Common.{◌∙◌, ap}
+use Rattle.std.proofs.Common.{rules, ◌∙◌, ap}
 use Rattle.flow_core.specs.Places.{before_here}
 use Rattle.flow_core.proofs.Changes.{stays_here}
 use Rattle.flow_core.proofs.serving.hand.Goals as goal
@@ -8,3 +8,26 @@ returns-clause-here g c =
     ap (before_here c.args.place) c.in_ok-item.ensures.place
     ∙ stays_here c.args.place (g.H.Flow.places c.learn.new.self)
     ∙ ap (before_here c.args.place) c.learn.ensures.places
+
+pub returns-clause-handed : goal.returns-clause-handed
+returns-clause-handed g c = (
+  search rules,
+  record {
+    between = c.learn.new.self;
+    learnt = c.in_ok-learnt.learnt;
+    first = record {
+      lists = c.learn.ensures.handled;
+      placed = c.learn.ensures.places;
+      asked = c.learn.ensures.asks;
+      counted = search rules;
+      few = c.in_ok-learnt.ensures.most;
+      more = c.in_ok-learnt.ensures.more;
+      none = c.in_ok-learnt.ensures.none;
+      stopped = c.in_ok-learnt.ensures.stopped;
+    };
+    taken = search rules;
+    lists = c.in_ok-item.ensures.ok;
+    placed = c.in_ok-item.ensures.place;
+    counts = c.in_ok-item.ensures.batches;
+  },
+)

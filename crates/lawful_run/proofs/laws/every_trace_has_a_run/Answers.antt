@@ -1,6 +1,6 @@
 -- proofs/laws/every_trace_has_a_run/Answers.antt
 use Rattle.lawful_run.proofs.EveryTrace.{answered_is_run, answered_run_at_once}
-use Rattle.lawful_run.specs.Job.{slices_of}
+use Rattle.lawful_run.specs.Setup.{slices_of}
 use Rattle.lawful_run.specs.Trace.{slots_of, epochs_told}
 use Rattle.lawful_run.proofs.laws.every_trace_has_a_run.Goals as goal
 
@@ -11,4 +11,4 @@ pub returns-clause-at_once : goal.returns-clause-at_once
 returns-clause-at_once c = answered_run_at_once
 
 pub returns-clause-report : goal.returns-clause-report
-returns-clause-report c = λ job input. answered_is_run job (slots_of input) (epochs_told (slices_of job) input)
+returns-clause-report c = λ setup input. answered_is_run setup (slots_of input) (epochs_told (slices_of setup) input)

@@ -1,4 +1,4 @@
-use Rattle.lawful_run.specs.Job.{solo}
+use Rattle.lawful_run.specs.Setup.{solo}
 use Rattle.lawful_run.specs.Trace.{epochs_told, slots_of}
 use Rattle.lawful_run.proofs.LedgerLaws.{reports_are_partitions}
 use Rattle.pepc.specs.Report.{slices}

@@ -1,20 +1,16 @@
-use Rattle.std.proofs.Common.{sym, arith}
-use Rattle.text_fields.proofs.HexadecimalLemmas.{two_tested, octet_decoded, all_decoded}
+use Rattle.std.proofs.Common.{length, Ok, sym, ap, ◌∙◌, arith}
+use Rattle.hex.proofs.HexLemmas.{decode_of-even}
+use Rattle.text_fields.proofs.BlockLemmas.{small_digits, pairs_packed}
 use Rattle.text_fields.proofs.hexadecimal.decode.Goals as goal
 
-pub loop-place-preserved : goal.loop-place-preserved
-loop-place-preserved c =
-    let digits = c.args.digits.now in
-    let place = c.loop-place.place in
-    record {
-      tested = rw (c.loop-place.invariant.tested, c.is_hex_digit.ensures, c.is_hex_digit-in-loop-place.ensures)
-          (sym (two_tested digits place (omega arith)));
-      decoded = rw (c.is_hex_digit.ensures, c.is_hex_digit-in-loop-place.ensures)
-          (octet_decoded digits c.loop-place.octets place c.loop-place.all _ _ (omega arith)
-          (omega arith) c.nibble.ensures c.nibble-in-loop-place.ensures c.loop-place.invariant.decoded);
-    }
+pub returns-else-octets-lt16-clause-digits : goal.returns-else-octets-lt16-clause-digits
+returns-else-octets-lt16-clause-digits c =
+    c.decode_blocks.ensures.good ∙ small_digits c.args.digits.now c.type_inv.digits
 
-pub returns-clause-octets : goal.returns-clause-octets
-returns-clause-octets c good =
-    all_decoded c.args.digits.now c.loop-place.octets c.loop-place.place (omega arith) (omega arith)
-    (c.loop-place.invariant.decoded good)
+pub returns-else-octets-lt16-clause-octets : goal.returns-else-octets-lt16-clause-octets
+returns-else-octets-lt16-clause-octets c good =
+    let digits = c.args.digits.now in
+    let all = sym (small_digits digits c.type_inv.digits) ∙ sym c.decode_blocks.ensures.good ∙ good in
+    decode_of-even digits (omega arith)
+    ∙ pairs_packed 0 (length c.args.octets.now) digits c.type_inv.digits c.requires all
+    ∙ ap Ok (sym c.decode_blocks.ensures.octets)

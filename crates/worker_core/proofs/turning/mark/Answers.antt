@@ -13,7 +13,8 @@ returns-in-Some-clause-told g c = λ came told ordered. All-set (IsTold came) _ 
 
 pub returns-in-Some-clause-noted : goal.returns-in-Some-clause-noted
 returns-in-Some-clause-noted g c =
-    noted_set (λ half. g.H.Traveller.slot_of (g.H.Traveller.name half)) _ _ _ _ _ c.in-Some.k c.deref.ensures.value
+    noted_set (λ half. g.H.Traveller.slot_of (g.H.Traveller.name half)) _ _ _ _ _ c.in-Some.k (search rules)
+    c.deref.ensures.value
     c.in-Some.ensures
 
 pub returns-in-None-clause-told : goal.returns-in-None-clause-told
@@ -23,4 +24,4 @@ returns-in-None-clause-told g c = λ came told ordered.
 pub returns-in-None-clause-noted : goal.returns-in-None-clause-noted
 returns-in-None-clause-noted g c =
     noted_same (λ half. g.H.Traveller.slot_of (g.H.Traveller.name half)) _ _ _ _ _ _ c.push_reserved.ensures.items
-    (noted_push (λ half. g.H.Traveller.slot_of (g.H.Traveller.name half)) _ _ _ _)
+    (noted_push (λ half. g.H.Traveller.slot_of (g.H.Traveller.name half)) _ _ _ _ (search rules))

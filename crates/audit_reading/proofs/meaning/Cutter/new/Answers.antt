@@ -1,6 +1,6 @@
 use Rattle.std.proofs.Common.{[], ap}
 use Rattle.audit_reading.specs.Holding.{epochs_meant, meant_of}
-use Rattle.audit_reading.proofs.CutLemmas.{cut_nothing}
+use Rattle.lawful_run.proofs.CutLines.{cut_nothing}
 use Rattle.audit_reading.proofs.meaning.Cutter.new.Goals as goal
 
 pub returns : goal.returns

@@ -1,7 +1,7 @@
 use Rattle.std.proofs.Common.{◌≡◌, ◌+◌, ◌↔◌, Some, None, IsTrue, ap, sym, subst, ◌∙◌, set}
-use Rattle.audit_lines.specs.Meant.{line_told, meaning_of, slot_in}
+use Rattle.audit_sentences.specs.Meant.{line_told, meaning_of, slot_in}
 use Rattle.lawful_run.specs.Refusals.{RefusedAs}
-use Rattle.audit_reading.specs.Rules.{job_of}
+use Rattle.audit_reading.specs.Setups.{setup_of}
 use Rattle.audit_reading.specs.Waiting.{refused_well}
 use Rattle.audit_reading.proofs.RefuseLemmas.{known_below, line_holds}
 use Rattle.audit_reading.proofs.WaitLemmas.{waits_next, waits_same}
@@ -20,10 +20,10 @@ returns-clause-holds c = λ slots n before are answers.
     let below = known_below _ (meaning_of c.args.told.now.meant.now) at here c.requires.known in
     let load = c.args.self.now.load in
     subst (λ t. IsTrue t
-    ↔ RefusedAs (job_of c.args.rule.now) before (line_told c.args.told.now) c.args.told.now.entry.now)
+    ↔ RefusedAs (setup_of c.args.setup.now) before (line_told c.args.told.now) c.args.told.now.entry.now)
     (sym (c.refused_well-well.ensures
-    ∙ ap (refused_well c.args.rule.now own load (load.slots + c.one_new.result)) c.entry.ensures))
-    (line_holds c.args.rule.now c.args.self.now n at (load.slots + c.one_new.result) own slots before
+    ∙ ap (refused_well c.args.setup.now own load (load.slots + c.one_new.result)) c.entry.ensures))
+    (line_holds c.args.setup.now c.args.self.now n at (load.slots + c.one_new.result) own slots before
     (line_told c.args.told.now) are here below c.index.ensures
     (ap (λ new. load.slots + new) c.one_new.ensures.value) answers)
 

@@ -1,9 +1,10 @@
-use Rattle.std.proofs.Common.{[], ◌∷◌, ◌++◌, set, ap, ◌∙◌}
+use Rattle.std.proofs.Common.{[], ◌∷◌, ◌++◌, set, ap, ◌∙◌, rules}
 use Rattle.std.specs.List.{remove}
 use Rattle.std.proofs.lemmas.Slice.{pushed}
 use Rattle.charging_book.specs.Counters.{row_from}
 use Rattle.charging_book.proofs.Standing.{is-at, stands-marked, stands-gone, lives-marked}
 use Rattle.charging_book.specs.Happenings.{lives_of}
+use Rattle.charging_book.proofs.PartLemmas.{distinct_set, distinct_after}
 use Rattle.charging_book.proofs.accounts.Book.close_one.Goals as goal
 
 pub returns-in-Gone-clause-stands : goal.returns-in-Gone-clause-stands
@@ -44,3 +45,20 @@ returns-in_default-clause-stands c = λ happened taken stands.
     (ap (λ xs. set xs place c.new-in_default.result) spans ∙ ap (set old.moments place) c.new-in_default.ensures)
     (pushed (c.new.result ∷ []) (ap (λ book. book.rows) c.self.view_is) c.in_ok-push.was c.push.ensures.items
     ∙ ap (λ row. old.rows ++ row ∷ []) c.new.ensures)
+
+pub invariant_of-self-in-Gone : goal.invariant_of-self-in-Gone
+invariant_of-self-in-Gone c = (
+  search rules,
+  search rules,
+  distinct_after c.self.inside.opens.items c.remove.new.self.items c.place_of-place.result c.remove.ensures.items
+      c.self.invariant.2,
+)
+
+pub invariant_of-self-in_default : goal.invariant_of-self-in_default
+invariant_of-self-in_default c = (
+  search rules,
+  search rules,
+  distinct_set c.self.inside.opens.items c.place_of-place.result c.index.result.now c.next.result c.index.ensures
+      (ap (λ counters. counters.life) c.next.ensures)
+      c.self.invariant.2,
+)

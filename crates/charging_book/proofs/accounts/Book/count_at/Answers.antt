@@ -1,9 +1,10 @@
-use Rattle.std.proofs.Common.{◌+◌, [], ◌∷◌, ◌++◌, set, get_or, nat_le, ap, sym, ◌∙◌}
+use Rattle.std.proofs.Common.{◌+◌, [], ◌∷◌, ◌++◌, set, get_or, nat_le, ap, sym, ◌∙◌, rules}
 use Rattle.std.proofs.lemmas.Slice.{pushed}
 use Rattle.charging_book.specs.declared.records.Why.TheVariants.{Volume}
 use Rattle.charging_book.specs.Pieces.{volume}
 use Rattle.charging_book.specs.Counters.{with_packet, next_piece, row_from}
 use Rattle.charging_book.proofs.Standing.{IsAt, life_there, stands-counted, stands-filled}
+use Rattle.charging_book.proofs.PartLemmas.{distinct_set}
 use Rattle.charging_book.proofs.accounts.Book.count_at.Goals as goal
 
 pub returns-in_ok-push-clause-stands : goal.returns-in_ok-push-clause-stands
@@ -57,3 +58,21 @@ returns-else-is_full-clause-stands c = λ life happened taken found stands.
     (ap (λ xs. set xs place c.with-counted.result) opens ∙ ap (set old.opens place) c.with-counted.ensures)
     (ap (λ xs. set xs place c.with-span.result) spans ∙ ap (set old.moments place) c.with-span.ensures)
     (ap (λ book. book.rows) c.self.view_is)
+
+pub invariant_of-self-then-is_full : goal.invariant_of-self-then-is_full
+invariant_of-self-then-is_full c = (
+  search rules,
+  search rules,
+  distinct_set c.self.inside.opens.items c.args.place c.index.result.now c.next.result c.index.ensures
+      (ap (λ counters. counters.life) c.next.ensures ∙ ap (λ counters. counters.life) c.with-counted.ensures)
+      c.self.invariant.2,
+)
+
+pub invariant_of-self-else-is_full : goal.invariant_of-self-else-is_full
+invariant_of-self-else-is_full c = (
+  search rules,
+  search rules,
+  distinct_set c.self.inside.opens.items c.args.place c.index.result.now c.with-counted.result c.index.ensures
+      (ap (λ counters. counters.life) c.with-counted.ensures)
+      c.self.invariant.2,
+)

@@ -1,6 +1,9 @@
-use Rattle.std.proofs.Common.{[], ◌∷◌, ◌++◌, ap, ◌∙◌}
+use Rattle.std.proofs.Common.{[], ◌∷◌, ◌++◌, ap, sym, subst, ◌∙◌, rules}
 use Rattle.std.proofs.lemmas.Slice.{pushed}
 use Rattle.charging_book.proofs.Standing.{stands-started}
+use Rattle.charging_book.specs.Accounts.{IsNone}
+use Rattle.charging_book.proofs.Places.{none_of_all}
+use Rattle.charging_book.proofs.PartLemmas.{lives_in, distinct_behind}
 use Rattle.charging_book.proofs.accounts.Book.start.Goals as goal
 
 pub returns-in-Ok-clause-stands : goal.returns-in-Ok-clause-stands
@@ -12,3 +15,14 @@ returns-in-Ok-clause-stands c = λ happened taken stands.
     (c.in-Ok.ensures.items ∙ ap (λ xs. xs ++ c.new-2.result ∷ []) (ap (λ book. book.moments) c.self.view_is)
     ∙ ap (λ moments. old.moments ++ moments ∷ []) c.new-2.ensures)
     (ap (λ book. book.rows) c.self.view_is)
+
+pub invariant_of-self-in-Ok : goal.invariant_of-self-in-Ok
+invariant_of-self-in-Ok c = (
+  search rules,
+  search rules,
+  distinct_behind c.self.inside.opens.items c.push.new.self.items c.new.result c.args.life
+      c.in_ok-push.ensures.items (ap (λ counters. counters.life) c.new.ensures)
+      (subst (λ opens. IsNone c.args.life (lives_in opens)) (sym (ap (λ book. book.opens) c.self.view_is))
+      (none_of_all c.args.life (lives_in c.args.self.now.opens) c.requires.closed))
+      c.self.invariant.2,
+)

@@ -1,6 +1,6 @@
 use Rattle.std.proofs.Common.{◌≡◌, ◌≤◌, ◌++◌, ◌∷◌, [], List, arith, refl, ap, ◌∙◌, subst}
 use Rattle.bearer_state.specs.Version.{VersionState}
-use Rattle.update_batch.specs.Batch.{versions_of}
+use Rattle.control_half.specs.Batch.{versions_of}
 use Rattle.counter_half.specs.declared.items.VersionDone.{VersionDone}
 use Rattle.counter_half.specs.Learnt.{learnt_in}
 use Rattle.counter_half.proofs.LearnStep.{Learns}

@@ -1,8 +1,9 @@
-use Rattle.std.proofs.Common.{rules}
+use Rattle.std.proofs.Common.{rules, inl, inr, ℕ, refl, subst}
 use Rattle.std.proofs.lemmas.Result.{IfOk-weaker}
 use Rattle.std.specs.Prelude.{◌≡◌, None}
-use Rattle.flow_core.specs.declared.serving.Took.TheVariants.{Kept}
-use Rattle.flow_core.specs.Workers.{view_of}
+use Rattle.flow_core.specs.declared.serving.Took.TheVariants.{Nothing, Arrived, Left, Kept}
+use Rattle.flow_core.specs.Workers.{view_of, Takes}
+use Rattle.flow_core.specs.Doing.{HandsKept}
 use Rattle.flow_core.specs.Steps.{TookOrder}
 use Rattle.flow_core.proofs.Causes.{ordered_kept, ordered_taken}
 use Rattle.flow_core.proofs.worker.FlowWorker.do_order.Goals as goal
@@ -23,3 +24,40 @@ returns-in-Kept-clause-done g c =
     g.H.Flow.learns did.0 step
     (view_of c.args.self.now) (view_of c.take_order.new.self)
     (view_of c.do_kept-in-Kept.new.self) free took did.1 did.2) c.do_kept-in-Kept.ensures.done
+
+pub returns-then-is_some-clause-whole : goal.returns-then-is_some-clause-whole
+returns-then-is_some-clause-whole g c =
+    IfOk-weaker c.do_kept.result _ _ (λ step did.
+    inr (inr (inr (view_of c.args.self.now, did.0, inl refl, did.1, did.3)))) c.do_kept.ensures.done
+
+pub returns-in-Kept-clause-whole : goal.returns-in-Kept-clause-whole
+returns-in-Kept-clause-whole g c =
+    let free : c.args.self.now.kept ≡ None = search rules in
+    let took : Takes Kept c.args.self.now c.take_order.new.self = search rules in
+    IfOk-weaker c.do_kept-in-Kept.result _ _ (λ step did.
+    inr (inr (inr (
+      view_of c.take_order.new.self,
+      did.0,
+      inr (free, took),
+      did.1,
+      subst (λ (p : ℕ). HandsKept g.H.Flow p did.0 (view_of c.take_order.new.self)
+          (view_of c.do_kept-in-Kept.new.self)) c.take_order.ensures.place did.3,
+    )))) c.do_kept-in-Kept.ensures.done
+
+pub returns-in-Nothing-clause-whole : goal.returns-in-Nothing-clause-whole
+returns-in-Nothing-clause-whole g c =
+    let free : c.args.self.now.kept ≡ None = search rules in
+    let took : Takes Nothing c.args.self.now c.take_order.new.self = search rules in
+    inl (refl, free, took)
+
+pub returns-in-Arrived-clause-whole : goal.returns-in-Arrived-clause-whole
+returns-in-Arrived-clause-whole g c =
+    let free : c.args.self.now.kept ≡ None = search rules in
+    let took : Takes Arrived c.args.self.now c.take_order.new.self = search rules in
+    inr (inl (refl, free, took))
+
+pub returns-in-Left-clause-whole : goal.returns-in-Left-clause-whole
+returns-in-Left-clause-whole g c =
+    let free : c.args.self.now.kept ≡ None = search rules in
+    let took : Takes Left c.args.self.now c.take_order.new.self = search rules in
+    inr (inr (inl (refl, free, took)))

@@ -1,7 +1,8 @@
 use Rattle.std.proofs.Common.{◌≡◌, true, false}
-use Rattle.std.specs.Prelude.{None}
+use Rattle.std.specs.Prelude.{None, nat_lt}
 use Rattle.lane_core.specs.Ends.{sent, taken}
 use Rattle.flow_core.specs.Workers.{worker_lanes, place_of, view_of}
+use Rattle.flow_core.specs.Doing.{DoesMany}
 use Rattle.flow_core.specs.Steps.{Along, HasServed}
 use Rattle.flow_core.proofs.worker.FlowWorker.do_orders.Given as goal
 
@@ -17,3 +18,5 @@ invariant-loop g l =
     (λ half. g.H.Flow.slot_at (g.H.Flow.name half)) g.H.Flow.item_slot g.H.Flow.handled g.H.Flow.takes g.H.Flow.asks
     g.H.Flow.learns (view_of l.fn.self) (view_of l.self))
     × (l.worked ≡ false → (view_of l.self ≡ view_of l.fn.self) × (l.counter ≡ 0))
+    × (l.worked ≡ nat_lt 0 l.counter)
+    × DoesMany g.H.Flow (place_of l.fn.self) l.counter (view_of l.fn.self) (view_of l.self)

@@ -146,3 +146,31 @@ invariant_of-self-in-Leave g c =
       stands = knows.3;
       within = search rules;
     }
+
+pub returns-in-Some-find-clause-whole : goal.returns-in-Some-find-clause-whole
+returns-in-Some-find-clause-whole g c =
+    let w = c.args.self.now in
+    let laws = g.met.H.Flow g.world.𝓛 g.world.𝓜 g.world.𝓡 ((λ s x. x), (λ x. x), (λ x. x), λ x. x) in
+    let half = c.remove.result in
+    let at = c.in-Some-find.at in
+    let seen = c.deref.ensures.value ∙ c.reserve.ensures.items in
+    let within : at
+    < length w.held.items = let a = c.in-Some-find.ensures.found.0 in let b = ap length seen in omega arith in
+    let there : half
+    ≡ get_or w.held.items at half = c.remove.ensures.value ∙ ap (λ l. get_or l at half) c.reserve.ensures.items in
+    record {
+      slot = c.in-Leave.slot;
+      at = at;
+      half = half;
+      took = c.in-Some.ensures.next.0 ∙ ap (λ o. taken w.orders ++ o ∷ []) c.in-Leave.is;
+      within = within;
+      there = there;
+      own = found_slot g.H.FlowKind.slot_of_half
+          (λ half. g.H.Flow.slot_at (g.H.Flow.name half)) laws.half_slots c.in-Leave.slot c.in-Leave.slot
+          w.held.items c.deref.result.now at half there seen refl c.in-Some-find.ensures.found.1;
+      held = c.remove.ensures.items ∙ ap (λ l. remove l at) c.reserve.ensures.items;
+      gone = search rules;
+      waiting = search rules;
+      kept = search rules;
+      cursor = search rules;
+    }

@@ -1,8 +1,13 @@
 use Rattle.std.proofs.Common.{rules, ◌≡◌, ◌∙◌, inl, inr, true, false, sym, ap, subst}
-use Rattle.std.specs.Prelude.{Ok}
+use Rattle.std.specs.Prelude.{Ok, Result, IfOk}
+use Rattle.std.specs.declared.alloc.AllocError.{AllocError}
 use Rattle.lane_core.specs.declared.did.Did.TheVariants.{Idle, Held, Worked}
 use Rattle.flow_core.specs.declared.serving.Served.TheVariants as served
-use Rattle.flow_core.specs.Workers.{view_of}
+use Rattle.flow_core.specs.declared.serving.Served.{Served}
+use Rattle.flow_core.specs.Workers.{view_of, place_of, DoesAll}
+use Rattle.flow_core.specs.declared.serving.Sent.{Sent}
+use Rattle.flow_core.specs.Doing.{SendsAs}
+use Rattle.flow_core.proofs.Chains.{turns_on, turns_left, turns_refused}
 use Rattle.flow_core.specs.Turns.{View, Rested, HasIdled}
 use Rattle.flow_core.proofs.Causes.{served_then, then_served, along_next, next_gone, next_learnt, idle_rested, idle_why, worked_after, worked_home, did_is, stopped_left, sent_absent}
 use Rattle.flow_core.proofs.worker.FlowWorker.turn.Goals as goal
@@ -67,4 +72,42 @@ returns g c =
           g.H.Flow.learns c.in_ok-learnt.learnt mid after last none.2
           c.in_ok-worked.ensures.gone waiting idle next);
       held_never = λ e. c.answer.ensures.held_never (did_is c.answer.result Held e);
+      whole = turns_on g.H.Flow (place_of c.args.self.now) (place_of c.send_waiting-sent.new.self)
+          c.send_waiting-sent.ensures.place first mid (place_of c.do_orders.new.self) sent c.in-Stopped.worked
+          c.in_ok-learnt.learnt c.answer.result after last
+          (c.do_orders.ensures.place ∙ c.send_waiting-sent.ensures.place) c.in_default.not-Refused
+          c.send_waiting-sent.ensures.whole
+          (subst (λ (s : Served). DoesAll s c.send_waiting-sent.new.self c.do_orders.new.self) c.in-Stopped.is
+          c.in_ok-worked.ensures.whole)
+          c.in_ok-learnt.ensures.whole c.answer.ensures.is;
+    }
+
+pub returns-in-Refused-clause-whole : goal.returns-in-Refused-clause-whole
+returns-in-Refused-clause-whole g c =
+    let first = view_of c.args.self.now in
+    let mid = view_of c.send_waiting-sent.new.self in
+    turns_refused g.H.Flow (place_of c.args.self.now) (place_of c.send_waiting-sent.new.self)
+    c.send_waiting-sent.ensures.place first mid
+    (subst (λ (s : Sent). SendsAs s first mid) c.in-Refused.is c.send_waiting-sent.ensures.whole)
+
+pub returns-in_default-2 : goal.returns-in_default-2
+returns-in_default-2 g c =
+    let first = view_of c.args.self.now in
+    let mid = view_of c.send_waiting-sent.new.self in
+    let last = view_of c.do_orders.new.self in
+    let left : c.do_orders.result ≡ Ok served.Left = search rules in
+    record {
+      lanes = c.do_orders.ensures.lanes ∙ c.send_waiting-sent.ensures.lanes;
+      place = c.do_orders.ensures.place ∙ c.send_waiting-sent.ensures.place;
+      worked = λ e. worked_after g.H.Flow.name g.H.Flow.slot_at g.H.Flow.item_slot g.H.Flow.handled g.H.Flow.takes
+          g.H.Flow.asks g.H.Flow.learns c.send_waiting-sent.result first mid last c.in_default.not-Refused
+          c.send_waiting-sent.ensures.sent c.in_ok-worked.ensures.gone (inl (c.do_orders.ensures.left left));
+      idle = λ e. absurd (let no : ⊥ = cc in no);
+      idle_why = λ e. absurd (let no : ⊥ = cc in no);
+      held_never = λ e. (let no : ⊥ = cc in no);
+      whole = turns_left g.H.Flow (place_of c.args.self.now) (place_of c.send_waiting-sent.new.self)
+          c.send_waiting-sent.ensures.place first mid c.send_waiting-sent.result last c.in_default.not-Refused
+          c.send_waiting-sent.ensures.whole
+          (subst (λ (r : Result Served AllocError). IfOk r (λ s. DoesAll s c.send_waiting-sent.new.self
+          c.do_orders.new.self)) left c.do_orders.ensures.whole);
     }

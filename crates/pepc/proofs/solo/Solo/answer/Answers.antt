@@ -12,13 +12,10 @@ command-requires c =
     let stands = c.requires.room.1 in
     let within = subst (λ (b : List (List ℕ)). c.args.slot < length b) stands.same_book c.requires.known in
     let held = held_at c.args.self.now story c.args.slot c.slot.inside.0 c.index_mut-subscriber.result.now stands
-    within c.slot.view_is c.index_mut-subscriber.ensures.value in (
-      c.args.slot,
-      events_of story c.args.slot,
-      length (records_after c.args.slot (events_of story c.args.slot)),
-      held.stands,
-      omega (arith, stands.few c.args.slot, c.requires.room.2),
-    )
+    within c.slot.view_is c.index_mut-subscriber.ensures.value in
+    let own = events_of story c.args.slot in
+    c.few_events_leave_room.ensures _ c.args.slot own (length (records_after c.args.slot own)) held.stands
+    (omega (arith, stands.few c.args.slot, c.requires.room.2))
 
 pub returns-clause-told : goal.returns-clause-told
 returns-clause-told c = λ story stands.

@@ -2,7 +2,7 @@ use Rattle.std.proofs.Common.{◌<◌, ◌≤◌, ◌+◌, ◌++◌, ◌∷◌, 
 use Rattle.gate_model.specs.declared.event.Event.TheVariants as event
 use Rattle.demux.specs.Trace.{packet as carried}
 use Rattle.gate_model.specs.SlotPast.{past_of, records_after, verdict_after}
-use Rattle.split_record.specs.Standing.{last_of, packet_of}
+use Rattle.subscriber.specs.Standing.{last_of, packet_of}
 use Rattle.pepc.specs.Standing.{events_of}
 use Rattle.pepc.proofs.ShortLemmas.{is_short}
 use Rattle.pepc.proofs.StoryLemmas.{gathers_packet, held_at, later, packet_holds, packet_other, stands_next, told_packet}
@@ -14,13 +14,10 @@ judge-requires-clause-room c =
     let stands = c.requires.room.1 in
     let within = subst (λ (b : List (List ℕ)). c.args.slot < length b) stands.same_book c.requires.known in
     let held = held_at c.args.self.now story c.args.slot c.slot.inside.0 c.index_mut-subscriber.result.now stands
-    within c.slot.view_is c.index_mut-subscriber.ensures.value in (
-      c.args.slot,
-      events_of story c.args.slot,
-      length (records_after c.args.slot (events_of story c.args.slot)),
-      held.stands,
-      omega (arith, stands.few c.args.slot, c.requires.room.2),
-    )
+    within c.slot.view_is c.index_mut-subscriber.ensures.value in
+    let own = events_of story c.args.slot in
+    c.few_events_leave_room.ensures _ c.args.slot own (length (records_after c.args.slot own)) held.stands
+    (omega (arith, stands.few c.args.slot, c.requires.room.2))
 
 pub judge-requires-clause-late : goal.judge-requires-clause-late
 judge-requires-clause-late c =

@@ -1,5 +1,5 @@
 use Rattle.std.proofs.Common.{◌≡◌, ◌<◌, List, get_or, length, refl, subst, ◌∙◌, arith}
-use Rattle.split_record.specs.Standing.{SubscriberState}
+use Rattle.subscriber.specs.Standing.{SubscriberState}
 use Rattle.lawful_run.specs.Outcomes.{opens}
 use Rattle.pepc.specs.Standing.{events_of}
 use Rattle.pepc.proofs.OpenLemmas.{opens_more}

@@ -1,4 +1,4 @@
-use Rattle.std.proofs.Common.{rules, ℕ, List, refl, subst, sym, arith}
+use Rattle.std.proofs.Common.{rules, ℕ, List, refl, subst, sym, ap, ◌∙◌, arith}
 use Rattle.std.specs.Prelude.{not, nat_eq}
 use Rattle.std.specs.List.{All, filter}
 use Rattle.std.proofs.lemmas.Option.{slice_get_read}
@@ -73,5 +73,7 @@ returns-in-Ok-clause-went g c = λ _.
           (filter (λ (x : Leaving). not (nat_eq x.slot c.slot-slot.result)) c.args.self.now.leaving.items))
           c.slot-slot.ensures
           (forgotten c.slot-slot.result c.args.self.now.leaving.items));
+      forgotten = c.forget.ensures ∙ ap (λ (slot : ℕ). filter (λ (x : Leaving). not (nat_eq x.slot slot))
+          c.args.self.now.leaving.items) c.slot-slot.ensures;
       cursor = search rules;
     }

@@ -4,7 +4,7 @@ use Rattle.lane_core.specs.Ends.{sent, taken}
 use Rattle.worker_core.specs.declared.order.Order.{Order}
 use Rattle.worker_core.specs.declared.order.Order.TheVariants.{Arrive, Leave}
 use Rattle.worker_core.specs.Names.{Kept}
-use Rattle.worker_core.specs.Leaves.{IsOrdered, IsTold}
+use Rattle.worker_core.specs.Leaves.{IsOrdered, IsTold, IsNoted}
 use Rattle.worker_core.proofs.Arrivals.{kept_arrive, kept_leave}
 use Rattle.worker_core.proofs.Leavings.{told_more, ordered_last}
 use Rattle.worker_core.proofs.worker.Worker.take_order.Goals as goal
@@ -54,3 +54,16 @@ invariant_of-self-in-Leave g c =
           (ordered_last old c.in-Leave.slot c.in-Leave.until));
       within = search rules;
     }
+
+pub returns-in-Leave-clause-order : goal.returns-in-Leave-clause-order
+returns-in-Leave-clause-order g c = λ _. record {
+  order = Leave c.in-Leave.slot c.in-Leave.until;
+  took = c.in-Some.ensures.next.0
+      ∙ ap (λ (o : Order g.row.H.Denot). taken c.args.self.now.orders ++ o ∷ []) c.in-Leave.is;
+  gone = search rules;
+  held = search rules;
+  noted = subst (λ (l : List g.row.H.Denot). IsNoted (λ half. g.H.Traveller.slot_of (g.H.Traveller.name half)) l
+      (Leave c.in-Leave.slot c.in-Leave.until) c.args.self.now.leaving.items c.mark.new.leaving.items)
+      c.deref.ensures.value c.mark.ensures.noted;
+  cursor = search rules;
+}

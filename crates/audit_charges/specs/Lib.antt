@@ -1,4 +1,0 @@
-pub mod Made
-pub mod Order
-pub mod Placing
-pub mod Agreeing

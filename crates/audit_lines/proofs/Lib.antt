@@ -1,8 +1,0 @@
-pub mod BySlotLemmas
-pub mod CountLemmas
-pub mod LineKinds
-pub mod MoveLemmas
-pub mod NumberLemmas
-pub mod ParkedLemmas
-pub mod SharingLemmas
-pub mod TogetherLemmas

@@ -1,0 +1,80 @@
+use Rattle.std.proofs.Common.{◌≡◌, ◌<◌, ◌∙◌, length, get_or, sym, ap, subst, arith}
+use Rattle.std.specs.List.{All, Contains}
+use Rattle.std.proofs.lemmas.List.{length-map, take_all}
+use Rattle.std.proofs.lemmas.List.Elements.{All-get_or, All-more}
+use Rattle.audit_sentences.specs.Entries.{slot_charged}
+use Rattle.audit_reading.specs.Agreeing.{of_slot}
+use Rattle.audit_sentences.specs.Sharing.{under}
+use Rattle.audit_reading.specs.Made.{lent}
+use Rattle.audit_reading.specs.Placing.{lent_under}
+use Rattle.audit_reading.proofs.AmongLemmas.{of_all, of_its_slot, share_count, share_is}
+use Rattle.audit_reading.proofs.RestLemmas.{denied, granted, refused}
+use Rattle.audit_reading.proofs.agreeing.opens_agree.Goals as goal
+
+pub index-requires : goal.index-requires
+index-requires c =
+    let many : length c.in_ok-shares.shares.items ≡ c.args.slots =
+    share_count (λ v. v.items) c.in_ok-shares.shares.items c.args.slots c.deref.result.now c.in_ok-shares.ensures in
+    let below : slot_charged (get_or c.args.made.now c.loop-charge.charge-index c.charge-item.result) < c.args.slots =
+    All-get_or (λ charge. slot_charged charge < c.args.slots) c.args.made.now c.loop-charge.charge-index
+    c.charge-item.result c.loop-charge-test.true c.requires in
+    let same : slot_charged c.charge-item.result
+    ≡ slot_charged (get_or c.args.made.now c.loop-charge.charge-index c.charge-item.result) =
+    ap slot_charged c.charge-item.is in
+    omega (arith, many, below, same, c.slot_of.ensures, c.index.view_is)
+
+pub returns-then-not-is_among : goal.returns-then-not-is_among
+returns-then-not-is_among c =
+    let told = lent c.args.told.now in
+    let charge = c.charge-item.result in
+    let slot = slot_charged charge in
+    let below : slot_charged (get_or c.args.made.now c.loop-charge.charge-index charge) < c.args.slots =
+    All-get_or (λ some. slot_charged some < c.args.slots) c.args.made.now c.loop-charge.charge-index
+    charge c.loop-charge-test.true c.requires in
+    let same : slot ≡ slot_charged (get_or c.args.made.now c.loop-charge.charge-index charge) =
+    ap slot_charged c.charge-item.is in
+    let at : c.index.inside.0 ≡ slot = c.index.view_is ∙ c.slot_of.ensures in
+    let within : c.index.inside.0 < c.args.slots = omega (arith, below, same, at) in
+    let share : c.deref-in-loop-charge.result.now ≡ under c.index.inside.0 c.deref.result.now =
+    c.deref-in-loop-charge.ensures.value
+    ∙ share_is (λ v. v.items) c.in_ok-shares.shares.items c.args.slots c.deref.result.now c.index.inside.0
+    c.index-in-loop-charge.result.now c.in_ok-shares.ensures within c.index-in-loop-charge.ensures in
+    let its : lent c.deref-in-loop-charge.result.now ≡ of_slot slot_charged slot told =
+    ap lent share ∙ ap (lent_under c.index.inside.0) c.deref.ensures.value
+    ∙ c.in_ok-charges_by_slot.ensures c.index.inside.0 ∙ ap (λ k. of_slot slot_charged k told) at in
+    refused (λ are. denied c.is_among.ensures c.if-not-is_among.true
+    (subst (λ some. Contains some charge) (sym its) (of_its_slot slot_charged told charge
+    (subst (Contains told) (sym c.charge-item.is)
+    (All-get_or (Contains told) c.args.made.now c.loop-charge.charge-index charge c.loop-charge-test.true
+    are.each)))))
+
+pub loop-charge-preserved : goal.loop-charge-preserved
+loop-charge-preserved c =
+    let told = lent c.args.told.now in
+    let charge = c.charge-item.result in
+    let slot = slot_charged charge in
+    let below : slot_charged (get_or c.args.made.now c.loop-charge.charge-index charge) < c.args.slots =
+    All-get_or (λ some. slot_charged some < c.args.slots) c.args.made.now c.loop-charge.charge-index
+    charge c.loop-charge-test.true c.requires in
+    let same : slot ≡ slot_charged (get_or c.args.made.now c.loop-charge.charge-index charge) =
+    ap slot_charged c.charge-item.is in
+    let at : c.index.inside.0 ≡ slot = c.index.view_is ∙ c.slot_of.ensures in
+    let within : c.index.inside.0 < c.args.slots = omega (arith, below, same, at) in
+    let share : c.deref-in-loop-charge.result.now ≡ under c.index.inside.0 c.deref.result.now =
+    c.deref-in-loop-charge.ensures.value
+    ∙ share_is (λ v. v.items) c.in_ok-shares.shares.items c.args.slots c.deref.result.now c.index.inside.0
+    c.index-in-loop-charge.result.now c.in_ok-shares.ensures within c.index-in-loop-charge.ensures in
+    let its : lent c.deref-in-loop-charge.result.now ≡ of_slot slot_charged slot told =
+    ap lent share ∙ ap (lent_under c.index.inside.0) c.deref.ensures.value
+    ∙ c.in_ok-charges_by_slot.ensures c.index.inside.0 ∙ ap (λ k. of_slot slot_charged k told) at in
+    let among : Contains told charge = of_all slot_charged told charge slot
+    (subst (λ some. Contains some charge) its (c.is_among.ensures.0 c.if-not-is_among.false)) in
+    All-more (Contains told) c.args.made.now c.loop-charge.charge-index charge c.loop-charge-test.true
+    c.loop-charge.invariant (subst (Contains told) c.charge-item.is among)
+
+pub returns : goal.returns
+returns c =
+    let all : All (Contains (lent c.args.told.now)) c.args.made.now =
+    subst (All (Contains (lent c.args.told.now)))
+    (take_all c.loop-charge.charge-index c.args.made.now (omega arith)) c.loop-charge.invariant in
+    granted (record { each = all; as_many = simp length-map (omega arith) })

@@ -1,4 +1,0 @@
-pub mod ChargedMore
-pub mod Steps
-pub mod Loops
-pub mod Opens

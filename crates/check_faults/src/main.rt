@@ -1,0 +1,80 @@
+//! Runs the program's commands over sources and sinks of which one call fails, each call in turn, and asks what stands
+//! at the program's ends: lines read in pieces, octets written in pieces, command lines, draws, counts, statuses. Each
+//! line of standard input is a row, and has one line or some as its answer. What a row's fields are stands at its kind.
+#![tactic(auto)]
+
+mod ends;
+mod faults;
+mod row;
+mod values;
+
+use row::Row;
+use std::alloc::{AllocError, Global};
+use std::fs;
+use std::io::{self, BufRead, BufReader, BufWriter, Write};
+
+// The inputs that rows name.
+const NAMES: [&str; 5] = [
+    "whole.trace",
+    "whole.pcap",
+    "whole.audit",
+    "two-records.pcap",
+    "entries.txt",
+];
+
+/// The files of these names.
+#[derive(Drop)]
+struct Inputs {
+    octets: Vec<Vec<u8>>,
+}
+
+impl Inputs {
+    // The octets of a name, and none of a name that isn't there.
+    fn of(&self, name: &[u8]) -> &[u8] {
+        for (known, octets) in NAMES.iter().zip(self.octets.iter()) {
+            if known.as_bytes() == name {
+                return octets.as_slice();
+            }
+        }
+        &[]
+    }
+}
+
+fn answer(alloc: Global, inputs: &Inputs, row: &Row, text: &mut String) -> Result<(), AllocError> {
+    match row.word(0) {
+        b"reads" => faults::reads(alloc, row, inputs.of(row.word(2)), text),
+        b"writes" => faults::writes(alloc, row, inputs.of(row.word(2)), text),
+        b"runs" => faults::runs(alloc, row, inputs.of(row.word(4)), text),
+        b"surely" => faults::sure_status(alloc, row, inputs.of(row.word(1)), text),
+        b"lines" => ends::lines(alloc, row, text),
+        b"long" => ends::long(alloc, row, text),
+        b"std" => ends::std_lines(alloc, row, text),
+        b"sure" => ends::sure(alloc, row, text),
+        b"broken" => ends::failing_streams(alloc, text),
+        b"pieces" => ends::pieces(alloc, row, text),
+        b"words" => values::words(alloc, row, text),
+        b"draws" => values::draws(alloc, row, text),
+        b"made" => values::made(alloc, row, text),
+        b"counts" => values::counts(alloc, row, inputs.of(row.word(2)), text),
+        b"statuses" => values::statuses(alloc, text),
+        _ => text.push_str("no row\n"),
+    }
+}
+
+fn main(rt: HostRuntime) -> io::Result<()> {
+    let alloc = rt.alloc();
+    let mut octets = Vec::new(alloc);
+    for name in NAMES {
+        octets.push(fs::read(&rt, name)?)?;
+    }
+    let inputs = Inputs { octets };
+    let mut out = BufWriter::new(alloc, io::writer(&rt))?;
+    for line in BufReader::new(alloc, rt.reader())?.lines(alloc) {
+        let line = line?;
+        let row = Row::read(alloc, line.as_bytes())?;
+        let mut text = String::new(alloc);
+        answer(alloc, &inputs, &row, &mut text)?;
+        out.write_all(text.as_bytes())?;
+    }
+    out.flush()
+}

@@ -1,0 +1,248 @@
+//! A subscriber that is split, and turned by hand.
+ghost use Rattle.std.specs.Prelude.{◌≡◌, ◌≤◌, [], ◌++◌, All, IfOk, None, unwrap_or};
+ghost use Rattle.subscriber.specs.Standing.{StandsFor, last_of};
+ghost use Rattle.counter_half.specs.declared.items.FlowItem.{FlowItem};
+ghost use Rattle.counter_half.specs.Half.{handled_by};
+ghost use Rattle.split_record.specs.Rejoined.{AreOfOneSplit, AreAccepted, start_of};
+ghost use Rattle.split_record.specs.Props.{accepted_prop};
+
+use crate::patience::{Stop, again};
+use audit_reading::trace_of;
+use audit_sentences::Meant;
+use control_half::ControlHalf;
+use control_steps::Command;
+use counter_half::{FlowHalf, FlowItem};
+use flow_core::Flow;
+use lane_core::Full;
+use pc_base::{Packet, SliceNo, Slot};
+use split_record::{Finished, FrontEnd, NoMemory, Parts, finish, split};
+use std::alloc::Global;
+use std::sync::Wait;
+use subscriber::{Subscriber, few_events_leave_room};
+use trace_lines::TraceLine;
+use worker_core::Traveller;
+
+/// How many slices there are.
+pub const SLICES: u8 = 2;
+
+/// How many commands may wait.
+pub const ROOM: u32 = 4;
+
+/// The parts of a split subscriber, the packets that were accepted and not handled yet, and the moment of the last
+/// one; and how often it moved. What it was given meets what `finish` asks.
+#[derive(Drop)]
+struct Bench {
+    front: FrontEnd,
+    control: ControlHalf,
+    flow: FlowHalf,
+    left: Vec<FlowItem>,
+    last: u64,
+    moves: u8,
+    ghost one: { AreOfOneSplit front control flow },
+    ghost accepted: { AreAccepted front (handled_by flow ++ left.items) } by { accepted_prop front (handled_by flow ++ left.items) },
+    ghost begun: { unwrap_or (last_of (start_of front)) 0 ≤ last },
+    ghost late: { All (λ (i : FlowItem). i.packet.moment ≤ last) (handled_by flow ++ left.items) },
+    ghost moved: { front.hop ≡ moves },
+}
+
+// No packets, with room for those of a trace.
+fn new_left(alloc: Global) -> Result<Vec<FlowItem>, NoMemory>
+    ensures { IfOk result (λ made. made.items ≡ []) }
+{
+    for _ in 0..2 {
+        if let Ok(left) = Vec::with_capacity(alloc, 16) {
+            return Ok(left);
+        }
+    }
+    Vec::with_capacity(alloc, 16)
+}
+
+fn new_record(alloc: Global) -> Result<Subscriber, NoMemory>
+    ensures stands { IfOk result (λ made. StandsFor made 0 [] 0) }
+    ensures last { IfOk result (λ made. last_of made ≡ None) }
+{
+    for _ in 0..2 {
+        if let Ok(record) = Subscriber::new(alloc, Slot(0), SliceNo(0)) {
+            return Ok(record);
+        }
+    }
+    Subscriber::new(alloc, Slot(0), SliceNo(0))
+}
+
+// A new subscriber, split. Where memory is wanting the record is as before, and is split again.
+fn new_parts(alloc: Global) -> Result<(FrontEnd, ControlHalf, FlowHalf), Stop>
+    ensures one { IfOk result (λ parts. AreOfOneSplit parts.0 parts.1 parts.2) }
+    ensures packets { IfOk result (λ parts. parts.0.packets ≡ (start_of parts.0).packets) }
+    ensures hop { IfOk result (λ parts. parts.0.hop ≡ 0) }
+    ensures handled { IfOk result (λ parts. handled_by parts.2 ≡ []) }
+    ensures last { IfOk result (λ parts. last_of (start_of parts.0) ≡ None) }
+{
+    let record = new_record(alloc)?;
+    few_events_leave_room();
+    match split(alloc, record, ROOM, 0) {
+        Ok(parts) => Ok(parts),
+        Err(record) => match split(alloc, record, ROOM, 0) {
+            Ok(parts) => Ok(parts),
+            Err(_) => Err(Stop::NoMemory),
+        },
+    }
+}
+
+impl Bench {
+    // A new subscriber, over lanes of that room.
+    fn new(alloc: Global) -> Result<Bench, Stop> {
+        let left = new_left(alloc)?;
+        let (front, control, flow) = new_parts(alloc)?;
+        Ok(Bench {
+            front,
+            control,
+            flow,
+            left,
+            last: 0,
+            moves: 0,
+        })
+    }
+
+    fn give<R: Wait>(
+        &mut self,
+        rt: &R,
+        alloc: Global,
+        line: u64,
+        meant: Meant<'_>,
+    ) -> Result<(), Stop> {
+        match meant {
+            Meant::Command { command, .. } => self.give_command(rt, line, command),
+            Meant::Packet { packet, .. } => {
+                let packet = again(|| packet.numbered(alloc, 0))?;
+                self.give_packet(line, packet)
+            }
+            Meant::Move { .. } => self.move_on(),
+            Meant::Note(_) => Err(Stop::Trace),
+        }
+    }
+
+    fn move_on(&mut self) -> Result<(), Stop> {
+        if self.moves > 100 {
+            return Err(Stop::Trace);
+        }
+        self.front.moved();
+        self.moves += 1;
+        Ok(())
+    }
+
+    // Room for its item was made at the start.
+    fn give_packet(&mut self, line: u64, packet: Packet) -> Result<(), Stop> {
+        let moment = packet.moment.0;
+        if moment < self.last || self.front.packets() > 100 {
+            return Err(Stop::Trace);
+        }
+        self.left.reserve(1)?;
+        let item = self.front.packet_item(line, false, packet);
+        self.left.push_reserved(item);
+        self.front.accepted();
+        self.last = moment;
+        Ok(())
+    }
+
+    fn give_command<R: Wait>(&mut self, rt: &R, line: u64, command: Command) -> Result<(), Stop> {
+        if self.front.commands() > 100 {
+            return Err(Stop::Trace);
+        }
+        match self.front.give_command(rt, line, command) {
+            Ok(()) => Ok(()),
+            Err(Full(_)) => Err(Stop::Trace),
+        }
+    }
+
+    // One step of an order. Where memory is wanting it is done again, at most twice more.
+    fn step<R: Wait>(&mut self, rt: &R, step: char) -> Result<(), NoMemory> {
+        for _ in 0..2 {
+            if self.try_step(rt, step).is_ok() {
+                return Ok(());
+            }
+        }
+        self.try_step(rt, step)
+    }
+
+    fn try_step<R: Wait>(&mut self, rt: &R, step: char) -> Result<(), NoMemory> {
+        match step {
+            't' => self.turn(rt),
+            'a' => {
+                self.control.arrive(u64::from(self.moves));
+                Ok(())
+            }
+            'l' => self.learn(rt),
+            _ => self.handle(),
+        }
+    }
+
+    fn turn<R: Wait>(&mut self, rt: &R) -> Result<(), NoMemory> {
+        self.control.work(rt)?;
+        Ok(())
+    }
+
+    fn learn<R: Wait>(&mut self, rt: &R) -> Result<(), NoMemory> {
+        self.flow.learn(rt, 16)?;
+        Ok(())
+    }
+
+    // Handles the next packet, if its floor is met. At which slice, the report doesn't show.
+    fn handle(&mut self) -> Result<(), NoMemory> {
+        let Some(item) = self.left.first() else {
+            return Ok(());
+        };
+        if !self.flow.may(item) {
+            return Ok(());
+        }
+        self.flow.item(SliceNo(0), item)?;
+        let _ = self.left.remove(0);
+        Ok(())
+    }
+
+    fn finish<R: Wait>(self, rt: &R, alloc: Global) -> Result<Finished, Stop> {
+        let Bench {
+            front,
+            control,
+            flow,
+            left,
+            ..
+        } = self;
+        match finish(rt, alloc, front, control, flow, left) {
+            Ok(finished) => Ok(finished),
+            Err(parts) => finished(rt, parts),
+        }
+    }
+}
+
+// Goes on until memory is there, at most twice more.
+fn finished<R: Wait>(rt: &R, parts: Parts) -> Result<Finished, Stop> {
+    match parts.again(rt) {
+        Ok(finished) => Ok(finished),
+        Err(parts) => match parts.again(rt) {
+            Ok(finished) => Ok(finished),
+            Err(_) => Err(Stop::NoMemory),
+        },
+    }
+}
+
+/// What the lines mean is given to a new subscriber; then come the steps of an order, and the end.
+pub fn ended<R: Wait>(
+    rt: &R,
+    alloc: Global,
+    lines: &[TraceLine],
+    order: &str,
+) -> Result<Finished, Stop> {
+    let trace = again(|| trace_of(alloc, SLICES, lines, None))?;
+    let mut bench = Bench::new(alloc)?;
+    let mut line = 0u64;
+    for epoch in trace.epochs {
+        for meant in epoch {
+            line = line.saturating_add(1);
+            bench.give(rt, alloc, line, meant)?;
+        }
+    }
+    for step in order.chars() {
+        bench.step(rt, step)?;
+    }
+    bench.finish(rt, alloc)
+}

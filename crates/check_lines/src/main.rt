@@ -1,0 +1,89 @@
+//! Reads lines of a trace, each behind the least moment that it may have, and says of each what line it is and
+//! how it is written, or why it is refused; and of some lines whether an epoch ends behind them.
+#![tactic(auto)]
+
+ghost use Rattle.std.specs.Prelude.{ℕ, List};
+
+use pc_base::{Moment, NoMemory};
+use std::alloc::Global;
+use std::io;
+use text_fields::{cut, read_number};
+use trace_lines::{LineBad, TraceLine, ends_epoch, read_line, text};
+
+/// What a row asks: what a text says (`5 TEXT`), or whether an epoch that has so many lines and octets ends
+/// behind it (`E LINES OCTETS TEXT`).
+#[derive(Drop)]
+enum Row<'a> {
+    Line {
+        least: Moment,
+        text: &'a [u8],
+    },
+    End {
+        lines: u64,
+        octets: u64,
+        text: &'a [u8],
+    },
+}
+
+fn number_and_rest(row: &[u8]) -> Option<(u64, &[u8])> {
+    let (number, rest) = cut(b' ', row);
+    let number = read_number(number, 0, u64::MAX)?;
+    Some((number, rest?))
+}
+
+fn read_row(row: &[u8]) -> Option<Row<'_>> {
+    if let [b'E', b' ', rest @ ..] = row {
+        let (lines, rest) = number_and_rest(rest)?;
+        let (octets, text) = number_and_rest(rest)?;
+        return Some(Row::End {
+            lines,
+            octets,
+            text,
+        });
+    }
+    let (least, text) = number_and_rest(row)?;
+    if least >= 1 << 50 {
+        return None;
+    }
+    Some(Row::Line {
+        least: Moment(least),
+        text,
+    })
+}
+
+fn show_line(rt: &HostRuntime, line: &TraceLine) -> io::Result<()> {
+    let again = text(rt.alloc(), line)?;
+    println!(rt; "{:?}", line.kind)?;
+    println!(rt;
+        "{}",
+        String::from_utf8_lossy(rt.alloc(), again.as_slice())?
+    )
+}
+
+fn show_row(rt: &HostRuntime, row: &Row<'_>) -> io::Result<()> {
+    match row {
+        Row::Line { least, text } => match read_line(rt.alloc(), text, 1, *least) {
+            Ok(line) => show_line(rt, &line),
+            Err(why) => println!(rt; "{why}"),
+        },
+        Row::End {
+            lines,
+            octets,
+            text,
+        } => match read_line(rt.alloc(), text, 1, Moment(0)) {
+            Ok(line) => println!(rt; "{}", ends_epoch(&line, text.len() as u64, *lines, *octets)),
+            Err(why) => println!(rt; "{why}"),
+        },
+    }
+}
+
+fn main(rt: HostRuntime) -> io::Result<()> {
+    for row in rt.lines(rt.alloc()) {
+        let row = row?;
+        match read_row(row.as_bytes()) {
+            Some(row) => show_row(&rt, &row)?,
+            None => println!(rt; "no row")?,
+        }
+    }
+    Ok(())
+}

@@ -1,0 +1,58 @@
+//! The text of an answer.
+use lane_core::{Did, NoMemory};
+use std::alloc::{AllocFailed, Global};
+use text_fields::push_number;
+
+/// Why a step has no answer.
+#[derive(Clone, Copy, Debug)]
+pub enum Stop {
+    /// It doesn't fit what is played.
+    Step,
+    NoMemory,
+}
+
+impl From<NoMemory> for Stop {
+    fn from(_none: NoMemory) -> Stop {
+        Stop::NoMemory
+    }
+}
+
+impl<T: Drop> From<AllocFailed<T>> for Stop {
+    fn from(_refused: AllocFailed<T>) -> Stop {
+        Stop::NoMemory
+    }
+}
+
+pub fn word_of(alloc: Global, word: &[u8]) -> Result<Vec<u8>, Stop> {
+    let mut text = Vec::new(alloc);
+    text.extend_from_slice(word)?;
+    Ok(text)
+}
+
+pub fn yes_or_no(alloc: Global, is: bool) -> Result<Vec<u8>, Stop> {
+    word_of(alloc, if is { b"yes" } else { b"no" })
+}
+
+/// Numbers, each behind a blank.
+pub fn numbers(alloc: Global, of: &[u64]) -> Result<Vec<u8>, Stop> {
+    let mut text = Vec::new(alloc);
+    push_numbers(&mut text, of)?;
+    Ok(text)
+}
+
+pub fn push_numbers(text: &mut Vec<u8>, of: &[u64]) -> Result<(), NoMemory> {
+    for number in of {
+        push_number(text, *number)?;
+    }
+    Ok(())
+}
+
+/// A letter for what a turn came to.
+pub fn letter_of(did: Result<Did, NoMemory>) -> u8 {
+    match did {
+        Ok(Did::Idle) => b'i',
+        Ok(Did::Held) => b'h',
+        Ok(Did::Worked) => b'w',
+        Err(_) => b'm',
+    }
+}

@@ -1,0 +1,191 @@
+//! A side of halves to which items come, and the workers of its three slices.
+ghost use Rattle.std.specs.Prelude.{◌≡◌, ◌≤◌, [], ◌∷◌};
+ghost use Rattle.flow_core.specs.Workers.{worker_lanes};
+ghost use Rattle.flow_migration.specs.Desks.{lanes_of};
+ghost use Rattle.flow_migration.specs.Words.{desks_of};
+
+use crate::answers::{Stop, letter_of, numbers, push_numbers, word_of, yes_or_no};
+use crate::pupil::{Pupil, Task};
+use crate::step::{Step, slice_of, slot_of};
+use flow_core::{FlowWorker, flow_pair};
+use flow_home::{Home, gather_flow};
+use flow_migration::{FlowNo, FlowSide};
+use lane_core::{Did, NoMemory};
+use pc_base::{Place, SliceNo};
+use std::alloc::Global;
+use std::sync::Wait;
+
+#[derive(Drop)]
+pub struct Stream {
+    side: FlowSide<Pupil>,
+    first: FlowWorker<Pupil>,
+    second: FlowWorker<Pupil>,
+    third: FlowWorker<Pupil>,
+    ghost lanes: { lanes_of (desks_of side) ≡ worker_lanes first ∷ worker_lanes second ∷ worker_lanes third ∷ [] },
+}
+
+impl Stream {
+    /// Lanes with room for so many orders, and queues with room for so many items.
+    pub fn new(alloc: Global, room: u32, queue: u32) -> Result<Stream, Stop> {
+        if room == 0 || room > 16_384 || queue == 0 || queue > 256 {
+            return Err(Stop::Step);
+        }
+        let (one, first) = flow_pair(alloc, SliceNo(0), room)?;
+        let (two, second) = flow_pair(alloc, SliceNo(1), room)?;
+        let (three, third) = flow_pair(alloc, SliceNo(2), room)?;
+        let desks = Vec::from_array(alloc, [one, two, three])?;
+        Ok(Stream {
+            side: FlowSide::new(alloc, desks, queue),
+            first,
+            second,
+            third,
+        })
+    }
+
+    fn turn<R: Wait>(&mut self, rt: &R, slice: SliceNo) -> Result<Did, NoMemory> {
+        match slice.0 {
+            0 => self.first.turn(rt),
+            1 => self.second.turn(rt),
+            _ => self.third.turn(rt),
+        }
+    }
+
+    // Admits a half, if its slot is free: it learns once in so many asks, or, where that is 99, finds no memory once.
+    fn admit<R: Wait>(&mut self, rt: &R, alloc: Global, step: Step) -> bool {
+        let slot = slot_of(step.one);
+        let slice = slice_of(step.two);
+        if self.side.is_admitted(slot)
+            || slice.0 as usize >= self.side.slices()
+            || self.side.asked() > 99_999
+        {
+            return false;
+        }
+        let half = Pupil {
+            slot,
+            every: u64::from(step.three),
+            asks: 0,
+            known: 0,
+            short: step.three == 99,
+            handled: Vec::new(alloc),
+            places: Vec::new(alloc),
+        };
+        self.side.admit(rt, half, slice, false).is_ok()
+    }
+
+    // Moves a slot, if it is admitted.
+    fn go<R: Wait>(&mut self, rt: &R, step: Step) -> bool {
+        let slot = slot_of(step.one);
+        let slice = slice_of(step.two);
+        if !self.side.is_admitted(slot)
+            || slice.0 as usize >= self.side.slices()
+            || self.side.asked() > 99_999
+        {
+            return false;
+        }
+        self.side.go(rt, slot, slice);
+        true
+    }
+
+    // Gives an item to a slot that is admitted.
+    fn give<R: Wait>(&mut self, rt: &R, step: Step) -> &'static [u8] {
+        let slot = slot_of(step.one);
+        if !self.side.is_admitted(slot) || self.side.asked() > 99_999 {
+            return b"no";
+        }
+        let task = Task {
+            slot,
+            number: step.two,
+            floor: u64::from(step.three),
+        };
+        match self.side.give(rt, task) {
+            Ok(()) => b"ok",
+            Err(FlowNo::Full(_)) => b"full",
+            Err(FlowNo::NoMemory(_)) => b"memory",
+        }
+    }
+
+    // Turns of a worker, and what each came to.
+    fn turns<R: Wait>(&mut self, rt: &R, alloc: Global, step: Step) -> Result<Vec<u8>, Stop> {
+        let mut text = Vec::new(alloc);
+        for _ in 0..step.two {
+            let did = self.turn(rt, slice_of(step.one));
+            text.push(letter_of(did))?;
+        }
+        Ok(text)
+    }
+
+    /// An admission (a), a move (g), an item (i), turns of a worker (w), a pumping (p), whether a slot parks (s), and
+    /// how often the side was asked and refused (c).
+    pub fn play<R: Wait>(&mut self, rt: &R, alloc: Global, step: Step) -> Result<Vec<u8>, Stop> {
+        match step.letter {
+            b'a' => {
+                let took = self.admit(rt, alloc, step);
+                yes_or_no(alloc, took)
+            }
+            b'g' => {
+                let went = self.go(rt, step);
+                yes_or_no(alloc, went)
+            }
+            b'i' => {
+                let word = self.give(rt, step);
+                word_of(alloc, word)
+            }
+            b'w' => self.turns(rt, alloc, step),
+            b'p' => {
+                self.side.pump(rt);
+                word_of(alloc, b"pumped")
+            }
+            b's' => yes_or_no(alloc, self.side.parks(slot_of(step.one))),
+            b'c' => numbers(alloc, &[self.side.asked(), self.side.refused()]),
+            _ => Err(Stop::Step),
+        }
+    }
+
+    /// Of all halves that come home the slot, the asks and what it knows; the items that it handled, each with its
+    /// slice; and those that are left.
+    pub fn end<R: Wait>(self, rt: &R, alloc: Global) -> Result<Vec<u8>, Stop> {
+        let ends = Vec::from_array(
+            alloc,
+            [
+                self.first.into_end(),
+                self.second.into_end(),
+                self.third.into_end(),
+            ],
+        )?;
+        let mut text = Vec::new(alloc);
+        match gather_flow(rt, alloc, self.side.into_end(), ends) {
+            Ok(homes) => push_homes(&mut text, &homes)?,
+            Err(parts) => match parts.again(rt) {
+                Ok(homes) => push_homes(&mut text, &homes)?,
+                Err(_) => return Err(Stop::NoMemory),
+            },
+        }
+        Ok(text)
+    }
+}
+
+fn push_homes(text: &mut Vec<u8>, homes: &[Home<Pupil>]) -> Result<(), NoMemory> {
+    for home in homes {
+        push_home(text, home)?;
+    }
+    Ok(())
+}
+
+fn push_home(text: &mut Vec<u8>, home: &Home<Pupil>) -> Result<(), NoMemory> {
+    let half = &home.half;
+    push_numbers(text, &[u64::from(half.slot.0), half.asks, half.known])?;
+    text.extend_from_slice(b" handled")?;
+    for (task, place) in half.handled.iter().zip(half.places.iter()) {
+        push_numbers(text, &[u64::from(task.number)])?;
+        text.push(b'@')?;
+        if let Place::At(slice) = place {
+            text.push(b'0' + slice.0 % 3)?;
+        }
+    }
+    text.extend_from_slice(b" left")?;
+    for task in home.left.iter() {
+        push_numbers(text, &[u64::from(task.number)])?;
+    }
+    text.push(b';')?;
+    Ok(())
+}

@@ -1,0 +1,91 @@
+//! A lane of numbers.
+ghost use Rattle.std.specs.Prelude.{◌≡◌, ◌≤◌, ◌<◌, ◌+◌, ◌^◌, length};
+ghost use Rattle.lane_core.specs.Ends.{sender_lane, receiver_lane, sent};
+
+use crate::answers::{Stop, numbers, push_numbers, word_of, yes_or_no};
+use crate::step::Step;
+use lane_core::{Carried, Full, Receiver, Sender, close, lane};
+use std::alloc::Global;
+use std::sync::Wait;
+
+/// What a lane carries.
+#[derive(Clone, Copy)]
+struct Parcel(u32);
+
+impl Carried for Parcel {}
+
+/// Both ends of a lane.
+#[derive(Drop)]
+pub struct Lane {
+    tx: Sender<Parcel>,
+    rx: Receiver<Parcel>,
+    ghost one: { sender_lane tx ≡ receiver_lane rx },
+}
+
+impl Lane {
+    pub fn new(alloc: Global, room: u32) -> Result<Lane, Stop> {
+        if room == 0 || room > 65_536 {
+            return Err(Stop::Step);
+        }
+        let (tx, rx) = lane(alloc, room)?;
+        Ok(Lane { tx, rx })
+    }
+
+    // Offers a number, and tells whether it was taken in.
+    fn offer<R: Wait>(&mut self, rt: &R, number: u32) -> bool {
+        if self.tx.offers() > 1_000_000 {
+            return false;
+        }
+        match self.tx.offer(rt, Parcel(number)) {
+            Ok(()) => true,
+            Err(Full(_)) => false,
+        }
+    }
+
+    // Offers the numbers below a count, and tells how many were taken in.
+    fn fill<R: Wait>(&mut self, rt: &R, count: u32) -> u64 {
+        let before = self.tx.offers();
+        for number in 0..count {
+            self.offer(rt, number);
+        }
+        self.tx.offers().saturating_sub(before)
+    }
+
+    /// An offer (o), a taking (t), offers of all numbers below one (f), or the counts of offers, of refusals and of
+    /// takings in vain (c).
+    pub fn play<R: Wait>(&mut self, rt: &R, alloc: Global, step: Step) -> Result<Vec<u8>, Stop> {
+        match step.letter {
+            b'o' => {
+                let taken = self.offer(rt, step.one);
+                word_of(alloc, if taken { b"ok" } else { b"full" })
+            }
+            b't' => match self.rx.take(rt) {
+                Some(parcel) => numbers(alloc, &[u64::from(parcel.0)]),
+                None => word_of(alloc, b"none"),
+            },
+            b'f' => {
+                let taken = self.fill(rt, step.one);
+                numbers(alloc, &[taken])
+            }
+            b'c' => numbers(
+                alloc,
+                &[self.tx.offers(), self.tx.fulls(), self.rx.empties()],
+            ),
+            _ => Err(Stop::Step),
+        }
+    }
+
+    /// How many are left, then the first and the last of them.
+    pub fn end<R: Wait>(self, rt: &R, alloc: Global) -> Result<Vec<u8>, Stop> {
+        let Ok(rest) = close(rt, alloc, self.tx, self.rx) else {
+            return Err(Stop::NoMemory);
+        };
+        let mut text = numbers(alloc, &[rest.len() as u64])?;
+        for parcel in [rest.first(), rest.last()] {
+            if let Some(parcel) = parcel {
+                push_numbers(&mut text, &[u64::from(parcel.0)])?;
+            }
+        }
+        Ok(text)
+    }
+}

@@ -1,0 +1,115 @@
+//! Plays scripts of turns with small halves of its own: a step a line, and the answer a line. What is played is a lane
+//! (L), a side of halves that travel (W), or one of halves to which items come (F), each with its workers; a line x
+//! closes it, and all come home. A line that begins with '#' is repeated.
+#![tactic(auto)]
+
+mod answers;
+mod flowing;
+mod laning;
+mod pupil;
+mod step;
+mod walker;
+mod walking;
+
+use answers::{Stop, word_of};
+use flowing::Stream;
+use laning::Lane;
+use std::alloc::{AllocError, Global};
+use std::io::{self, Read, Write};
+use std::sync::Wait;
+use step::Step;
+use walking::Walk;
+
+/// What is played.
+#[derive(Drop)]
+enum Stage {
+    Nothing,
+    Lane(Lane),
+    Walk(Walk),
+    Stream(Stream),
+}
+
+/// A new stage, if a step asks for one.
+fn opened(alloc: Global, step: Step) -> Result<Option<Stage>, Stop> {
+    match step.letter {
+        b'L' => Ok(Some(Stage::Lane(Lane::new(alloc, step.one)?))),
+        b'W' => Ok(Some(Stage::Walk(Walk::new(alloc)?))),
+        b'F' => Ok(Some(Stage::Stream(Stream::new(alloc, step.one, step.two)?))),
+        _ => Ok(None),
+    }
+}
+
+fn go_on<R: Wait>(rt: &R, alloc: Global, stage: &mut Stage, step: Step) -> Result<Vec<u8>, Stop> {
+    match stage {
+        Stage::Nothing => Err(Stop::Step),
+        Stage::Lane(lane) => lane.play(rt, alloc, step),
+        Stage::Walk(walk) => walk.play(rt, alloc, step),
+        Stage::Stream(stream) => stream.play(rt, alloc, step),
+    }
+}
+
+fn close<R: Wait>(rt: &R, alloc: Global, stage: Stage) -> Result<Vec<u8>, Stop> {
+    match stage {
+        Stage::Nothing => Err(Stop::Step),
+        Stage::Lane(lane) => lane.end(rt, alloc),
+        Stage::Walk(walk) => walk.end(rt, alloc),
+        Stage::Stream(stream) => stream.end(rt, alloc),
+    }
+}
+
+fn answer<R: Wait>(rt: &R, alloc: Global, stage: &mut Stage, line: &[u8]) -> Result<Vec<u8>, Stop> {
+    let step = Step::read(line);
+    if step.letter == b'#' {
+        return word_of(alloc, line);
+    }
+    if let Some(new) = opened(alloc, step)? {
+        *stage = new;
+        return word_of(alloc, b"opened");
+    }
+    if step.letter == b'x' {
+        return close(rt, alloc, std::mem::replace(stage, Stage::Nothing));
+    }
+    go_on(rt, alloc, stage, step)
+}
+
+// The line that answers a step, without the blank before its first number.
+fn push_line(told: &mut Vec<u8>, answered: &Result<Vec<u8>, Stop>) -> Result<(), AllocError> {
+    let text: &[u8] = match answered {
+        Ok(text) => text.as_slice(),
+        Err(Stop::Step) => b"no such step",
+        Err(Stop::NoMemory) => b"no memory",
+    };
+    told.extend_from_slice(text.strip_prefix(b" ").unwrap_or(text))?;
+    told.push(b'\n')?;
+    Ok(())
+}
+
+fn tell<R: Wait>(
+    rt: &R,
+    alloc: Global,
+    stage: &mut Stage,
+    line: &[u8],
+    told: &mut Vec<u8>,
+) -> Result<(), AllocError> {
+    let answered = answer(rt, alloc, stage, line);
+    push_line(told, &answered)
+}
+
+/// The answers to a script, a line each.
+fn played<R: Wait>(rt: &R, alloc: Global, script: &[u8]) -> Result<Vec<u8>, AllocError> {
+    let mut told = Vec::new(alloc);
+    let mut stage = Stage::Nothing;
+    for line in script.split(|octet| *octet == b'\n') {
+        tell(rt, alloc, &mut stage, line, &mut told)?;
+    }
+    Ok(told)
+}
+
+fn main(rt: HostRuntime) -> io::Result<()> {
+    let alloc = rt.alloc();
+    let mut script = Vec::new(alloc);
+    rt.reader().read_to_end(&mut script)?;
+    let lines = script.as_slice();
+    let told = played(&rt, alloc, lines.strip_suffix(b"\n").unwrap_or(lines))?;
+    io::writer(&rt).write_all(told.as_slice())
+}

@@ -1,0 +1,4 @@
+pub mod One
+pub mod Rising
+pub mod Accounting
+pub mod Lawful

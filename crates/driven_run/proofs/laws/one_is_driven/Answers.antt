@@ -1,0 +1,5 @@
+use Rattle.driven_run.proofs.One.{one_driven}
+use Rattle.driven_run.proofs.laws.one_is_driven.Goals as goal
+
+pub returns : goal.returns
+returns c = one_driven

@@ -1,0 +1,6 @@
+//! Epochs under a schedule: which entries they have, that they have no others, and what of them is lawful.
+#![tactic(auto)]
+
+mod laws;
+
+pub use laws::{driven_epochs_are_lawful, one_is_driven};

@@ -1,0 +1,5 @@
+pub mod Outlines
+pub mod Ceilings
+pub mod Fillings
+pub mod Bounding
+pub mod Joining

@@ -1,0 +1,55 @@
+//! The next record of a capture.
+ghost use Rattle.std.specs.Prelude.{◌≡◌, ◌≤◌};
+ghost use Rattle.pc_outside.specs.Faults.{Rises};
+ghost use Rattle.pcap_form.specs.Ahead.{Gains};
+ghost use Rattle.pcap_form.specs.Reading.{Finds};
+
+use crate::block::{Block, Fill};
+use crate::head::CaptureHead;
+use crate::record::{RECORD_LEN, RecordHead, SNAPSHOT_MAX, read_record_head};
+use pc_outside::Source;
+
+/// What comes next in a capture.
+#[derive(Clone, Copy, Debug, PartialEq, Eq)]
+pub enum Next {
+    /// A record with this head is held whole.
+    Record(RecordHead),
+    /// A record's captured length is above the most.
+    Broken,
+    /// The source is at its end, within a record.
+    Cut,
+    /// The source is at its end, behind a record.
+    End,
+    /// 2^40 octets were taken, and no whole record of them is left.
+    Full,
+    /// The source failed.
+    Fault,
+}
+
+/// Takes octets until the next record is held whole, or why it isn't is known.
+pub fn next_record<S: Source>(head: &CaptureHead, source: &mut S, block: &mut Block) -> Next
+    ensures gains { Gains block.old block.new (S.left source.old) (S.left source.new) }
+    ensures finds { Finds result head.now block.new (S.left source.new) }
+
+    // A fault is the source's.
+    ensures later { S.faults source.old ≤ S.faults source.new }
+    ensures fault { result ≡ Next.Fault → Rises (S.faults source.old) (S.faults source.new) }
+{
+    match block.fill(source, RECORD_LEN) {
+        Fill::Enough => {}
+        Fill::End if block.held().is_empty() => return Next::End,
+        Fill::End => return Next::Cut,
+        Fill::Full => return Next::Full,
+        Fill::Fault => return Next::Fault,
+    }
+    let one = read_record_head(head, block.held());
+    if one.captured > SNAPSHOT_MAX {
+        return Next::Broken;
+    }
+    match block.fill(source, RECORD_LEN + one.captured as usize) {
+        Fill::Enough => Next::Record(one),
+        Fill::End => Next::Cut,
+        Fill::Full => Next::Full,
+        Fill::Fault => Next::Fault,
+    }
+}

@@ -1,5 +1,0 @@
-use Rattle.record_halves.proofs.Stages.{at_halfway}
-use Rattle.record_halves.proofs.parts.closed_behind.Goals as goal
-
-pub returns-in-Err-clause-err : goal.returns-in-Err-clause-err
-returns-in-Err-clause-err g c = at_halfway _ _ c.in-Err.ensures.err

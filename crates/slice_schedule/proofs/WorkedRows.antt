@@ -1,0 +1,33 @@
+-- The rows compute.
+use Rattle.std.proofs.Common.{refl}
+use Rattle.slice_schedule.specs.Halves.{learn}
+use Rattle.slice_schedule.specs.FlowTurns.{take_orders}
+use Rattle.slice_schedule.specs.Rows.{ParkedOnTheWay, PlacesOfTurns, MovesInARow, FullRoom, TwoCommandsOneBatch, ParkingQueueFull, SliceLaneFull}
+
+pub parked_on_the_way : ParkedOnTheWay
+unfolding learn take_orders
+parked_on_the_way = record { lines = refl; packets = refl }
+
+pub places_of_turns : PlacesOfTurns
+unfolding learn take_orders
+places_of_turns = record { lines = refl; packets = refl }
+
+pub moves_in_a_row : MovesInARow
+unfolding learn take_orders
+moves_in_a_row = record { lines = refl; packets = refl }
+
+pub full_room : FullRoom
+unfolding learn take_orders
+full_room = record { lines = refl; packets = refl; again = refl }
+
+pub two_commands_one_batch : TwoCommandsOneBatch
+unfolding learn take_orders
+two_commands_one_batch = record { lines = refl; packets = refl }
+
+pub parking_queue_full : ParkingQueueFull
+unfolding learn take_orders
+parking_queue_full = record { lines = refl; packets = refl }
+
+pub slice_lane_full : SliceLaneFull
+unfolding learn take_orders
+slice_lane_full = record { lines = refl; packets = refl }

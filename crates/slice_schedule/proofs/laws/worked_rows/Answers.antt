@@ -1,0 +1,13 @@
+use Rattle.slice_schedule.proofs.WorkedRows.{parked_on_the_way, places_of_turns, moves_in_a_row, full_room, two_commands_one_batch, parking_queue_full, slice_lane_full}
+use Rattle.slice_schedule.proofs.laws.worked_rows.Goals as goal
+
+pub returns : goal.returns
+returns c = record {
+  parked_on_the_way = parked_on_the_way;
+  places_of_turns = places_of_turns;
+  moves_in_a_row = moves_in_a_row;
+  full_room = full_room;
+  two_commands_one_batch = two_commands_one_batch;
+  parking_queue_full = parking_queue_full;
+  slice_lane_full = slice_lane_full;
+}

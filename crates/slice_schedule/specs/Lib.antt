@@ -1,0 +1,12 @@
+pub mod Numbers
+pub mod Slots
+pub mod Halves
+pub mod World
+pub mod ControlTurns
+pub mod FlowTurns
+pub mod Front
+pub mod Schedule
+pub mod Turns
+pub mod Rows
+pub mod Accounts
+pub mod Fits

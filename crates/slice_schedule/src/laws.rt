@@ -1,0 +1,30 @@
+//! Rows of the schedule, worked by hand, and what holds of every schedule.
+ghost use Rattle.slice_schedule.specs.Fits.{EachSlotFits, EachPacketIsHandled};
+ghost use Rattle.slice_schedule.specs.Rows.{
+  ParkedOnTheWay,
+  PlacesOfTurns,
+  MovesInARow,
+  FullRoom,
+  TwoCommandsOneBatch,
+  ParkingQueueFull,
+  SliceLaneFull,
+};
+
+/// What becomes of seven short traces under their turns.
+pub fn worked_rows()
+    ensures parked_on_the_way { ParkedOnTheWay }
+    ensures places_of_turns { PlacesOfTurns }
+    ensures moves_in_a_row { MovesInARow }
+    ensures full_room { FullRoom }
+    ensures two_commands_one_batch { TwoCommandsOneBatch }
+    ensures parking_queue_full { ParkingQueueFull }
+    ensures slice_lane_full { SliceLaneFull }
+{}
+
+/// Whatever the turns, the numbers of each slot are right behind each line, and all packets that were accepted
+/// are handled behind the epoch: once each and in order, behind at least the commands that they wait for, and
+/// behind none that waits for a later packet.
+pub fn every_schedule_fits()
+    ensures fits { EachSlotFits }
+    ensures handled { EachPacketIsHandled }
+{}

@@ -1,0 +1,7 @@
+//! The schedule of an epoch as a world of numbers: which lines are taken, refused and parked under a list of
+//! turns, and how many commands each packet meets, and where.
+#![tactic(auto)]
+
+mod laws;
+
+pub use laws::{every_schedule_fits, worked_rows};

@@ -1,0 +1,270 @@
+//! What is left of a subscriber's halves, until they are one again.
+ghost use Rattle.std.specs.Prelude.{◌≡◌, ◌++◌, IfOk, IfErr};
+ghost use Rattle.counter_half.specs.Half.{handled_by};
+ghost use Rattle.counter_half.specs.Handled.{places_in};
+ghost use Rattle.split_record.specs.Rejoined.{AreOfOneSplit, AreAccepted, Finishes};
+ghost use Rattle.split_record.specs.Origin.{start_in, commands_in, items_in_all, places_in_all, bound_for, LeftMeetAll};
+ghost use Rattle.split_record.specs.Origin.{IsAt, IsOpen, IsHalfway, IsClosing};
+ghost use Rattle.split_record.specs.Props.{accepted_prop};
+
+use crate::closing::Closing;
+use crate::origin::Origin;
+use crate::{Finished, FrontEnd};
+use bearer_state::Version;
+use control_half::{Batch, CommandItem, ControlEnd, ControlHalf, Controller};
+use counter_half::{FlowHalf, FlowItem, FlowRest};
+use lane_core::{Sender, close};
+use pc_base::SliceNo;
+use std::alloc::Global;
+use std::sync::Wait;
+
+/// What is left of a subscriber's front end and halves after want of memory. Nothing is lost.
+#[derive(Drop)]
+pub struct Parts {
+    pub(crate) alloc: Global,
+    pub(crate) origin: Origin,
+    pub(crate) destination: SliceNo,
+    pub(crate) stage: Stage,
+    ghost accepted: { AreAccepted origin.front.value (items_in_all origin) } by { accepted_prop origin.front.value (items_in_all origin) },
+    ghost whole: { IsAt origin stage },
+    ghost bound: { destination ≡ origin.front.value.destination },
+}
+
+/// How far the halves are together.
+#[derive(Drop)]
+pub(crate) enum Stage {
+    /// Both lanes are open.
+    Open(Open),
+    /// The lane of commands is closed.
+    Halfway(Halfway),
+    /// Both are.
+    Closing(Closing),
+}
+
+/// The halves with both lanes open.
+#[derive(Drop)]
+pub(crate) struct Open {
+    pub(crate) lane: Sender<CommandItem>,
+    pub(crate) control: ControlEnd,
+    pub(crate) flow: FlowRest,
+    pub(crate) left: Vec<FlowItem>,
+}
+
+/// The halves with the lane of versions open.
+#[derive(Drop)]
+pub(crate) struct Halfway {
+    pub(crate) control: Commanded,
+    pub(crate) versions: Sender<Batch<Version>>,
+    pub(crate) flow: FlowRest,
+    pub(crate) left: Vec<FlowItem>,
+}
+
+/// What a control half has done, and the commands that it has still to do.
+#[derive(Drop)]
+pub(crate) struct Commanded {
+    pub(crate) controller: Controller,
+    /// The last command was applied under this floor, and its version is still to be made.
+    pub(crate) due: Option<u64>,
+    /// Versions that weren't sent.
+    pub(crate) kept: Option<Batch<Version>>,
+    /// A command that was taken from the lane, before those that were left there.
+    pub(crate) head: Option<CommandItem>,
+    pub(crate) rest: Vec<CommandItem>,
+}
+
+impl Parts {
+    ghost use Rattle.split_record.specs.Parts.{IsOf};
+
+    pub(crate) fn new(
+        alloc: Global,
+        front: FrontEnd,
+        control: ControlHalf,
+        flow: FlowHalf,
+        left: Vec<FlowItem>,
+    ) -> Parts
+        requires one { AreOfOneSplit front control flow }
+        requires accepted { AreAccepted front (handled_by flow ++ left.items) }
+        ensures { IsOf result front flow left.items }
+    {
+        let origin = Origin::of(&front, &flow, &left);
+        let FrontEnd {
+            destination,
+            lane,
+            ..
+        } = front;
+        Parts {
+            alloc,
+            origin,
+            destination,
+            stage: Stage::Open(Open {
+                lane,
+                control: control.into_end(),
+                flow: flow.into_rest(),
+                left,
+            }),
+        }
+    }
+
+    /// Goes on where memory was wanting.
+    pub fn again<R: Wait>(self, rt: &R) -> Result<Finished, Parts>
+        ensures finished { IfOk result (λ made. Finishes (start_in self.origin) (commands_in self.origin)
+            (items_in_all self.origin) (bound_for self.origin) made) }
+        ensures placed { IfOk result (λ made. places_in made.packets.items ≡ places_in_all self.origin) }
+        ensures met { IfOk result (λ made. LeftMeetAll self.origin made.packets.items) }
+        ensures parts { IfErr result (λ parts. parts.origin ≡ self.origin) }
+    {
+        let Parts {
+            alloc,
+            origin,
+            destination,
+            stage,
+        } = self;
+        match closed(rt, alloc, &origin, stage) {
+            Ok(mut closing) => match closing.work(alloc, &origin) {
+                Ok(()) => Ok(closing.finished(&origin, destination)),
+                Err(_) => Err(Parts {
+                    alloc,
+                    origin,
+                    destination,
+                    stage: Stage::Closing(closing),
+                }),
+            },
+            Err(stage) => Err(Parts {
+                alloc,
+                origin,
+                destination,
+                stage,
+            }),
+        }
+    }
+}
+
+/// Both lanes are closed. Where memory is wanting, no lane is closed in part.
+fn closed<R: Wait>(rt: &R, alloc: Global, origin: &Origin, stage: Stage) -> Result<Closing, Stage>
+    requires at { IsAt origin.now stage }
+    ensures ok { IfOk result (λ closing. IsClosing origin.now closing) }
+    ensures err { IfErr result (λ back. IsAt origin.now back) }
+{
+    match stage {
+        Stage::Open(open) => match open.closed(rt, alloc, origin) {
+            Ok(halfway) => closed_behind(rt, alloc, origin, halfway),
+            Err(open) => Err(Stage::Open(open)),
+        },
+        Stage::Halfway(halfway) => closed_behind(rt, alloc, origin, halfway),
+        Stage::Closing(closing) => Ok(closing),
+    }
+}
+
+/// The lane of versions is closed behind that of commands.
+fn closed_behind<R: Wait>(
+    rt: &R,
+    alloc: Global,
+    origin: &Origin,
+    halfway: Halfway,
+) -> Result<Closing, Stage>
+    requires at { IsHalfway origin.now halfway }
+    ensures ok { IfOk result (λ closing. IsClosing origin.now closing) }
+    ensures err { IfErr result (λ back. IsAt origin.now back) }
+{
+    match halfway.closed(rt, alloc, origin) {
+        Ok(closing) => Ok(closing),
+        Err(halfway) => Err(Stage::Halfway(halfway)),
+    }
+}
+
+impl Open {
+    /// The lane of commands is closed. Where memory is wanting, all is as before.
+    fn closed<R: Wait>(self, rt: &R, alloc: Global, origin: &Origin) -> Result<Halfway, Open>
+        requires at { IsOpen origin.now self }
+        ensures ok { IfOk result (λ half. IsHalfway origin.now half) }
+        ensures err { IfErr result (λ back. IsOpen origin.now back) }
+    {
+        let Open {
+            lane,
+            control,
+            flow,
+            left,
+        } = self;
+        let ControlEnd {
+            started,
+            first,
+            control: controller,
+            head,
+            due,
+            batch,
+            commands,
+            versions,
+        } = control;
+        match close(rt, alloc, lane, commands) {
+            Ok(rest) => Ok(Halfway {
+                control: Commanded {
+                    controller,
+                    due,
+                    kept: batch,
+                    head,
+                    rest,
+                },
+                versions,
+                flow,
+                left,
+            }),
+            Err(ends) => Err(Open {
+                lane: ends.tx,
+                control: ControlEnd {
+                    started,
+                    first,
+                    control: controller,
+                    head,
+                    due,
+                    batch,
+                    commands: ends.rx,
+                    versions,
+                },
+                flow,
+                left,
+            }),
+        }
+    }
+}
+
+impl Halfway {
+    /// The lane of versions is closed too. Where memory is wanting, all is as before.
+    fn closed<R: Wait>(self, rt: &R, alloc: Global, origin: &Origin) -> Result<Closing, Halfway>
+        requires at { IsHalfway origin.now self }
+        ensures ok { IfOk result (λ closing. IsClosing origin.now closing) }
+        ensures err { IfErr result (λ back. IsHalfway origin.now back) }
+    {
+        let Halfway {
+            control,
+            versions,
+            flow,
+            left,
+        } = self;
+        let FlowRest {
+            state,
+            batch,
+            versions: learning,
+        } = flow;
+        match close(rt, alloc, versions, learning) {
+            Ok(batches) => Ok(Closing {
+                control,
+                applied: 0,
+                state,
+                taken: batch,
+                batches,
+                left,
+                handled: 0,
+            }),
+            Err(ends) => Err(Halfway {
+                control,
+                versions: ends.tx,
+                flow: FlowRest {
+                    state,
+                    batch,
+                    versions: ends.rx,
+                },
+                left,
+            }),
+        }
+    }
+}

@@ -1,0 +1,18 @@
+use Rattle.std.proofs.Common.{ap, ◌∙◌, refl}
+use Rattle.bearer_state.specs.Session.{SessionState}
+use Rattle.bearer_state.specs.Version.{VersionState, version_of}
+use Rattle.subscriber.proofs.subscriber.Subscriber.new.Goals as goal
+
+pub returns-clause-stands : goal.returns-clause-stands
+returns-clause-stands c =
+    let version = c.in_ok-version.ensures ∙ ap (λ (s : SessionState). version_of s 0) c.new-session.ensures in
+    record {
+      session = c.new-session.ensures;
+      version = version;
+      counters = c.new-counters.ensures c.args.slot;
+      commands = ap (λ (v : VersionState). v.number) version;
+      packets = refl;
+    }
+
+pub returns-clause-last : goal.returns-clause-last
+returns-clause-last c = (c.new-counters.ensures c.args.slot).last

@@ -1,0 +1,56 @@
+-- A subscriber at rest as contracts see it, and the events that it stands for.
+use Rattle.std.specs.Prelude.{◌≡◌, ℕ, ◌+◌, ◌<◌, ◌^◌, List, length, Option}
+use Rattle.pc_base.specs.declared.packet.Packet.{Packet}
+use Rattle.pc_base.specs.declared.packet.Way.{Way}
+use Rattle.bearer_state.specs.Session.{SessionState}
+use Rattle.bearer_state.specs.Version.{VersionState}
+use Rattle.packet_steps.specs.Standing as counters
+use Rattle.gate_model.specs.declared.event.Event.{Event}
+use Rattle.gate_model.specs.Events.{commands_of, packets_of}
+use Rattle.gate_model.specs.SlotPast.{past_of, session_after, version_after}
+
+-- the session, the version that packets go by, the running counters, how many packets came, and the slice that the
+-- subscriber is bound for
+pub record SubscriberState : Type 0 where
+  pub session : SessionState
+  pub version : VersionState
+  pub counters : counters.CountersState
+  pub packets : ℕ
+  pub destination : ℕ
+
+-- how many commands its packets go by, and the moment of its last packet
+abbrev pub commands_met : SubscriberState → ℕ
+commands_met subscriber = subscriber.version.number
+
+abbrev pub last_of : SubscriberState → Option ℕ
+last_of subscriber = counters.last_of subscriber.counters
+
+-- A subscriber stands for the events of a slot, with so many of their charging records taken out: it has their session,
+-- its version, their packets' counters, and their counts.
+pub record StandsFor (subscriber : SubscriberState) (slot : ℕ) (events : List Event) (taken : ℕ) : Type 0 where
+  pub session : subscriber.session ≡ session_after slot events
+  pub version : subscriber.version ≡ version_after slot events
+  pub counters : counters.StandsFor subscriber.counters (past_of slot events).packets taken
+  pub commands : commands_met subscriber ≡ length (commands_of events)
+  pub packets : subscriber.packets ≡ length (packets_of events)
+
+-- Where memory ran out at a command, the session may have done it, or not: for packets, records and counters the
+-- subscriber stands for the events before all the same.
+abbrev pub StandsForPackets : SubscriberState → ℕ → List Event → ℕ → Type 0
+StandsForPackets subscriber slot events taken =
+    StandsFor (record subscriber { session = session_after slot events }) slot events taken
+
+-- its counts may rise: how often its session's rates were set, its lives, and its commands and packets
+pub record HasRoom (subscriber : SubscriberState) : Type 0 where
+  pub rates : subscriber.session.rates < 2 ^ 40
+  pub lives : subscriber.session.lives < 2 ^ 40
+  pub few : commands_met subscriber + subscriber.packets < 2 ^ 40
+
+-- where it stands for fewer than 2^40 events, they may
+abbrev pub FewEventsLeaveRoom : Type 0
+FewEventsLeaveRoom = (subscriber : SubscriberState) (slot : ℕ) (events : List Event) (taken : ℕ)
+    → StandsFor subscriber slot events taken → length events < 2 ^ 40 → HasRoom subscriber
+
+-- a packet of these fields
+abbrev pub packet_of : ℕ → ℕ → Way → List ℕ → Packet
+packet_of number moment way octets = record { number = number; moment = moment; way = way; octets = octets }

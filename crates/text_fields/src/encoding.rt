@@ -1,0 +1,70 @@
+//! Octets to hexadecimal digits, sixteen at a time.
+ghost use Rattle.std.specs.Prelude.{◌≡◌, ◌*◌, ◌+◌, ◌≤◌, length, take, map};
+ghost use Rattle.hex.specs.Hex.{encode_lower};
+ghost use Rattle.text_fields.specs.Blocks.{high_digit, low_digit};
+
+use std::simd::prelude::*;
+
+const DIGITS: [u8; 16] = *b"0123456789abcdef";
+
+// A high digit and its low one by turns: of the first eight octets, and of the others.
+const FRONT: [usize; 16] = [0, 16, 1, 17, 2, 18, 3, 19, 4, 20, 5, 21, 6, 22, 7, 23];
+
+const BACK: [usize; 16] = [8, 24, 9, 25, 10, 26, 11, 27, 12, 28, 13, 29, 14, 30, 15, 31];
+
+/// Each octet as two digits, in lower case. At least 16 octets.
+pub(crate) fn encode_blocks(octets: &[u8], digits: &mut [u8])
+    requires twice { length digits.old ≡ 2 * length octets.now }
+    requires room { 16 ≤ length octets.now }
+    ensures { digits.new ≡ encode_lower octets.now }
+{
+    let len = octets.len();
+    for place in 0..len / 16 {
+        encode_block(
+            &octets[16 * place..16 * place + 16],
+            &mut digits[32 * place..32 * place + 32],
+        );
+    }
+    encode_last(octets, digits, len / 16 * 16);
+}
+
+// The last block may overlap the one before, so that no octet goes by itself.
+fn encode_last(octets: &[u8], digits: &mut [u8], done: usize)
+    requires twice { length digits.old ≡ 2 * length octets.now }
+    requires room { 16 ≤ length octets.now }
+    requires left { length octets.now ≤ done + 16 }
+    requires within { done ≤ length octets.now }
+    requires digits { take (2 * done) digits.old ≡ encode_lower (take done octets.now) }
+    ensures { digits.new ≡ encode_lower octets.now }
+{
+    let at = octets.len() - 16;
+    encode_block(&octets[at..at + 16], &mut digits[2 * at..2 * at + 32]);
+}
+
+// 16 octets to 32 digits.
+#[inline(always)]
+fn encode_block(octets: &[u8], digits: &mut [u8])
+    requires octets { length octets.now ≡ 16 }
+    requires digits { length digits.old ≡ 32 }
+    ensures { digits.new ≡ encode_lower octets.now }
+{
+    let lanes = u8x16::from_slice(octets);
+    let high = high_digits(lanes);
+    let low = low_digits(lanes);
+    high.shuffle(low, FRONT).copy_to_slice(&mut digits[..16]);
+    high.shuffle(low, BACK).copy_to_slice(&mut digits[16..]);
+}
+
+#[inline(always)]
+fn high_digits(octets: u8x16) -> u8x16
+    ensures { result ≡ map high_digit octets }
+{
+    u8x16::from_array(DIGITS).swizzle_dyn(octets >> u8x16::splat(4))
+}
+
+#[inline(always)]
+fn low_digits(octets: u8x16) -> u8x16
+    ensures { result ≡ map low_digit octets }
+{
+    u8x16::from_array(DIGITS).swizzle_dyn(octets & u8x16::splat(15))
+}
