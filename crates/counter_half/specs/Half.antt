@@ -89,4 +89,5 @@ abbrev pub Awaits : FlowHalf → Type 0
 Awaits half = Waits half.inner.value.state.done half.inner.value.batch
 
 abbrev pub HalfStops : ℕ → FlowHalf → FlowHalf → Type 0
-HalfStops most old new = LearnStops most (batches_of old) (batches_of new) (empties_of old) (empties_of new) (Awaits new)
+HalfStops most old new =
+    LearnStops most (batches_of old) (batches_of new) (empties_of old) (empties_of new) (Awaits new)

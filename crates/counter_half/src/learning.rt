@@ -17,7 +17,8 @@ use std::sync::Wait;
 const MOST_PACKETS: usize = 0x4_0000_0000_0000;
 
 impl FlowHalf {
-    ghost use Rattle.counter_half.specs.Half.{name_of, handled_by, places_of, may_take, asks_of, learns_of, batches_of, HalfStops};
+    ghost use Rattle.counter_half.specs.Half.{name_of, handled_by, places_of, may_take, asks_of};
+    ghost use Rattle.counter_half.specs.Half.{learns_of, batches_of, HalfStops};
 
     /// Learns at most so many batches, as long as they come and their floors are met. Tells whether it
     /// learnt one. When out of memory, what was learnt stays learnt, and nothing is lost.
@@ -36,7 +37,8 @@ impl FlowHalf {
         ensures more { IfOk result (λ learnt. learnt ≡ true → batches_of self.old < batches_of self.new) }
         ensures most { OnOk result (batches_of self.new ≤ batches_of self.old + most) }
         ensures none { IfOk result (λ learnt. learnt ≡ false → batches_of self.new ≡ batches_of self.old) }
-        ensures met { IfOk result (λ learnt. learnt ≡ false → self.new.inner.value.state.met ≡ self.old.inner.value.state.met) }
+        ensures met { IfOk result (λ learnt. learnt ≡ false
+            → self.new.inner.value.state.met ≡ self.old.inner.value.state.met) }
         ensures stopped { OnOk result (HalfStops most self.old self.new) }
     {
         self.inner.learn_at_most(rt, most)

@@ -26,7 +26,8 @@ with_counts [] (placed ∷ later) = record { commands = 0; packet = placed.packe
 with_counts (count ∷ counts) (placed ∷ later) =
     record { commands = count; packet = placed.packet } ∷ with_counts counts later
 
--- the commands and packets of a slot that an epoch's lines brought and that were accepted, these numbered from a count on
+-- the commands and packets of a slot that an epoch's lines brought and that were accepted, these numbered from a count
+-- on
 pub record AreOfLines (slot next : ℕ) (lines : List LineTold) (commands : List CommandItem) (items : List FlowItem)
     : Type 0 where
   pub commands_are : commands_in commands ≡ commands_accepted slot lines

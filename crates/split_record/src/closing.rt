@@ -1,5 +1,6 @@
 //! The closing pass: commands are applied, versions learnt, packets handled.
-ghost use Rattle.std.specs.Prelude.{◌≡◌, ◌+◌, ◌++◌, [], ◌∷◌, true, false, None, length, IfOk, OnOk, IsTrue, IsFalse, MatchOption};
+ghost use Rattle.std.specs.Prelude.{◌≡◌, ◌+◌, ◌++◌, [], ◌∷◌, true, false, None, length};
+ghost use Rattle.std.specs.Prelude.{IfOk, OnOk, IsTrue, IsFalse, MatchOption};
 ghost use Rattle.split_record.specs.Rejoined.{AreAccepted, Finishes};
 ghost use Rattle.counter_half.specs.Half.{IsReady};
 ghost use Rattle.counter_half.specs.Handled.{places_in};
@@ -261,7 +262,8 @@ impl Closing {
         ensures at { IsClosing origin.now self.new }
         ensures control { self.new.control ≡ self.old.control }
         ensures left { items_left self.new ≡ items_left self.old }
-        ensures count { to_learn self.new.taken self.new.batches.items ≡ to_learn self.old.taken self.old.batches.items }
+        ensures count { to_learn self.new.taken self.new.batches.items
+            ≡ to_learn self.old.taken self.old.batches.items }
         ensures none { self.new.taken ≡ None → self.new.batches.items ≡ [] }
     {
         if self.taken.is_none() {

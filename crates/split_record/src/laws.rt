@@ -1,5 +1,6 @@
 //! What the one-thread gateway says of every past.
-ghost use Rattle.gate_model.specs.Versions.{SessionsAreOfCommands, VersionsAreOfCommands, OpenLivesAreActive, CommandsAreLearnt, PacketsAreJudged};
+ghost use Rattle.gate_model.specs.Versions.{SessionsAreOfCommands, VersionsAreOfCommands, OpenLivesAreActive};
+ghost use Rattle.gate_model.specs.Versions.{CommandsAreLearnt, PacketsAreJudged};
 
 use gate_model::{each_version_follows, sessions_are_of_commands};
 
