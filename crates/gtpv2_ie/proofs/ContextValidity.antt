@@ -18,16 +18,16 @@ use Rattle.gtpv2_ie.specs.Validity.{IsEbi, IsCause, IsFteid, IsQos, IsOctets, Is
 use Rattle.gtpv2_ie.proofs.ImsiLemmas.{AllByRecursion-append}
 
 -- the octets that elements take in a Context
-abbrev inner_len : List Element → ℕ
+abbrev pub inner_len : List Element → ℕ
 inner_len ies = length (inner_spellings ies)
 
-inner_len-append : (xs ys : List Element) → inner_len (xs ++ ys) ≡ inner_len xs + inner_len ys
+pub inner_len-append : (xs ys : List Element) → inner_len (xs ++ ys) ≡ inner_len xs + inner_len ys
 inner_len-append xs ys =
     ap length (flat_map-append (element_octets empty_context) xs ys)
     ∙ length-append (inner_spellings xs) (inner_spellings ys)
 
 -- the octets of a Context, part by part
-length-context_octets : (c : Context) → length (context_octets c)
+pub length-context_octets : (c : Context) → length (context_octets c)
     ≡ inner_len (if_some values.Ebi c.ebi) + inner_len (if_some values.Cause c.cause) + inner_len
     (if_some values.Tft c.tft)
     + inner_len (map fteid_element c.fteids) + inner_len (if_some values.Qos c.qos)
@@ -47,7 +47,7 @@ length-context_octets c =
     )
 
 -- an element put in takes no more than its own octets
-one_part : {X : Type 0} (value : X → IeValue) (old new : Option X)
+pub one_part : {X : Type 0} (value : X → IeValue) (old new : Option X)
     → inner_len (if_some value (option_or old new)) ≤ inner_len (if_some value old) + inner_len (if_some value new)
 one_part value None new = omega arith
 one_part value (Some x) new = omega arith

@@ -24,6 +24,7 @@ use Rattle.wire_octets.specs.Numbers.{be16_at}
 use Rattle.gtpv2_ie.specs.Spelling.{cause_octets, plain_octets, element_octets, empty_context, inner_spellings, if_some, fteid_element, context_octets, spellings}
 use Rattle.gtpv2_ie.specs.Stand.{with_first, ies_from, ies_of, value_in}
 use Rattle.gtpv2_ie.specs.Value.{kind_value, value_at, element_at, inner_elements, context_in, context_of, known_elements}
+use Rattle.gtpv2_ie.proofs.ContextValidity.{inner_len, inner_len-append, length-context_octets, one_part}
 use Rattle.gtpv2_msg.specs.Elements.{read_ies, known_of}
 
 -- what stands in octets takes so many of them
@@ -218,42 +219,11 @@ elements_few reads writes contexts octets (raw ∷ raws) =
     (4 + (raw.to - raw.from)) (total raws)
     (element_few reads writes contexts octets raw) (elements_few reads writes contexts octets raws)
 
--- the octets of elements in a Context
-abbrev inner_len : List Element → ℕ
-inner_len ies = length (inner_spellings ies)
-
-inner_len-append : (xs ys : List Element) → inner_len (xs ++ ys) ≡ inner_len xs + inner_len ys
-inner_len-append xs ys =
-    ap length (flat_map-append (element_octets empty_context) xs ys)
-    ∙ length-append (inner_spellings xs) (inner_spellings ys)
-
 -- the octets of a Context, part by part
 abbrev parts_len : Option ℕ → Option CauseIe → Option (List ℕ) → List (ℕ × Fteid) → Option QosIe → ℕ
 parts_len ebi cause tft fteids qos =
     inner_len (if_some values.Ebi ebi) + inner_len (if_some values.Cause cause) + inner_len (if_some values.Tft tft)
     + inner_len (map fteid_element fteids) + inner_len (if_some values.Qos qos)
-
-context_len : (c : Context) → length (context_octets c) ≡ parts_len c.ebi c.cause c.tft c.fteids c.qos
-context_len c =
-    let e : List Element = if_some values.Ebi c.ebi in
-    let s : List Element = if_some values.Cause c.cause in
-    let t : List Element = if_some values.Tft c.tft in
-    let f : List Element = map fteid_element c.fteids in
-    let q : List Element = if_some values.Qos c.qos in
-    omega (
-      arith,
-      inner_len-append (e ++ s ++ t ++ f) q,
-      inner_len-append (e ++ s ++ t) f,
-      inner_len-append
-          (e ++ s) t,
-      inner_len-append e s,
-    )
-
-one_part : {X : Type 0} (value : X → IeValue) (first rest : Option X)
-    → inner_len (if_some value (option_or first rest)) ≤ inner_len (if_some value first) + inner_len
-    (if_some value rest)
-one_part value None rest = omega arith
-one_part value (Some x) rest = omega arith
 
 fteid_part : (first : Option (ℕ × Fteid)) (rest : List (ℕ × Fteid))
     → inner_len (map fteid_element (cons_option first rest)) ≤ inner_len
@@ -287,8 +257,8 @@ context_with_few (ie ∷ ies) =
     let all : Context = context_with (ie ∷ ies) in
     omega (
       arith,
-      context_len all,
-      context_len c,
+      length-context_octets all,
+      length-context_octets c,
       context_with_few ies,
       own_len ie.instance ie.value,
       inner_len-append (ie ∷ []) ies,

@@ -6,6 +6,7 @@
 mod line_buffer;
 mod memory;
 mod reading;
+mod refilling;
 mod sinks;
 mod sources;
 mod std_streams;
@@ -15,6 +16,7 @@ mod writing;
 pub use line_buffer::{INPUT_MAX, LINE_MAX, LineBuf, NEWLINE};
 pub use memory::{MemSink, MemSource};
 pub use reading::{LineRead, one_answer, read_line};
+pub use refilling::read_behind;
 pub use sinks::Sink;
 pub use sources::{Failed, Source};
 pub use std::alloc::AllocError as NoMemory;

@@ -8,6 +8,7 @@ ghost use Rattle.pc_outside.specs.Line.{NoNewline};
 
 use super::NoMemory;
 use super::reading::LineRead;
+use super::refilling::read_behind;
 use super::sources::{Failed, Source};
 use memchr::memchr;
 use std::alloc::Global;
@@ -162,12 +163,12 @@ impl LineBuf {
     {
         self.line_from = 0;
         self.line_to = 0;
-        move_to_start(&mut self.octets, self.from, self.to);
-        self.to -= self.from;
+        let (from, to) = (self.from, self.to);
         self.from = 0;
+        self.to = to - from;
         let room = (INPUT_MAX - self.taken) as usize;
-        let end = self.to + room.min(BUFFER_LEN - self.to);
-        let count = read_between(source, &mut self.octets, self.to, end)?;
+        let most = room.min(BUFFER_LEN - self.to);
+        let count = read_behind(source, &mut self.octets, from, to, most)?;
         self.to += count;
         self.taken += count as u64;
         Ok(count)
@@ -207,40 +208,4 @@ fn line_len(front: &[u8], seen: usize) -> Option<usize>
         Some(at) => Some(seen + at),
         None => None,
     }
-}
-
-// Moves the octets of a range to the start.
-fn move_to_start(octets: &mut Vec<u8>, from: usize, to: usize)
-    requires ordered { from ≤ to }
-    requires within { to ≤ vec_len octets.old }
-    ensures len { vec_len octets.new ≡ vec_len octets.old }
-    ensures moved { slice_range octets.new.items 0 (to - from) ≡ slice_range octets.old.items from to }
-{
-    if from > 0 {
-        octets.copy_within(from..to, 0);
-    }
-}
-
-// Reads into a range, and leaves what stands before it.
-fn read_between<S: Source>(
-    source: &mut S,
-    octets: &mut Vec<u8>,
-    at: usize,
-    end: usize,
-) -> Result<usize, Failed>
-    requires some { at < end }
-    requires within { end ≤ vec_len octets.old }
-
-    ensures len { vec_len octets.new ≡ vec_len octets.old }
-    ensures before { take at octets.new.items ≡ take at octets.old.items }
-    ensures count { IfOk result (λ count. at + count ≤ end) }
-    ensures given { IfOk result (λ count. Consumes (S.left source.old) (S.left source.new)
-        (slice_range octets.new.items at (at + count))) }
-    ensures end { IfOk result (λ count. count ≡ 0 → IsAtEnd (S.left source.new)) }
-    ensures kept { OnErr result (Keeps (S.left source.old) (S.left source.new)) }
-
-    ensures later { S.faults source.old ≤ S.faults source.new }
-    ensures cause { OnErr result (Rises (S.faults source.old) (S.faults source.new)) }
-{
-    source.read(&mut octets[at..end])
 }

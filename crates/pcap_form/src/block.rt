@@ -7,7 +7,7 @@ ghost use Rattle.pc_outside.specs.Limits.{input_max};
 ghost use Rattle.pcap_form.specs.Ahead.{Ahead, Fills, Gains};
 
 use crate::NoMemory;
-use pc_outside::{Failed, INPUT_MAX, Source};
+use pc_outside::{Failed, INPUT_MAX, Source, read_behind};
 use std::alloc::Global;
 use std::marker::Model;
 
@@ -136,50 +136,14 @@ impl Block {
         ensures later { S.faults source.old ≤ S.faults source.new }
         ensures cause { OnErr result (Rises (S.faults source.old) (S.faults source.new)) }
     {
-        move_to_start(&mut self.octets, self.from, self.to);
-        self.to -= self.from;
+        let (from, to) = (self.from, self.to);
         self.from = 0;
+        self.to = to - from;
         let room = (INPUT_MAX - self.taken) as usize;
-        let end = self.to + room.min(BLOCK_LEN - self.to);
-        let count = read_between(source, &mut self.octets, self.to, end)?;
+        let most = room.min(BLOCK_LEN - self.to);
+        let count = read_behind(source, &mut self.octets, from, to, most)?;
         self.to += count;
         self.taken += count as u64;
         Ok(count)
     }
-}
-
-// Moves the octets of a range to the start.
-fn move_to_start(octets: &mut Vec<u8>, from: usize, to: usize)
-    requires ordered { from ≤ to }
-    requires within { to ≤ vec_len octets.old }
-    ensures len { vec_len octets.new ≡ vec_len octets.old }
-    ensures moved { slice_range octets.new.items 0 (to - from) ≡ slice_range octets.old.items from to }
-{
-    if from > 0 {
-        octets.copy_within(from..to, 0);
-    }
-}
-
-// Reads into a range, and leaves what stands before it.
-fn read_between<S: Source>(
-    source: &mut S,
-    octets: &mut Vec<u8>,
-    at: usize,
-    end: usize,
-) -> Result<usize, Failed>
-    requires some { at < end }
-    requires within { end ≤ vec_len octets.old }
-
-    ensures len { vec_len octets.new ≡ vec_len octets.old }
-    ensures before { take at octets.new.items ≡ take at octets.old.items }
-    ensures count { IfOk result (λ count. at + count ≤ end) }
-    ensures given { IfOk result (λ count. Consumes (S.left source.old) (S.left source.new)
-        (slice_range octets.new.items at (at + count))) }
-    ensures end { IfOk result (λ count. count ≡ 0 → IsAtEnd (S.left source.new)) }
-    ensures kept { OnErr result (Keeps (S.left source.old) (S.left source.new)) }
-
-    ensures later { S.faults source.old ≤ S.faults source.new }
-    ensures cause { OnErr result (Rises (S.faults source.old) (S.faults source.new)) }
-{
-    source.read(&mut octets[at..end])
 }

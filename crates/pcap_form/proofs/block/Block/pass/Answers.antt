@@ -1,6 +1,6 @@
 use Rattle.std.proofs.Common.{drop, ap, sym, ◌∙◌}
 use Rattle.pcap_form.specs.Ahead.{Ahead}
-use Rattle.pcap_form.proofs.BlockLemmas.{part-behind}
+use Rattle.pc_outside.proofs.Parts.{part-behind}
 use Rattle.pcap_form.proofs.block.Block.pass.Goals as goal
 
 pub returns-clause-held : goal.returns-clause-held
