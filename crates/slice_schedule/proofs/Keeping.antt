@@ -1,6 +1,6 @@
 -- What holds at each number, and what steps keep.
-use Rattle.std.proofs.Common.{◌≡◌, ℕ, zero, suc, ◌+◌, ◌<◌, ◌==◌, Bool, true, false, List, [], ◌∷◌, ◌++◌, length, get_or, fold, cond, refl, sym, ap, ◌∙◌, inl, inr, arith}
-use Rattle.std.proofs.lemmas.Bool.{cases_eq, eq-eqb, ne_eqb}
+use Rattle.std.proofs.Common.{◌≡◌, ℕ, zero, suc, ◌+◌, ◌<◌, ◌==◌, Bool, true, false, List, [], ◌∷◌, ◌++◌, length, get_or, fold, cond, refl, sym, ap, subst, ◌∙◌, inl, inr, arith}
+use Rattle.std.proofs.lemmas.Bool.{cases_eq, eqb-true, eq-eqb, ne_eqb}
 use Rattle.slice_schedule.specs.Numbers.{value_at, put_at, times, for_each}
 
 pub put_each : {X : Type 0} (P : ℕ → X → Type 0) (fresh : X) (xs : List X) (n : ℕ) (x : X)
@@ -40,6 +40,9 @@ value-put fresh (y ∷ ys) (suc n) zero x =
 value-put fresh (y ∷ ys) (suc n) (suc m) x =
     value-put fresh ys n m x ∙ sym (ap (λ test. cond test x (value_at fresh ys m)) (eqb-suc n m))
 
+pub eqb_same : (n : ℕ) → (n == n) ≡ true
+eqb_same n = eq-eqb n n refl
+
 pub cond_keeps : {X : Type 0} (P : X → Type 0) (test : Bool) (x y : X) → P x → P y → P (cond test x y)
 cond_keeps P true x y yes_holds no_holds = yes_holds
 cond_keeps P false x y yes_holds no_holds = no_holds
@@ -49,6 +52,14 @@ pub cond_gives : {X : Type 0} (P : X → Type 0) (test : Bool) (x y : X) → (te
     → P (cond test x y)
 cond_gives P true x y yes_holds no_holds = yes_holds refl
 cond_gives P false x y yes_holds no_holds = no_holds refl
+
+-- what holds of what was put, and of the others
+pub put_others : {X : Type 0} (P : ℕ → X → Type 0) (fresh : X) (xs : List X) (n : ℕ) (x : X)
+    → ((m : ℕ) → (n == m) ≡ false → P m (value_at fresh xs m)) → P n x
+    → (m : ℕ) → P m (value_at fresh (put_at fresh xs n x) m)
+put_others P fresh xs n x each here m =
+    subst (P m) (sym (value-put fresh xs n m x))
+    (cond_gives (P m) (n == m) x (value_at fresh xs m) (λ is. subst (λ k. P k x) (eqb-true n m is) here) (each m))
 
 pub fold_keeps : {X Y : Type 0} (P : X → Type 0) (step : X → Y → X) → ((x : X) (y : Y) → P x → P (step x y))
     → (x : X) (ys : List Y) → P x → P (fold step x ys)

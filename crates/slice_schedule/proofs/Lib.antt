@@ -2,5 +2,9 @@ pub mod WorkedRows
 pub mod Keeping
 pub mod Fitting
 pub mod Turning
+pub mod Steps
 pub mod Worlds
+pub mod Going
+pub mod Tallying
+pub mod Due
 pub mod Lines

@@ -3,17 +3,18 @@ use Rattle.std.proofs.Common.{◌≡◌, ℕ, ◌+◌, ◌-◌, ◌==◌, Bool, 
 use Rattle.std.proofs.lemmas.Bool.{eqb-true}
 use Rattle.std.proofs.lemmas.List.{map-append, length-map}
 use Rattle.pc_base.specs.declared.packet.Place.TheVariants.{At}
-use Rattle.slice_schedule.specs.Slots.{CommandTags, Standing, absent, front, placed, recalled, leaving, SlotNow, fresh_slot}
-use Rattle.slice_schedule.specs.Halves.{control_work, learn, may_handle, handle}
+use Rattle.slice_schedule.specs.Slots.{CommandTags, Standing, absent, front, placed, recalled, leaving, is_placed, is_absent, SlotNow, fresh_slot}
+use Rattle.slice_schedule.specs.Halves.{control_work, learn, handle}
 use Rattle.slice_schedule.specs.World.{World, Rooms, start, item, has_room, slot_at, on_slot, flow_at, on_flow}
-use Rattle.slice_schedule.specs.Front.{Asks, nothing, command, packet, move, Done, pumped, admitted, accepted, parked_at, refused, with_command, offer_command, parks, with_packet, park_packet, send_packet_at, send_packet, is_front, flow_offer, arrived_first, offer_packet, moved, control_recalled, flow_recalled, line_done}
+use Rattle.slice_schedule.specs.Front.{Asks, nothing, command, packet, move, Done, back, pumped, control_made, control_offer, flow_made, made, admitted, control_called, accepted, parked_at, refused, with_command, offer_command, parks, with_packet, park_packet, send_packet_at, send_packet, is_front, flow_offer, arrived_first, offer_packet, moved, control_recalled, flow_recalled, line_done}
 use Rattle.slice_schedule.specs.Schedule.{Driven, turned, line_of, behind_line, behind_lines, outcomes}
 use Rattle.slice_schedule.specs.Fits.{EachSlotFits, EachPacketIsHandled}
 use Rattle.slice_schedule.specs.Accounts.{Account, no_account, commanded, received, moved_on, account_after, account_of}
-use Rattle.slice_schedule.proofs.Keeping.{value-put, cond_keeps, fold_keeps}
+use Rattle.slice_schedule.proofs.Keeping.{value-put, put_each, cond_keeps, fold_keeps}
 use Rattle.slice_schedule.proofs.Fitting.{fresh_fits, command_floors, command_handles, packet_floors, packet_handles, move_floors, length-push}
 use Rattle.slice_schedule.proofs.Turning.{Counted, counted_work, counted_learn, counted_handle, closes}
-use Rattle.slice_schedule.proofs.Worlds.{pumped_keeps, admitted_keeps, flow_offer_keeps, control_recalled_keeps, flow_recalled_keeps, turned_keeps}
+use Rattle.slice_schedule.proofs.Steps.{Steps}
+use Rattle.slice_schedule.proofs.Worlds.{pumped_keeps, control_offer_keeps, flow_offer_keeps, control_recalled_keeps, turned_keeps}
 
 -- what the lines say of each slot
 abbrev pub Counts : (ℕ → Account) → ℕ → SlotNow → Type 0
@@ -23,10 +24,10 @@ abbrev pub AllCounted : (ℕ → Account) → World → Type 0
 AllCounted accounts world = (s : ℕ) → Counts accounts s (slot_at world s)
 
 module _ (accounts : ℕ → Account) where
+  -- what halves and the front do changes nothing of this
   same : (s : ℕ) (slot other : SlotNow) → Counts accounts s slot → Counts accounts s (record slot {
     control = other.control;
     arrived = other.arrived;
-    taken = other.taken;
     flow = other.flow;
     queued = other.queued;
   })
@@ -43,39 +44,86 @@ module _ (accounts : ℕ → Account) where
         };
       }
 
-  works : (room s : ℕ) (slot : SlotNow) → Counts accounts s slot → Counts accounts s (control_work room slot).slot
-  works room s slot holds = counted_work (accounts s) room slot holds
+  kept_at : (world : World) (s : ℕ) (change : SlotNow → SlotNow) → AllCounted accounts world
+      → Counts accounts s (change (slot_at world s)) → AllCounted accounts (on_slot world s change)
+  kept_at world s change all here =
+      put_each (Counts accounts) fresh_slot world.slots s (change (slot_at world s)) all here
 
-  learns : (s : ℕ) (slot : SlotNow) → Counts accounts s slot → Counts accounts s (learn slot)
-  learns s slot holds = counted_learn (accounts s) slot holds
+  same_at : (world : World) (s : ℕ) (other : SlotNow) → AllCounted accounts world
+      → AllCounted accounts (on_slot world s (λ slot. record slot {
+        control = other.control;
+        arrived = other.arrived;
+        flow = other.flow;
+        queued = other.queued;
+      }))
+  same_at world s other all =
+      kept_at world s (λ slot. record slot {
+        control = other.control;
+        arrived = other.arrived;
+        flow = other.flow;
+        queued = other.queued;
+      }) all (same s (slot_at world s) other (all s))
 
-  handles : (slice s : ℕ) (slot : SlotNow) → may_handle slot ≡ true → Counts accounts s slot
-      → Counts accounts s (handle (At slice) slot)
-  handles slice s slot may holds = counted_handle (accounts s) (At slice) slot may holds
+  pub counted_steps : Steps (AllCounted accounts)
+  counted_steps = record {
+    controls = λ world slice change all. all;
+    flows = λ world slice change fewer all. all;
+    stands = λ world s standing there all. same_at world s (record (slot_at world s) { control = standing }) all;
+    arrives = λ world s all. same_at world s (record (slot_at world s) { arrived = (slot_at world s).hop }) all;
+    backs = λ world s all. same_at world s (record (slot_at world s) { flow = back (slot_at world s).flow }) all;
+    gives = λ world slice s order standing own follows all.
+        same_at world s (record (slot_at world s) { flow = standing }) all;
+    drains = λ rooms world slice s n few all.
+        same_at world s (record (slot_at world s) { queued = (slot_at world s).queued - n }) all;
+    works = λ room world s all.
+        kept_at world s (λ slot. (control_work room slot).slot) all
+        (counted_work (accounts s) room (slot_at world s) (all s));
+    learns = λ world s all. kept_at world s learn all (counted_learn (accounts s) (slot_at world s) (all s));
+    handles = λ slice world s may all.
+        kept_at world s (handle (At slice)) all
+        (counted_handle (accounts s) (At slice) (slot_at world s) may (all s));
+  }
 
   pub pump_keeps : (rooms : Rooms) (bounds : ℕ → ℕ) (world : World) → AllCounted accounts world
       → AllCounted accounts (pumped rooms bounds world)
-  pump_keeps = pumped_keeps (Counts accounts) same works learns handles
-
-  pub admission_keeps : (rooms : Rooms) (bounds : ℕ → ℕ) (world : World) (s : ℕ) → AllCounted accounts world
-      → AllCounted accounts (admitted rooms bounds world s)
-  admission_keeps = admitted_keeps (Counts accounts) same works learns handles
+  pump_keeps = pumped_keeps (AllCounted accounts) counted_steps
 
   pub offer_keeps : (rooms : Rooms) (bounds : ℕ → ℕ) (world : World) (s : ℕ) → AllCounted accounts world
       → AllCounted accounts (flow_offer rooms bounds world s)
-  offer_keeps = flow_offer_keeps (Counts accounts) same works learns handles
+  offer_keeps = flow_offer_keeps (AllCounted accounts) counted_steps
+
+  made_keeps : (rooms : Rooms) (bounds : ℕ → ℕ) (world : World) (s : ℕ) → AllCounted accounts world
+      → AllCounted accounts (made rooms bounds world s)
+  made_keeps rooms bounds world s all =
+      let first = control_made world s in
+      let second = control_offer bounds first s in
+      let offered = control_offer_keeps (AllCounted accounts) counted_steps bounds first s
+      (same_at world s (record (slot_at world s) { control = front }) all) in
+      offer_keeps rooms bounds (flow_made second s) s
+      (same_at second s (record (slot_at second s) { flow = front }) offered)
+
+  pub admission_keeps : (rooms : Rooms) (bounds : ℕ → ℕ) (world : World) (s : ℕ) → AllCounted accounts world
+      → AllCounted accounts (admitted rooms bounds world s)
+  admission_keeps rooms bounds world s all =
+      cond_keeps (AllCounted accounts) (is_absent (slot_at world s).control) (made rooms bounds world s) world
+      (made_keeps rooms bounds world s all) all
 
   pub control_call_keeps : (bounds : ℕ → ℕ) (world : World) (s : ℕ) → AllCounted accounts world
       → AllCounted accounts (control_recalled bounds world s)
-  control_call_keeps = control_recalled_keeps (Counts accounts) same works learns handles
+  control_call_keeps = control_recalled_keeps (AllCounted accounts) counted_steps
 
   pub flow_call_keeps : (rooms : Rooms) (bounds : ℕ → ℕ) (world : World) (s : ℕ) → AllCounted accounts world
       → AllCounted accounts (flow_recalled rooms bounds world s)
-  flow_call_keeps = flow_recalled_keeps (Counts accounts) same works learns handles
+  flow_call_keeps rooms bounds world s all =
+      let change : SlotNow → SlotNow = λ slot. record slot { flow = control_called slot.flow 0 } in
+      cond_keeps (AllCounted accounts) (is_placed (slot_at world s).flow)
+      (flow_offer rooms bounds (on_slot world s change) s) world
+      (offer_keeps rooms bounds (on_slot world s change) s
+      (same_at world s (change (slot_at world s)) all)) all
 
   pub turn_keeps : (rooms : Rooms) (world : World) (worker : ℕ) → AllCounted accounts world
       → AllCounted accounts (turned rooms world worker)
-  turn_keeps = turned_keeps (Counts accounts) same works learns handles
+  turn_keeps = turned_keeps (AllCounted accounts) counted_steps
 
 -- one more command, or packet
 one_command : (account : Account) (slot : SlotNow) → Counted account slot

@@ -10,3 +10,4 @@ pub mod Turns
 pub mod Rows
 pub mod Accounts
 pub mod Fits
+pub mod Tallies

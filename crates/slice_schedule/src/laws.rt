@@ -1,5 +1,6 @@
 //! Rows of the schedule, worked by hand, and what holds of every schedule.
 ghost use Rattle.slice_schedule.specs.Fits.{EachSlotFits, EachPacketIsHandled};
+ghost use Rattle.slice_schedule.specs.Tallies.{EachOutcomeIsDue};
 ghost use Rattle.slice_schedule.specs.Rows.{
   ParkedOnTheWay,
   PlacesOfTurns,
@@ -27,4 +28,11 @@ pub fn worked_rows()
 pub fn every_schedule_fits()
     ensures fits { EachSlotFits }
     ensures handled { EachPacketIsHandled }
+{}
+
+/// Whatever the turns, nothing is refused and no packet parked but for a reason that the lines tell: a command is
+/// refused where as many commands of its slot were accepted as may wait, a packet where a slice's lane is full or, behind
+/// a move, its slot's queue; and a packet is parked behind a move, before those that aren't.
+pub fn every_outcome_is_due()
+    ensures { EachOutcomeIsDue }
 {}

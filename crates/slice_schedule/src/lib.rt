@@ -4,4 +4,4 @@
 
 mod laws;
 
-pub use laws::{every_schedule_fits, worked_rows};
+pub use laws::{every_outcome_is_due, every_schedule_fits, worked_rows};
