@@ -1,5 +1,6 @@
 -- What a change of one desk does to all of them.
-use Rattle.std.proofs.Common.{◌≡◌, ◌≢◌, ℕ, ◌+◌, ◌<◌, ◌≤◌, inl, true, false, List, [], ◌∷◌, ◌++◌, length, map, set, get_or, refl, sym, ap, ◌∙◌, subst, arith, length-append}
+use Rattle.std.proofs.Common.{◌≡◌, ◌≢◌, ℕ, ◌+◌, ◌<◌, ◌≤◌, inl, true, false, List, [], ◌∷◌, ◌++◌, length, map, set}
+use Rattle.std.proofs.Common.{get_or, refl, sym, ap, ◌∙◌, subst, arith, length-append}
 use Rattle.std.specs.Prelude.{nat_eq, Option, Some, None, MatchOption}
 use Rattle.std.specs.List.{sum_by}
 use Rattle.std.proofs.lemmas.List.{length-map, length-set, map-set, get_or-map, get_or-set_same, get_or-set_other}
@@ -16,7 +17,8 @@ use Rattle.flow_core.specs.Workers.{desk_lanes}
 use Rattle.flow_core.specs.Counts.{Lasts}
 use Rattle.flow_core.proofs.Runs.{halves-append}
 use Rattle.flow_core.proofs.Changes.{lasts_raised}
-use Rattle.flow_migration.specs.Desks.{lanes_of, homes_of, sent_at, home_at, order_count, fulls_at, room_at, sent_count, DeskChanged, Given, Refused, Taken}
+use Rattle.flow_migration.specs.Desks.{lanes_of, homes_of, sent_at, home_at, order_count, fulls_at, room_at}
+use Rattle.flow_migration.specs.Desks.{sent_count, DeskChanged, Given, Refused, Taken}
 
 pub option_then : {X : Type 0} (o : Option X) {A B : Type 0} {P Q : X → Type 0} → (A → B) → ((x : X) → P x → Q x)
     → MatchOption o A P → MatchOption o B Q

@@ -1,5 +1,6 @@
 -- What any steps at one slot keep, of the slot and of all others.
-use Rattle.std.proofs.Common.{◌≡◌, ℕ, ◌+◌, ◌≤◌, inl, List, [], ◌∷◌, ◌++◌, length, refl, sym, ap, ◌∙◌, subst, arith, length-append}
+use Rattle.std.proofs.Common.{◌≡◌, ℕ, ◌+◌, ◌≤◌, inl, List, [], ◌∷◌, ◌++◌, length, refl, sym, ap, ◌∙◌, subst, arith}
+use Rattle.std.proofs.Common.{length-append}
 use Rattle.std.specs.List.{sum_by}
 use Rattle.lane_core.specs.Ends.{sent}
 use Rattle.flow_core.specs.declared.pairing.FlowDesk.{FlowDesk}
@@ -9,12 +10,16 @@ use Rattle.flow_core.specs.Orders.{halves_in, now_of, gone_of}
 use Rattle.flow_core.proofs.Changes.{lasts_then}
 use Rattle.flow_migration.specs.declared.place.FlowState.{FlowState}
 use Rattle.flow_migration.specs.declared.place.FlowState.TheVariants.{Front, Placed, Recall, Leaving}
-use Rattle.flow_migration.specs.Desks.{lanes_of, homes_of, sent_at, home_at, order_count, fulls_at, sent_weight, Given, Refused}
+use Rattle.flow_migration.specs.Desks.{lanes_of, homes_of, sent_at, home_at, order_count, fulls_at, sent_weight}
+use Rattle.flow_migration.specs.Desks.{Given, Refused}
 use Rattle.flow_migration.specs.Places.{pending, front_weight}
 use Rattle.flow_migration.specs.Stays.{Where, Here, Away, SlotKnows}
 use Rattle.flow_migration.specs.Keeps.{Stand, StateIs, StandTells, Keeps}
-use Rattle.flow_migration.proofs.Desks.{changed_sum, arrive_weight, none_weight, given_more, given_homes, given_ends, given_fulls, given_count, given_lanes, given_len, refused_sent, refused_homes, refused_ends, refused_sum, refused_fulls, refused_lanes, refused_len}
-use Rattle.flow_migration.proofs.Slots.{foreign_arrive, foreign_item, foreign_leave, now_foreign, gone_foreign, knows_same, knows_arrive, knows_item, knows_leave, knows_parked}
+use Rattle.flow_migration.proofs.Desks.{changed_sum, arrive_weight, none_weight, given_more, given_homes, given_ends}
+use Rattle.flow_migration.proofs.Desks.{given_fulls, given_count, given_lanes, given_len, refused_sent, refused_homes}
+use Rattle.flow_migration.proofs.Desks.{refused_ends, refused_sum, refused_fulls, refused_lanes, refused_len}
+use Rattle.flow_migration.proofs.Slots.{foreign_arrive, foreign_item, foreign_leave, now_foreign, gone_foreign}
+use Rattle.flow_migration.proofs.Slots.{knows_same, knows_arrive, knows_item, knows_leave, knows_parked}
 
 module _ {H I : Type 0} where
   -- the half arrives at its slice

@@ -3,7 +3,9 @@ pub mod Homes
 pub mod Keeps
 pub mod Passes
 pub mod Pumps
+pub mod Queues
 pub mod Returns
+pub mod Shortened
 pub mod Sides
 pub mod Slots
 pub mod Tables

@@ -1,5 +1,7 @@
 -- How slots are served and queues sent, one after another.
-use Rattle.std.proofs.Common.{◌≡◌, ◌≢◌, ℕ, zero, suc, ◌+◌, ◌*◌, ◌^◌, ◌<◌, ◌≤◌, inl, inr, Bool, true, false, true≢false, List, [], ◌∷◌, ◌++◌, length, length-append, map, set, get_or, replicate, refl, sym, ap, ◌∙◌, subst, arith}
+use Rattle.std.proofs.Common.{◌≡◌, ◌≢◌, ℕ, zero, suc, ◌+◌, ◌*◌, ◌^◌, ◌<◌, ◌≤◌, inl, inr, Bool, true, false}
+use Rattle.std.proofs.Common.{true≢false, List, [], ◌∷◌, ◌++◌, length, length-append, map, set, get_or, replicate}
+use Rattle.std.proofs.Common.{refl, sym, ap, ◌∙◌, subst, arith}
 use Rattle.std.specs.Prelude.{nat_eq, nat_lt, Option, Some, None, Result, Ok, Err, IfErr}
 use Rattle.std.proofs.lemmas.List.{get_or_past, get_or-set_same, get_or-set_other, set-set}
 use Rattle.std.proofs.Math.Seq.{map-set_same}
@@ -17,33 +19,39 @@ use Rattle.flow_migration.specs.declared.place.FlowState.{FlowState}
 use Rattle.flow_migration.specs.declared.place.FlowState.TheVariants.{Front, Placed, Recall, Leaving}
 use Rattle.flow_migration.specs.declared.place.FlowNo.{FlowNo}
 use Rattle.flow_migration.specs.declared.place.HalfAside.{HalfAside}
-use Rattle.flow_migration.specs.Desks.{lanes_of, homes_of, order_count, fulls_at, room_at, sent_count, empties_at, Refused}
-use Rattle.flow_migration.specs.Places.{place_at, accepted_at, accepted_by, accepted_count, moved_at, waits_at, queues_for, queue_at, parks_at, is_admitted, is_placed, is_settled, Fits, name_at, names_of}
+use Rattle.flow_migration.specs.Desks.{lanes_of, homes_of, order_count, fulls_at, room_at, sent_count, empties_at}
+use Rattle.flow_migration.specs.Desks.{Refused}
+use Rattle.flow_migration.specs.Places.{place_at, accepted_at, accepted_by, accepted_count, moved_at, waits_at}
+use Rattle.flow_migration.specs.Places.{queues_for, queue_at, parks_at, is_admitted, is_placed, is_settled, Fits}
+use Rattle.flow_migration.specs.Places.{name_at, names_of}
 use Rattle.flow_migration.specs.Keeps.{PlaceKeeps}
 use Rattle.flow_migration.specs.Sides.{IsFlowSide, AllMetFull, QueuesMetFull, HomeEnded}
-use Rattle.flow_migration.specs.Steps.{Served, Drained, Moved, Gave, AtSlot, Accepts, Grown, Sends, Recalls, Serves, ServesPlace, asked_after}
+use Rattle.flow_migration.specs.Steps.{Served, Drained, Moved, Gave, AtSlot, Accepts, Grown, Sends, Recalls, Serves}
+use Rattle.flow_migration.specs.Steps.{ServesPlace, asked_after}
 use Rattle.flow_migration.specs.Words.{Roll, MetFull, Enters, Admits}
 use Rattle.flow_migration.proofs.Desks.{at_now, given_fulls, refused_full, refused_fulls}
 use Rattle.flow_migration.proofs.Sides.{kept_step, stepped_side, fits_here}
 
 module _ {N I : Type 0} where
-  abbrev pub roll : List (Option N) → List (List I) → List Bool → List Lanes → ℕ → ℕ → ℕ → Roll N I
-  roll names accepted moved lanes admitted asked refused = record {
+  abbrev pub roll : List (Option N) → List (List I) → List Bool → List Lanes → ℕ → ℕ → ℕ → ℕ → Roll N I
+  roll names accepted moved lanes room admitted asked refused = record {
     names = names;
     accepted = accepted;
     moved = moved;
     lanes = lanes;
+    room = room;
     admitted = admitted;
     asked = asked;
     refused = refused;
   }
 
   pub roll_same : (names was : List (Option N)) (accepted before : List (List I)) (moved had : List Bool)
-      (lanes first : List Lanes) (admitted asked refused : ℕ)
+      (lanes first : List Lanes) (room admitted asked refused : ℕ)
       → names ≡ was → accepted ≡ before → moved ≡ had → lanes ≡ first
-      → roll names accepted moved lanes admitted asked refused ≡ roll was before had first admitted asked refused
-  roll_same names was accepted before moved had lanes first admitted asked refused n a m l i = roll (n i) (a i)
-      (m i) (l i) admitted asked refused
+      → roll names accepted moved lanes room admitted asked refused
+      ≡ roll was before had first room admitted asked refused
+  roll_same names was accepted before moved had lanes first room admitted asked refused n a m l i = roll (n i) (a i)
+      (m i) (l i) room admitted asked refused
 
 -- a step at one place, and what stays
 pub record Still {H N I : Type 0} (name : H → N) (slot_at : N → ℕ) (item_slot : I → ℕ) (handled : H → List I)

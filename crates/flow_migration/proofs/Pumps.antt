@@ -1,5 +1,6 @@
 -- How what pumping makes of each slot's state, and of the halves kept aside, adds up.
-use Rattle.std.proofs.Common.{◌≡◌, ℕ, ◌<◌, inl, inr, true, false, List, [], ◌∷◌, ◌++◌, length, set, refl, sym, ap, ◌∙◌, subst, append_assoc, append-nil}
+use Rattle.std.proofs.Common.{◌≡◌, ℕ, ◌<◌, inl, inr, true, false, List, [], ◌∷◌, ◌++◌, length, set, refl, sym, ap}
+use Rattle.std.proofs.Common.{◌∙◌, subst, append_assoc, append-nil}
 use Rattle.std.specs.Prelude.{nat_eq, Option, Some, None, ◌⊎◌}
 use Rattle.std.proofs.lemmas.Bool.{eqb-true, eqb-false}
 use Rattle.flow_core.specs.declared.pairing.FlowDesk.{FlowDesk}
@@ -7,12 +8,14 @@ use Rattle.flow_migration.specs.declared.place.FlowPlace.{FlowPlace}
 use Rattle.flow_migration.specs.declared.place.FlowState.{FlowState}
 use Rattle.flow_migration.specs.declared.place.FlowState.TheVariants.{Front, Placed, Recall, Leaving}
 use Rattle.flow_migration.specs.declared.place.HalfAside.{HalfAside}
-use Rattle.flow_migration.specs.Places.{place_at, state_at, leaves, rests, is_settled}
+use Rattle.flow_migration.specs.Places.{place_at, state_at, queue_at, leaves, rests, is_settled}
 use Rattle.flow_migration.specs.Sides.{is_lost}
 use Rattle.flow_migration.specs.Keeps.{PlaceKeeps}
 use Rattle.flow_migration.specs.Steps.{Served, Serves, ServesPlace, Welcomes}
-use Rattle.flow_migration.specs.Pumps.{ComesHome, IsOffered, Pumps, AtState, EachState, IsUnawaited, AreUnawaited, KeepsAside, TakesHome}
+use Rattle.flow_migration.specs.Pumps.{ComesHome, IsOffered, Pumps, AtState, EachState, IsUnawaited, AreUnawaited}
+use Rattle.flow_migration.specs.Pumps.{KeepsAside, TakesHome}
 use Rattle.flow_migration.proofs.Passes.{at_new, at_old}
+use Rattle.flow_migration.proofs.Queues.{queues_stay}
 
 module _ {H : Type 0} where
   comes_same : (a : FlowState H) → ComesHome a a
@@ -216,7 +219,8 @@ module _ {H I : Type 0} (slot_of : H → ℕ) where
     all_later first places new later comes rest then (others ++ kept ∷ []) more are.1,
   )
 
-  all_both : (places new : Places H I) (others some more : List (HalfAside H)) → AreUnawaited slot_of places new others some
+  all_both : (places new : Places H I) (others some more : List (HalfAside H))
+      → AreUnawaited slot_of places new others some
       → AreUnawaited slot_of places new (others ++ some) more
       → AreUnawaited slot_of places new others (some ++ more)
   all_both places new others [] more first then =
@@ -263,6 +267,7 @@ module _ {H I : Type 0} (slot_of : H → ℕ) where
   pub takes_none : (places : Places H I) (aside : List (HalfAside H)) → TakesHome slot_of places places aside aside
   takes_none places aside = record {
     states = each_comes_same places;
+    queues = λ slot. refl;
     keeps = keeps_none places places aside;
   }
 
@@ -271,6 +276,7 @@ module _ {H I : Type 0} (slot_of : H → ℕ) where
       → TakesHome slot_of places new aside new_aside
   takes_then places mid new aside mid_aside new_aside first then = record {
     states = each_comes_then places mid new first.states then.states;
+    queues = λ slot. then.queues slot ∙ first.queues slot;
     keeps = keeps_both places mid new aside mid_aside new_aside first.states then.states first.keeps then.keeps;
   }
 
@@ -282,6 +288,7 @@ module _ {H I : Type 0} (slot_of : H → ℕ) where
     states = each_set ComesHome comes_same places new place s within made
         (subst (λ x. AtState ComesHome x (state_at place)) (sym (ap state_at w.3 ∙ ap Some w.9))
         (Front half w.2, ap state_at w.4 ∙ ap Some w.10, inr (half, refl)));
+    queues = queues_stay places new place s within made (ap queue_at w.4 ∙ w.5 ∙ sym (ap queue_at w.3));
     keeps = keeps_none places new aside;
   }
 
@@ -292,6 +299,7 @@ module _ {H I : Type 0} (slot_of : H → ℕ) where
       → later ≡ aside ++ kept ∷ [] → TakesHome slot_of places places aside later
   takes_aside places kept aside later cause made = record {
     states = each_comes_same places;
+    queues = λ slot. refl;
     keeps = record {
       more = kept ∷ [];
       kept = made;

@@ -1,5 +1,6 @@
 -- What a half that comes home leaves of the facts that a side keeps.
-use Rattle.std.proofs.Common.{◌≡◌, ◌≢◌, ℕ, ◌+◌, ◌<◌, Bool, true, false, true≢false, cond, List, [], ◌∷◌, ◌++◌, length, map, set, refl, sym, ap, ◌∙◌, subst, arith, append-nil, length-append}
+use Rattle.std.proofs.Common.{◌≡◌, ◌≢◌, ℕ, ◌+◌, ◌<◌, Bool, true, false, true≢false, cond, List, [], ◌∷◌, ◌++◌, length}
+use Rattle.std.proofs.Common.{map, set, refl, sym, ap, ◌∙◌, subst, arith, append-nil, length-append}
 use Rattle.std.specs.Prelude.{nat_eq, Option, Some, None, ◌||◌}
 use Rattle.std.specs.List.{sum_by, All}
 use Rattle.std.proofs.Math.Logic.{∥∥₁_map}
@@ -18,7 +19,9 @@ use Rattle.flow_migration.specs.declared.place.FlowPlace.{FlowPlace}
 use Rattle.flow_migration.specs.declared.place.FlowState.{FlowState}
 use Rattle.flow_migration.specs.declared.place.HalfAside.{HalfAside}
 use Rattle.flow_migration.specs.Desks.{sent_at, home_at, order_count, sent_weight, home_weight, Taken, Empty}
-use Rattle.flow_migration.specs.Places.{place_at, queue_at, accepted_by, accepted_count, is_admitted, accepted_at, moved_at, is_settled, pending, pending_at, front_weight, front_at, Fits, at_end, to_end, name_at, names_of}
+use Rattle.flow_migration.specs.Places.{place_at, queue_at, accepted_by, accepted_count, is_admitted, accepted_at}
+use Rattle.flow_migration.specs.Places.{moved_at, is_settled, pending, pending_at, front_weight, front_at, Fits}
+use Rattle.flow_migration.specs.Places.{at_end, to_end, name_at, names_of}
 use Rattle.flow_migration.specs.Stays.{Where, AtFront, SlotKnows}
 use Rattle.flow_migration.specs.Keeps.{StateIs}
 use Rattle.flow_migration.specs.Sides.{weight_at, is_lost, asides_of, Tells, slot_at_place, IsFlowSide}

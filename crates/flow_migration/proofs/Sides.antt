@@ -1,11 +1,14 @@
 -- What one step leaves of the facts that a side keeps.
-use Rattle.std.proofs.Common.{◌≡◌, ◌≢◌, ℕ, zero, suc, ◌+◌, ◌*◌, ◌^◌, ◌<◌, ◌≤◌, Bool, true, false, true≢false, cond, inl, List, [], ◌∷◌, ◌++◌, length, map, set, get_or, replicate, refl, sym, ap, ◌∙◌, subst, arith}
+use Rattle.std.proofs.Common.{◌≡◌, ◌≢◌, ℕ, zero, suc, ◌+◌, ◌*◌, ◌^◌, ◌<◌, ◌≤◌, Bool, true, false, true≢false, cond}
+use Rattle.std.proofs.Common.{inl, List, [], ◌∷◌, ◌++◌, length, map, set, get_or, replicate, refl, sym, ap, ◌∙◌}
+use Rattle.std.proofs.Common.{subst, arith}
 use Rattle.std.specs.Prelude.{nat_lt, Option, Some, None}
 use Rattle.std.specs.List.{sum_by, All}
 use Rattle.std.proofs.Math.Logic.{∥∥₁_map, ∥∥₁_elim}
 use Rattle.std.proofs.Props.{props}
 use Rattle.std.proofs.lemmas.List.{length-set, get_or_past, get_or-set_same, get_or-set_other}
-use Rattle.std.proofs.lemmas.List.Elements.{All-nil, All-get_or, All-set, All-append, All-replicate, All-cons, All-weaker, All-head, All-tail}
+use Rattle.std.proofs.lemmas.List.Elements.{All-nil, All-get_or, All-set, All-append, All-replicate, All-cons}
+use Rattle.std.proofs.lemmas.List.Elements.{All-weaker, All-head, All-tail}
 use Rattle.std.proofs.lemmas.List.Sums.{sum_by-append, sum_by-set, sum_by-cons, get_or-le-sum_by}
 use Rattle.std.proofs.lemmas.List.Folds.{sum_by-replicate}
 use borrow.Author.Tests.{ltb-true, ltb-false}
@@ -20,8 +23,11 @@ use Rattle.flow_migration.specs.declared.place.FlowPlace.{FlowPlace}
 use Rattle.flow_migration.specs.declared.place.FlowState.{FlowState}
 use Rattle.flow_migration.specs.declared.place.FlowState.TheVariants.{Front, Placed, Recall, Leaving}
 use Rattle.flow_migration.specs.declared.place.HalfAside.{HalfAside}
-use Rattle.flow_migration.specs.Desks.{lanes_of, homes_of, sent_at, home_at, order_count, fulls_at, sent_weight, home_weight}
-use Rattle.flow_migration.specs.Places.{place_at, accepted_at, accepted_by, accepted_count, queue_at, is_admitted, pending, pending_at, front_weight, front_at, is_settled, Fits, at_end, to_end, name_at, names_of}
+use Rattle.flow_migration.specs.Desks.{lanes_of, homes_of, sent_at, home_at, order_count, fulls_at, sent_weight}
+use Rattle.flow_migration.specs.Desks.{home_weight}
+use Rattle.flow_migration.specs.Places.{place_at, accepted_at, accepted_by, accepted_count, queue_at, is_admitted}
+use Rattle.flow_migration.specs.Places.{pending, pending_at, front_weight, front_at, is_settled, Fits, at_end, to_end}
+use Rattle.flow_migration.specs.Places.{name_at, names_of}
 use Rattle.flow_migration.specs.Stays.{Where, AtFront, now_at, Owned, SlotKnows}
 use Rattle.flow_migration.specs.Keeps.{stand_of, StateIs, Keeps, PlaceKeeps, MayGive, MayGiveAt, IsReady}
 use Rattle.flow_migration.specs.Sides.{weight_at, asides_of, Tells, slot_at_place, BySlot, IsFlowSide}

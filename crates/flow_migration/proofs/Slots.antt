@@ -1,5 +1,6 @@
 -- What is known of one slot after each step.
-use Rattle.std.proofs.Common.{◌≡◌, ◌≢◌, ℕ, true, false, cond, List, [], ◌∷◌, ◌++◌, Option, Some, None, refl, sym, ap, ◌∙◌, subst, append_assoc, append-nil}
+use Rattle.std.proofs.Common.{◌≡◌, ◌≢◌, ℕ, true, false, cond, List, [], ◌∷◌, ◌++◌, Option, Some, None, refl, sym, ap}
+use Rattle.std.proofs.Common.{◌∙◌, subst, append_assoc, append-nil}
 use Rattle.std.specs.Prelude.{nat_eq}
 use Rattle.std.specs.Option.{option_to_list, is_some}
 use Rattle.std.proofs.lemmas.Bool.{eqb-true, eqb-false, eq-eqb, ne_eqb}
@@ -9,7 +10,8 @@ use Rattle.flow_core.specs.Orders.{more, stands, now_after, now_of, gone_after, 
 use Rattle.flow_core.specs.Picks.{lists_of}
 use Rattle.flow_core.proofs.Runs.{now_last, gone_last, standing}
 use Rattle.flow_core.proofs.SlotSums.{lists-append}
-use Rattle.flow_migration.specs.Stays.{Stay, Where, AtFront, Here, Away, reach, reaches, backs, stay_items, Chain, since_of, now_at, away_at, Owned, SlotKnows}
+use Rattle.flow_migration.specs.Stays.{Stay, Where, AtFront, Here, Away, reach, reaches, backs, stay_items, Chain}
+use Rattle.flow_migration.specs.Stays.{since_of, now_at, away_at, Owned, SlotKnows}
 use Rattle.flow_migration.proofs.Desks.{OneMore, OneHome}
 
 -- a fact at one index and at all others

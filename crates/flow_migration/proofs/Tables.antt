@@ -1,5 +1,6 @@
 -- What the tables of steps say of the slot, of its place and of the lanes.
-use Rattle.std.proofs.Common.{◌≡◌, ℕ, zero, suc, ◌+◌, ◌<◌, ◌≤◌, inl, inr, Bool, true, false, true≢false, not, cond, List, [], ◌∷◌, ◌++◌, length, map, set, refl, sym, ap, ◌∙◌, subst, arith, length-append}
+use Rattle.std.proofs.Common.{◌≡◌, ℕ, zero, suc, ◌+◌, ◌<◌, ◌≤◌, inl, inr, Bool, true, false, true≢false, not, cond}
+use Rattle.std.proofs.Common.{List, [], ◌∷◌, ◌++◌, length, map, set, refl, sym, ap, ◌∙◌, subst, arith, length-append}
 use Rattle.std.specs.Prelude.{Option, Some, None, Result, Ok, Err, OnOk, OnErr, IfErr, nat_eq, ◌&&◌, ◌||◌}
 use Rattle.std.specs.List.{sum_by, All}
 use Rattle.std.proofs.lemmas.List.{set-get_or, map-append}
@@ -18,11 +19,17 @@ use Rattle.flow_migration.specs.declared.place.FlowNo.{FlowNo}
 use Rattle.flow_migration.specs.declared.place.HalfAside.{HalfAside}
 use Rattle.flow_migration.specs.Sides.{is_lost}
 use Rattle.flow_migration.specs.Desks.{sent_at, order_count, fulls_at, Given, Refused}
-use Rattle.flow_migration.specs.Places.{is_settled, waits_for, leaves, placed_at, at_end, to_end, accepted_by, place_at, parks_at, is_placed, Fits}
+use Rattle.flow_migration.specs.Places.{is_settled, waits_for, leaves, placed_at, at_end, to_end, accepted_by}
+use Rattle.flow_migration.specs.Places.{place_at, parks_at, is_placed, Fits}
 use Rattle.flow_migration.specs.Keeps.{Stand, stand_of, Keeps, PlaceKeeps, MayGive, IsReady}
-use Rattle.flow_migration.specs.Steps.{Sends, Recalls, Serves, Goes, QueueRests, Empties, EmptiesPlaced, QueueTakes, Lands, Delivers, Accepts, no_item, Served, Drained, Moved, Gave, Homes, Welcomes, WelcomesAt}
+use Rattle.flow_migration.specs.Steps.{Sends, Recalls, Serves, Goes, QueueRests, Empties, EmptiesPlaced, QueueTakes}
+use Rattle.flow_migration.specs.Steps.{Lands, Delivers, Accepts, no_item, Served, Drained, Moved, Gave, Homes}
+use Rattle.flow_migration.specs.Steps.{Welcomes, WelcomesAt}
 use Rattle.flow_migration.proofs.Desks.{given_more, refused_full, refused_sent}
-use Rattle.flow_migration.proofs.Keeps.{keeps_none, keeps_then, keeps_arrive, keeps_item, keeps_leave, keeps_park, keeps_refused, keeps_goes_to}
+use Rattle.flow_migration.proofs.Keeps.{keeps_none, keeps_then, keeps_arrive, keeps_item, keeps_leave, keeps_park}
+use Rattle.flow_migration.proofs.Keeps.{keeps_refused, keeps_goes_to}
+use Rattle.flow_migration.specs.Queues.{Shortens}
+use Rattle.flow_migration.proofs.Shortened.{shortens_same, shortens_first, shortens_then}
 
 -- a number, or this one where there is none
 abbrev number : Option ℕ → ℕ
@@ -191,6 +198,7 @@ module _ {H I : Type 0} (slot : H → ℕ) (item_slot : I → ℕ) (handled : H 
     pub law : stands slot item_slot s (sent_at new at) ≡ true
     pub own : All (λ x. item_slot x ≡ s) left
     pub so_many : length left + done ≡ length queue
+    pub gone : Shortens queue left
 
   module _ (at : ℕ) (queue : List I) (old : List (FlowDesk H I)) where
     pub emptying_none : stands slot item_slot s (sent_at old at) ≡ true → All (λ x. item_slot x ≡ s) queue
@@ -201,6 +209,7 @@ module _ {H I : Type 0} (slot : H → ℕ) (item_slot : I → ℕ) (handled : H 
       law = law;
       own = own;
       so_many = omega arith;
+      gone = shortens_same queue queue refl;
     }
 
     pub emptying_few : (done : ℕ) (left : List I) (new : List (FlowDesk H I)) → Emptying at done queue left old new
@@ -239,6 +248,7 @@ module _ {H I : Type 0} (slot : H → ℕ) (item_slot : I → ℕ) (handled : H 
               ∙ stands_item slot item_slot s x false (sent_at mid at) ∙ e.law;
           own = All-tail (λ x. item_slot x ≡ s) x rest own;
           so_many = let n = ap length first in let m = e.so_many in omega arith;
+          gone = shortens_first queue left rest x e.gone first;
         }
 
     pub emptying_ends : (done : ℕ) (left rest : List I) (mid new : List (FlowDesk H I))
@@ -265,6 +275,7 @@ module _ {H I : Type 0} (slot : H → ℕ) (item_slot : I → ℕ) (handled : H 
                 (record { slice = at; is = refl; queue = same; accepted = refl; refused = refused })
           ]);
       short = let n = ap length same in let m = e.so_many in omega arith;
+      sends = shortens_then queue left rest e.gone (shortens_same left rest same);
       again = λ some. elim rests [
         | inl none ↦ absurd (let n = ap length same in let m = ap length none.0 in omega arith)
         | inr refused ↦ then_rises (fulls_at old at) (fulls_at mid at) (fulls_at new at) ((e.keeps []).fulls at)
@@ -278,6 +289,7 @@ module _ {H I : Type 0} (slot : H → ℕ) (item_slot : I → ℕ) (handled : H 
     emptying_all done left new e all = record {
       keeps = e.keeps;
       short = let m = e.so_many in omega arith;
+      sends = e.gone;
       again = λ some. absurd (let m = e.so_many in omega arith);
     }
 
@@ -421,6 +433,20 @@ rests_there n room place fits isnt =
       none_left [] e = refl
       none_left (x ∷ xs) e = absurd (omega arith)
 
+-- nothing is sent where there is no place
+pub drained_none : {H I : Type 0} (slot : H → ℕ) (item_slot : I → ℕ) (handled : H → List I) (s : ℕ)
+    (desks : List (FlowDesk H I)) → Drained slot item_slot handled s None None desks desks
+drained_none slot item_slot handled s desks = record {
+  keeps = (refl, refl);
+  fits = λ room fits. fits;
+  accepted = refl;
+  moved = refl;
+  waits = refl;
+  state = refl;
+  queue = shortens_same [] [] refl;
+  again = λ slice is some. absurd (let no : ⊥ = cc in no);
+}
+
 -- what each function says of a place
 module _ {H I : Type 0} (slot : H → ℕ) (item_slot : I → ℕ) (handled : H
     → List I) (s : ℕ) (before after : FlowPlace H I) (desks now : List (FlowDesk H I))
@@ -460,6 +486,7 @@ module _ {H I : Type 0} (slot : H → ℕ) (item_slot : I → ℕ) (handled : H
         );
     accepted = accepted;
     moved = moved;
+    queue = queue;
     again = λ slice waits. serves_again desks now s slice before.state after.state serves waits;
     sends = (after, refl, queue, admitted, serves);
   }
@@ -521,6 +548,13 @@ module _ {H I : Type 0} (slot : H → ℕ) (item_slot : I → ℕ) (handled : H
     (let n = ap length e.0 in omega arith),
   )
 
+  empties_short : (state : FlowState H) (queue left : List I)
+      → EmptiesPlaced slot item_slot handled s state queue left desks now → Shortens queue left
+  empties_short (Front half to) queue left e = shortens_same queue left e.0
+  empties_short (Placed at) queue left e = e.sends
+  empties_short (Recall at to) queue left e = shortens_same queue left e.0
+  empties_short (Leaving at to) queue left e = shortens_same queue left e.0
+
   empties_again : (state : FlowState H) (queue left : List I)
       → EmptiesPlaced slot item_slot handled s state queue left desks now → (slice : ℕ)
       → placed_at state ≡ Some slice → 0 < length left → Rises (fulls_at desks slice) (fulls_at now slice)
@@ -553,6 +587,7 @@ module _ {H I : Type 0} (slot : H → ℕ) (item_slot : I → ℕ) (handled : H
         moved = moved;
         waits = ap waits_for state;
         state = ap Some state;
+        queue = empties_short before.state before.queue.items after.queue.items empties;
         again = λ slice is some. empties_again before.state before.queue.items after.queue.items empties slice
             (sym (ap placed_at state) ∙ is) some;
       }

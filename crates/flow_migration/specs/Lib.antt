@@ -2,6 +2,7 @@ pub mod Desks
 pub mod Keeps
 pub mod Places
 pub mod Pumps
+pub mod Queues
 pub mod Sides
 pub mod Stays
 pub mod Steps

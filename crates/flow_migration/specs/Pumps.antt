@@ -6,6 +6,7 @@ use Rattle.flow_migration.specs.declared.place.FlowState.TheVariants.{Front, Pla
 use Rattle.flow_migration.specs.declared.place.HalfAside.{HalfAside}
 use Rattle.flow_migration.specs.Places.{place_at, state_at, leaves, rests}
 use Rattle.flow_migration.specs.Sides.{is_lost}
+use Rattle.flow_migration.specs.Queues.{QueuesStay}
 
 module _ {H : Type 0} where
   -- a half came home to a slot that was leaving a slice, or the state is as it was
@@ -60,8 +61,9 @@ module _ {H I : Type 0} (slot_of : H → ℕ) (places new_places : List (Option 
     pub kept : new_aside ≡ aside ++ more
     pub unawaited : AreUnawaited aside more
 
--- halves came home, and no order was offered
+-- halves came home, no order was offered, and no queue changed
 pub record TakesHome {H I : Type 0} (slot_of : H → ℕ) (places new_places : List (Option (FlowPlace H I)))
     (aside new_aside : List (HalfAside H)) : Type 0 where
   pub states : EachState ComesHome places new_places
+  pub queues : QueuesStay places new_places
   pub keeps : KeepsAside slot_of places new_places aside new_aside

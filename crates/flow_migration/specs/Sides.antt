@@ -7,8 +7,10 @@ use Rattle.flow_core.specs.declared.pairing.FlowDesk.{FlowDesk}
 use Rattle.flow_core.specs.Counts.{Rises}
 use Rattle.flow_migration.specs.declared.place.FlowPlace.{FlowPlace}
 use Rattle.flow_migration.specs.declared.place.HalfAside.{HalfAside}
-use Rattle.flow_migration.specs.Desks.{sent_at, home_at, order_count, sent_weight, home_weight, fulls_at, empties_at, home_count}
-use Rattle.flow_migration.specs.Places.{place_at, accepted_at, accepted_count, queue_at, is_admitted, pending_at, front_at}
+use Rattle.flow_migration.specs.Desks.{sent_at, home_at, order_count, sent_weight}
+use Rattle.flow_migration.specs.Desks.{home_weight, fulls_at, empties_at, home_count}
+use Rattle.flow_migration.specs.Places.{place_at, accepted_at, accepted_count, queue_at}
+use Rattle.flow_migration.specs.Places.{is_admitted, pending_at, front_at}
 use Rattle.flow_migration.specs.Places.{Fits, waits_at, queues_for, names_of}
 use Rattle.flow_migration.specs.Stays.{Stay, Where, AtFront, SlotKnows}
 use Rattle.flow_migration.specs.Keeps.{StateIs}

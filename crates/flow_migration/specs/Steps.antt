@@ -11,10 +11,12 @@ use Rattle.flow_migration.specs.declared.place.FlowState.TheVariants.{Front, Pla
 use Rattle.flow_migration.specs.declared.place.FlowNo.{FlowNo}
 use Rattle.flow_migration.specs.declared.place.FlowNo.TheVariants.{Full, NoMemory}
 use Rattle.flow_migration.specs.Desks.{fulls_at, Given, Refused}
-use Rattle.flow_migration.specs.Places.{place_at, accepted_by, parks_at, waits_at, queues_for, queue_at, moved_at, accepted_at, state_at, leaves, Fits}
+use Rattle.flow_migration.specs.Places.{place_at, accepted_by, parks_at, waits_at, queues_for, queue_at}
+use Rattle.flow_migration.specs.Places.{moved_at, accepted_at, state_at, leaves, Fits}
 use Rattle.flow_migration.specs.declared.place.HalfAside.{HalfAside}
 use Rattle.flow_migration.specs.Sides.{is_lost}
 use Rattle.flow_migration.specs.Keeps.{Keeps, PlaceKeeps}
+use Rattle.flow_migration.specs.Queues.{Shortens}
 
 module _ {H I : Type 0} where
   -- a half was sent to a slice, or is at the front since that lane was full
@@ -58,6 +60,7 @@ module _ {H I : Type 0} (slot_of : H → ℕ) (item_slot : I → ℕ) (handled :
         (record { state = Placed at; queue = queue; accepted = accepted; desks = old })
         (record { state = Placed at; queue = left; accepted = accepted; desks = new })
     pub short : length left ≤ length queue
+    pub sends : Shortens queue left
     pub again : 0 < length left → Rises (fulls_at old at) (fulls_at new at)
 
   -- the same where it is placed, and else nothing
@@ -145,6 +148,7 @@ module _ {H I : Type 0} (slot_of : H → ℕ) (item_slot : I → ℕ) (handled :
     pub fits : (room : ℕ) → Fits (length old) room place → Fits (length old) room new_place
     pub accepted : accepted_at new_place ≡ accepted_at place
     pub moved : moved_at new_place ≡ moved_at place
+    pub queue : queue_at new_place ≡ queue_at place
     pub again : (slice : ℕ) → waits_at new_place ≡ Some slice → Rises (fulls_at old slice) (fulls_at new slice)
     pub sends : ServesPlace slot place new_place old new
 
@@ -156,6 +160,7 @@ module _ {H I : Type 0} (slot_of : H → ℕ) (item_slot : I → ℕ) (handled :
     pub moved : moved_at new_place ≡ moved_at place
     pub waits : waits_at new_place ≡ waits_at place
     pub state : state_at new_place ≡ state_at place
+    pub queue : Shortens (queue_at place) (queue_at new_place)
     pub again : (slice : ℕ) → queues_for new_place ≡ Some slice → 0 < length (queue_at new_place)
         → Rises (fulls_at old slice) (fulls_at new slice)
 

@@ -14,12 +14,14 @@ use Rattle.flow_migration.specs.Places.{names_of, accepted_at, accepted_by, move
 use Rattle.flow_migration.specs.Sides.{HomeEnded}
 use Rattle.flow_migration.specs.Steps.{Sends}
 
--- what pumping leaves: the names, the accepted items and whether it moved, by slot; the lanes; and the counts
+-- what pumping leaves: the names, the accepted items and whether it moved, by slot; the lanes; the room of a queue; and
+-- the counts
 pub record Roll (N I : Type 0) : Type 0 where
   pub names : List (Option N)
   pub accepted : List (List I)
   pub moved : List Bool
   pub lanes : List Lanes
+  pub room : ℕ
   pub admitted : ℕ
   pub asked : ℕ
   pub refused : ℕ
@@ -61,6 +63,7 @@ module _ {H N I : Type 0} {g : Ghosts H N I} where
     accepted = accepts_of side.places.items;
     moved = moves_of side.places.items;
     lanes = lanes_of side.desks.items;
+    room = side.room;
     admitted = side.admitted;
     asked = side.asked;
     refused = side.refused;

@@ -2,10 +2,10 @@
 ghost use Rattle.std.specs.Prelude.{◌≡◌};
 
 use flow_core::FlowKind;
-use http_server::Log;
 use pc_base::{SliceNo, Slot};
 use std::collections::VecDeque;
 use std::snapshot::Snapshot;
+use worker_core::Log;
 
 /// The state of an admitted slot.
 ///

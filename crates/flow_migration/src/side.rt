@@ -10,13 +10,13 @@ ghost use Rattle.flow_migration.specs.Steps.{asked_after, refused_after};
 use crate::place::{FlowNo, FlowPlace, FlowState, HalfAside};
 use crate::steps;
 use flow_core::{Flow, FlowDesk};
-use http_server::Log;
 use lane_core::NoMemory;
 use pc_base::{SliceNo, Slot};
 use std::alloc::Global;
 use std::collections::VecDeque;
 use std::snapshot::Snapshot;
 use std::sync::Wait;
+use worker_core::Log;
 
 /// How many halves `pump` takes from a lane home at once, at most.
 const HOME: usize = 64;
@@ -60,9 +60,11 @@ impl<H: Flow> FlowSide<H> {
     ghost use Rattle.flow_migration.specs.Places.{place_at, is_admitted, parks_at, waits_at, state_at, accepted_count};
     ghost use Rattle.flow_migration.specs.Steps.{Served, Drained, Moved, Gave, AtSlot, Grown};
     ghost use Rattle.flow_migration.specs.Pumps.{EachState, Pumps, IsOffered, KeepsAside, TakesHome};
+    ghost use Rattle.flow_migration.specs.Queues.{EachShortens, QueuesStay};
     ghost use Rattle.flow_migration.specs.Sides.{AllMetFull, QueuesMetFull, HomeEnded};
     ghost use Rattle.flow_migration.specs.Words.{desks_of, places_of, aside_of, queue_room_of, admitted_of, asked_of};
-    ghost use Rattle.flow_migration.specs.Words.{refused_of, roll_of, accepts_of, moves_of, MetFull, Enters, Admits, TookOne};
+    ghost use Rattle.flow_migration.specs.Words.{refused_of, roll_of, accepts_of, moves_of};
+    ghost use Rattle.flow_migration.specs.Words.{MetFull, Enters, Admits, TookOne};
     ghost use Rattle.flow_migration.specs.Words.{TookFrom};
 
     /// A side with these desks, one for each slice in order, no slot, and queues of at most so many
@@ -105,6 +107,7 @@ impl<H: Flow> FlowSide<H> {
             × (desks_of self.new ≡ desks_of self.old) × (asked_of self.new ≡ asked_of self.old)) }
         ensures lanes { lanes_of (desks_of self.new) ≡ lanes_of (desks_of self.old) }
         ensures refused { refused_of self.new ≡ refused_of self.old }
+        ensures room { queue_room_of self.new ≡ queue_room_of self.old }
     {
         let slot = half.slot();
         let Ok(()) = self.make_room(slot) else {
@@ -129,6 +132,7 @@ impl<H: Flow> FlowSide<H> {
         ensures accepted { accepts_of (places_of self.new) ≡ accepts_of (places_of self.old) }
         ensures lanes { lanes_of (desks_of self.new) ≡ lanes_of (desks_of self.old) }
         ensures refused { refused_of self.new ≡ refused_of self.old }
+        ensures room { queue_room_of self.new ≡ queue_room_of self.old }
     {
         self.asked += 1;
         steps::go_at(rt, &mut self.desks, &mut self.places, slot, slice);
@@ -138,6 +142,12 @@ impl<H: Flow> FlowSide<H> {
     /// and then sends what waits in the queues of placed slots, by slot.
     pub fn pump<R: Wait>(&mut self, rt: &R)
         ensures roll { roll_of H.name self.new ≡ roll_of H.name self.old }
+        ensures room { queue_room_of self.new ≡ queue_room_of self.old }
+
+        // What a queue had is what was sent of it, then what it has; and a slot that isn't parked stays so.
+        ensures drains { EachShortens (places_of self.old) (places_of self.new) }
+        ensures rests { (slot : ℕ) → parks_at (place_at (places_of self.old) slot) ≡ false
+            → parks_at (place_at (places_of self.new) slot) ≡ false }
 
         // A half that its slot waited for stands at the front or was sent on, and only others are kept aside.
         ensures states { EachState Pumps (places_of self.old) (places_of self.new) }
@@ -182,6 +192,7 @@ impl<H: Flow> FlowSide<H> {
             → MetFull (desks_of self.old) (desks_of self.new)) }
         ensures names { names_of H.name (places_of self.new) ≡ names_of H.name (places_of self.old) }
         ensures lanes { lanes_of (desks_of self.new) ≡ lanes_of (desks_of self.old) }
+        ensures room { queue_room_of self.new ≡ queue_room_of self.old }
     {
         let slot = H::slot_of(&item);
         let answer = steps::give_at(rt, &mut self.desks, &mut self.places, slot, self.room, item);
@@ -250,7 +261,7 @@ impl<H: Flow> FlowSide<H> {
         ensures grown { Grown (places_of self.old) (places_of self.new) }
         ensures desks { desks_of self.new ≡ desks_of self.old }
         ensures counts { (admitted_of self.new ≡ admitted_of self.old) × (asked_of self.new ≡ asked_of self.old)
-            × (refused_of self.new ≡ refused_of self.old) }
+            × (refused_of self.new ≡ refused_of self.old) × (queue_room_of self.new ≡ queue_room_of self.old) }
         ensures enough { OnOk result ((slot < vec_len self.new.places)
             × (admitted_of self.new < vec_capacity self.new.aside)) }
     {
@@ -269,7 +280,8 @@ impl<H: Flow> FlowSide<H> {
         requires room { admitted_of self.old < vec_capacity self.old.aside }
         ensures enters { Enters slot slice moved half (places_of self.old) (places_of self.new) }
         ensures desks { desks_of self.new ≡ desks_of self.old }
-        ensures counts { (asked_of self.new ≡ asked_of self.old + 1) × (refused_of self.new ≡ refused_of self.old) }
+        ensures counts { (asked_of self.new ≡ asked_of self.old + 1) × (refused_of self.new ≡ refused_of self.old)
+            × (queue_room_of self.new ≡ queue_room_of self.old) }
     {
         self.asked += 1;
         self.admitted += 1;
@@ -313,6 +325,7 @@ impl<H: Flow> FlowSide<H> {
         ensures aside { aside_of self.new ≡ aside_of self.old }
         ensures homes { homes_of (desks_of self.new) ≡ homes_of (desks_of self.old) }
         ensures states { EachState IsOffered (places_of self.old) (places_of self.new) }
+        ensures queues { QueuesStay (places_of self.old) (places_of self.new) }
         ensures full { AllMetFull (places_of self.new) (desks_of self.old) (desks_of self.new) }
         ensures lasts { (slice : ℕ) → Lasts (fulls_at (desks_of self.old) slice) (fulls_at (desks_of self.new) slice) }
     {
@@ -330,6 +343,7 @@ impl<H: Flow> FlowSide<H> {
             ≡ state_at (place_at (places_of self.old) slot) }
         ensures waits { (slot : ℕ) → waits_at (place_at (places_of self.new) slot)
             ≡ waits_at (place_at (places_of self.old) slot) }
+        ensures drains { EachShortens (places_of self.old) (places_of self.new) }
         ensures queues { QueuesMetFull (places_of self.new) (desks_of self.old) (desks_of self.new) }
         ensures lasts { (slice : ℕ) → Lasts (fulls_at (desks_of self.old) slice) (fulls_at (desks_of self.new) slice) }
     {

@@ -8,21 +8,24 @@ ghost use Rattle.flow_core.specs.Orders.{MayFollow, stands};
 ghost use Rattle.flow_core.specs.Counts.{Rises};
 ghost use Rattle.flow_migration.specs.declared.place.FlowState.TheVariants.{Placed};
 ghost use Rattle.flow_migration.specs.Desks.{Given, Refused, Taken, Empty, order_count, sent_at, fulls_at};
-ghost use Rattle.flow_migration.specs.Places.{at_end, to_end, is_placed, is_settled, parks_at, place_at, is_admitted, Fits};
+ghost use Rattle.flow_migration.specs.Places.{at_end, to_end, is_placed, is_settled};
+ghost use Rattle.flow_migration.specs.Places.{parks_at, place_at, is_admitted, Fits};
 ghost use Rattle.flow_migration.specs.Places.{placed_at, queue_at, accepted_by};
 ghost use Rattle.flow_migration.specs.Keeps.{Keeps, MayGive, IsReady};
 ghost use Rattle.flow_migration.specs.Sides.{is_lost};
-ghost use Rattle.flow_migration.specs.Steps.{Sends, Recalls, Serves, Goes, SentFirst, QueueRests, Empties, EmptiesPlaced};
-ghost use Rattle.flow_migration.specs.Steps.{QueueTakes, Lands, Delivers, Accepts, Served, Drained, Moved, Gave, AtSlot};
+ghost use Rattle.flow_migration.specs.Steps.{Sends, Recalls, Serves, Goes};
+ghost use Rattle.flow_migration.specs.Steps.{SentFirst, QueueRests, Empties, EmptiesPlaced};
+ghost use Rattle.flow_migration.specs.Steps.{QueueTakes, Lands, Delivers, Accepts, Served};
+ghost use Rattle.flow_migration.specs.Steps.{Drained, Moved, Gave, AtSlot};
 ghost use Rattle.flow_migration.specs.Steps.{Grown, Homes, Welcomes, WelcomesAt};
 
 use crate::place::{FlowNo, FlowPlace, FlowState, HalfAside};
 use flow_core::{Flow, FlowDesk, FlowKind, FlowOrder};
-use http_server::Log;
 use lane_core::{Full, NoMemory};
 use pc_base::{SliceNo, Slot};
 use std::collections::VecDeque;
 use std::sync::Wait;
+use worker_core::Log;
 
 // Offers an order at the desk of a slice.
 fn offer<H: Flow, R: Wait>(

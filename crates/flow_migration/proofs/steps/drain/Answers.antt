@@ -1,8 +1,8 @@
-use Rattle.std.proofs.Common.{rules, arith, ◌≡◌, Some, refl, sym, subst}
+use Rattle.std.proofs.Common.{rules, arith, ◌≡◌, ◌∙◌, Some, None, Option, refl, sym, subst}
 use Rattle.flow_migration.specs.declared.place.FlowPlace.{FlowPlace}
 use Rattle.flow_migration.specs.Keeps.{IsReady}
 use Rattle.flow_migration.specs.Steps.{Drained}
-use Rattle.flow_migration.proofs.Tables.{drained_place}
+use Rattle.flow_migration.proofs.Tables.{drained_place, drained_none}
 use Rattle.flow_migration.proofs.steps.drain.Goals as goal
 
 pub emptied-queue-requires-clause-fits : goal.emptied-queue-requires-clause-fits
@@ -57,3 +57,12 @@ returns g c =
     (drained_place slot g.H.Flow.item_slot g.H.Flow.handled c.args.slot before after c.args.desks.now.items
     c.emptied-queue.new.desks.items ready
     refl refl refl refl c.emptied-queue.ensures.empties)
+
+pub returns-in_default : goal.returns-in_default
+returns-in_default g c =
+    let slot : g.row.H.Denot → _ = λ half. g.H.Flow.slot_at (g.H.Flow.name half) in
+    let was : c.args.place.now ≡ None = sym c.take.ensures.value ∙ c.in_default.is in
+    subst (λ (p : Option (FlowPlace _ _) × Option (FlowPlace _ _)). Drained slot g.H.Flow.item_slot g.H.Flow.handled
+    c.args.slot p.0 p.1 c.args.desks.now.items c.args.desks.now.items)
+    (λ i. (sym was i, sym c.take.ensures.after i))
+    (drained_none slot g.H.Flow.item_slot g.H.Flow.handled c.args.slot c.args.desks.now.items)

@@ -1,6 +1,8 @@
 use Rattle.std.proofs.Common.{rules, ◌∙◌, inl, refl, arith}
 use Rattle.flow_core.proofs.Changes.{lasts_then}
-use Rattle.flow_migration.proofs.Passes.{Queues, meets_none, meets_more, meets_all, queues_not, waits_kept, drained_still}
+use Rattle.flow_migration.proofs.Passes.{Queues, meets_none, meets_more, meets_all, queues_not, waits_kept}
+use Rattle.flow_migration.proofs.Passes.{drained_still}
+use Rattle.flow_migration.proofs.Queues.{each_same, each_shortens}
 use Rattle.flow_migration.proofs.Pumps.{states_kept}
 use Rattle.flow_migration.proofs.side.FlowSide.drain_all.Goals as goal
 
@@ -14,6 +16,7 @@ loop-slot-init g c = (
   meets_none Queues _ _,
   λ slot. refl,
   λ slot. refl,
+  each_same c.args.self.now.places.items,
 )
 
 pub loop-slot-preserved : goal.loop-slot-preserved
@@ -30,12 +33,16 @@ loop-slot-preserved g c =
           (λ slice is. at.3.again slice is.0 is.1) c.loop-slot.invariant.5,
       λ slot. waits_kept _ _ at.0 c.loop-slot.slot at.1 at.2 at.3.waits slot ∙ c.loop-slot.invariant.6 slot,
       λ slot. states_kept _ _ at.0 c.loop-slot.slot at.1 at.2 at.3.state slot ∙ c.loop-slot.invariant.7 slot,
+      each_shortens c.args.self.now.places.items _ _ at.0 c.loop-slot.slot at.1 at.2 at.3.queue c.loop-slot.invariant.8,
     )
 
 pub returns-clause-queues : goal.returns-clause-queues
 returns-clause-queues g c = λ slot slice is some.
     meets_all Queues _ _ _ c.loop-slot.slot (let a = c.loop-slot.self.places.ok in search (rules, arith))
     queues_not c.loop-slot.invariant.5 slot slice (is, some)
+
+pub returns-clause-drains : goal.returns-clause-drains
+returns-clause-drains g c = c.loop-slot.invariant.8
 
 pub returns-clause-waits : goal.returns-clause-waits
 returns-clause-waits g c = c.loop-slot.invariant.6

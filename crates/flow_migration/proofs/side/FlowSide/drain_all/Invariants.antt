@@ -2,6 +2,7 @@ use Rattle.std.proofs.Common.{◌≡◌, ℕ, vec_len}
 use Rattle.flow_core.specs.Counts.{Lasts}
 use Rattle.flow_migration.specs.Desks.{homes_of, fulls_at}
 use Rattle.flow_migration.specs.Places.{place_at, waits_at, state_at}
+use Rattle.flow_migration.specs.Queues.{EachShortens}
 use Rattle.flow_migration.specs.Words.{roll_of}
 use Rattle.flow_migration.proofs.Passes.{MeetsBelow, Queues}
 use Rattle.flow_migration.proofs.side.FlowSide.drain_all.Given as goal
@@ -16,3 +17,4 @@ invariant-loop-slot g l =
     × MeetsBelow Queues l.slot l.self.places.items l.fn.self.desks.items l.self.desks.items
     × ((slot : ℕ) → waits_at (place_at l.self.places.items slot) ≡ waits_at (place_at l.fn.self.places.items slot))
     × ((slot : ℕ) → state_at (place_at l.self.places.items slot) ≡ state_at (place_at l.fn.self.places.items slot))
+    × EachShortens l.fn.self.places.items l.self.places.items

@@ -1,8 +1,10 @@
 use Rattle.std.proofs.Common.{◌∙◌, ap, sym, subst}
 use Rattle.flow_migration.specs.Pumps.{KeepsAside}
+use Rattle.flow_migration.specs.Places.{place_at}
 use Rattle.flow_migration.specs.Words.{Roll}
 use Rattle.flow_migration.proofs.Passes.{met_in_all, queues_in_all, ended_since}
 use Rattle.flow_migration.proofs.Pumps.{each_pumped, keeps_on}
+use Rattle.flow_migration.proofs.Queues.{pump_shortens, rests_at, moved_same}
 use Rattle.flow_migration.proofs.side.FlowSide.pump.Goals as goal
 
 pub returns-clause-states : goal.returns-clause-states
@@ -30,3 +32,24 @@ returns-clause-home g c = λ slice within.
     let aside = c.drain_all.ensures.aside ∙ c.serve_all.ensures.aside in
     let admitted = ap (λ (r : Roll _ _). r.admitted) (c.drain_all.ensures.roll ∙ c.serve_all.ensures.roll) in
     ended_since _ _ _ _ slice _ _ _ homes aside admitted (c.take_all.ensures.home slice within)
+
+pub returns-clause-drains : goal.returns-clause-drains
+returns-clause-drains g c = pump_shortens c.args.self.now.places.items c.take_all.new.self.places.items
+    c.serve_all.new.self.places.items c.drain_all.new.self.places.items c.take_all.ensures.takes.queues
+    c.serve_all.ensures.queues c.drain_all.ensures.drains
+
+pub returns-clause-rests : goal.returns-clause-rests
+returns-clause-rests g c = λ slot none.
+    let old = c.args.self.now.places.items in
+    let new = c.drain_all.new.self.places.items in
+    let moved = ap (λ (r : Roll _ _). r.moved)
+    (c.drain_all.ensures.roll ∙ c.serve_all.ensures.roll ∙ c.take_all.ensures.roll) in
+    rests_at (place_at old slot) (place_at new slot) (moved_same old new moved slot)
+    (each_pumped _ _ _ _ c.take_all.ensures.takes.states c.serve_all.ensures.states c.drain_all.ensures.states slot)
+    (pump_shortens old c.take_all.new.self.places.items c.serve_all.new.self.places.items new
+    c.take_all.ensures.takes.queues c.serve_all.ensures.queues c.drain_all.ensures.drains slot)
+    none
+
+pub returns-clause-room : goal.returns-clause-room
+returns-clause-room g c = ap (λ (r : Roll _ _). r.room)
+    (c.drain_all.ensures.roll ∙ c.serve_all.ensures.roll ∙ c.take_all.ensures.roll)

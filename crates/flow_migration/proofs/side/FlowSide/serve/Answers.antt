@@ -22,7 +22,7 @@ returns-clause-roll g c =
     let s = served_still g.H.Flow.name g.H.Flow.slot_at g.H.Flow.item_slot g.H.Flow.handled _ _
     c.args.slot _ _ _ _ _ _ c.args.self.now.laid c.serve_at.ensures in
     let at = c.serve_at.ensures in
-    roll_same _ _ _ _ _ _ _ _ _ _ _ s.names (lists_set accepted_at _ _ at.0 c.args.slot at.2 at.3.accepted)
+    roll_same _ _ _ _ _ _ _ _ _ _ _ _ s.names (lists_set accepted_at _ _ at.0 c.args.slot at.2 at.3.accepted)
     (lists_set moved_at _ _ at.0 c.args.slot at.2 at.3.moved) s.lanes
 
 pub returns-clause-homes : goal.returns-clause-homes

@@ -1,6 +1,7 @@
 use Rattle.std.proofs.Common.{rules, ◌∙◌, inl, refl, arith}
 use Rattle.flow_core.proofs.Changes.{lasts_then}
 use Rattle.flow_migration.proofs.Passes.{Waits, meets_none, meets_more, meets_all, waits_not, served_still}
+use Rattle.flow_migration.proofs.Queues.{queues_stay}
 use Rattle.flow_migration.proofs.Pumps.{each_offered_same, each_offered_then, each_served}
 use Rattle.flow_migration.proofs.side.FlowSide.serve_all.Goals as goal
 
@@ -13,6 +14,7 @@ loop-slot-init g c = (
   λ slice. inl refl,
   each_offered_same _,
   meets_none Waits _ _,
+  λ slot. refl,
 )
 
 pub loop-slot-preserved : goal.loop-slot-preserved
@@ -29,11 +31,15 @@ loop-slot-preserved g c =
           g.H.Flow.item_slot g.H.Flow.handled _ _ at.0 c.loop-slot.slot _ _ at.1 at.2 at.3),
       meets_more Waits c.loop-slot.slot _ _ at.0 _ _ _ at.1 at.2 c.loop-slot.invariant.4 s.lasts at.3.again
           c.loop-slot.invariant.6,
+      λ slot. queues_stay _ _ at.0 c.loop-slot.slot at.1 at.2 at.3.queue slot ∙ c.loop-slot.invariant.7 slot,
     )
 
 pub returns-clause-full : goal.returns-clause-full
 returns-clause-full g c = meets_all Waits _ _ _ c.loop-slot.slot
     (let a = c.loop-slot.self.places.ok in search (rules, arith)) waits_not c.loop-slot.invariant.6
+
+pub returns-clause-queues : goal.returns-clause-queues
+returns-clause-queues g c = c.loop-slot.invariant.7
 
 pub returns-clause-states : goal.returns-clause-states
 returns-clause-states g c = c.loop-slot.invariant.5

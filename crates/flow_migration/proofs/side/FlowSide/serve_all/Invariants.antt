@@ -2,6 +2,7 @@ use Rattle.std.proofs.Common.{◌≡◌, ℕ, vec_len}
 use Rattle.flow_core.specs.Counts.{Lasts}
 use Rattle.flow_migration.specs.Desks.{homes_of, fulls_at}
 use Rattle.flow_migration.specs.Pumps.{EachState, IsOffered}
+use Rattle.flow_migration.specs.Queues.{QueuesStay}
 use Rattle.flow_migration.specs.Words.{roll_of}
 use Rattle.flow_migration.proofs.Passes.{MeetsBelow, Waits}
 use Rattle.flow_migration.proofs.side.FlowSide.serve_all.Given as goal
@@ -15,3 +16,4 @@ invariant-loop-slot g l =
     × ((slice : ℕ) → Lasts (fulls_at l.fn.self.desks.items slice) (fulls_at l.self.desks.items slice))
     × EachState IsOffered l.fn.self.places.items l.self.places.items
     × MeetsBelow Waits l.slot l.self.places.items l.fn.self.desks.items l.self.desks.items
+    × QueuesStay l.fn.self.places.items l.self.places.items

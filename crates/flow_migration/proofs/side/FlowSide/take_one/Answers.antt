@@ -20,7 +20,7 @@ invariant_of-self-in_default g c = record {
 pub returns-in_default-clause-roll : goal.returns-in_default-clause-roll
 returns-in_default-clause-roll g c =
     let none = c.in_default.ensures.taken in
-    roll_same _ _ _ _ _ _ _ _ _ _ _ refl refl refl (changed_lanes c.args.slice none.before none.now _ _ none.desk)
+    roll_same _ _ _ _ _ _ _ _ _ _ _ _ refl refl refl (changed_lanes c.args.slice none.before none.now _ _ none.desk)
 
 pub returns-in_default-clause-took : goal.returns-in_default-clause-took
 returns-in_default-clause-took g c =
@@ -57,7 +57,7 @@ pub returns-in-Some-welcome_at-clause-roll : goal.returns-in-Some-welcome_at-cla
 returns-in-Some-welcome_at-clause-roll g c =
     let took = c.in-Some.ensures.taken in
     let same = c.in-Some-welcome_at.ensures.1 in
-    roll_same _ _ _ _ _ _ _ _ _ _ _ (ap (names_of g.H.Flow.name) same) (ap (λ l. map accepted_at l) same)
+    roll_same _ _ _ _ _ _ _ _ _ _ _ _ (ap (names_of g.H.Flow.name) same) (ap (λ l. map accepted_at l) same)
     (ap (λ l. map moved_at l) same)
     (changed_lanes c.args.slice took.before took.now _ _ took.desk)
 
@@ -71,7 +71,7 @@ returns-in-None-clause-roll g c =
     let w = c.in-None.ensures in
     let same = welcomed_lists g.H.Flow.name c.in-Some.half c.args.slice c.args.self.now.places.items _ w.0
     c.slot-slot.result w.3 w.4 in
-    roll_same _ _ _ _ _ _ _ _ _ _ _ same.0 same.1 same.2 (changed_lanes c.args.slice took.before took.now _ _
+    roll_same _ _ _ _ _ _ _ _ _ _ _ _ same.0 same.1 same.2 (changed_lanes c.args.slice took.before took.now _ _
     took.desk)
 
 pub returns-in-None-clause-took : goal.returns-in-None-clause-took
