@@ -17,7 +17,7 @@ use Rattle.slice_schedule.specs.Accounts.{Account, commanded, received, moved_on
 use Rattle.driven_run.specs.Driven.{asks_of, driven, outcome_told}
 
 -- the last move before a line more
-is_moved-last : (slot : ℕ) (front : List LineTold) (now : LineTold) → moves slot now ≡ false
+pub is_moved-last : (slot : ℕ) (front : List LineTold) (now : LineTold) → moves slot now ≡ false
     → is_moved slot (front ++ now ∷ []) ≡ is_moved slot front
 is_moved-last slot [] now none = ap (λ test. test || false) none
 is_moved-last slot (first ∷ front) now none =

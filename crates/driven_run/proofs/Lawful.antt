@@ -1,4 +1,4 @@
--- The counts of a driven epoch lie within their bounds.
+-- A driven epoch is a lawful one: the counts of its packets lie within their bounds.
 use Rattle.std.proofs.Common.{◌≡◌, ℕ, zero, suc, ◌+◌, ◌-◌, ◌<◌, ◌≤◌, ◌==◌, Bool, true, false, Option, Some, None, List, [], ◌∷◌, ◌++◌, map, length, take, drop, get_or, cond, refl, sym, ap, subst, ◌∙◌, arith, append_assoc}
 use Rattle.std.specs.List.{filter_map, cons_option, AllZip, AllByRecursion}
 use Rattle.std.proofs.lemmas.List.{length-map}
@@ -24,12 +24,13 @@ use Rattle.epoch_join.proofs.Bounding.{SlotLeft, IsLeast, packets_before, Bounde
 use Rattle.epoch_join.proofs.Fillings.{answer_cases}
 use Rattle.slice_schedule.specs.Accounts.{Account, no_account, account_of}
 use Rattle.slice_schedule.specs.Fits.{floor_at, packet_at, count_at}
-use Rattle.slice_schedule.specs.Schedule.{slot_behind}
+use Rattle.slice_schedule.specs.Schedule.{outcomes, slot_behind}
 use Rattle.slice_schedule.specs.Slots.{CommandTags, Met}
-use Rattle.slice_schedule.specs.World.{Rooms}
+use Rattle.slice_schedule.specs.World.{Rooms, start}
 use Rattle.slice_schedule.proofs.Lines.{each_packet_is_handled}
-use Rattle.driven_run.specs.Driven.{IsDriven, DrivenEpochsAreLawful, driven}
+use Rattle.driven_run.specs.Driven.{IsDriven, DrivenEpochsAreLawful, driven, outcome_told, mets_driven}
 use Rattle.driven_run.proofs.Accounting.{floors_told, command_floors-base, packet_floors-base}
+use Rattle.driven_run.proofs.Owing.{driven_lines}
 use Rattle.driven_run.proofs.Rising.{counts_rise}
 
 -- what the packets of a slot met, as their entries tell it
@@ -147,7 +148,7 @@ bounds_from slices room lane n before all front (now ∷ made) (entry ∷ entrie
 first_of_two : {X : Type 0} (x y : X) (xs ys : List X) → (x ∷ xs) ≡ (y ∷ ys) → (x ≡ y) × (xs ≡ ys)
 first_of_two x y xs ys same = (cc, cc)
 
-length-counted : (first n : ℕ) → length (counted first n) ≡ n
+pub length-counted : (first n : ℕ) → length (counted first n) ≡ n
 length-counted first zero = refl
 length-counted first (suc n) = let rest = length-counted (first + 1) n in omega (arith, rest)
 
@@ -216,71 +217,81 @@ most_each commands packets k floors (m ∷ met) (t ∷ told) same numbers few lo
           let at = low (suc i) j (omega (arith, within)) below in omega (arith, at)),
     )
 
--- what is left to be told at the start of a driven epoch
+-- what is left to be told of a slot at the start of an epoch with the outcomes of a schedule
 floor-map : (commands : List CommandTags) (j : ℕ)
     → get_or (map (λ (tags : CommandTags). tags.floor) commands) j 0 ≡ floor_at commands j
 floor-map [] j = refl
 floor-map (tags ∷ commands) zero = refl
 floor-map (tags ∷ commands) (suc j) = floor-map commands j
 
-driven_left : (rooms : Rooms) (bounds : ℕ → ℕ) (turns : List (List ℕ)) (slots first : ℕ) (before : Histories)
-    (made : List Meaning) (told : EpochReport)
-    → IsDriven rooms bounds turns slots first before made told
-    → Bounded before (told_in made told) [] (told_in made told) (mets_told told.lines)
-driven_left rooms bounds turns slots first before made told is slot =
-    let commands = count_before before slot in
-    let packets = packets_before before slot in
+pub slot_left : (rooms : Rooms) (bounds : ℕ → ℕ) (turns : List (List ℕ)) (first : ℕ) (made : List Meaning)
+    (entries : List LineEntry) (slot commands packets : ℕ) (told : List fill.Met)
+    → AnswersAll first made entries
+    → map outcome_told entries ≡ outcomes rooms bounds start (driven made turns)
+    → map (λ (m : fill.Met). m.commands) told
+    ≡ map (λ (m : Met). commands + m.commands) (mets_driven rooms bounds turns made slot)
+    → map (λ (m : fill.Met). m.number) told
+    ≡ counted packets (length (packets_accepted slot (lines_told made entries)))
+    → SlotLeft slot commands packets (command_floors slot packets [] (lines_told made entries)) []
+    (lines_told made entries) told
+slot_left rooms bounds turns first made entries slot commands packets told each outcomes_are counts numbers =
+    let lines = lines_told made entries in
     let after = slot_behind rooms bounds (driven made turns) slot in
     let done = each_packet_is_handled rooms bounds (driven made turns) slot in
     let handles = done.handles in
-    let floors = floors_told slot first [] no_account made told.lines turns is.one_each
+    let floors = floors_told slot first [] no_account made entries turns each
     (record { commands = refl; packets = refl; commands_before = refl; packets_before = refl }) in
-    let account_is = ap (account_of slot no_account (driven made turns)) (sym is.outcomes_are) in
+    let account_is = ap (account_of slot no_account (driven made turns)) (sym outcomes_are) in
     let commands_are = done.commands ∙ ap (λ (a : Account). a.commands) account_is ∙ floors.commands in
     let packets_are = done.packets ∙ ap (λ (a : Account). a.packets) account_is ∙ floors.packets in
     let many = done.all ∙ sym (ap length done.packets) in
-    let counts = counts_of slot told.lines ∙ is.counts slot in
-    let numbers = numbers_of slot told.lines ∙ is.packet_numbers slot in
-    let number_count = sym (length-map (mets_told told.lines slot) (λ (m : fill.Met). m.commands)) ∙ ap length counts
+    let number_count = sym (length-map told (λ (m : fill.Met). m.commands)) ∙ ap length counts
     ∙ length-map after.met (λ (m : Met). commands + m.commands) in
-    let told_count = sym (length-map (mets_told told.lines slot) (λ (m : fill.Met). m.number)) ∙ ap length numbers
-    ∙ length-counted packets (length (packets_accepted slot (told_in made told))) in
-    let same_count : length (packets_accepted slot (told_in made told)) ≡ length after.met =
-    sym told_count ∙ number_count in
+    let told_count = sym (length-map told (λ (m : fill.Met). m.number)) ∙ ap length numbers
+    ∙ length-counted packets (length (packets_accepted slot lines)) in
+    let same_count : length (packets_accepted slot lines) ≡ length after.met = sym told_count ∙ number_count in
     let none : packets ≡ packets + 0 = omega arith in
     let floor_count = length-map after.commands (λ (tags : CommandTags). tags.floor) in
     let known = handles.known in
     record {
-      least = subst (λ floors. AllZip IsLeast floors (mets_told told.lines slot))
-          (ap (map (λ (f : ℕ). commands + f)) packets_are
-          ∙ packet_floors-base slot commands [] (told_in made told))
-          (least_zip commands after.packets after.met (mets_told told.lines slot) counts many handles.least);
-      most = subst (λ floors. AllByRecursion (MeetsFloors commands floors) (mets_told told.lines slot))
-          (ap (map (λ (f : ℕ). packets + f)) commands_are
-          ∙ command_floors-base slot packets [] (told_in made told))
-          (most_each commands packets 0 (map (λ (tags : CommandTags). tags.floor) after.commands) after.met
-          (mets_told told.lines slot) counts
+      least = subst (λ floors. AllZip IsLeast floors told)
+          (ap (map (λ (f : ℕ). commands + f)) packets_are ∙ packet_floors-base slot commands [] lines)
+          (least_zip commands after.packets after.met told counts many handles.least);
+      most = subst (λ floors. AllByRecursion (MeetsFloors commands floors) told)
+          (ap (map (λ (f : ℕ). packets + f)) commands_are ∙ command_floors-base slot packets [] lines)
+          (most_each commands packets 0 (map (λ (tags : CommandTags). tags.floor) after.commands) after.met told counts
           (numbers ∙ ap (λ n. counted packets n) same_count ∙ ap (λ k. counted k (length after.met)) none)
           (λ i within. let count = handles.within i within in omega (arith, count, known, floor_count))
           (λ i j within below.
           let at = floor-map after.commands j in
           let low = handles.most i j within below in
           omega (arith, at, low)));
-      numbers = numbers ∙ ap (λ k. counted k (length (packets_accepted slot (told_in made told)))) none;
+      numbers = numbers ∙ ap (λ k. counted k (length (packets_accepted slot lines))) none;
     }
 
+driven_left : (rooms : Rooms) (bounds : ℕ → ℕ) (turns : List (List ℕ)) (slots first : ℕ) (before : Histories)
+    (made : List Meaning) (told : EpochReport)
+    → IsDriven rooms bounds turns slots first before made told
+    → Bounded before (told_in made told) [] (told_in made told) (mets_told told.lines)
+driven_left rooms bounds turns slots first before made told is slot =
+    slot_left rooms bounds turns first made told.lines slot (count_before before slot) (packets_before before slot)
+    (mets_told told.lines slot) is.one_each is.outcomes_are
+    (counts_of slot told.lines ∙ is.counts slot) (numbers_of slot told.lines ∙ is.packet_numbers slot)
+
 pub driven_lawful : DrivenEpochsAreLawful
-driven_lawful slices room lane bounds turns slots first before made told is refusals parking = record {
-  one_each = is.one_each;
-  command_numbers = is.command_numbers;
-  packet_numbers = is.packet_numbers;
-  counts_rise = counts_rise (record { room = room; lane = lane }) bounds turns slots first before made told is;
-  bounds = bounds_from slices room lane first before (told_in made told) [] made told.lines is.one_each refl
-      (driven_left (record { room = room; lane = lane }) bounds turns slots first before made told is);
-  replies = is.replies;
-  verdicts = is.verdicts;
-  effects = is.effects;
-  rows = is.rows;
-  refusals = refusals;
-  parking = parking;
-}
+driven_lawful slices room lane bounds turns slots first before made told is =
+    let lines = driven_lines slices room lane bounds turns slots first before made told is in
+    record {
+      one_each = is.one_each;
+      command_numbers = is.command_numbers;
+      packet_numbers = is.packet_numbers;
+      counts_rise = counts_rise (record { room = room; lane = lane }) bounds turns slots first before made told is;
+      bounds = bounds_from slices room lane first before (told_in made told) [] made told.lines is.one_each refl
+          (driven_left (record { room = room; lane = lane }) bounds turns slots first before made told is);
+      replies = is.replies;
+      verdicts = is.verdicts;
+      effects = is.effects;
+      rows = is.rows;
+      refusals = lines.refusals;
+      parking = lines.parking;
+    }

@@ -12,7 +12,7 @@ use Rattle.lawful_run.specs.Report.{EpochReport}
 use Rattle.slice_schedule.specs.World.{Rooms}
 use Rattle.driven_run.specs.Driven.{IsDriven, driven, mets_driven}
 
-counts_from : (first least : ℕ) (met : List Met)
+pub counts_from : (first least : ℕ) (met : List Met)
     → ((k : ℕ) → k < length met → least ≤ count_at met k)
     → ((i k : ℕ) → i ≤ k → k < length met → count_at met i ≤ count_at met k)
     → Rises (first + least) (map (λ (m : Met). first + m.commands) met)
@@ -25,7 +25,7 @@ counts_from first least (m ∷ met) above rise =
           (λ i k below within. rise (suc i) (suc k) (omega (arith, below)) (omega (arith, within))),
     )
 
-rises_from : (least first : ℕ) (counts : List ℕ) → first ≡ least → Rises first counts → Rises least counts
+pub rises_from : (least first : ℕ) (counts : List ℕ) → first ≡ least → Rises first counts → Rises least counts
 rises_from least first counts is rises = subst (λ k. Rises k counts) is rises
 
 pub counts_rise : (rooms : Rooms) (bounds : ℕ → ℕ) (turns : List (List ℕ)) (slots first : ℕ) (before : Histories)

@@ -11,11 +11,8 @@ use Rattle.lawful_run.specs.Accepted.{commands_accepted, packets_accepted}
 use Rattle.lawful_run.specs.Answers.{AnswersAll}
 use Rattle.lawful_run.specs.Bounds.{count_before}
 use Rattle.lawful_run.specs.Setup.{sliced}
-use Rattle.lawful_run.specs.LinesTold.{EachLine}
 use Rattle.lawful_run.specs.Order.{Histories}
 use Rattle.lawful_run.specs.Outcomes as made_of
-use Rattle.lawful_run.specs.Parking.{ParkedBehindMoves}
-use Rattle.lawful_run.specs.Refusals.{RefusedWhereFull}
 use Rattle.lawful_run.specs.Report.{EpochReport}
 use Rattle.lawful_run.specs.Run.{told_in, events_now, by_slot, IsEpochRun}
 use Rattle.lawful_run.specs.Telling.{command_number, packet_number, commands_told, reply_told, verdict_told, counted}
@@ -90,11 +87,14 @@ OneIsDriven = (rooms : Rooms) (bounds : ℕ → ℕ) (turns : List (List ℕ)) (
     → IsDriven rooms bounds turns slots first before made other
     → one ≡ other
 
--- A driven epoch is a lawful one, where its refusals and its parking are lawful.
+-- A driven epoch is a lawful one.
 abbrev pub DrivenEpochsAreLawful : Type 0
 DrivenEpochsAreLawful = (slices room lane : ℕ) (bounds : ℕ → ℕ) (turns : List (List ℕ)) (slots first : ℕ)
     (before : Histories) (made : List Meaning) (told : EpochReport)
     → IsDriven (record { room = room; lane = lane }) bounds turns slots first before made told
-    → EachLine (RefusedWhereFull (sliced slices room lane)) (told_in made told)
-    → EachLine ParkedBehindMoves (told_in made told)
     → IsEpochRun (sliced slices room lane) slots first before made told
+
+-- and each schedule has one
+abbrev pub EachScheduleIsDriven : Type 0
+EachScheduleIsDriven = (rooms : Rooms) (bounds : ℕ → ℕ) (turns : List (List ℕ)) (slots first : ℕ) (before : Histories)
+    (made : List Meaning) → (told : EpochReport) × IsDriven rooms bounds turns slots first before made told

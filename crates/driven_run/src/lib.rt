@@ -3,4 +3,6 @@
 
 mod laws;
 
-pub use laws::{driven_epochs_are_lawful, one_is_driven};
+pub use laws::{
+    driven_epochs_are_lawful, driven_runs_are_lawful, each_schedule_is_driven, one_is_driven,
+};
