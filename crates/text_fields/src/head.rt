@@ -4,6 +4,7 @@ ghost use Rattle.std.specs.Prelude.{◌≡◌, ◌+◌, ◌≤◌, ◌<◌, ◌+
 ghost use Rattle.hex.specs.Hex.{encode_lower};
 ghost use Rattle.text_fields.specs.Address.{dotted};
 
+use crate::hexadecimal::encode;
 use itoa::write_digits;
 use std::marker::Model;
 
@@ -89,6 +90,16 @@ impl Head {
         self.put_part(b' ', first);
     }
 
+    /// Puts eight octets in hexadecimal at the front, in lower case.
+    #[inline(always)]
+    pub fn put_eight(&mut self, octets: [u8; 8])
+        requires { length self.old + 16 ≤ HEAD_LEN }
+        ensures value { self.new ≡ encode_lower octets ++ self.old }
+        ensures len { length self.new ≡ length self.old + 16 }
+    {
+        self.from = eight_before(&mut self.octets, self.from, octets);
+    }
+
     #[inline(always)]
     fn put_part(&mut self, octet: u8, part: u8)
         requires { length self.old + 4 ≤ HEAD_LEN }
@@ -107,6 +118,18 @@ fn octet_before(octets: &mut [u8; HEAD_LEN], end: usize, octet: u8) -> usize
 {
     let at = end - 1;
     octets[at] = octet;
+    at
+}
+
+fn eight_before(octets: &mut [u8; HEAD_LEN], end: usize, eight: [u8; 8]) -> usize
+    requires room { 16 ≤ end }
+    requires within { end ≤ HEAD_LEN }
+    ensures value { drop result octets.new ≡ encode_lower eight ++ drop end octets.old }
+    ensures len { length (drop result octets.new) ≡ length (drop end octets.old) + 16 }
+    ensures within { result ≤ HEAD_LEN }
+{
+    let at = end - 16;
+    encode(&eight, &mut octets[at..end]);
     at
 }
 

@@ -9,6 +9,7 @@ mod encoding;
 mod fields;
 mod head;
 mod hexadecimal;
+mod kept;
 mod laws;
 mod number;
 mod writing;
@@ -17,6 +18,7 @@ pub use address::read_address;
 pub use fields::{cut, has_empty_field, next_piece};
 pub use head::{HEAD_LEN, Head};
 pub use hexadecimal::{decode, read_lower_octets, read_octets};
+pub use kept::Text;
 pub use laws::{
     fields_stand_apart, one_lower_text_of_octets, one_text_of_a_number, one_text_of_an_address,
     one_text_of_octets,

@@ -50,9 +50,14 @@ pub fn push_octets(text: &mut Vec<u8>, octets: &[u8]) -> Result<(), AllocError>
 {
     text.push(b' ')?;
     let start = text.len();
-    // Room for the digits, two for each octet.
-    text.extend_from_slice(octets)?;
-    text.extend_from_slice(octets)?;
+    let Some(end) = octets
+        .len()
+        .checked_mul(2)
+        .and_then(|digits| digits.checked_add(start))
+    else {
+        return Err(AllocError);
+    };
+    text.resize(end, b'0')?;
     encode(octets, &mut text.as_mut_slice()[start..]);
     Ok(())
 }

@@ -1,0 +1,208 @@
+//! A text that is kept from line to line: its room is asked for once, and each part is written where it stands.
+ghost use Rattle.std.specs.Prelude.{◌≡◌, ◌+◌, ◌*◌, ◌≤◌, ◌++◌, ◌∷◌, [], length, take, decimal, IfOk, OnOk};
+ghost use Rattle.std.specs.Vec.{vec_len};
+ghost use Rattle.hex.specs.Hex.{encode_lower};
+ghost use Rattle.text_fields.specs.Address.{dotted};
+
+use crate::hexadecimal::encode;
+use std::alloc::{AllocError, Global};
+use std::marker::Model;
+
+// How many octets more than it needs a text asks for.
+const SPARE: usize = 1_536;
+
+/// A text that is appended to and emptied; contracts see it as its octets. What is emptied keeps its room.
+#[derive(Drop)]
+pub struct Text {
+    room: Vec<u8>,
+    len: usize,
+}
+
+impl Model for Text {
+    ghost use Rattle.std.specs.Prelude.{ℕ, List, ◌≤◌, take};
+    ghost use Rattle.std.specs.Vec.{vec_len};
+
+    ghost Value = { List ℕ };
+
+    ghost view = { λ text. take text.len text.room.items };
+
+    ghost invariant = { λ text. text.len ≤ vec_len text.room };
+}
+
+impl Text {
+    /// A text with nothing in it, and no room yet.
+    pub fn new(alloc: Global) -> Text
+        ensures { result ≡ [] }
+    {
+        Text {
+            room: Vec::new(alloc),
+            len: 0,
+        }
+    }
+
+    /// What stands in it.
+    #[inline(always)]
+    pub fn as_slice(&self) -> &[u8]
+        ensures { result.now ≡ self.now }
+    {
+        &self.room.as_slice()[..self.len]
+    }
+
+    /// Empties it.
+    pub fn clear(&mut self)
+        ensures { self.new ≡ [] }
+    {
+        self.len = 0;
+    }
+
+    /// What stands in it, as a list of its own.
+    pub fn into_octets(self) -> Vec<u8>
+        ensures { result.items ≡ self }
+    {
+        let mut octets = self.room;
+        octets.truncate(self.len);
+        octets
+    }
+
+    /// Appends an octet.
+    #[inline(always)]
+    pub fn push(&mut self, octet: u8) -> Result<(), AllocError>
+        ensures { OnOk result (self.new ≡ self.old ++ octet ∷ []) }
+    {
+        make_room(&mut self.room, self.len, 1)?;
+        self.len = put(&mut self.room, self.len, &[octet]);
+        Ok(())
+    }
+
+    /// Appends octets as they are.
+    #[inline(always)]
+    pub fn extend_from_slice(&mut self, octets: &[u8]) -> Result<(), AllocError>
+        ensures { OnOk result (self.new ≡ self.old ++ octets.now) }
+    {
+        make_room(&mut self.room, self.len, octets.len())?;
+        self.len = put(&mut self.room, self.len, octets);
+        Ok(())
+    }
+
+    /// Appends a head as it is, and behind it octets in hexadecimal, in lower case.
+    pub fn push_headed(&mut self, head: &[u8], octets: &[u8]) -> Result<(), AllocError>
+        ensures { OnOk result (self.new ≡ self.old ++ head.now ++ encode_lower octets.now) }
+    {
+        make_room(
+            &mut self.room,
+            self.len,
+            room_for(head.len(), octets.len())?,
+        )?;
+        let at = put(&mut self.room, self.len, head);
+        self.len = put_digits(&mut self.room, at, octets);
+        Ok(())
+    }
+
+    /// Appends a field of these octets.
+    pub fn push_field(&mut self, field: &[u8]) -> Result<(), AllocError>
+        ensures { OnOk result (self.new ≡ self.old ++ 32 ∷ field.now) }
+    {
+        self.push(b' ')?;
+        self.extend_from_slice(field)
+    }
+
+    /// Appends a number in decimal.
+    pub fn push_number(&mut self, number: u64) -> Result<(), AllocError>
+        ensures { OnOk result (self.new ≡ self.old ++ 32 ∷ decimal number) }
+    {
+        let mut buffer = itoa::Buffer::new();
+        self.push_field(buffer.format(number).as_bytes())
+    }
+
+    /// Appends an address, dotted.
+    pub fn push_address(&mut self, address: u32) -> Result<(), AllocError>
+        ensures { OnOk result (self.new ≡ self.old ++ 32 ∷ dotted address) }
+    {
+        let [first, second, third, fourth] = address.to_be_bytes();
+        self.push_number(u64::from(first))?;
+        self.push_part(second)?;
+        self.push_part(third)?;
+        self.push_part(fourth)
+    }
+
+    fn push_part(&mut self, part: u8) -> Result<(), AllocError>
+        ensures { OnOk result (self.new ≡ self.old ++ 46 ∷ decimal part) }
+    {
+        let mut buffer = itoa::Buffer::new();
+        self.push(b'.')?;
+        self.extend_from_slice(buffer.format(part).as_bytes())
+    }
+
+    /// Appends octets in hexadecimal, in lower case.
+    pub fn push_octets(&mut self, octets: &[u8]) -> Result<(), AllocError>
+        ensures { OnOk result (self.new ≡ self.old ++ 32 ∷ encode_lower octets.now) }
+    {
+        self.push_headed(b" ", octets)
+    }
+}
+
+// How many octets a head of this length and so many octets in hexadecimal take.
+#[inline(always)]
+fn room_for(head: usize, octets: usize) -> Result<usize, AllocError>
+    ensures { IfOk result (λ room. room ≡ head + 2 * octets) }
+{
+    let Some(digits) = octets.checked_mul(2) else {
+        return Err(AllocError);
+    };
+    match digits.checked_add(head) {
+        Some(room) => Ok(room),
+        None => Err(AllocError),
+    }
+}
+
+// Makes room for so many octets behind the first ones.
+#[inline(always)]
+fn make_room(room: &mut Vec<u8>, len: usize, more: usize) -> Result<(), AllocError>
+    requires { len ≤ vec_len room.old }
+    ensures kept { take len room.new.items ≡ take len room.old.items }
+    ensures within { len ≤ vec_len room.new }
+    ensures room { OnOk result (len + more ≤ vec_len room.new) }
+{
+    if room.len() - len >= more {
+        return Ok(());
+    }
+    grow(room, more)
+}
+
+// Makes the room larger by so many octets at least.
+#[inline(never)]
+fn grow(room: &mut Vec<u8>, more: usize) -> Result<(), AllocError>
+    ensures kept { take (vec_len room.old) room.new.items ≡ room.old.items }
+    ensures within { vec_len room.old ≤ vec_len room.new }
+    ensures room { OnOk result (vec_len room.old + more ≤ vec_len room.new) }
+{
+    let Some(len) = room.len().checked_add(more) else {
+        return Err(AllocError);
+    };
+    room.resize(len.saturating_add(SPARE), 0)
+}
+
+// Writes octets at a place: where they end.
+#[inline(always)]
+fn put(room: &mut Vec<u8>, at: usize, octets: &[u8]) -> usize
+    requires { at + length octets.now ≤ vec_len room.old }
+    ensures value { take result room.new.items ≡ take at room.old.items ++ octets.now }
+    ensures end { result ≡ at + length octets.now }
+    ensures len { vec_len room.new ≡ vec_len room.old }
+{
+    let end = at + octets.len();
+    room.as_mut_slice()[at..end].copy_from_slice(octets);
+    end
+}
+
+// Writes octets in hexadecimal at a place: where they end.
+fn put_digits(room: &mut Vec<u8>, at: usize, octets: &[u8]) -> usize
+    requires { at + 2 * length octets.now ≤ vec_len room.old }
+    ensures value { take result room.new.items ≡ take at room.old.items ++ encode_lower octets.now }
+    ensures end { result ≡ at + 2 * length octets.now }
+    ensures len { vec_len room.new ≡ vec_len room.old }
+{
+    let end = at + 2 * octets.len();
+    encode(octets, &mut room.as_mut_slice()[at..end]);
+    end
+}
