@@ -108,7 +108,8 @@ command_answers : (n slot : ℕ) (c : CommandKind) (taken : Bool) → Answers n 
 command_answers n slot c true = (refl, refl)
 command_answers n slot c false = refl
 
-packet_answers : (n slot : ℕ) (p : LentPacket) (taken parked : Bool) → Answers n (packet slot p) (open_packet n slot taken parked)
+packet_answers : (n slot : ℕ) (p : LentPacket) (taken parked : Bool)
+    → Answers n (packet slot p) (open_packet n slot taken parked)
 packet_answers n slot p true parked = (refl, refl)
 packet_answers n slot p false parked = refl
 

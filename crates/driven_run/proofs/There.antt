@@ -1,4 +1,5 @@
--- Each schedule has a driven epoch: entries that are open but for their outcomes, filled with what is made of each slot.
+-- Each schedule has a driven epoch: entries that are open but for their outcomes, filled with what is made of each
+-- slot.
 use Rattle.std.proofs.Common.{◌≡◌, ℕ, ◌+◌, Option, Some, None, List, [], ◌∷◌, ◌++◌, map, length, refl, sym, ap, subst, ◌∙◌, arith}
 use Rattle.std.specs.List.{filter_map, cons_option}
 use Rattle.std.proofs.lemmas.List.{length-map}

@@ -1,5 +1,5 @@
--- Which entries a trace has under a schedule: epoch after epoch, each slot bound in the next epoch for where its last move
--- sent it.
+-- Which entries a trace has under a schedule: epoch after epoch, each slot bound in the next epoch for where its last
+-- move sent it.
 use Rattle.std.specs.Prelude.{◌≡◌, ℕ, ◌+◌, ◌%◌, ◌==◌, if◌then◌else◌, List, [], ◌∷◌, length, drop}
 use Rattle.demux.specs.Trace.{Meaning, command, packet, move, note}
 use Rattle.lawful_run.specs.Order.{Histories, behind}

@@ -194,7 +194,8 @@ one_at own s most more all here =
 sent_owes : (most more : ℕ → ℕ) (world : World) (slice own : ℕ)
     → ((m : ℕ) → most m ≤ more m) → most own + 1 ≤ more own → Owes most world
     → Owes more
-    (on_slot (on_flow world slice (λ worker. record worker { orders = worker.orders ++ item own ∷ [] })) own with_packet)
+    (on_slot (on_flow world slice (λ worker. record worker { orders = worker.orders ++ item own ∷ [] })) own
+    with_packet)
 sent_owes most more world slice own all here lanes d m =
     let lane = put_each (λ d worker. (m : ℕ)
     → orders_of m worker.orders ≤ orders_of m (flow_at world d).orders + cond (own == m) 1 0)
@@ -213,7 +214,8 @@ sent_owes most more world slice own all here lanes d m =
 packet_sent : (tallies : Tallies) (world : World) (slice own : ℕ) → parks (slot_at world own) ≡ false
     → Holds (seen_at own tallies) world
     → Holds (tallies_after tallies (packet own) taken_plainly)
-    (on_slot (on_flow world slice (λ worker. record worker { orders = worker.orders ++ item own ∷ [] })) own with_packet)
+    (on_slot (on_flow world slice (λ worker. record worker { orders = worker.orders ++ item own ∷ [] })) own
+    with_packet)
 packet_sent tallies world slice own stays holds =
     let more : Tally → Tally = λ tally. with_packet_line tally taken_plainly in
     let slot = holds.slots own in
@@ -440,7 +442,8 @@ line_due : (rooms : Rooms) (bounds : ℕ → ℕ) (tallies : Tallies) (world : W
     → LineHolds rooms tallies asks (line_done rooms bounds world asks)
 line_due rooms bounds tallies world nothing holds = record { holds = holds; due = tt }
 line_due rooms bounds tallies world (command own) holds =
-    command_due rooms tallies (admitted rooms bounds world own) own (admitted_holds rooms bounds tallies world own holds)
+    command_due rooms tallies (admitted rooms bounds world own) own
+    (admitted_holds rooms bounds tallies world own holds)
 line_due rooms bounds tallies world (packet own) holds =
     packet_due rooms bounds tallies (admitted rooms bounds world own) own
     (admitted_holds rooms bounds tallies world own holds)

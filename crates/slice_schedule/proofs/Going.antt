@@ -198,7 +198,8 @@ lane_step world slice change fewer = record {
 }
 
 -- a lane gets orders that a slot owed
-pub orders-more : (s : ℕ) (orders more : List FlowOrder) → orders_of s (orders ++ more) ≡ orders_of s orders + orders_of s more
+pub orders-more : (s : ℕ) (orders more : List FlowOrder)
+    → orders_of s (orders ++ more) ≡ orders_of s orders + orders_of s more
 orders-more s orders more =
     ap (times_in s) (map-append order_slot orders more)
     ∙ sum_by-append (λ (own : ℕ). cond (own == s) 1 0) (map order_slot orders) (map order_slot more)

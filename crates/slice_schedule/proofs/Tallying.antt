@@ -76,7 +76,8 @@ goes_holds tallies old new goes holds = record {
 
 -- what the front's steps are
 pub offer_goes : (rooms : Rooms) (bounds : ℕ → ℕ) (world : World) (s : ℕ) → Goes world (flow_offer rooms bounds world s)
-offer_goes rooms bounds world s = flow_offer_keeps (Goes world) (going_steps world) rooms bounds world s (world_stays world)
+offer_goes rooms bounds world s =
+    flow_offer_keeps (Goes world) (going_steps world) rooms bounds world s (world_stays world)
 
 control_offer_goes : (bounds : ℕ → ℕ) (world : World) (s : ℕ) → Goes world (control_offer bounds world s)
 control_offer_goes bounds world s =
@@ -97,7 +98,8 @@ owes_more most more world own n change all here owes lanes slice =
 abbrev pub changed : ℕ → (Tally → Tally) → Tallies → Tallies
 changed own more tallies = λ s. cond (own == s) (more (tallies s)) (tallies s)
 
-pub changed-own : (own : ℕ) (more : Tally → Tally) (tallies : Tallies) → changed own more tallies own ≡ more (tallies own)
+pub changed-own : (own : ℕ) (more : Tally → Tally) (tallies : Tallies)
+    → changed own more tallies own ≡ more (tallies own)
 changed-own own more tallies = ap (λ test. cond test (more (tallies own)) (tallies own)) (eqb_same own)
 
 pub changed-other : (own s : ℕ) (more : Tally → Tally) (tallies : Tallies) → (own == s) ≡ false
@@ -189,7 +191,8 @@ made_holds rooms bounds tallies world own none holds =
       parked = old.parked;
       called = old.called;
     }) in
-    let offered = hold_goes there (unseen tallies) tallies first second (control_offer_goes bounds first own) with_control in
+    let offered = hold_goes there (unseen tallies) tallies first second (control_offer_goes bounds first own)
+    with_control in
     let now = offered own in
     let unmade = absent_away (slot_at second own).flow (now.flow_is ∙ ap not new) in
     let with_flow : HoldAs there there tallies third =
@@ -261,7 +264,8 @@ there_holds tallies world own there holds = record {
       omega (arith, few, more);
 }
 
-pub admitted_holds : (rooms : Rooms) (bounds : ℕ → ℕ) (tallies : Tallies) (world : World) (own : ℕ) → Holds tallies world
+pub admitted_holds : (rooms : Rooms) (bounds : ℕ → ℕ) (tallies : Tallies) (world : World) (own : ℕ)
+    → Holds tallies world
     → Holds (changed own seen_too tallies) (admitted rooms bounds world own)
 admitted_holds rooms bounds tallies world own holds =
     cond_gives (Holds (changed own seen_too tallies)) (is_absent (slot_at world own).control)

@@ -2,7 +2,7 @@
 use Rattle.std.proofs.Common.{refl}
 use Rattle.slice_schedule.specs.Halves.{learn}
 use Rattle.slice_schedule.specs.FlowTurns.{take_orders}
-use Rattle.slice_schedule.specs.Rows.{ParkedOnTheWay, PlacesOfTurns, MovesInARow, FullRoom, TwoCommandsOneBatch, ParkingQueueFull, SliceLaneFull}
+use Rattle.slice_schedule.specs.Rows.{ParkedOnTheWay, PlacesOfTurns, MovesInARow, FullRoom, TwoCommandsOneBatch, ParkingQueueFull, SliceLaneFull, NewerWait, SeventeenCommands, WaitsForCommands}
 
 pub parked_on_the_way : ParkedOnTheWay
 unfolding learn take_orders
@@ -31,3 +31,15 @@ parking_queue_full = record { lines = refl; packets = refl }
 pub slice_lane_full : SliceLaneFull
 unfolding learn take_orders
 slice_lane_full = record { lines = refl; packets = refl }
+
+pub newer_wait : NewerWait
+unfolding learn take_orders
+newer_wait = record { lines = refl; packets = refl }
+
+pub seventeen_commands : SeventeenCommands
+unfolding learn take_orders
+seventeen_commands = record { lines = refl; packets = refl }
+
+pub waits_for_commands : WaitsForCommands
+unfolding learn take_orders
+waits_for_commands = record { lines = refl; packets = refl }

@@ -48,7 +48,8 @@ module _ (W : World → Type 0) (steps : Steps W) where
 
   control_home_keeps : (world : World) (slice : ℕ) → W world → W (control_home world slice)
   control_home_keeps world slice all =
-      steps.controls (fold control_back world (control_at world slice).home) slice (λ worker. record worker { home = [] })
+      steps.controls (fold control_back world (control_at world slice).home) slice
+      (λ worker. record worker { home = [] })
       (fold_keeps W control_back control_back_keeps world (control_at world slice).home all)
 
   flow_home_keeps : (world : World) (slice : ℕ) → W world → W (flow_home world slice)
@@ -161,8 +162,10 @@ module _ (W : World → Type 0) (steps : Steps W) where
       let turned = half_turned_keeps rooms world (slot_held world slice place) all in
       cond_keeps W (has_worked rooms world (slot_held world slice place))
       (cursor_at (half_turned rooms world (slot_held world slice place)) slice (next_place world slice place))
-      (work_round rooms slice (next_place world slice place) left (half_turned rooms world (slot_held world slice place)))
-      (cursor_at_keeps (half_turned rooms world (slot_held world slice place)) slice (next_place world slice place) turned)
+      (work_round rooms slice (next_place world slice place) left
+      (half_turned rooms world (slot_held world slice place)))
+      (cursor_at_keeps (half_turned rooms world (slot_held world slice place)) slice (next_place world slice place)
+      turned)
       (work_round_keeps rooms slice (next_place world slice place) left
       (half_turned rooms world (slot_held world slice place)) turned)
 
@@ -236,8 +239,8 @@ module _ (W : World → Type 0) (steps : Steps W) where
   take_orders_keeps : (slice : ℕ) (now : Doing) → DoingHolds now → DoingHolds (take_orders slice now)
   unfolding take_orders
   take_orders_keeps slice now all =
-      times_keeps DoingHolds (order_step slice) (λ now all. order_step_at_keeps slice now.world now.going all) orders_taken
-      now all
+      times_keeps DoingHolds (order_step slice) (λ now all. order_step_at_keeps slice now.world now.going all)
+      orders_taken now all
 
   learn_next_keeps : (slice : ℕ) (world : World) (held : List ℕ) → W world → W (learn_next slice world held)
   learn_next_keeps slice world [] all = all

@@ -106,3 +106,30 @@ lane_of_two = record { room = 64; lane = 2 }
 pub record SliceLaneFull : Type 0 where
   pub lines : outcomes_of 1 lane_of_two two_arrivals ≡ done ∷ done ∷ full ∷ []
   pub packets : mets_of 1 lane_of_two two_arrivals 0 ≡ []
+
+-- a packet waits behind one that waits, though its half is on its slice by then, where no lane has room
+abbrev pub one_by_one : List Driven
+one_by_one = under (1 ∷ []) (command 0 ∷ move 0 1 ∷ packet 0 ∷ packet 0 ∷ [])
+
+abbrev pub lane_of_one : Rooms
+lane_of_one = record { room = 64; lane = 1 }
+
+pub record NewerWait : Type 0 where
+  pub lines : outcomes_of 2 lane_of_one one_by_one ≡ done ∷ done ∷ waits ∷ waits ∷ []
+  pub packets : mets_of 2 lane_of_one one_by_one 0 ≡ at_closing ∷ at_closing ∷ []
+
+-- a batch has sixteen commands at most
+abbrev pub seventeen : List Driven
+seventeen = under [] (replicate 17 (command 0)) ++ under (0 ∷ 0 ∷ 1 ∷ []) (packet 0 ∷ [])
+
+pub record SeventeenCommands : Type 0 where
+  pub lines : outcomes_of 2 usual seventeen ≡ replicate 18 done
+  pub packets : mets_of 2 usual seventeen 0 ≡ record { commands = 16; place = At 0 } ∷ []
+
+-- a packet isn't handled before the command that it waits for, here not on its slice: no control worker has a turn
+abbrev pub no_control_turns : List Driven
+no_control_turns = under (1 ∷ 3 ∷ []) (command 0 ∷ move 0 1 ∷ nothing ∷ packet 0 ∷ [])
+
+pub record WaitsForCommands : Type 0 where
+  pub lines : outcomes_of 2 usual no_control_turns ≡ replicate 4 done
+  pub packets : mets_of 2 usual no_control_turns 0 ≡ at_closing ∷ []

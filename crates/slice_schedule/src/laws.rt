@@ -9,9 +9,12 @@ ghost use Rattle.slice_schedule.specs.Rows.{
   TwoCommandsOneBatch,
   ParkingQueueFull,
   SliceLaneFull,
+  NewerWait,
+  SeventeenCommands,
+  WaitsForCommands,
 };
 
-/// What becomes of seven short traces under their turns.
+/// What becomes of ten short traces under their turns.
 pub fn worked_rows()
     ensures parked_on_the_way { ParkedOnTheWay }
     ensures places_of_turns { PlacesOfTurns }
@@ -20,6 +23,9 @@ pub fn worked_rows()
     ensures two_commands_one_batch { TwoCommandsOneBatch }
     ensures parking_queue_full { ParkingQueueFull }
     ensures slice_lane_full { SliceLaneFull }
+    ensures newer_wait { NewerWait }
+    ensures seventeen_commands { SeventeenCommands }
+    ensures waits_for_commands { WaitsForCommands }
 {}
 
 /// Whatever the turns, the numbers of each slot are right behind each line, and all packets that were accepted
@@ -31,8 +37,8 @@ pub fn every_schedule_fits()
 {}
 
 /// Whatever the turns, nothing is refused and no packet parked but for a reason that the lines tell: a command is
-/// refused where as many commands of its slot were accepted as may wait, a packet where a slice's lane is full or, behind
-/// a move, its slot's queue; and a packet is parked behind a move, before those that aren't.
+/// refused where as many commands of its slot were accepted as may wait, a packet where a slice's lane is full or,
+/// behind a move, its slot's queue; and a packet is parked behind a move, before those that aren't.
 pub fn every_outcome_is_due()
     ensures { EachOutcomeIsDue }
 {}

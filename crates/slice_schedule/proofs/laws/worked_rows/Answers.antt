@@ -1,4 +1,4 @@
-use Rattle.slice_schedule.proofs.WorkedRows.{parked_on_the_way, places_of_turns, moves_in_a_row, full_room, two_commands_one_batch, parking_queue_full, slice_lane_full}
+use Rattle.slice_schedule.proofs.WorkedRows.{parked_on_the_way, places_of_turns, moves_in_a_row, full_room, two_commands_one_batch, parking_queue_full, slice_lane_full, newer_wait, seventeen_commands, waits_for_commands}
 use Rattle.slice_schedule.proofs.laws.worked_rows.Goals as goal
 
 pub returns : goal.returns
@@ -10,4 +10,7 @@ returns c = record {
   two_commands_one_batch = two_commands_one_batch;
   parking_queue_full = parking_queue_full;
   slice_lane_full = slice_lane_full;
+  newer_wait = newer_wait;
+  seventeen_commands = seventeen_commands;
+  waits_for_commands = waits_for_commands;
 }
