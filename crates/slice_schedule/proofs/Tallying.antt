@@ -163,6 +163,58 @@ not_true : (seen : Bool) → not seen ≡ true → seen ≡ false
 not_true true is = absurd (true≢false (sym is))
 not_true false is = refl
 
+-- which slots have no half yet, where the one of this slot is made
+abbrev pub but_one : ℕ → Tallies → ℕ → Bool
+but_one own tallies s = cond (own == s) false (unseen tallies s)
+
+but_one-own : (own : ℕ) (tallies : Tallies) → but_one own tallies own ≡ false
+but_one-own own tallies = ap (λ test. cond test false (unseen tallies own)) (eqb_same own)
+
+but_one-other : (own s : ℕ) (tallies : Tallies) → (own == s) ≡ false → but_one own tallies s ≡ unseen tallies s
+but_one-other own s tallies other = ap (λ test. cond test false (unseen tallies s)) other
+
+with_control : (tallies : Tallies) (world : World) (own : ℕ)
+    → HoldAs (unseen tallies) (unseen tallies) tallies world
+    → HoldAs (but_one own tallies) (unseen tallies) tallies (control_made world own)
+with_control tallies world own all =
+    let old = all own in
+    put_others (λ s slot. SlotHolds (but_one own tallies s) (unseen tallies s) (tallies s) slot) fresh_slot world.slots
+    own (record (slot_at world own) { control = front })
+    (λ s other. subst (λ test. SlotHolds test (unseen tallies s) (tallies s) (slot_at world s))
+    (sym (but_one-other own s tallies other)) (all s))
+    (record {
+      commands = old.commands;
+      packets = old.packets;
+      moves = old.moves;
+      control_is = sym (but_one-own own tallies);
+      flow_is = old.flow_is;
+      queued = old.queued;
+      parked = old.parked;
+      called = old.called;
+    })
+
+with_flow : (tallies : Tallies) (world : World) (own : ℕ) → (tallies own).seen ≡ false
+    → HoldAs (but_one own tallies) (unseen tallies) tallies world
+    → HoldAs (but_one own tallies) (but_one own tallies) tallies (flow_made world own)
+with_flow tallies world own new all =
+    let now = all own in
+    let unmade = absent_away (slot_at world own).flow (now.flow_is ∙ ap not new) in
+    put_others (λ s slot. SlotHolds (but_one own tallies s) (but_one own tallies s) (tallies s) slot) fresh_slot
+    world.slots own (record (slot_at world own) { flow = front })
+    (λ s other. subst (λ test. SlotHolds (but_one own tallies s) test (tallies s) (slot_at world s))
+    (sym (but_one-other own s tallies other)) (all s))
+    (record {
+      commands = now.commands;
+      packets = now.packets;
+      moves = now.moves;
+      control_is = now.control_is;
+      flow_is = sym (but_one-own own tallies);
+      queued = now.queued;
+      parked = λ is. now.parked (parks_still (slot_at world own) (record (slot_at world own) { flow = front }) refl
+          (omega arith) (λ away. unmade) is);
+      called = λ is. absurd (true≢false (sym is));
+    })
+
 made_holds : (rooms : Rooms) (bounds : ℕ → ℕ) (tallies : Tallies) (world : World) (own : ℕ)
     → is_absent (slot_at world own).control ≡ true → Holds tallies world
     → Holds (changed own seen_too tallies) (made rooms bounds world own)
@@ -170,49 +222,13 @@ made_holds rooms bounds tallies world own none holds =
     let first = control_made world own in
     let second = control_offer bounds first own in
     let third = flow_made second own in
-    let there = λ (s : ℕ). cond (own == s) false (unseen tallies s) in
-    let at_own : there own ≡ false = ap (λ test. cond test false (unseen tallies own)) (eqb_same own) in
-    let elsewhere : (s : ℕ) → (own == s) ≡ false → there s ≡ unseen tallies s =
-    λ s other. ap (λ test. cond test false (unseen tallies s)) other in
-    let new = not_true (tallies own).seen (sym (holds.slots own).control_is ∙ none) in
-    let old = holds.slots own in
-    let with_control : HoldAs there (unseen tallies) tallies first =
-    put_others (λ s slot. SlotHolds (there s) (unseen tallies s) (tallies s) slot) fresh_slot world.slots own
-    (record (slot_at world own) { control = front })
-    (λ s other. subst (λ test. SlotHolds test (unseen tallies s) (tallies s) (slot_at world s))
-    (sym (elsewhere s other)) (holds.slots s))
-    (record {
-      commands = old.commands;
-      packets = old.packets;
-      moves = old.moves;
-      control_is = sym at_own;
-      flow_is = old.flow_is;
-      queued = old.queued;
-      parked = old.parked;
-      called = old.called;
-    }) in
-    let offered = hold_goes there (unseen tallies) tallies first second (control_offer_goes bounds first own)
-    with_control in
-    let now = offered own in
-    let unmade = absent_away (slot_at second own).flow (now.flow_is ∙ ap not new) in
-    let with_flow : HoldAs there there tallies third =
-    put_others (λ s slot. SlotHolds (there s) (there s) (tallies s) slot) fresh_slot second.slots own
-    (record (slot_at second own) { flow = front })
-    (λ s other. subst (λ test. SlotHolds (there s) test (tallies s) (slot_at second s))
-    (sym (elsewhere s other)) (offered s))
-    (record {
-      commands = now.commands;
-      packets = now.packets;
-      moves = now.moves;
-      control_is = now.control_is;
-      flow_is = sym at_own;
-      queued = now.queued;
-      parked = λ is. now.parked (parks_still (slot_at second own) (record (slot_at second own) { flow = front }) refl
-          (omega arith) (λ away. unmade) is);
-      called = λ is. absurd (true≢false (sym is));
-    }) in
     let last = made rooms bounds world own in
-    let all = hold_goes there there tallies third last (offer_goes rooms bounds third own) with_flow in
+    let there = but_one own tallies in
+    let new = not_true (tallies own).seen (sym (holds.slots own).control_is ∙ none) in
+    let offered = hold_goes there (unseen tallies) tallies first second (control_offer_goes bounds first own)
+    (with_control tallies world own holds.slots) in
+    let all = hold_goes there there tallies third last (offer_goes rooms bounds third own)
+    (with_flow tallies second own new offered) in
     let seen_is = ap {B = ℕ} (λ test. cond test 1 0) new in
     record {
       slots = λ s.
@@ -227,7 +243,8 @@ made_holds rooms bounds tallies world own none holds =
             parked = slot.parked;
             called = slot.called;
           })
-          (λ other. subst (λ test. SlotHolds test test (tallies s) (slot_at last s)) (elsewhere s other) (all s));
+          (λ other. subst (λ test. SlotHolds test test (tallies s) (slot_at last s)) (but_one-other own s tallies other)
+          (all s));
       lanes = owes_goes (allowed (changed own seen_too tallies)) third last (offer_goes rooms bounds third own)
           (owes_more (allowed tallies) (allowed (changed own seen_too tallies)) second own 1
           (λ slot. record slot { flow = front }) (allowed_more tallies own seen_too seen_allows)
