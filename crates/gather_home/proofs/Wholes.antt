@@ -12,8 +12,8 @@ use Rattle.worker_core.specs.Names.{arrivals, weight}
 use Rattle.worker_core.proofs.Arrivals.{arrivals-append, weight-push}
 use Rattle.migration.specs.Desks.{sent_weight, home_weight}
 use Rattle.migration.proofs.Desks.{arrive_weight, leave_weight}
-use Rattle.gather_home.specs.declared.home_lane.HomeLane.{HomeLane}
-use Rattle.gather_home.specs.Homecomings.{opened_sent, opened_taken}
+use Rattle.worker_core.specs.declared.home_lane.HomeLane.{HomeLane}
+use Rattle.worker_core.specs.Opened.{opened_sent, opened_taken}
 
 pub none_left : {X : Type 0} (xs : List X) → length xs ≡ 0 → xs ≡ []
 none_left [] none = refl
@@ -71,9 +71,9 @@ module _ {H N : Type 0} (name : H → N) (h : N → ℕ) where
   pub closed_orders : (fronts found names : ℕ) (left : List (Order H)) (held : List H)
       (opened : Option (HomeLane H)) (desks rest : List (Desk H)) (desk : Desk H)
       (came more : List (Order H)) (keeps gone : List H)
-      → fronts + found + weight name h (arrivals left) + weight name h held + opened_sent name h opened
+      → fronts + found + weight name h (arrivals left) + weight name h held + opened_sent (λ half. h (name half)) opened
       + sum_by (sent_weight name h) desks
-      ≡ names + opened_taken name h opened + sum_by (home_weight name h) desks
+      ≡ names + opened_taken (λ half. h (name half)) opened + sum_by (home_weight name h) desks
       → left ≡ [] → held ≡ [] → opened ≡ None → desks ≡ rest ++ desk ∷ [] → sent desk.orders ≡ came ++ more
       → weight name h (arrivals came) ≡ weight name h keeps + weight name h gone
       → fronts + found + weight name h (arrivals more) + weight name h keeps + weight name h gone
@@ -84,8 +84,8 @@ module _ {H N : Type 0} (name : H → N) (h : N → ℕ) where
       let f : H → ℕ = λ x. h (name x) in
       let a = ap (λ l. weight name h (arrivals l)) no_left in
       let b = ap (weight name h) no_held in
-      let c = ap (opened_sent name h) closed in
-      let d = ap (opened_taken name h) closed in
+      let c = ap (opened_sent f) closed in
+      let d = ap (opened_taken f) closed in
       let s = ap (sum_by (sent_weight name h)) last ∙ sum_by_push (sent_weight name h) rest desk in
       let t = ap (sum_by (home_weight name h)) last ∙ sum_by_push (home_weight name h) rest desk in
       let r : weight name h (arrivals (sent desk.orders)) ≡ weight name h (arrivals came)

@@ -1,17 +1,17 @@
 -- Where the halves are that are still to be found, and which are found.
 use Rattle.std.specs.Prelude.{◌≡◌, ℕ, ◌+◌, List, [], ◌∷◌, map, Option, Some, None}
 use Rattle.std.specs.List.{sum_by, All}
-use Rattle.lane_core.specs.Ends.{sent, taken}
 use Rattle.worker_core.specs.declared.order.Order.{Order}
 use Rattle.worker_core.specs.declared.pairing.Desk.{Desk}
 use Rattle.worker_core.specs.declared.traveller.Traveller.{Ghosts}
 use Rattle.worker_core.specs.declared.worker.WorkerEnd.{WorkerEnd}
+use Rattle.worker_core.specs.declared.home_lane.HomeLane.{HomeLane}
 use Rattle.worker_core.specs.Names.{arrivals, weight}
+use Rattle.worker_core.specs.Opened.{opened_sent, opened_taken}
 use Rattle.worker_core.specs.Workers.{desk_lanes, end_lanes}
 use Rattle.migration.specs.declared.place.Place.{Place}
 use Rattle.migration.specs.Desks.{sent_weight, home_weight}
 use Rattle.migration.specs.Places.{name_of, names_of, front_at, weight_at}
-use Rattle.gather_home.specs.declared.home_lane.HomeLane.{HomeLane}
 
 -- those that are there, in their order
 abbrev pub somes : {X : Type 0} → List (Option X) → List X
@@ -27,17 +27,6 @@ AreEnds {H} {N} {g} desks ends = map (end_lanes {g = g}) ends ≡ map desk_lanes
 abbrev pub AtSlots : {H N : Type 0} → (H → N) → (N → ℕ) → List (Option (Place H)) → List H → Type 0
 AtSlots name slot_of places halves = All (λ half. name_of name places (slot_of (name half)) ≡ Some (name half)) halves
 
-module _ {H N : Type 0} (name : H → N) (h : N → ℕ) where
-  -- what the halves weigh that were sent into a lane home which is open yet
-  abbrev pub opened_sent : Option (HomeLane H) → ℕ
-  opened_sent None = 0
-  opened_sent (Some lane) = weight name h (sent lane.tx)
-
-  -- what those weigh that were taken from it
-  abbrev pub opened_taken : Option (HomeLane H) → ℕ
-  opened_taken None = 0
-  opened_taken (Some lane) = weight name h (taken lane.rx)
-
 -- each name that was admitted is found, or is where it is still to be found, as often
 abbrev pub IsWhole : {H N : Type 0} → (H → N) → List (Option (Place H)) → List (Option (Place H)) → List H
     → List (Order H) → List H → Option (HomeLane H) → List (Desk H)
@@ -45,5 +34,6 @@ abbrev pub IsWhole : {H N : Type 0} → (H → N) → List (Option (Place H)) �
 IsWhole {H} {N} name admitted places found left held opened desks =
     (h : N → ℕ) → sum_by (front_at name h) places + weight name h found + weight name h (arrivals left)
     + weight name h held
-    + opened_sent name h opened + sum_by (sent_weight name h) desks
-    ≡ sum_by (weight_at h) (names_of name admitted) + opened_taken name h opened + sum_by (home_weight name h) desks
+    + opened_sent (λ half. h (name half)) opened + sum_by (sent_weight name h) desks
+    ≡ sum_by (weight_at h) (names_of name admitted) + opened_taken (λ half. h (name half)) opened
+    + sum_by (home_weight name h) desks

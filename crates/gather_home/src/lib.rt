@@ -2,7 +2,6 @@
 //! half that was admitted is found, once, wherever it was. Nothing is sent any more.
 #![tactic(auto)]
 
-mod home_lane;
 mod homecoming;
 mod parts;
 mod steps;

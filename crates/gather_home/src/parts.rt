@@ -6,14 +6,13 @@ ghost use Rattle.migration.specs.Places.{names_of, weight_at};
 ghost use Rattle.migration.specs.Sides.{BySlot};
 ghost use Rattle.gather_home.specs.Homecomings.{somes, AreEnds, AtSlots, IsWhole};
 
-use crate::home_lane::HomeLane;
 use crate::steps;
 use lane_core::NoMemory;
 use migration::{Place, SideEnd};
 use std::alloc::Global;
 use std::snapshot::Snapshot;
 use std::sync::Wait;
-use worker_core::{Desk, Order, Traveller, WorkerEnd};
+use worker_core::{Desk, HomeLane, Order, Traveller, WorkerEnd, close_home};
 
 /// What is left of a side and its workers after want of memory. No half is lost.
 #[derive(Drop)]
@@ -32,7 +31,8 @@ pub struct Parts<H: Traveller> {
     opened: Option<HomeLane<H>>,
     desks: Vec<Desk<H>>,
     ends: Vec<WorkerEnd<H>>,
-    ghost whole: { IsWhole H.name admitted.value.items places.items found.items left.items held.items opened desks.items },
+    ghost whole: { IsWhole H.name admitted.value.items places.items found.items left.items held.items opened
+        desks.items },
     ghost slots: { BySlot H.slot_of (names_of H.name admitted.value.items) },
     ghost ends_of: { AreEnds desks.items ends.items },
 }
@@ -138,7 +138,7 @@ impl<H: Traveller> Parts<H> {
         ensures others { (self.new.places ≡ self.old.places) × (self.new.left ≡ self.old.left) }
         ensures closed { OnOk result (self.new.opened ≡ None) }
     {
-        steps::close_home(rt, self.alloc, &mut self.opened, &mut self.held)
+        close_home(rt, self.alloc, &mut self.opened, &mut self.held)
     }
 
     // Closes the lane of orders of the last slice.

@@ -1,5 +1,6 @@
 -- Steps of pumping, and that they compose.
-use Rattle.std.proofs.Common.{◌≡◌, ℕ, ◌<◌, ◌≤◌, ◌⊎◌, inl, inr, Bool, true, false, true≢false, List, [], ◌∷◌, ◌++◌, length, map, set, get_or, refl, sym, ap, ◌∙◌, subst, arith, append-nil, append_assoc}
+use Rattle.std.proofs.Common.{◌≡◌, ℕ, ◌<◌, ◌≤◌, ◌⊎◌, inl, inr, Bool, true, false, true≢false, List, [], ◌∷◌, ◌++◌}
+use Rattle.std.proofs.Common.{length, map, set, get_or, refl, sym, ap, ◌∙◌, subst, arith, append-nil, append_assoc}
 use Rattle.std.specs.Prelude.{nat_eq, Option, Some, None}
 use Rattle.std.proofs.lemmas.List.{map-set, length-map, get_or-map, get_or-set_same, get_or-set_other, set-get_or}
 use Rattle.std.proofs.lemmas.List.Elements.{All-nil, All-push, All-append, All-weaker}
@@ -14,7 +15,8 @@ use Rattle.migration.specs.declared.place.State.TheVariants.{Front, Placed, Reca
 use Rattle.migration.specs.Desks.{Given, Refused, Taken, Empty}
 use Rattle.migration.specs.Places.{place_at, hop_at, is_leaving}
 use Rattle.migration.specs.Steps.{Serves, PlaceServed, ServedAt, Welcomes}
-use Rattle.migration.specs.Passes.{stage, stage_at, Unawaited, IsRecall, IsRecallAt, Falls, sent_at, Lawful, Gave, Passes}
+use Rattle.migration.specs.Passes.{stage, stage_at, Unawaited, IsRecall, IsRecallAt, Falls, sent_at, Lawful, Gave}
+use Rattle.migration.specs.Passes.{Passes}
 use Rattle.migration.proofs.Desks.{changed_map}
 
 module _ {H : Type 0} where
@@ -51,7 +53,8 @@ module _ {H : Type 0} where
 module _ {H : Type 0} (slot_of hop_of : H → ℕ) where
   gave_none : (places : List (Option (Place H))) (slice : ℕ) (before now : List (Order H)) → now ≡ before
       → Gave slot_of hop_of places slice before now
-  gave_none places slice before now same = ([], same ∙ sym (append-nil before), All-nil (Lawful slot_of hop_of places slice))
+  gave_none places slice before now same =
+      ([], same ∙ sym (append-nil before), All-nil (Lawful slot_of hop_of places slice))
 
   lawful_since : (places new : List (Option (Place H)))
       → ((slot : ℕ) → Falls (place_at places slot) (place_at new slot)) → (slice : ℕ) (order : Order H)
@@ -175,7 +178,8 @@ module _ {H : Type 0} (slot_of hop_of : H → ℕ) where
               order ∷ [],
               ap (λ l. get_or l slice []) as_set ∙ get_or-set_same (map f desks) slice (f given.now) [] within
                   ∙ given.sent ∙ ap (λ l. l ++ order ∷ []) (sym was),
-              All-push (Lawful slot_of hop_of places slice) [] order (All-nil (Lawful slot_of hop_of places slice)) lawful,
+              All-push (Lawful slot_of hop_of places slice) [] order
+                  (All-nil (Lawful slot_of hop_of places slice)) lawful,
             )
         | false ↦ λ e. gave_none slot_of hop_of places other (sent_at desks other) (sent_at now other)
             (ap (λ l. get_or l other []) as_set ∙ get_or-set_other (map f desks) slice other (f given.now) []

@@ -1,5 +1,7 @@
 -- What offering an order, a move, an arrival home and an admission leave of the facts that a side keeps.
-use Rattle.std.proofs.Common.{◌≡◌, ℕ, ◌+◌, ◌-◌, ◌*◌, ◌^◌, ◌<◌, ◌≤◌, ◌⊎◌, inl, inr, Bool, true, false, true≢false, cond, List, [], ◌∷◌, ◌++◌, length, set, replicate, refl, sym, ap, ◌∙◌, subst, arith, length-append}
+use Rattle.std.proofs.Common.{◌≡◌, ℕ, ◌+◌, ◌-◌, ◌*◌, ◌^◌, ◌<◌, ◌≤◌, ◌⊎◌, inl, inr, Bool, true, false, true≢false}
+use Rattle.std.proofs.Common.{cond, List, [], ◌∷◌, ◌++◌, length, set, replicate, refl, sym, ap, ◌∙◌, subst, arith}
+use Rattle.std.proofs.Common.{length-append}
 use Rattle.std.specs.Prelude.{nat_eq, nat_lt, Option, Some, None}
 use Rattle.std.specs.List.{sum_by, All}
 use Rattle.std.proofs.lemmas.List.{get_or_past, get_or-set_same, get_or-set_other}
@@ -17,8 +19,11 @@ use Rattle.migration.specs.declared.place.Place.{Place}
 use Rattle.migration.specs.declared.place.State.{State}
 use Rattle.migration.specs.declared.place.State.TheVariants.{Front, Placed, Recall, Leaving}
 use Rattle.migration.specs.Desks.{sent_weight, home_weight, lanes_of, homes_of, order_count, fulls_at, Taken, Empty}
-use Rattle.migration.specs.Places.{place_at, pending_at, is_admitted, is_waiting, is_waiting_at, waits_at, PlaceFits, at_end, to_end, hop_at, hops_of, name_at, names_of, front_at, front_weight, pending, weight_at, wait_weight, IsOwn, IsOwnAt}
-use Rattle.migration.specs.Steps.{Sends, Serves, Goes, PlaceServed, ServedAt, Moves, MovesAt, NewlyWaits, Welcomes, Admits, Grown}
+use Rattle.migration.specs.Places.{place_at, pending_at, is_admitted, is_waiting, is_waiting_at, waits_at, PlaceFits}
+use Rattle.migration.specs.Places.{at_end, to_end, hop_at, hops_of, name_at, names_of, front_at, front_weight}
+use Rattle.migration.specs.Places.{pending, weight_at, wait_weight, IsOwn, IsOwnAt}
+use Rattle.migration.specs.Steps.{Sends, Serves, Goes, PlaceServed, ServedAt, Moves, MovesAt, NewlyWaits, Welcomes}
+use Rattle.migration.specs.Steps.{Admits, Grown}
 use Rattle.migration.specs.Sides.{slot_at, BySlot, IsSide, Rose}
 use Rattle.migration.specs.Words.{ServedNext}
 use Rattle.migration.proofs.Desks.{changed_sum, changed_len, homes_sum}

@@ -1,5 +1,6 @@
 -- How the slots that wait are served, one after another.
-use Rattle.std.proofs.Common.{◌≡◌, ◌≢◌, ℕ, ◌<◌, ◌⊎◌, inl, inr, true, false, cond, List, [], ◌∷◌, length, map, set, get_or, refl, sym, ap, ◌∙◌, subst, arith}
+use Rattle.std.proofs.Common.{◌≡◌, ◌≢◌, ℕ, ◌<◌, ◌⊎◌, inl, inr, true, false, cond, List, [], ◌∷◌, length, map, set}
+use Rattle.std.proofs.Common.{get_or, refl, sym, ap, ◌∙◌, subst, arith}
 use Rattle.std.specs.Prelude.{nat_eq, Option, Some, None}
 use Rattle.std.specs.List.{sum_by}
 use Rattle.std.proofs.lemmas.List.Sums.{sum_by_push, get_or-le-sum_by}
@@ -13,7 +14,8 @@ use Rattle.migration.specs.declared.place.State.TheVariants.{Front, Placed, Reca
 use Rattle.lane_core.specs.declared.ends.Receiver.{Receiver}
 use Rattle.lane_core.specs.Ends.{taken, empty_answers}
 use Rattle.migration.specs.Desks.{fulls_at, homes_of, empties_at}
-use Rattle.migration.specs.Places.{place_at, is_waiting, is_waiting_at, waits_at, waits_for, hop_at, hops_of, name_at, names_of, wait_weight}
+use Rattle.migration.specs.Places.{place_at, is_waiting, is_waiting_at, waits_at, waits_for, hop_at, hops_of, name_at}
+use Rattle.migration.specs.Places.{names_of, wait_weight}
 use Rattle.migration.specs.Steps.{Welcomes}
 use Rattle.migration.specs.Sides.{IsSide, Rose, AllMetFull, HomeEnded}
 use Rattle.migration.specs.Words.{Roll, ServedNext}

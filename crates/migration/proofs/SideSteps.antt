@@ -1,5 +1,6 @@
 -- What one step leaves of the facts that a side keeps.
-use Rattle.std.proofs.Common.{◌≡◌, ℕ, zero, suc, ◌+◌, ◌*◌, ◌^◌, ◌<◌, ◌≤◌, true, false, cond, List, [], ◌∷◌, ◌++◌, length, map, set, get_or, replicate, refl, sym, ap, ◌∙◌, subst, arith}
+use Rattle.std.proofs.Common.{◌≡◌, ℕ, zero, suc, ◌+◌, ◌*◌, ◌^◌, ◌<◌, ◌≤◌, true, false, cond, List, [], ◌∷◌, ◌++◌}
+use Rattle.std.proofs.Common.{length, map, set, get_or, replicate, refl, sym, ap, ◌∙◌, subst, arith}
 use Rattle.std.specs.Prelude.{nat_eq, Option, Some, None}
 use Rattle.std.specs.List.{sum_by, All}
 use Rattle.std.proofs.lemmas.List.{set-get_or, get_or-set_same, get_or-set_other}
@@ -13,7 +14,8 @@ use Rattle.worker_core.proofs.Arrivals.{sum_by-through}
 use Rattle.migration.specs.declared.place.Place.{Place}
 use Rattle.migration.specs.declared.place.State.TheVariants.{Front}
 use Rattle.migration.specs.Desks.{sent_weight, home_weight, order_count}
-use Rattle.migration.specs.Places.{place_at, pending_at, is_admitted, is_waiting_at, PlaceFits, name_at, names_of, front_at, weight_at, wait_weight, IsOwn, IsOwnAt}
+use Rattle.migration.specs.Places.{place_at, pending_at, is_admitted, is_waiting_at, PlaceFits, name_at, names_of}
+use Rattle.migration.specs.Places.{front_at, weight_at, wait_weight, IsOwn, IsOwnAt}
 use Rattle.migration.specs.Steps.{Grown, Welcomes, WelcomesAt}
 use Rattle.migration.specs.Sides.{slot_at, BySlot, IsSide}
 

@@ -13,7 +13,8 @@ use Rattle.migration.specs.Desks.{sent_weight, lanes_of, homes_of, order_count, 
 use Rattle.migration.specs.Places.{pending, waits_for, front_weight, slices_fit}
 use Rattle.migration.specs.Steps.{Sends, Recalls, Serves, Goes, Homes, Welcomes}
 use Rattle.migration.proofs.Passes.{not_leaving}
-use Rattle.migration.proofs.Desks.{changed_sum, changed_map, changed_len, changed_lanes, arrive_weight, leave_weight, refused_sum, refused_full, refused_fulls, given_fulls, given_count}
+use Rattle.migration.proofs.Desks.{changed_sum, changed_map, changed_len, changed_lanes, arrive_weight, leave_weight}
+use Rattle.migration.proofs.Desks.{refused_sum, refused_full, refused_fulls, given_fulls, given_count}
 
 -- a state changed with the desks; so many orders may be given more
 pub record StateStep {H N : Type 0} (name : H → N) (spare : ℕ) (old new : State H)
@@ -112,10 +113,11 @@ module _ {H N : Type 0} (name : H → N) (desks now : List (Desk H)) where
   sends_step hop_of hop to half state sends = elim sends.outcome [
     | inl put ↦ subst (λ (s : State H). StateStep name 0 (Front half to) s desks now × Again s desks now) (sym put.0)
         (arrive_step to half sends.told sends.named put.1, again_none (Placed to) refl)
-    | inr kept ↦ subst (λ (s : State H). StateStep name 0 (Front half to) s desks now × Again s desks now) (sym kept.0) (
-      stay_step 0 to (Front half to) (Front sends.told to) (λ h. ap h sends.named) (omega arith) kept.1,
-      again_at to (Front sends.told to) refl kept.1,
-    )
+    | inr kept ↦ subst (λ (s : State H). StateStep name 0 (Front half to) s desks now × Again s desks now)
+        (sym kept.0) (
+          stay_step 0 to (Front half to) (Front sends.told to) (λ h. ap h sends.named) (omega arith) kept.1,
+          again_at to (Front sends.told to) refl kept.1,
+        )
   ]
 
   pub recalls_step : (spare slot at until to : ℕ) (old state : State H)

@@ -56,7 +56,8 @@ module _ {H : Type 0} where
   Gave slot_of hop_of places slice before now = (more : List (Order H)) × (now ≡ before ++ more)
       × All (Lawful slot_of hop_of places slice) more
 
--- each half that was newly kept aside had not been told to leave, and each order that was given is what its slot asked for
+-- each half that was newly kept aside had not been told to leave, and each order that was given is what its slot asked
+-- for
 pub record Passes {H : Type 0} (slot_of hop_of : H → ℕ) (places new_places : List (Option (Place H)))
     (aside new_aside : List H) (old new : List (Desk H)) : Type 0 where
   pub falls : (slot : ℕ) → Falls (place_at places slot) (place_at new_places slot)

@@ -6,7 +6,8 @@ use Rattle.worker_core.specs.declared.pairing.Desk.{Desk}
 use Rattle.worker_core.specs.Names.{weight}
 use Rattle.migration.specs.declared.place.Place.{Place}
 use Rattle.migration.specs.Desks.{sent_weight, home_weight, order_count, fulls_at, empties_at, home_count}
-use Rattle.migration.specs.Places.{place_at, names_of, front_at, weight_at, wait_weight, pending_at, is_admitted, waits_at}
+use Rattle.migration.specs.Places.{place_at, names_of, front_at, weight_at, wait_weight, pending_at, is_admitted}
+use Rattle.migration.specs.Places.{waits_at}
 use Rattle.migration.specs.Places.{PlaceFits, IsOwnAt}
 
 -- each name that was admitted or came home is at the front, is kept aside there, or was sent to a slice, as often
@@ -24,8 +25,8 @@ slot_at slot_of slot (Some name) = slot_of name
 abbrev pub BySlot : {N : Type 0} → (N → ℕ) → List (Option N) → Type 0
 BySlot slot_of names = (slot : ℕ) → slot_at slot_of slot (slice_index_or names slot None) ≡ slot
 
--- what a side keeps: each name in one place, each at its slot, a half at the front at its own, the slots with an order to
--- give in one of two lists, and few enough orders
+-- what a side keeps: each name in one place, each at its slot, a half at the front at its own, the slots with an order
+-- to give in one of two lists, and few enough orders
 pub record IsSide {H N : Type 0} (name : H → N) (slot_of : N
     → ℕ) (places : List (Option (Place H))) (aside : List H) (desks : List (Desk H))
     (waiting serving : List ℕ) (admitted asked : ℕ) : Type 0 where

@@ -1,6 +1,7 @@
 //! A side: the desks of its workers, and the state of each slot.
 ghost use Rattle.std.specs.Prelude.{◌≡◌, ◌≤◌, ◌<◌, ◌+◌, ◌*◌, ◌^◌, ◌⊎◌, ℕ, All, true};
-ghost use Rattle.std.specs.Prelude.{false, [], length, reverse, vec_len, vec_capacity, IsTrue, IsFalse, OnOk, OnErr, IfErr};
+ghost use Rattle.std.specs.Prelude.{false, [], length, reverse, vec_len, vec_capacity, IsTrue, IsFalse, OnOk, OnErr};
+ghost use Rattle.std.specs.Prelude.{IfErr};
 ghost use Rattle.worker_core.specs.Workers.{IsNewDesk};
 ghost use Rattle.migration.specs.Places.{names_of};
 ghost use Rattle.migration.specs.Sides.{Balanced, BySlot, IsSide};
@@ -31,7 +32,8 @@ pub struct Side<H: Traveller> {
     serving: Vec<Slot>,
     admitted: usize,
     asked: u64,
-    ghost laid: { IsSide H.name H.slot_of places.items aside.items desks.items waiting.items serving.items admitted asked },
+    ghost laid: { IsSide H.name H.slot_of places.items aside.items desks.items waiting.items serving.items
+        admitted asked },
     ghost aside_room: { admitted ≤ vec_capacity aside },
     ghost waiting_room: { admitted ≤ vec_capacity waiting },
     ghost serving_room: { admitted ≤ vec_capacity serving },
@@ -55,7 +57,8 @@ impl<H: Traveller> Side<H> {
     ghost use Rattle.migration.specs.Sides.{AllMetFull, HomeEnded};
     ghost use Rattle.migration.specs.Passes.{Passes};
     ghost use Rattle.migration.specs.Pumps.{TakesHome, LinedUp, ServesEach, PumpsBySlot};
-    ghost use Rattle.migration.specs.Words.{desks_of, places_of, aside_of, waiting_of, serving_of, admitted_of, asked_of};
+    ghost use Rattle.migration.specs.Words.{desks_of, places_of, aside_of, waiting_of, serving_of, admitted_of};
+    ghost use Rattle.migration.specs.Words.{asked_of};
     ghost use Rattle.migration.specs.Words.{roll_of, TookOne, TookFrom, ServedNext};
 
     /// A side with these desks, one for each slice in order, and no slot.

@@ -4,8 +4,10 @@ ghost use Rattle.std.specs.Prelude.{reverse, vec_len, vec_capacity, slice_set, O
 ghost use Rattle.std.specs.List.{sum_by};
 ghost use Rattle.std.specs.List.Sorted.{IsNonDecreasing};
 ghost use Rattle.migration.specs.Desks.{Given, Refused, Taken, Empty, order_count};
-ghost use Rattle.migration.specs.Places.{place_at, PlaceFits, slices_fit, is_admitted, is_placed, is_waiting, is_waiting_at};
-ghost use Rattle.migration.specs.Steps.{Sends, Recalls, Serves, PlaceServed, ServedAt, Goes, Moves, MovesAt, NewlyWaits};
+ghost use Rattle.migration.specs.Places.{place_at, PlaceFits, slices_fit, is_admitted, is_placed, is_waiting};
+ghost use Rattle.migration.specs.Places.{is_waiting_at};
+ghost use Rattle.migration.specs.Steps.{Sends, Recalls, Serves, PlaceServed, ServedAt, Goes, Moves, MovesAt};
+ghost use Rattle.migration.specs.Steps.{NewlyWaits};
 ghost use Rattle.migration.specs.Steps.{Homes, Welcomes, WelcomesAt, Grown};
 
 use crate::place::{Place, State};

@@ -1,5 +1,6 @@
 -- Which halves were turned, step by step.
-use Rattle.std.proofs.Common.{◌≡◌, ◌≢◌, ℕ, zero, suc, ◌+◌, ◌-◌, ◌<◌, ◌≤◌, inl, inr, true, false, List, [], ◌∷◌, length, map, set, get_or, refl, sym, ap, ◌∙◌, subst, arith}
+use Rattle.std.proofs.Common.{◌≡◌, ◌≢◌, ℕ, zero, suc, ◌+◌, ◌-◌, ◌<◌, ◌≤◌, inl, inr, true, false, List, [], ◌∷◌}
+use Rattle.std.proofs.Common.{length, map, set, get_or, refl, sym, ap, ◌∙◌, subst, arith}
 use Rattle.std.specs.Prelude.{nat_eq, nat_lt, if◌then◌else◌, Result, Ok, Err, Option, Some, None, IsNone, IfOk, IfSome}
 use Rattle.std.proofs.lemmas.Result.{IfOk-weaker}
 use Rattle.std.proofs.lemmas.Option.{IfSome_then}
@@ -11,7 +12,8 @@ use Rattle.lane_core.specs.Ends.{raised}
 use Rattle.lane_core.specs.declared.did.Did.{Did}
 use Rattle.lane_core.specs.declared.did.Did.TheVariants.{Idle, Held, Worked}
 use Rattle.worker_core.specs.Answered.{AnswersAt, RestsAt, AllRest, AnswersRound}
-use Rattle.worker_core.specs.Turns.{count_at, AreTurned, AllTurned, NoneWorked, WorkedAlone, WorkedRound, steps_to, works_after}
+use Rattle.worker_core.specs.Turns.{count_at, AreTurned, AllTurned, NoneWorked, WorkedAlone, WorkedRound, steps_to}
+use Rattle.worker_core.specs.Turns.{works_after}
 
 module _ {H : Type 0} (count : H → ℕ) where
   -- a write elsewhere leaves a count
@@ -104,7 +106,8 @@ module _ {H : Type 0} (turns : H → ℕ) (turned_at : H → ℕ → Type 0) (pl
         → turned_at (get_or new k none) place) [
           | true ↦ λ e. after.placed k none low (ltb-true k cursor e)
           | false ↦ λ e. let above : cursor ≤ k = ltb-false k cursor e in
-              subst (λ (x : H). turned_at x place) (sym (after.others k none (inr above))) (before.placed k none above high)
+              subst (λ (x : H). turned_at x place) (sym (after.others k none (inr above)))
+              (before.placed k none above high)
         ] refl;
     others = λ k none outside. elim outside [
       | inl low ↦ absurd (omega arith)
@@ -420,7 +423,8 @@ module _ {H : Type 0} (came_to : Did → H → H → Type 0) where
         × AreTurned turns turned_at place 0 (k + 1) mid new × WorkedAlone works k mid new))
         → IfOk result (λ at. IfSome at (λ k. AllRest came_to 0 k mid new × AnswersAt came_to Worked k mid new))
         → IfOk result (λ at. IfSome at (λ k. AnswersRound came_to cursor k first new))
-    then_answers (Ok (Some k)) turned again = answers_second turns turned_at place cursor k first mid new turned.1 within
+    then_answers (Ok (Some k)) turned again =
+        answers_second turns turned_at place cursor k first mid new turned.1 within
         turned_before turned.2 rest_before again.0 again.1
     then_answers (Ok None) turned again = tt
     then_answers (Err e) turned again = tt

@@ -3,6 +3,8 @@
 //! to do before. What a half does in its turn is left to the half.
 #![tactic(auto)]
 
+mod closing;
+mod home_lane;
 mod log;
 mod order;
 mod pairing;
@@ -10,6 +12,8 @@ mod traveller;
 mod turning;
 mod worker;
 
+pub use closing::close_home;
+pub use home_lane::HomeLane;
 pub use log::Log;
 pub use order::Order;
 pub use pairing::{Desk, pair};

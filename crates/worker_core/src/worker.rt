@@ -6,7 +6,8 @@ ghost use Rattle.worker_core.specs.Names.{Kept};
 ghost use Rattle.worker_core.specs.Leaves.{IsTold};
 ghost use Rattle.worker_core.specs.Turns.{AllTurned};
 ghost use Rattle.worker_core.specs.Answered.{AllRest};
-ghost use Rattle.worker_core.specs.Steps.{TookOrder, WentHome, Turned, SameButHalves, first_due, wrapped, cursor_without};
+ghost use Rattle.worker_core.specs.Steps.{TookOrder, WentHome, Turned, SameButHalves, first_due, wrapped};
+ghost use Rattle.worker_core.specs.Steps.{cursor_without};
 
 use crate::turning::{find_due, forget, mark, put_back, turn_round};
 use crate::{Order, Traveller};
@@ -50,7 +51,8 @@ pub struct WorkerEnd<H: Traveller> {
 }
 
 impl<H: Traveller> Worker<H> {
-    ghost use Rattle.worker_core.specs.Workers.{worker_lanes, orders_of, home_of, held_of, place_of, end_lanes, view_of, GoesHome};
+    ghost use Rattle.worker_core.specs.Workers.{worker_lanes, orders_of, home_of, held_of, place_of, end_lanes};
+    ghost use Rattle.worker_core.specs.Workers.{view_of, GoesHome};
 
     pub(crate) fn new(
         alloc: Global,
@@ -82,14 +84,16 @@ impl<H: Traveller> Worker<H> {
 
         // A half goes home only once an order told it to leave, and it has done what that said.
         ensures home { (sent (home_of self.new) ≡ sent (home_of self.old))
-            ⊎ GoesHome H.name H.slot_of H.done_of (taken (orders_of self.new)) (sent (home_of self.old)) (sent (home_of self.new)) }
+            ⊎ GoesHome H.name H.slot_of H.done_of (taken (orders_of self.new)) (sent (home_of self.old))
+            (sent (home_of self.new)) }
 
         // Worked comes only where an order was taken, the first half that was due went home, or halves
         // were turned from the cursor round until one worked.
         ensures worked { result ≡ Ok Did.Worked
             → TookOrder (λ half. H.slot_of (H.name half)) (view_of self.old) (view_of self.new)
             ⊎ WentHome (λ half. H.slot_of (H.name half)) H.done_of (view_of self.old) (view_of self.new)
-            ⊎ Turned H.name H.turns H.works H.turned_at (H.came_to 8) (place_of self.old) (view_of self.old) (view_of self.new) }
+            ⊎ Turned H.name H.turns H.works H.turned_at (H.came_to 8) (place_of self.old) (view_of self.old)
+            (view_of self.new) }
 
         // Idle comes only where no order was there, each half was turned and none worked, and, if one
         // was due home, the lane home was full.
@@ -187,7 +191,8 @@ impl<H: Traveller> Worker<H> {
         ensures orders { orders_of self.new ≡ orders_of self.old }
         ensures home { home_of self.new ≡ home_of self.old }
         ensures worked { result ≡ Ok Did.Worked
-            → Turned H.name H.turns H.works H.turned_at (H.came_to 8) (place_of self.old) (view_of self.old) (view_of self.new) }
+            → Turned H.name H.turns H.works H.turned_at (H.came_to 8) (place_of self.old) (view_of self.old)
+            (view_of self.new) }
         ensures idle { result ≡ Ok Did.Idle
             → AllTurned H.turns H.works H.turned_at (place_of self.old) (held_of self.old) (held_of self.new) }
         ensures idle_answers { result ≡ Ok Did.Idle → AllRest (H.came_to 8) 0 (length (held_of self.old))

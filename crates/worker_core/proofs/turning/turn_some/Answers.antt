@@ -5,7 +5,8 @@ use Rattle.std.specs.Prelude.{Ok}
 use Rattle.std.specs.declared.alloc.AllocError.{AllocError}
 use Rattle.worker_core.specs.Turns.{works_after}
 use Rattle.worker_core.specs.Answered.{AllRest}
-use Rattle.worker_core.proofs.Rounds.{names_kept, turned_more, idle_more, worked_alone, idle_after, rest_more, rest_still, answers_here}
+use Rattle.worker_core.proofs.Rounds.{names_kept, turned_more, idle_more, worked_alone, idle_after, rest_more}
+use Rattle.worker_core.proofs.Rounds.{rest_still, answers_here}
 use Rattle.worker_core.proofs.turning.turn_some.Goals as goal
 
 pub returns-in_err-turn-clause-names : goal.returns-in_err-turn-clause-names
