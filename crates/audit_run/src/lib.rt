@@ -1,14 +1,13 @@
-//! An audit: whether a report is a lawful one of a trace. A trace, and behind the line `REPORT` a
-//! report of it, are read
-//! from a source; each subscriber is replayed through the plain gateway, epoch after epoch; the
-//! entries are held against
-//! what it answers, sentence by sentence of the definition; and the finding is written.
+//! An audit: whether a report is a lawful one of a trace. A trace, and behind the line `REPORT` a report of it, are
+//! read from a source; each subscriber is replayed by itself, epoch after epoch; the entries are held against what it
+//! answers, sentence by sentence of the definition; and the finding is written.
 #![tactic(auto)]
 
 mod answers;
 mod auditing;
 mod epoch;
 mod finding;
+mod gateway;
 mod heard;
 mod laws;
 mod player;

@@ -1,4 +1,4 @@
-//! A slot that is replayed: the events of an epoch in the order that its packets' counts tell, through the plain
+//! A slot that is replayed: the events of an epoch in the order that its packets' counts tell, through its
 //! gateway.
 ghost use Rattle.std.specs.Prelude.{◌≡◌, ◌==◌, ℕ, ◌+◌, ◌-◌, ◌<◌, ◌≤◌, ◌^◌, ◌∷◌};
 ghost use Rattle.std.specs.Prelude.{◌++◌, [], List, length, map, min, find, filter_map, option_copied, IfOk, OnOk};
@@ -13,11 +13,12 @@ ghost use Rattle.pc_base.specs.declared.reply.Reply.{Reply};
 ghost use Rattle.audit_run.specs.Playing.{CanGoOn, CanPlay, HasPlayed, IsBehind, IsLedTo, Notes, Plays, commands_lent};
 ghost use Rattle.audit_run.specs.Playing.{counters_of, effects_made, events_of, placed_lent};
 
+use crate::gateway::SlotReplay;
 use bearer_state::ActiveBearer;
 use charging_book::{Book, ChargeRow, Open};
 use control_steps::Command;
 use demux::LentPacket;
-use gate_model::{Effects, Gateway, Happened};
+use gate_model::{Effects, Happened};
 use pc_base::{Effect, NoMemory, Reply, Slot, Verdict};
 use std::alloc::Global;
 
@@ -26,7 +27,7 @@ use std::alloc::Global;
 #[derive(Drop)]
 pub struct Player {
     slot: Slot,
-    gateway: Gateway,
+    gateway: SlotReplay,
     book: Book,
     posted: usize,
     pub commands: u64,
@@ -59,18 +60,18 @@ pub struct Placed<'a> {
 
 impl Player {
     /// The slot before its first event.
-    pub fn new(alloc: Global, slot: Slot) -> Player
-        ensures begins { HasPlayed result slot [] }
-        ensures goes_on { (more : ℕ) → more < 2 ^ 40 → CanGoOn result more }
+    pub fn new(alloc: Global, slot: Slot) -> Result<Player, NoMemory>
+        ensures begins { IfOk result (λ player. HasPlayed player slot []) }
+        ensures goes_on { (more : ℕ) → more < 2 ^ 40 → IfOk result (λ player. CanGoOn player more) }
     {
-        Player {
+        Ok(Player {
             slot,
-            gateway: Gateway::new(alloc, slot),
+            gateway: SlotReplay::new(alloc, slot)?,
             book: Book::new(alloc),
             posted: 0,
             commands: 0,
             packets: 0,
-        }
+        })
     }
 
     /// Plays the accepted commands and packets of an epoch: before each packet as many commands as it tells, counted
@@ -109,17 +110,22 @@ impl Player {
         let mut done = self.commands;
         for placed in packets {
             let to = reached(from, commands.len(), placed.commands.saturating_sub(done));
-            self.play_commands(&commands[from..to], &mut played)?;
+            self.play_commands(alloc, &commands[from..to], &mut played)?;
             self.play_packet(alloc, placed.packet, &mut played)?;
             from = to;
             done = placed.commands;
         }
-        self.play_commands(&commands[from..], &mut played)?;
+        self.play_commands(alloc, &commands[from..], &mut played)?;
         played.rows = self.charged()?;
         Ok(played)
     }
 
-    fn play_commands(&mut self, commands: &[&Command], played: &mut Played) -> Result<(), NoMemory>
+    fn play_commands(
+        &mut self,
+        alloc: Global,
+        commands: &[&Command],
+        played: &mut Played,
+    ) -> Result<(), NoMemory>
         requires { CanPlay self.old played.old (length commands.now) }
 
         ensures { (slot : ℕ) (before now : List Event) → Plays self.old played.old slot before now
@@ -127,18 +133,23 @@ impl Player {
             (now ++ map Event.Command (commands_lent commands.now))) }
     {
         for command in commands {
-            self.play_command(command, played)?;
+            self.play_command(alloc, command, played)?;
         }
         Ok(())
     }
 
-    fn play_command(&mut self, command: &Command, played: &mut Played) -> Result<(), NoMemory>
+    fn play_command(
+        &mut self,
+        alloc: Global,
+        command: &Command,
+        played: &mut Played,
+    ) -> Result<(), NoMemory>
         requires { CanPlay self.old played.old 1 }
 
         ensures { (slot : ℕ) (before now : List Event) → Plays self.old played.old slot before now
             → OnOk result (Plays self.new played.new slot before (now ++ Event.Command command.now ∷ [])) }
     {
-        let happened = self.gateway.command(command)?;
+        let happened = self.gateway.command(alloc, command)?;
         self.note(happened, played)?;
         self.commands += 1;
         Ok(())
@@ -191,9 +202,8 @@ impl Player {
             → OnOk result (Plays self.new played.new slot before
             (now ++ Event.Packet (numbered self.old.packets lent.now) ∷ [])) }
     {
-        let packet = lent.numbered(alloc, self.packets)?;
-        let happened = self.gateway.packet(&packet)?;
-        self.note(happened, played)?;
+        let verdict = self.gateway.packet(alloc, self.packets, lent)?;
+        self.note(Happened::Judged(verdict), played)?;
         self.packets += 1;
         Ok(())
     }
@@ -219,8 +229,9 @@ impl Player {
         ensures { (slot : ℕ) (before : List Event) → HasPlayed self.now slot before
             → IfOk result (λ opens. opens.items ≡ open_counters slot before) }
     {
-        let version = self.gateway.version()?;
-        let counters = counters_for(alloc, self.book.still_open(), version.bearers())?;
+        let version = self.gateway.version();
+        let bearers = version.bearers();
+        let counters = counters_for(alloc, self.book.still_open(), bearers)?;
         Ok(counters)
     }
 }

@@ -52,7 +52,8 @@ fn players_of(alloc: Global, slots: u32) -> Result<Vec<Player>, NoMemory>
 {
     let mut players = Vec::new(alloc);
     for slot in 0..slots {
-        players.push(Player::new(alloc, Slot(slot)))?;
+        let player = Player::new(alloc, Slot(slot))?;
+        players.push(player)?;
     }
     Ok(players)
 }

@@ -1,7 +1,7 @@
 //! A side of halves to which items come, and the workers of its three slices.
 ghost use Rattle.std.specs.Prelude.{◌≡◌, ◌≤◌, [], ◌∷◌};
 ghost use Rattle.flow_core.specs.Workers.{worker_lanes};
-ghost use Rattle.flow_migration.specs.Desks.{lanes_of};
+ghost use Rattle.worker_core.specs.Desks.{lanes_of};
 ghost use Rattle.flow_migration.specs.Words.{desks_of};
 
 use crate::answers::{Stop, letter_of, numbers, push_numbers, word_of, yes_or_no};

@@ -1,7 +1,7 @@
 //! A side of halves that travel, and the workers of its three slices.
 ghost use Rattle.std.specs.Prelude.{◌≡◌, [], ◌∷◌};
 ghost use Rattle.worker_core.specs.Workers.{worker_lanes};
-ghost use Rattle.migration.specs.Desks.{lanes_of};
+ghost use Rattle.worker_core.specs.Desks.{lanes_of};
 ghost use Rattle.migration.specs.Words.{desks_of};
 
 use crate::answers::{Stop, letter_of, numbers, push_numbers, word_of, yes_or_no};

@@ -1,13 +1,12 @@
 -- Why a turn worked, or was idle, step by step.
-use Rattle.std.proofs.Common.{◌≡◌, ◌≢◌, ℕ, ◌+◌, ◌<◌, ◌≤◌, ◌⊎◌, inl, inr, Bool, true, false, true≢false, cond, List, [], ◌∷◌, ◌++◌, length, map, set, get_or, Option, Some, None, refl, sym, ap, ◌∙◌, subst, arith}
-use Rattle.std.specs.Prelude.{nat_eq, nat_lt, count_by, ◌||◌, Result, Ok, Err}
-use Rattle.std.specs.List.{sum_by}
+use Rattle.std.proofs.Common.{◌≡◌, ◌≢◌, ℕ, ◌+◌, ◌<◌, ◌≤◌, ◌⊎◌, inl, inr, Bool, true, false, true≢false, cond, List}
+use Rattle.std.proofs.Common.{[], ◌∷◌, ◌++◌, length, map, Some, None, refl, sym, ap, ◌∙◌, subst, arith}
+use Rattle.std.specs.Prelude.{nat_lt, count_by, ◌||◌, Result, Ok, Err}
 use Rattle.std.specs.Option.{option_to_list}
 use Rattle.std.proofs.lemmas.List.Sums.{sum_by_push}
 use Rattle.std.proofs.lemmas.List.{length-map}
 use Rattle.std.proofs.lemmas.Bool.{ltb-true, ltb-false}
 use Rattle.lane_core.specs.declared.did.Did.{Did}
-use Rattle.lane_core.specs.Ends.{raised}
 use Rattle.flow_core.specs.declared.order.FlowOrder.{FlowOrder}
 use Rattle.flow_core.specs.declared.order.FlowOrder.TheVariants.{Arrive, Item, Leave}
 use Rattle.flow_core.specs.declared.serving.Tried.{Tried}
@@ -20,10 +19,14 @@ use Rattle.flow_core.specs.declared.serving.Sent.{Sent}
 use Rattle.flow_core.specs.declared.serving.Sent.TheVariants.{Absent, Home, Refused}
 use Rattle.flow_core.specs.declared.serving.Took.TheVariants.{Nothing, Arrived, Left, Kept}
 use Rattle.flow_core.specs.Orders.{is_marker, is_item}
-use Rattle.flow_core.specs.Counts.{Rises, Lasts, count_at, learnt_count}
-use Rattle.flow_core.specs.Turns.{View, wrapped, WentHome, TookMarker, HandledItem, Learnt, HasWorked, TookItem, Rested, Asked, CursorAsked, KeptWaits, HasIdled}
-use Rattle.flow_core.specs.Steps.{ChangedAt, Handed, SameAbout, kept_after, WasSent, TookOrder, TriedKept, NextAsked, LearntNext, HasServed, NotServed, Along, Ordered, step_of}
-use Rattle.flow_core.proofs.Changes.{rises_raised, rises_then, then_rises, lasts_then, lasts_raised, lasts_learnt, lasts_at, changed-map, changed_names, changed_len, half_now, changed_lasts, changed_rises, read_same}
+use Rattle.flow_core.specs.Counts.{count_at, learnt_count}
+use Rattle.worker_core.specs.Counts.{Rises, Lasts}
+use Rattle.flow_core.specs.Turns.{View, wrapped, WentHome, TookMarker, HandledItem, Learnt, HasWorked, TookItem}
+use Rattle.flow_core.specs.Turns.{Rested, CursorAsked, KeptWaits, HasIdled}
+use Rattle.flow_core.specs.Steps.{WasSent, TookOrder, TriedKept, LearntNext, NotServed, Along, Ordered, step_of}
+use Rattle.flow_core.proofs.Changes.{lasts_learnt, lasts_at, changed-map, changed_names, changed_len, half_now}
+use Rattle.flow_core.proofs.Changes.{changed_lasts, changed_rises, read_same}
+use Rattle.worker_core.proofs.Rising.{rises_raised, rises_then, then_rises, lasts_then, lasts_raised}
 
 module _ {H I : Type 0} (learns : H → ℕ) where
   pub along_none : (view : View H I) → Along learns view view
@@ -446,7 +449,8 @@ module _ {H I N : Type 0} (name : H → N) (slot_at : N → ℕ) (item_slot : I 
           along_then learns first old new before a,
           did.about.gone ∙ took.2,
           did.about.waiting ∙ took.3,
-          (λ learns_it. then_served learns first old new before (inr (inr (waits_learnt learnt old new learns_it did))) a),
+          (λ learns_it. then_served learns first old new before
+              (inr (inr (waits_learnt learnt old new learns_it did))) a),
           λ none. waits_rested learnt first old new none took.4 took.6 (inr (took.0, free, took.1, took.5)) did,
         )
 

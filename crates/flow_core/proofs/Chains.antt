@@ -12,7 +12,6 @@ use Rattle.flow_core.specs.declared.flow.Flow.{Ghosts}
 use Rattle.flow_core.specs.declared.serving.Sent.{Sent}
 use Rattle.flow_core.specs.declared.serving.Sent.TheVariants.{Absent, Home, Refused}
 use Rattle.flow_core.specs.declared.serving.Step.TheVariants.{Done, LeftNow, Stopped}
-use Rattle.flow_core.specs.declared.serving.Served.{Served}
 use Rattle.flow_core.specs.declared.serving.Served.TheVariants as served
 use Rattle.flow_core.specs.Turns.{View}
 use Rattle.flow_core.specs.Doing.{SendsAs, DoesOne, DoesMany, DoesOrders, LearnsNext, Serves, GoesOn, TurnsAs, did_of}

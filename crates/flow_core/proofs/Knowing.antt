@@ -1,19 +1,22 @@
 -- What a worker knows of its halves after each step.
-use Rattle.std.proofs.Common.{◌≡◌, ◌≢◌, ℕ, ◌+◌, ◌<◌, ◌≤◌, ◌^◌, Bool, true, false, true≢false, cond, List, [], ◌∷◌, ◌++◌, length, map, set, get_or, Option, Some, None, refl, sym, ap, ◌∙◌, subst, arith}
+use Rattle.std.proofs.Common.{◌≡◌, ◌≢◌, ℕ, ◌+◌, ◌<◌, ◌≤◌, ◌^◌, Bool, true, false, true≢false, cond, List, [], ◌∷◌}
+use Rattle.std.proofs.Common.{◌++◌, length, map, set, get_or, Option, Some, None, refl, sym, ap, ◌∙◌, subst, arith}
 use Rattle.std.specs.Prelude.{nat_eq}
 use Rattle.std.specs.List.{sum_by, remove, list_any}
 use Rattle.std.specs.Option.{option_to_list, is_some}
-use Rattle.std.proofs.Common.{append_assoc, append-nil}
-use Rattle.std.proofs.lemmas.List.Sums.{sum_by-cons, sum_by_push, sum_by-remove, sum_by-set}
+use Rattle.std.proofs.Common.{append-nil}
+use Rattle.std.proofs.lemmas.List.Sums.{sum_by-cons, sum_by_push, sum_by-remove}
 use Rattle.std.proofs.lemmas.Bool.{eqb-true, eqb-false, eq-eqb, ne_eqb}
 use Rattle.worker_core.specs.Names.{weight}
 use Rattle.worker_core.proofs.Arrivals.{weight-push, sum_by-through}
 use Rattle.flow_core.specs.declared.order.FlowOrder.{FlowOrder}
 use Rattle.flow_core.specs.declared.order.FlowOrder.TheVariants.{Arrive, Item, Leave}
-use Rattle.flow_core.specs.Orders.{more, halves_in, stands_after, stands_from, stands, MayFollow, now_after, now_of, gone_after, gone_of}
+use Rattle.flow_core.specs.Orders.{more, halves_in, stands_after, stands_from, stands, MayFollow, now_of, gone_after}
+use Rattle.flow_core.specs.Orders.{gone_of}
 use Rattle.flow_core.specs.Picks.{pick, lists_of, slot_sum, with_kept}
-use Rattle.flow_core.specs.Stays.{Same, NamesKept, Holds, Sends, KeptStands}
-use Rattle.flow_core.proofs.SlotSums.{on, own, foreign, count, none_adds, none_found, sum-push, without_other, without, alone, set_other, set_alone, lists-append, lists-sum}
+use Rattle.flow_core.specs.Stays.{NamesKept, Holds, Sends, KeptStands}
+use Rattle.flow_core.proofs.SlotSums.{own, foreign, count, none_found, sum-push, without_other, without, alone}
+use Rattle.flow_core.proofs.SlotSums.{set_other, set_alone, lists-append, lists-sum}
 use Rattle.flow_core.specs.Steps.{ChangedAt}
 use Rattle.flow_core.proofs.Changes.{changed-map, changed_names}
 use Rattle.lane_core.specs.Order.{Lawful}

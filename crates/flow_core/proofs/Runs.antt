@@ -1,11 +1,12 @@
 -- The folds over the orders of a lane, one part after another.
-use Rattle.std.proofs.Common.{◌≡◌, ℕ, Bool, true, false, cond, List, [], ◌∷◌, ◌++◌, Option, Some, None, refl, sym, ap, ◌∙◌}
+use Rattle.std.proofs.Common.{◌≡◌, ℕ, true, false, cond, List, [], ◌∷◌, ◌++◌, Option, Some, None, refl, sym, ap, ◌∙◌}
 use Rattle.std.specs.Prelude.{nat_eq}
-use Rattle.std.specs.Option.{option_to_list, is_some}
+use Rattle.std.specs.Option.{is_some}
 use Rattle.std.proofs.Common.{append_assoc, append-nil}
 use Rattle.flow_core.specs.declared.order.FlowOrder.{FlowOrder}
 use Rattle.flow_core.specs.declared.order.FlowOrder.TheVariants.{Arrive, Item, Leave}
-use Rattle.flow_core.specs.Orders.{more, halves_in, stands_after, stands_from, stands, now_after, now_from, now_of, gone_after, gone_from, gone_of}
+use Rattle.flow_core.specs.Orders.{more, halves_in, stands_after, stands_from, stands, now_after, now_from, now_of}
+use Rattle.flow_core.specs.Orders.{gone_after, gone_from, gone_of}
 
 module _ {H I : Type 0} where
   pub halves-append : (came later : List (FlowOrder H I))

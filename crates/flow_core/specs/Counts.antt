@@ -1,5 +1,5 @@
--- Counts that rise.
-use Rattle.std.specs.Prelude.{◌≡◌, ℕ, ◌+◌, ◌-◌, ◌^◌, ◌<◌, ◌≤◌, ◌⊎◌, if◌then◌else◌, Bool}
+-- Counts of what a half learns.
+use Rattle.std.specs.Prelude.{◌≡◌, ℕ, ◌+◌, ◌⊎◌, if◌then◌else◌, Bool}
 use Rattle.std.specs.Prelude.{List, map, slice_index, Result, Ok, Err}
 use Rattle.lane_core.specs.Ends.{raised}
 
@@ -11,18 +11,11 @@ abbrev pub learns_after : {E : Type 0} → Result Bool E → ℕ → ℕ
 learns_after (Ok learnt) n = learnt_count learnt n
 learns_after (Err _) n = n
 
--- why learning stopped: as many batches were learnt as may be at most, none came, or the floor of the next one isn't met
+-- why learning stopped: as many batches were learnt as may be at most, none came, or the floor of the next one isn't
+-- met
 abbrev pub LearnStops : ℕ → (batches now_batches empties now_empties : ℕ) → Type 0 → Type 0
 LearnStops most batches now_batches empties now_empties Awaits =
     (now_batches ≡ batches + most) ⊎ (now_empties ≡ raised empties) ⊎ Awaits
-
--- a count rose, or stands at the last u64
-abbrev pub Rises : ℕ → ℕ → Type 0
-Rises old new = (old < new) ⊎ (2 ^ 64 - 1 ≤ new)
-
--- a count is as it was, or rose
-abbrev pub Lasts : ℕ → ℕ → Type 0
-Lasts old new = (new ≡ old) ⊎ Rises old new
 
 -- the count of the half at an index, or 0 where none is
 abbrev pub count_at : {H : Type 0} → (H → ℕ) → List H → ℕ → ℕ

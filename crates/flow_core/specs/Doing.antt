@@ -1,6 +1,6 @@
 -- A turn of a worker, whole: each of its steps, and what stays.
 use Rattle.std.specs.Prelude.{◌≡◌, ℕ, zero, suc, ◌+◌, ◌<◌, ◌⊎◌, Bool, true}
-use Rattle.std.specs.Prelude.{false, ◌||◌, if◌then◌else◌, nat_lt, List, [], ◌∷◌, ◌++◌}
+use Rattle.std.specs.Prelude.{false, ◌||◌, if◌then◌else◌, nat_lt, [], ◌∷◌, ◌++◌}
 use Rattle.std.specs.Prelude.{length, slice_index_or, Some, None}
 use Rattle.std.specs.List.{remove}
 use Rattle.lane_core.specs.declared.did.Did.{Did}

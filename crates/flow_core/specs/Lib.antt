@@ -1,4 +1,5 @@
 pub mod Counts
+pub mod Desks
 pub mod Doing
 pub mod Handing
 pub mod Orders

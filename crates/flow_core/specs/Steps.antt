@@ -3,7 +3,6 @@ use Rattle.std.specs.Prelude.{◌≡◌, ℕ, ◌+◌, ◌<◌, ◌≤◌, ◌�
 use Rattle.std.specs.Prelude.{◌++◌, length, map, slice_index_or, slice_set, count_by, Result, Ok, Option, Some, None}
 use Rattle.std.specs.Option.{option_to_list}
 use Rattle.lane_core.specs.Ends.{raised}
-use Rattle.flow_core.specs.declared.order.FlowOrder.{FlowOrder}
 use Rattle.flow_core.specs.declared.order.FlowOrder.TheVariants.{Arrive, Item, Leave}
 use Rattle.flow_core.specs.declared.serving.Tried.{Tried}
 use Rattle.flow_core.specs.declared.serving.Tried.TheVariants.{Handled, Waits}
@@ -14,7 +13,8 @@ use Rattle.flow_core.specs.declared.serving.Step.TheVariants.{Done, LeftNow, Sto
 use Rattle.flow_core.specs.declared.serving.Took.{Took}
 use Rattle.flow_core.specs.declared.serving.Took.TheVariants.{Nothing, Arrived, Left, Kept}
 use Rattle.flow_core.specs.Orders.{is_marker, is_item}
-use Rattle.flow_core.specs.Counts.{learnt_count, learns_after, Lasts, count_at}
+use Rattle.flow_core.specs.Counts.{learnt_count, learns_after, count_at}
+use Rattle.worker_core.specs.Counts.{Lasts}
 use Rattle.flow_core.specs.Turns.{View, wrapped, WentHome, TookMarker, HandledItem, Learnt, TookItem, KeptWaits}
 
 -- one half changed, and has its name

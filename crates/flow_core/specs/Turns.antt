@@ -1,13 +1,14 @@
 -- What a turn of a worker may do, and what its answers tell.
-use Rattle.std.specs.Prelude.{◌≡◌, ℕ, ◌+◌, ◌-◌, ◌<◌, ◌≤◌, ◌⊎◌, Bool, true, false, nat_lt}
+use Rattle.std.specs.Prelude.{◌≡◌, ℕ, ◌+◌, ◌-◌, ◌<◌, ◌≤◌, ◌⊎◌, Bool, false, nat_lt}
 use Rattle.std.specs.Prelude.{if◌then◌else◌, List, [], ◌∷◌, ◌++◌, length, map, slice_index_or, count_by}
 use Rattle.std.specs.Prelude.{Option, Some, None}
 use Rattle.std.specs.Option.{option_to_list}
 use Rattle.lane_core.specs.Ends.{raised}
 use Rattle.flow_core.specs.declared.order.FlowOrder.{FlowOrder}
-use Rattle.flow_core.specs.declared.order.FlowOrder.TheVariants.{Arrive, Item, Leave}
+use Rattle.flow_core.specs.declared.order.FlowOrder.TheVariants.{Item}
 use Rattle.flow_core.specs.Orders.{is_marker, is_item}
-use Rattle.flow_core.specs.Counts.{Rises, count_at}
+use Rattle.flow_core.specs.Counts.{count_at}
+use Rattle.worker_core.specs.Counts.{Rises}
 
 -- what a worker has: the orders that it took and the halves that it sent home; those that it holds, in the order in
 -- which they came; the half that waits to go home, and the kept item; where its next turn begins; and how often its

@@ -1,11 +1,10 @@
--- What a clause says of a worker, of its end and of its desk.
-use Rattle.std.specs.Prelude.{◌≡◌, ℕ, Bool, List, [], Option}
+-- What a clause says of a worker and of its end.
+use Rattle.std.specs.Prelude.{ℕ, Bool, List, Option}
 use Rattle.lane_core.specs.declared.ends.Sender.{Sender}
 use Rattle.lane_core.specs.declared.ends.Receiver.{Receiver}
-use Rattle.lane_core.specs.Ends.{Lane, sender_lane, receiver_lane, sent, taken, full_answers, empty_answers}
+use Rattle.lane_core.specs.Ends.{sender_lane, receiver_lane, sent, taken, full_answers, empty_answers}
 use Rattle.worker_core.specs.Workers.{Lanes}
 use Rattle.flow_core.specs.declared.order.FlowOrder.{FlowOrder}
-use Rattle.flow_core.specs.declared.pairing.FlowDesk.{FlowDesk}
 use Rattle.flow_core.specs.declared.flow.Flow.{Ghosts}
 use Rattle.flow_core.specs.declared.worker.FlowWorker.{FlowWorker}
 use Rattle.flow_core.specs.declared.worker.FlowEnd.{FlowEnd}
@@ -16,14 +15,6 @@ use Rattle.flow_core.specs.declared.serving.Step.{Step}
 use Rattle.flow_core.specs.declared.serving.Served.{Served}
 use Rattle.flow_core.specs.Doing.{TakesAs, HandsKept, DoesOne, DoesOrders, LearnsNext, TurnsAs}
 use Rattle.flow_core.specs.Turns.{View}
-
-module _ {H I : Type 0} where
-  abbrev pub desk_lanes : FlowDesk H I → Lanes
-  desk_lanes desk = (sender_lane desk.orders, receiver_lane desk.home)
-
-  -- nothing was sent or taken at it yet
-  abbrev pub IsNewDesk : FlowDesk H I → Type 0
-  IsNewDesk desk = (sent desk.orders ≡ []) × (taken desk.home ≡ [])
 
 module _ {H N I : Type 0} {g : Ghosts H N I} where
   abbrev pub orders_of : FlowWorker H N I g → Receiver (FlowOrder H I)

@@ -88,8 +88,8 @@ pub trait Flow: FlowKind {
         ensures counts { (asks self.new ≡ asks self.old) × (learns self.new ≡ learns self.old) }
         ensures batches { OnOk result (batches self.new ≡ batches self.old) };
 
-    /// Each item was handled at one place. The name's slot is the half's, an item has one slot, and any half may go home
-    /// after any others.
+    /// Each item was handled at one place. The name's slot is the half's, an item has one slot, and any half may go
+    /// home after any others.
     ghost each_placed: { (half : Self) → length (places half) ≡ length (handled half) };
 
     ghost half_slots: { (half : Self) → slot_at (name half) ≡ Self.slot_of_half half };

@@ -1,22 +1,20 @@
 //! The two lanes between a side at the front and a worker of a slice's lane.
 ghost use Rattle.std.specs.Prelude.{◌≡◌, ◌≤◌, [], IfOk};
 ghost use Rattle.lane_core.specs.Ends.{sender_lane, receiver_lane};
-ghost use Rattle.flow_core.specs.Workers.{desk_lanes, IsNewDesk, worker_lanes, place_of, held_of};
+ghost use Rattle.flow_core.specs.Workers.{worker_lanes, place_of, held_of};
+ghost use Rattle.worker_core.specs.Workers.{desk_lanes, IsNewDesk};
 
-use crate::{Flow, FlowKind, FlowOrder, FlowWorker};
-use lane_core::{NoMemory, Receiver, Sender, lane};
+use crate::{Flow, FlowOrder, FlowWorker};
+use lane_core::{NoMemory, lane};
 use pc_base::SliceNo;
 use std::alloc::Global;
+use worker_core::LaneDesk;
 
 /// How many halves a worker's lane home has room for.
 const ROOM: u32 = 64;
 
-/// The front's ends of the two lanes of one worker.
-#[derive(Drop)]
-pub struct FlowDesk<H: FlowKind> {
-    pub orders: Sender<FlowOrder<H>>,
-    pub home: Receiver<H>,
-}
+/// The desk of a worker of a slice's lane.
+pub type FlowDesk<H> = LaneDesk<FlowOrder<H>, H>;
 
 /// A worker of a slice, which holds nothing, and the desk that it is served from. The slice's lane has
 /// room for so many orders, 1 to 16,384.
@@ -36,7 +34,7 @@ pub fn flow_pair<H: Flow>(
     let (orders, taking) = lane(alloc, lane_room)?;
     let (sending, home) = lane(alloc, ROOM)?;
     Ok((
-        FlowDesk { orders, home },
+        LaneDesk { orders, home },
         FlowWorker::new(alloc, place, taking, sending),
     ))
 }

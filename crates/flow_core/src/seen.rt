@@ -1,6 +1,6 @@
 //! Where the half of a slot stands in a worker's list. A guess by slot is looked at first, so that the
 //! look takes no longer where many halves are held; that a guess is right is no fact of the type.
-ghost use Rattle.std.specs.Prelude.{◌≡◌, ◌<◌, ◌==◌, true, false, length, IfSome, IsNone, slice_index_or};
+ghost use Rattle.std.specs.Prelude.{◌≡◌, ◌<◌, ◌==◌, false, length, IfSome, IsNone, slice_index_or};
 ghost use Rattle.std.specs.List.{list_any, position};
 
 use crate::FlowKind;

@@ -1,9 +1,8 @@
 //! A worker of a slice's lane: the halves that it holds, and the ends of its two lanes.
 ghost use Rattle.std.specs.Prelude.{◌≡◌, ◌≢◌, ◌≤◌, ◌<◌, ◌+◌, ◌++◌, ◌⊎◌, [], None, true};
-ghost use Rattle.std.specs.Prelude.{false, Ok, vec_len, length, OnOk, OnErr, IfOk};
+ghost use Rattle.std.specs.Prelude.{false, Ok, vec_len, OnOk, IfOk};
 ghost use Rattle.std.specs.Option.{option_to_list};
-ghost use Rattle.lane_core.specs.Ends.{sender_lane, receiver_lane, sent, taken, full_answers, empty_answers, raised};
-ghost use Rattle.lane_core.specs.Order.{Lawful};
+ghost use Rattle.lane_core.specs.Ends.{sent, taken};
 ghost use Rattle.flow_core.specs.declared.serving.Tried.{Tried};
 ghost use Rattle.flow_core.specs.Places.{brought};
 ghost use Rattle.flow_core.specs.Stays.{NamesKept, Holds, Sends, KeptStands};
@@ -83,8 +82,7 @@ impl<H: Flow> FlowWorker<H> {
         home: Sender<H>,
     ) -> FlowWorker<H>
         requires { (taken orders ≡ []) × (sent home ≡ []) }
-        ensures orders { orders_of result ≡ orders }
-        ensures home { home_of result ≡ home }
+        ensures ends { (orders_of result ≡ orders) × (home_of result ≡ home) }
         ensures place { place_of result ≡ place }
         ensures empty { held_of result ≡ [] }
     {

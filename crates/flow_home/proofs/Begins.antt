@@ -1,15 +1,16 @@
 -- What is known as a homecoming begins: all that the side knew.
-use Rattle.std.proofs.Common.{◌≡◌, ◌≢◌, ℕ, zero, suc, ◌+◌, ◌<◌, ◌≤◌, Bool, true, false, true≢false, cond, List, [], ◌∷◌, ◌++◌, length, map, get_or, Option, Some, None, refl, sym, ap, ◌∙◌, subst, arith, append-nil, length-append}
+use Rattle.std.proofs.Common.{◌≡◌, ◌≢◌, ℕ, zero, suc, ◌+◌, ◌<◌, ◌≤◌, Bool, true, false, true≢false, cond, List, []}
+use Rattle.std.proofs.Common.{◌∷◌, ◌++◌, length, map, get_or, Option, Some, None, refl, sym, ap, ◌∙◌, subst, arith}
+use Rattle.std.proofs.Common.{append-nil}
 use Rattle.std.specs.Prelude.{nat_eq, nat_lt, reverse}
 use Rattle.std.specs.List.{sum_by}
 use Rattle.std.specs.Option.{option_to_list, is_some}
 use Rattle.std.proofs.Math.Logic.{∥∥₁_map, ∥∥₁_elim}
 use Rattle.std.proofs.lemmas.List.Sums.{sum_by-cons}
-use Rattle.std.proofs.lemmas.Bool.{eqb-true, eq-eqb, ne_eqb, ltb-false}
+use Rattle.std.proofs.lemmas.Bool.{eq-eqb, ne_eqb, ltb-false}
 use base.Stored.{Coded-set, coded_ℕ}
 use Rattle.lane_core.specs.Ends.{sent, taken}
-use Rattle.flow_core.specs.declared.order.FlowOrder.{FlowOrder}
-use Rattle.flow_core.specs.declared.pairing.FlowDesk.{FlowDesk}
+use Rattle.flow_core.specs.Desks.{FlowDesk}
 use Rattle.flow_core.specs.Orders.{halves_in, now_of, gone_of}
 use Rattle.flow_core.specs.Picks.{lists_of}
 use Rattle.flow_core.proofs.SlotSums.{on}
@@ -17,15 +18,15 @@ use Rattle.flow_migration.specs.declared.place.FlowPlace.{FlowPlace}
 use Rattle.flow_migration.specs.declared.place.FlowState.{FlowState}
 use Rattle.flow_migration.specs.declared.place.FlowState.TheVariants.{Front, Placed, Recall, Leaving}
 use Rattle.flow_migration.specs.declared.place.HalfAside.{HalfAside}
-use Rattle.flow_migration.specs.Desks.{sent_at, home_at, sent_weight, home_weight}
-use Rattle.flow_migration.specs.Places.{place_at, queue_at, accepted_at, front_at, front_weight}
+use Rattle.worker_core.specs.Desks.{sent_at, home_at}
+use Rattle.flow_migration.specs.Places.{place_at, queue_at, front_at, front_weight}
 use Rattle.flow_migration.specs.Keeps.{StateIs}
 use Rattle.flow_migration.specs.Sides.{AllKnown, Balanced, PlaceIs, Tells, asides_of}
 use Rattle.flow_migration.specs.Stays.{Stay, Where, AtFront, Here, Away, reaches, backs, now_at, away_at}
 use Rattle.flow_home.specs.declared.hand.Hand.{Hand}
-use Rattle.flow_home.specs.declared.home.Home.{Home}
 use Rattle.flow_home.specs.Lefts.{items_in, kept_in, lefts_at}
-use Rattle.flow_home.specs.Homecomings.{hand_sum, halves_sum, rest_at, aside_sum, of_slot, homes_sum, front_lists, front_lists_at, met_from, met_lists, SlotLeft, IsLaid}
+use Rattle.flow_home.specs.Homecomings.{hand_sum, rest_at, aside_sum, front_lists, front_lists_at, met_from}
+use Rattle.flow_home.specs.Homecomings.{met_lists, SlotLeft, IsLaid}
 
 -- nothing is in hand or found
 pub record IsNew {H I : Type 0} (hand : Hand H I) : Type 0 where

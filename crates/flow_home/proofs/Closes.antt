@@ -1,27 +1,29 @@
 -- What the closing of a slice's lanes tells.
-use Rattle.std.proofs.Common.{◌≡◌, ◌≢◌, ℕ, zero, suc, ◌+◌, ◌<◌, ◌≤◌, Bool, true, false, cond, List, [], ◌∷◌, ◌++◌, length, map, get_or, Option, Some, None, refl, sym, ap, ◌∙◌, subst, arith, append_assoc, append-nil, length-append}
+use Rattle.std.proofs.Common.{◌≡◌, ◌≢◌, ℕ, zero, suc, ◌+◌, ◌<◌, ◌≤◌, Bool, true, false, cond, List, [], ◌∷◌, ◌++◌}
+use Rattle.std.proofs.Common.{length, map, get_or, Option, Some, None, refl, sym, ap, ◌∙◌, subst, arith, append_assoc}
+use Rattle.std.proofs.Common.{append-nil, length-append}
 use Rattle.std.specs.Prelude.{nat_eq, nat_lt, reverse}
 use Rattle.std.specs.List.{sum_by}
 use Rattle.std.specs.Option.{option_to_list}
 use Rattle.std.proofs.Math.Logic.{∥∥₁_map}
 use Rattle.std.proofs.lemmas.List.{nil_from_length}
 use Rattle.std.proofs.lemmas.List.Sums.{sum_by-append, sum_by-cons, sum_by_push}
-use Rattle.std.proofs.lemmas.Bool.{eqb-true, eqb-false, eq-eqb, ne_eqb, ltb-true, ltb-false, lt-ltb, le-ltb}
+use Rattle.std.proofs.lemmas.Bool.{eqb-true, eqb-false, ltb-true, ltb-false, lt-ltb, le-ltb}
 use Rattle.lane_core.specs.Ends.{sent, taken}
 use Rattle.lane_core.specs.Order.{Lawful}
-use Rattle.worker_core.specs.Names.{weight}
 use Rattle.flow_core.specs.declared.order.FlowOrder.{FlowOrder}
-use Rattle.flow_core.specs.declared.pairing.FlowDesk.{FlowDesk}
+use Rattle.flow_core.specs.Desks.{FlowDesk}
 use Rattle.flow_core.specs.Orders.{halves_in, MayFollow, now_of, gone_of}
 use Rattle.flow_core.specs.Picks.{lists_of, slot_sum}
 use Rattle.flow_core.specs.Stays.{Same, NamesKept, Holds, Sends, KeptStands}
-use Rattle.flow_core.proofs.SlotSums.{on, count, none_adds, lists-append, lists-sum}
+use Rattle.flow_core.proofs.SlotSums.{lists-append, lists-sum}
 use Rattle.flow_core.proofs.Runs.{halves-append}
 use Rattle.flow_migration.specs.declared.place.FlowPlace.{FlowPlace}
 use Rattle.flow_migration.specs.declared.place.FlowState.{FlowState}
 use Rattle.flow_migration.specs.declared.place.FlowState.TheVariants.{Front, Placed, Recall, Leaving}
 use Rattle.flow_migration.specs.declared.place.HalfAside.{HalfAside}
-use Rattle.flow_migration.specs.Desks.{sent_at, home_at, sent_weight, home_weight}
+use Rattle.flow_migration.specs.Desks.{sent_weight, home_weight}
+use Rattle.worker_core.specs.Desks.{sent_at, home_at}
 use Rattle.flow_migration.specs.Places.{place_at, queue_at, front_at, names_of}
 use Rattle.flow_migration.specs.Keeps.{StateIs}
 use Rattle.flow_migration.specs.Sides.{weight_at, PlaceIs, asides_of}
@@ -29,7 +31,8 @@ use Rattle.flow_migration.specs.Stays.{Stay, Where, AtFront, Here, Away, reaches
 use Rattle.flow_home.specs.declared.hand.Hand.{Hand}
 use Rattle.flow_home.specs.declared.home.Home.{Home}
 use Rattle.flow_home.specs.Lefts.{items_in, kept_in, lefts_at}
-use Rattle.flow_home.specs.Homecomings.{orders_left, hand_sum, halves_sum, rest_at, aside_sum, of_slot, homes_sum, front_lists, front_lists_at, met_from, met_lists, SlotLeft, IsLaid, IsEmptied}
+use Rattle.flow_home.specs.Homecomings.{orders_left, hand_sum, halves_sum, rest_at, aside_sum, of_slot, homes_sum}
+use Rattle.flow_home.specs.Homecomings.{front_lists, front_lists_at, met_from, met_lists, SlotLeft, IsLaid, IsEmptied}
 use Rattle.flow_home.proofs.Leftovers.{zero_sum, counted, backs_are, desk_found, desk_quiet}
 
 -- of a list without its last

@@ -1,7 +1,8 @@
 -- A half that comes home, and all halves that are home.
-use Rattle.std.proofs.Common.{◌≡◌, ◌≢◌, ℕ, ◌+◌, ◌<◌, ◌≤◌, Bool, true, false, cond, List, [], ◌∷◌, ◌++◌, length, get_or, map, Option, Some, None, refl, sym, ap, ◌∙◌, arith, append_assoc, append-nil}
+use Rattle.std.proofs.Common.{◌≡◌, ◌≢◌, ℕ, ◌+◌, ◌<◌, ◌≤◌, true, false, cond, List, [], ◌∷◌, ◌++◌, length, Option}
+use Rattle.std.proofs.Common.{Some, None, refl, sym, ap, ◌∙◌, arith, append_assoc, append-nil}
 use Rattle.std.specs.Prelude.{nat_eq, nat_lt}
-use Rattle.std.specs.List.{sum_by, All}
+use Rattle.std.specs.List.{sum_by}
 use Rattle.std.proofs.Math.Logic.{∥∥₁_map, ∥∥₁_elim}
 use Rattle.std.proofs.lemmas.List.{nil_from_length}
 use Rattle.std.proofs.lemmas.List.Sums.{sum_by-cons, sum_by_push}
@@ -9,7 +10,7 @@ use Rattle.std.proofs.lemmas.List.Elements.{All-nil, All-cons}
 use Rattle.std.proofs.lemmas.Bool.{eqb-true, eqb-false, eq-eqb, le-ltb}
 use base.Stored.{Coded, Coded-set, coded_ℕ}
 use Rattle.gather_home.proofs.Apart.{only, only_same, only_one}
-use Rattle.flow_core.specs.declared.pairing.FlowDesk.{FlowDesk}
+use Rattle.flow_core.specs.Desks.{FlowDesk}
 use Rattle.flow_core.specs.Stays.{Same}
 use Rattle.flow_migration.specs.declared.place.FlowPlace.{FlowPlace}
 use Rattle.flow_migration.specs.declared.place.FlowState.{FlowState}
@@ -19,11 +20,13 @@ use Rattle.flow_migration.specs.Desks.{sent_weight, home_weight}
 use Rattle.flow_migration.specs.Places.{place_at, queue_at, accepted_by, accepted_at, front_at}
 use Rattle.flow_migration.specs.Keeps.{StateIs}
 use Rattle.flow_migration.specs.Sides.{PlaceIs}
-use Rattle.flow_migration.specs.Stays.{Stay, Where, AtFront, Here, Away, reaches, backs, stay_items, Chain, came_of, since_of}
+use Rattle.flow_migration.specs.Stays.{Stay, Where, reaches, backs, stay_items, Chain, came_of, since_of}
 use Rattle.flow_home.specs.declared.hand.Hand.{Hand}
 use Rattle.flow_home.specs.declared.home.Home.{Home}
 use Rattle.flow_home.specs.Lefts.{lefts_at}
-use Rattle.flow_home.specs.Homecomings.{hand_sum, halves_sum, rest_at, aside_sum, of_slot, homes_sum, front_lists, met_from, met_lists, accepted_lists, SlotLeft, IsLaid, AreHome, ComeToAccepted, IsEmptied, ComesHome}
+use Rattle.flow_home.specs.Homecomings.{hand_sum, halves_sum, rest_at, aside_sum, of_slot, homes_sum, front_lists}
+use Rattle.flow_home.specs.Homecomings.{met_from, met_lists, accepted_lists, SlotLeft, IsLaid, AreHome}
+use Rattle.flow_home.specs.Homecomings.{ComeToAccepted, IsEmptied, ComesHome}
 use Rattle.flow_home.proofs.Leftovers.{zero_sum, counted}
 use Rattle.flow_home.proofs.Closes.{few_met, hand_emptied, rest_emptied}
 

@@ -1,5 +1,5 @@
 -- What is known after each step of a homecoming, whatever is in the lane home that is open.
-use Rattle.std.proofs.Common.{◌≡◌, ℕ, ◌+◌, List, [], ◌∷◌, ◌++◌, length, map, Option, Some, None, refl, sym, ap, ◌∙◌, subst, arith}
+use Rattle.std.proofs.Common.{◌≡◌, ℕ, ◌+◌, List, [], ◌∷◌, ◌++◌, length, Option, None, refl, sym, ap, ◌∙◌, subst, arith}
 use Rattle.std.specs.Prelude.{reverse, Result, Ok, Err, OnOk, OnErr}
 use Rattle.std.specs.List.{sum_by}
 use Rattle.std.specs.Option.{option_to_list}
@@ -8,7 +8,7 @@ use base.Stored.{Coded, coded_list}
 use Rattle.lane_core.specs.Ends.{sent, taken}
 use Rattle.lane_core.specs.Order.{Lawful}
 use Rattle.flow_core.specs.declared.order.FlowOrder.{FlowOrder}
-use Rattle.flow_core.specs.declared.pairing.FlowDesk.{FlowDesk}
+use Rattle.flow_core.specs.Desks.{FlowDesk}
 use Rattle.flow_core.specs.Orders.{halves_in, MayFollow}
 use Rattle.flow_core.specs.Stays.{NamesKept, Holds, Sends, KeptStands}
 use Rattle.flow_migration.specs.declared.place.FlowPlace.{FlowPlace}
@@ -17,9 +17,10 @@ use Rattle.flow_migration.specs.Places.{place_at, queue_at, front_at}
 use Rattle.flow_migration.specs.Sides.{AllKnown, Balanced}
 use Rattle.flow_home.specs.declared.hand.Hand.{Hand}
 use Rattle.flow_home.specs.declared.home.Home.{Home}
-use Rattle.flow_home.specs.declared.home_lane.HomeLane.{HomeLane}
+use Rattle.worker_core.specs.declared.home_lane.HomeLane.{HomeLane}
 use Rattle.flow_home.specs.Lefts.{items_in, kept_in, lefts_at}
-use Rattle.flow_home.specs.Homecomings.{IsRest, orders_left, hand_sum, halves_sum, rest_at, IsLaid, AllLaid, AreHome, IsEmptied, HandKeeps, ComesHome}
+use Rattle.flow_home.specs.Homecomings.{orders_left, rest_at, IsLaid, AllLaid, AreHome, IsEmptied, HandKeeps, ComesHome}
+use Rattle.worker_core.specs.Opened.{IsRest}
 use Rattle.flow_home.proofs.Begins.{IsNew, begins}
 use Rattle.flow_home.proofs.Moves.{moved_laid, aside_laid}
 use Rattle.flow_home.proofs.Closes.{hand_emptied, rest_emptied, closes}

@@ -1,14 +1,16 @@
 -- What is left of one slot in orders that were not taken: with it, its half has all that was sent for it.
-use Rattle.std.proofs.Common.{◌≡◌, ◌≢◌, ℕ, ◌+◌, ◌<◌, ◌≤◌, Bool, true, false, true≢false, cond, List, [], ◌∷◌, ◌++◌, length, Option, Some, None, refl, sym, ap, ◌∙◌, subst, arith, append_assoc, append-nil, length-append}
+use Rattle.std.proofs.Common.{◌≡◌, ◌≢◌, ℕ, ◌+◌, ◌<◌, ◌≤◌, true, false, true≢false, cond, List, [], ◌∷◌, ◌++◌, length}
+use Rattle.std.proofs.Common.{Option, Some, None, refl, sym, ap, ◌∙◌, subst, arith, append_assoc, append-nil}
 use Rattle.std.specs.Prelude.{nat_eq}
 use Rattle.std.specs.List.{sum_by}
 use Rattle.std.specs.Option.{option_to_list, is_some}
 use Rattle.std.proofs.lemmas.List.Sums.{sum_by-append, sum_by-cons}
-use Rattle.std.proofs.lemmas.Bool.{eqb-true, eqb-false, eq-eqb}
+use Rattle.std.proofs.lemmas.Bool.{eqb-true, eqb-false}
 use Rattle.lane_core.specs.Order.{Lawful}
 use Rattle.flow_core.specs.declared.order.FlowOrder.{FlowOrder}
 use Rattle.flow_core.specs.declared.order.FlowOrder.TheVariants.{Arrive, Item, Leave}
-use Rattle.flow_core.specs.Orders.{more, halves_in, stands, MayFollow, now_after, now_from, now_of, gone_after, gone_from, gone_of}
+use Rattle.flow_core.specs.Orders.{more, halves_in, stands, MayFollow, now_after, now_from, now_of, gone_after}
+use Rattle.flow_core.specs.Orders.{gone_from, gone_of}
 use Rattle.flow_core.specs.Picks.{slot_sum, with_kept}
 use Rattle.flow_core.specs.Stays.{Holds, KeptStands}
 use Rattle.flow_core.proofs.SlotSums.{on, count, none_adds}

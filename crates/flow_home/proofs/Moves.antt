@@ -1,16 +1,16 @@
 -- Halves and items that go from one place to another leave what is known.
-use Rattle.std.proofs.Common.{◌≡◌, ℕ, ◌+◌, ◌<◌, ◌≤◌, true, false, cond, List, [], ◌∷◌, ◌++◌, length, refl, sym, ap, ◌∙◌, arith}
-use Rattle.std.specs.Prelude.{nat_lt, Option, None}
+use Rattle.std.proofs.Common.{◌≡◌, ℕ, ◌+◌, ◌<◌, ◌≤◌, cond, List, ◌∷◌, ◌++◌, length, ap, ◌∙◌, arith}
+use Rattle.std.specs.Prelude.{Option}
 use Rattle.std.specs.List.{sum_by}
 use Rattle.std.proofs.Math.Logic.{∥∥₁_map}
 use Rattle.std.proofs.lemmas.Bool.{le-ltb}
-use Rattle.flow_core.specs.declared.pairing.FlowDesk.{FlowDesk}
+use Rattle.flow_core.specs.Desks.{FlowDesk}
 use Rattle.flow_migration.specs.declared.place.FlowPlace.{FlowPlace}
 use Rattle.flow_migration.specs.declared.place.HalfAside.{HalfAside}
 use Rattle.flow_migration.specs.Places.{place_at, queue_at}
 use Rattle.flow_home.specs.declared.hand.Hand.{Hand}
 use Rattle.flow_home.specs.declared.home.Home.{Home}
-use Rattle.flow_home.specs.Homecomings.{hand_sum, halves_sum, rest_at, aside_sum, of_slot, homes_sum, SlotLeft, IsLaid}
+use Rattle.flow_home.specs.Homecomings.{halves_sum, rest_at, aside_sum, of_slot, homes_sum, SlotLeft, IsLaid}
 
 -- where all slices count, so do all halves that are aside
 pub aside_all : {H : Type 0} (k : ℕ) (f : H → ℕ) (aside : List (HalfAside H)) → k ≡ 0

@@ -3,37 +3,34 @@ use Rattle.std.specs.Prelude.{◌≡◌, ℕ, ◌+◌, ◌<◌, ◌≤◌, ◌==
 use Rattle.std.specs.Prelude.{◌∷◌, ◌++◌, map, reverse, length, slice_index_or, Option, Some, None, Vec}
 use Rattle.std.specs.List.{sum_by, All}
 use Rattle.std.specs.Option.{option_to_list}
-use Rattle.lane_core.specs.Ends.{sent, taken}
+use Rattle.worker_core.specs.declared.home_lane.HomeLane.{HomeLane}
+use Rattle.worker_core.specs.Opened.{IsRest}
 use Rattle.flow_core.specs.declared.flow.Flow.{Ghosts}
 use Rattle.flow_core.specs.declared.order.FlowOrder.{FlowOrder}
-use Rattle.flow_core.specs.declared.pairing.FlowDesk.{FlowDesk}
+use Rattle.flow_core.specs.Desks.{FlowDesk}
 use Rattle.flow_core.specs.declared.worker.FlowEnd.{FlowEnd}
 use Rattle.flow_core.specs.Orders.{halves_in, now_of, gone_of}
 use Rattle.flow_core.specs.Picks.{lists_of}
-use Rattle.flow_core.specs.Workers.{desk_lanes, end_lanes}
+use Rattle.flow_core.specs.Workers.{end_lanes}
+use Rattle.worker_core.specs.Workers.{desk_lanes}
 use Rattle.flow_migration.specs.declared.place.FlowPlace.{FlowPlace}
 use Rattle.flow_migration.specs.declared.place.FlowState.{FlowState}
 use Rattle.flow_migration.specs.declared.place.FlowState.TheVariants.{Front, Placed, Recall, Leaving}
 use Rattle.flow_migration.specs.declared.place.HalfAside.{HalfAside}
-use Rattle.flow_migration.specs.Desks.{sent_at, home_at, sent_weight, home_weight}
+use Rattle.flow_migration.specs.Desks.{sent_weight, home_weight}
+use Rattle.worker_core.specs.Desks.{sent_at, home_at}
 use Rattle.flow_migration.specs.Places.{place_at, queue_at, accepted_by, accepted_at, front_at, names_of}
 use Rattle.flow_migration.specs.Sides.{weight_at, PlaceIs, asides_of}
 use Rattle.flow_migration.specs.Stays.{Stay, Where, AtFront, Here, Away, reaches}
 use Rattle.flow_migration.specs.Stays.{backs, stay_items, Chain, came_of, since_of}
 use Rattle.flow_migration.specs.Stays.{now_at, away_at}
 use Rattle.flow_home.specs.declared.hand.Hand.{Hand}
-use Rattle.flow_home.specs.declared.home_lane.HomeLane.{HomeLane}
 use Rattle.flow_home.specs.declared.home.Home.{Home}
 use Rattle.flow_home.specs.Lefts.{items_in, kept_in, lefts_at}
 
 -- the ends of workers have the lanes of these desks, one by one
 abbrev pub AreEnds : {H N I : Type 0} {g : Ghosts H N I} → List (FlowDesk H I) → List (FlowEnd H N I g) → Type 0
 AreEnds {H} {N} {I} {g} desks ends = map (end_lanes {g = g}) ends ≡ map desk_lanes desks
-
--- these halves were sent into a lane home that is open, and were not taken from it
-abbrev pub IsRest : {H : Type 0} → Option (HomeLane H) → List H → Type 0
-IsRest None out = out ≡ []
-IsRest (Some lane) out = sent lane.tx ≡ taken lane.rx ++ out
 
 -- numbers of the halves that were kept aside as they came from a slice from k on
 abbrev pub aside_sum : {H : Type 0} → ℕ → (H → ℕ) → List (HalfAside H) → ℕ

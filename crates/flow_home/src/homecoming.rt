@@ -1,5 +1,5 @@
 //! All halves come home.
-ghost use Rattle.std.specs.Prelude.{◌≡◌, ◌++◌, Some, map, All, IfOk, IfErr};
+ghost use Rattle.std.specs.Prelude.{◌≡◌, ◌++◌, map, All, IfOk, IfErr};
 ghost use Rattle.gather_home.specs.Homecomings.{somes};
 ghost use Rattle.flow_migration.specs.Places.{names_of};
 ghost use Rattle.flow_home.specs.Homecomings.{AreEnds, AtSlots, ComeToAccepted};

@@ -5,7 +5,6 @@
 
 mod hand;
 mod home;
-mod home_lane;
 mod homecoming;
 mod parts;
 mod steps;

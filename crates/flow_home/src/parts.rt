@@ -1,6 +1,6 @@
 //! What is left of a side and its workers, until each half is home.
-ghost use Rattle.std.specs.Prelude.{◌≡◌, ◌≤◌, ◌<◌, ◌+◌, ◌++◌, ℕ, [], None, Some, length, map};
-ghost use Rattle.std.specs.Prelude.{reverse, vec_len, All, OnOk, OnErr, IfOk, IfErr};
+ghost use Rattle.std.specs.Prelude.{◌≡◌, ◌≤◌, ◌<◌, ◌+◌, ◌++◌, ℕ, [], None, Some, map};
+ghost use Rattle.std.specs.Prelude.{vec_len, All, OnOk, IfOk, IfErr};
 ghost use Rattle.gather_home.specs.Homecomings.{somes};
 ghost use Rattle.flow_migration.specs.Places.{names_of};
 ghost use Rattle.flow_migration.specs.Sides.{BySlot};
@@ -8,7 +8,6 @@ ghost use Rattle.flow_home.specs.Homecomings.{AreEnds, AtSlots, ComeToAccepted, 
 
 use crate::hand::Hand;
 use crate::home::Home;
-use crate::home_lane::HomeLane;
 use crate::steps;
 use flow_core::{Flow, FlowDesk, FlowEnd};
 use flow_migration::{FlowEnded, FlowPlace, HalfAside};
@@ -16,6 +15,7 @@ use lane_core::NoMemory;
 use std::alloc::Global;
 use std::snapshot::Snapshot;
 use std::sync::Wait;
+use worker_core::{HomeLane, LaneDesk, close_home};
 
 /// What is left of a side and its workers after want of memory. No half and no item is lost.
 #[derive(Drop)]
@@ -155,7 +155,7 @@ impl<H: Flow> FlowParts<H> {
         ensures desks { vec_len self.new.desks ≡ vec_len self.old.desks }
         ensures closed { OnOk result (self.new.opened ≡ None) }
     {
-        steps::close_home(rt, self.alloc, &mut self.opened, &mut self.hand.held)
+        close_home(rt, self.alloc, &mut self.opened, &mut self.hand.held)
     }
 
     // Closes the lane of orders of the last slice.
@@ -171,7 +171,7 @@ impl<H: Flow> FlowParts<H> {
         let Some(end) = self.ends.pop() else {
             unreachable!()
         };
-        let FlowDesk { orders, home } = desk;
+        let LaneDesk { orders, home } = desk;
         let FlowEnd {
             place,
             held,
@@ -193,7 +193,7 @@ impl<H: Flow> FlowParts<H> {
                 Ok(())
             }
             Err(ends) => {
-                self.desks.push_reserved(FlowDesk {
+                self.desks.push_reserved(LaneDesk {
                     orders: ends.tx,
                     home,
                 });

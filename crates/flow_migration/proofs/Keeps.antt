@@ -3,21 +3,22 @@ use Rattle.std.proofs.Common.{◌≡◌, ℕ, ◌+◌, ◌≤◌, inl, List, [],
 use Rattle.std.proofs.Common.{length-append}
 use Rattle.std.specs.List.{sum_by}
 use Rattle.lane_core.specs.Ends.{sent}
-use Rattle.flow_core.specs.declared.pairing.FlowDesk.{FlowDesk}
+use Rattle.flow_core.specs.Desks.{FlowDesk}
 use Rattle.flow_core.specs.declared.order.FlowOrder.{FlowOrder}
 use Rattle.flow_core.specs.declared.order.FlowOrder.TheVariants.{Arrive, Item, Leave}
 use Rattle.flow_core.specs.Orders.{halves_in, now_of, gone_of}
-use Rattle.flow_core.proofs.Changes.{lasts_then}
+use Rattle.worker_core.proofs.Rising.{lasts_then}
 use Rattle.flow_migration.specs.declared.place.FlowState.{FlowState}
 use Rattle.flow_migration.specs.declared.place.FlowState.TheVariants.{Front, Placed, Recall, Leaving}
-use Rattle.flow_migration.specs.Desks.{lanes_of, homes_of, sent_at, home_at, order_count, fulls_at, sent_weight}
-use Rattle.flow_migration.specs.Desks.{Given, Refused}
+use Rattle.flow_migration.specs.Desks.{sent_weight}
+use Rattle.worker_core.specs.Desks.{lanes_of, homes_of, sent_at, home_at, order_count, fulls_at, Given, Refused}
 use Rattle.flow_migration.specs.Places.{pending, front_weight}
 use Rattle.flow_migration.specs.Stays.{Where, Here, Away, SlotKnows}
 use Rattle.flow_migration.specs.Keeps.{Stand, StateIs, StandTells, Keeps}
-use Rattle.flow_migration.proofs.Desks.{changed_sum, arrive_weight, none_weight, given_more, given_homes, given_ends}
-use Rattle.flow_migration.proofs.Desks.{given_fulls, given_count, given_lanes, given_len, refused_sent, refused_homes}
-use Rattle.flow_migration.proofs.Desks.{refused_ends, refused_sum, refused_fulls, refused_lanes, refused_len}
+use Rattle.flow_migration.proofs.Desks.{arrive_weight, none_weight}
+use Rattle.worker_core.proofs.AtDesks.{changed_sum, given_more, given_homes, given_ends, given_fulls, given_count}
+use Rattle.worker_core.proofs.AtDesks.{given_lanes, given_len, refused_sent, refused_homes, refused_ends, refused_sum}
+use Rattle.worker_core.proofs.AtDesks.{refused_fulls, refused_lanes, refused_len}
 use Rattle.flow_migration.proofs.Slots.{foreign_arrive, foreign_item, foreign_leave, now_foreign, gone_foreign}
 use Rattle.flow_migration.proofs.Slots.{knows_same, knows_arrive, knows_item, knows_leave, knows_parked}
 
@@ -249,7 +250,7 @@ module _ {H I : Type 0} (slot : H → ℕ) (item_slot : I → ℕ) (handled : H 
     long = ap length step.desks;
     weight = λ h. let a = ap (front_weight h) step.is in let b = ap (sum_by (sent_weight h)) step.desks in omega
         arith;
-    orders = let a = ap pending step.is in let b = ap (sum_by (order_count {H = H} {I = I})) step.desks in
+    orders = let a = ap pending step.is in let b = ap (sum_by (order_count {O = FlowOrder H I} {H = H})) step.desks in
         let c = ap length step.queue ∙ length-append old.queue (step.item ∷ []) in
         let d = ap length step.accepted ∙ length-append old.accepted (step.item ∷ []) in omega arith;
     fulls = λ d. inl (ap (λ l. fulls_at l d) step.desks);
@@ -310,7 +311,7 @@ module _ {H I : Type 0} (slot : H → ℕ) (item_slot : I → ℕ) (handled : H 
     weight = λ h. let a = bound_weight slice h old.state new.state bound in let b = ap (sum_by (sent_weight h))
         desks in omega arith;
     orders = let a = bound_pending slice old.state new.state bound in let b = ap
-        (sum_by (order_count {H = H} {I = I})) desks in
+        (sum_by (order_count {O = FlowOrder H I} {H = H})) desks in
         let c = ap length queue in let d = ap length accepted in omega arith;
     fulls = λ d. inl (ap (λ l. fulls_at l d) desks);
     nows = λ t apart d. ap (λ l. now_of slot item_slot handled t (sent_at l d)) desks;

@@ -1,5 +1,4 @@
 pub mod Desks
-pub mod Homes
 pub mod Keeps
 pub mod Passes
 pub mod Pumps

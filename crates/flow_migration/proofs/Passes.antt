@@ -1,35 +1,34 @@
 -- How slots are served and queues sent, one after another.
-use Rattle.std.proofs.Common.{◌≡◌, ◌≢◌, ℕ, zero, suc, ◌+◌, ◌*◌, ◌^◌, ◌<◌, ◌≤◌, inl, inr, Bool, true, false}
-use Rattle.std.proofs.Common.{true≢false, List, [], ◌∷◌, ◌++◌, length, length-append, map, set, get_or, replicate}
-use Rattle.std.proofs.Common.{refl, sym, ap, ◌∙◌, subst, arith}
+use Rattle.std.proofs.Common.{◌≡◌, ◌≢◌, ℕ, ◌+◌, ◌*◌, ◌^◌, ◌<◌, ◌≤◌, inl, inr, Bool, true, false}
+use Rattle.std.proofs.Common.{true≢false, List, [], ◌∷◌, ◌++◌, length, length-append, map, set, refl, sym}
+use Rattle.std.proofs.Common.{ap, ◌∙◌, subst, arith}
 use Rattle.std.specs.Prelude.{nat_eq, nat_lt, Option, Some, None, Result, Ok, Err, IfErr}
 use Rattle.std.proofs.lemmas.List.{get_or_past, get_or-set_same, get_or-set_other, set-set}
 use Rattle.std.proofs.Math.Seq.{map-set_same}
 use Rattle.std.proofs.lemmas.Bool.{eqb-true, eqb-false}
 use borrow.Author.Tests.{ltb-true, ltb-false}
-use Rattle.lane_core.specs.declared.ends.Receiver.{Receiver}
-use Rattle.lane_core.specs.Ends.{sender_lane, taken, empty_answers}
+use Rattle.lane_core.specs.Ends.{sender_lane}
 use Rattle.flow_core.specs.declared.order.FlowOrder.TheVariants.{Arrive, Leave}
 use Rattle.worker_core.specs.Workers.{Lanes}
-use Rattle.flow_core.specs.declared.pairing.FlowDesk.{FlowDesk}
-use Rattle.flow_core.specs.Counts.{Rises, Lasts}
-use Rattle.flow_core.proofs.Changes.{rises_raised, rises_then, then_rises}
+use Rattle.flow_core.specs.Desks.{FlowDesk}
+use Rattle.worker_core.specs.Counts.{Rises, Lasts}
+use Rattle.worker_core.proofs.Rising.{rises_raised, rises_then, then_rises}
 use Rattle.flow_migration.specs.declared.place.FlowPlace.{FlowPlace}
 use Rattle.flow_migration.specs.declared.place.FlowState.{FlowState}
 use Rattle.flow_migration.specs.declared.place.FlowState.TheVariants.{Front, Placed, Recall, Leaving}
 use Rattle.flow_migration.specs.declared.place.FlowNo.{FlowNo}
 use Rattle.flow_migration.specs.declared.place.HalfAside.{HalfAside}
-use Rattle.flow_migration.specs.Desks.{lanes_of, homes_of, order_count, fulls_at, room_at, sent_count, empties_at}
-use Rattle.flow_migration.specs.Desks.{Refused}
+use Rattle.worker_core.specs.Desks.{lanes_of, homes_of, order_count, fulls_at, room_at, sent_count, Refused}
 use Rattle.flow_migration.specs.Places.{place_at, accepted_at, accepted_by, accepted_count, moved_at, waits_at}
 use Rattle.flow_migration.specs.Places.{queues_for, queue_at, parks_at, is_admitted, is_placed, is_settled, Fits}
 use Rattle.flow_migration.specs.Places.{name_at, names_of}
 use Rattle.flow_migration.specs.Keeps.{PlaceKeeps}
-use Rattle.flow_migration.specs.Sides.{IsFlowSide, AllMetFull, QueuesMetFull, HomeEnded}
-use Rattle.flow_migration.specs.Steps.{Served, Drained, Moved, Gave, AtSlot, Accepts, Grown, Sends, Recalls, Serves}
+use Rattle.flow_migration.specs.Sides.{IsFlowSide, AllMetFull, QueuesMetFull}
+use Rattle.flow_migration.specs.Steps.{Served, Drained, Moved, Gave, AtSlot, Accepts, Sends, Recalls, Serves}
+use Rattle.worker_core.specs.BySlot.{Grown}
 use Rattle.flow_migration.specs.Steps.{ServesPlace, asked_after}
 use Rattle.flow_migration.specs.Words.{Roll, MetFull, Enters, Admits}
-use Rattle.flow_migration.proofs.Desks.{at_now, given_fulls, refused_full, refused_fulls}
+use Rattle.worker_core.proofs.AtDesks.{at_now, given_fulls, refused_full, refused_fulls}
 use Rattle.flow_migration.proofs.Sides.{kept_step, stepped_side, fits_here}
 
 module _ {N I : Type 0} where
@@ -238,52 +237,6 @@ module _ {H I : Type 0} where
       subst (λ (n : ℕ). Rises n (fulls_at now slice)) (same slice)
       (then_rises (fulls_at desks slice) (fulls_at then slice) (fulls_at now slice) (earlier slice)
       (met t slice is some))
-
--- how the lanes home ended stays, while orders are given
-pub ended_since : {H I : Type 0} (admitted was : ℕ) (aside old_aside : List (HalfAside H)) (slice : ℕ)
-    (first desks now : List (FlowDesk H I))
-    → homes_of now ≡ homes_of desks → aside ≡ old_aside → admitted ≡ was
-    → HomeEnded (length old_aside) was slice first desks
-    → HomeEnded (length aside) admitted slice first now
-ended_since {H} {I} admitted was aside old_aside slice first desks now homes same alike ended = elim ended [
-  | inl rose ↦ inl (subst (Rises (empties_at first slice)) (sym (by_homes empty_answers)) rose)
-  | inr more ↦ elim more [
-    | inl many ↦ inr (inl (by_homes (λ home. length (taken home)) ∙ many))
-    | inr full ↦ inr (inr (ap length same ∙ full ∙ sym alike))
-  ]
-] where
-  map_map : {A B : Type 0} (f : A → B) (g : B → ℕ) (xs : List A) → map (λ x. g (f x)) xs ≡ map g (map f xs)
-  map_map f g [] = refl
-  map_map f g (x ∷ xs) = ap (λ l. g (f x) ∷ l) (map_map f g xs)
-
-  by_homes : (count : Receiver H → ℕ) → get_or (map (λ (desk : FlowDesk H I). count desk.home) now) slice 0
-      ≡ get_or (map (λ (desk : FlowDesk H I). count desk.home) desks) slice 0
-  by_homes count = ap (λ l. get_or l slice 0)
-      (map_map (λ (desk : FlowDesk H I). desk.home) count now ∙ ap (map count) homes
-      ∙ sym (map_map (λ (desk : FlowDesk H I). desk.home) count desks))
-
-module _ {H I : Type 0} where
-  pub grown_none : (places : List (Option (FlowPlace H I))) → Grown places places
-  grown_none places = (0, sym (append_none places)) where
-    append_none : (xs : List (Option (FlowPlace H I))) → xs ++ [] ≡ xs
-    append_none [] = refl
-    append_none (x ∷ xs) = ap (λ l. x ∷ l) (append_none xs)
-
-  pub grown_same : (places old new : List (Option (FlowPlace H I))) → Grown places old → new ≡ old → Grown places new
-  grown_same places old new grown same = (grown.0, same ∙ grown.1)
-
-  pub grown_more : (places old new : List (Option (FlowPlace H I))) → Grown places old → new ≡ old ++ None ∷ []
-      → Grown places new
-  grown_more places old new grown more =
-      (suc grown.0, more ∙ ap (λ l. l ++ None ∷ []) grown.1 ∙ one_more places grown.0) where
-        pushed : (n : ℕ) → replicate {A = Option (FlowPlace H I)} n None ++ None ∷ [] ≡ replicate (suc n) None
-        pushed zero = refl
-        pushed (suc n) = ap (λ l. None ∷ l) (pushed n)
-
-        one_more : (xs : List (Option (FlowPlace H I))) (n : ℕ)
-            → (xs ++ replicate n None) ++ None ∷ [] ≡ xs ++ replicate (suc n) None
-        one_more [] n = pushed n
-        one_more (x ∷ xs) n = ap (λ l. x ∷ l) (one_more xs n)
 
 -- an admission in all
 pub admits_all : {H I : Type 0} (slot_of : H → ℕ) (item_slot : I → ℕ) (handled : H

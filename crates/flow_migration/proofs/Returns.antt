@@ -11,14 +11,15 @@ use Rattle.std.proofs.lemmas.Bool.{eqb-true, eqb-false, ne_eqb, eq-eqb}
 use Rattle.std.proofs.Math.Seq.{map-set_same}
 use Rattle.lane_core.specs.Ends.{sent, taken}
 use Rattle.worker_core.proofs.Arrivals.{sum_by-through}
-use Rattle.flow_core.specs.declared.pairing.FlowDesk.{FlowDesk}
+use Rattle.flow_core.specs.Desks.{FlowDesk}
 use Rattle.flow_core.specs.declared.order.FlowOrder.{FlowOrder}
 use Rattle.flow_core.specs.Orders.{halves_in, now_of, gone_of}
 use Rattle.flow_core.specs.Picks.{lists_of}
 use Rattle.flow_migration.specs.declared.place.FlowPlace.{FlowPlace}
 use Rattle.flow_migration.specs.declared.place.FlowState.{FlowState}
 use Rattle.flow_migration.specs.declared.place.HalfAside.{HalfAside}
-use Rattle.flow_migration.specs.Desks.{sent_at, home_at, order_count, sent_weight, home_weight, Taken, Empty}
+use Rattle.flow_migration.specs.Desks.{sent_weight, home_weight}
+use Rattle.worker_core.specs.Desks.{sent_at, home_at, order_count, Taken, Empty}
 use Rattle.flow_migration.specs.Places.{place_at, queue_at, accepted_by, accepted_count, is_admitted, accepted_at}
 use Rattle.flow_migration.specs.Places.{moved_at, is_settled, pending, pending_at, front_weight, front_at, Fits}
 use Rattle.flow_migration.specs.Places.{at_end, to_end, name_at, names_of}
@@ -26,7 +27,7 @@ use Rattle.flow_migration.specs.Stays.{Where, AtFront, SlotKnows}
 use Rattle.flow_migration.specs.Keeps.{StateIs}
 use Rattle.flow_migration.specs.Sides.{weight_at, is_lost, asides_of, Tells, slot_at_place, IsFlowSide}
 use Rattle.flow_migration.specs.Steps.{Welcomes}
-use Rattle.flow_migration.proofs.Desks.{changed_sum, changed_len, at_same, taken_more, taken_sent, OneHome}
+use Rattle.worker_core.proofs.AtDesks.{changed_sum, changed_len, at_same, taken_more, taken_sent, OneHome}
 use Rattle.flow_migration.proofs.Slots.{knows_same, knows_home, knows_aside, lists_foreign}
 use Rattle.flow_migration.proofs.Sides.{at_each, at_slot, by_slot}
 
@@ -90,7 +91,8 @@ taken_came {H} {I} slice half desks now took = record {
   sents = taken_sent slice half desks now took;
   one = taken_more slice half desks now took;
   long = changed_len slice took.before took.now desks now took.desk;
-  orders = let a = changed_sum slice took.before took.now desks now took.desk (order_count {H = H} {I = I}) in
+  orders = let a = changed_sum slice took.before took.now desks now took.desk
+      (order_count {O = FlowOrder H I} {H = H}) in
       let b = ap (λ orders. length (sent orders)) took.orders in omega arith;
   out = λ f. let a = changed_sum slice took.before took.now desks now took.desk (sent_weight f) in
       let b = ap (λ orders. sum_by f (halves_in (sent orders))) took.orders in omega arith;
@@ -319,7 +321,7 @@ module _ {H N I : Type 0} (name : H → N) (slot_at : N → ℕ) (item_slot : I 
         short = side.short;
         room_few = side.room_few;
         few = let a = side.few in let b = changed_sum slice none.before none.now desks now none.desk
-            (order_count {H = H} {I = I}) in
+            (order_count {O = FlowOrder H I} {H = H}) in
             let c = ap (λ orders. length (sent orders)) none.orders in omega arith;
         asked_few = side.asked_few;
         counted = side.counted;

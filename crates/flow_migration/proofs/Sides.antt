@@ -14,26 +14,27 @@ use Rattle.std.proofs.lemmas.List.Folds.{sum_by-replicate}
 use borrow.Author.Tests.{ltb-true, ltb-false}
 use Rattle.lane_core.specs.Ends.{sent, taken}
 use Rattle.worker_core.proofs.Arrivals.{sum_by-through}
-use Rattle.flow_core.specs.declared.pairing.FlowDesk.{FlowDesk}
-use Rattle.flow_core.specs.Workers.{IsNewDesk}
+use Rattle.flow_core.specs.Desks.{FlowDesk}
+use Rattle.flow_core.specs.declared.order.FlowOrder.{FlowOrder}
+use Rattle.worker_core.specs.Workers.{IsNewDesk}
 use Rattle.flow_core.specs.Orders.{halves_in, now_of, gone_of}
-use Rattle.flow_core.specs.Counts.{Lasts}
+use Rattle.worker_core.specs.Counts.{Lasts}
 use Rattle.flow_core.specs.Picks.{lists_of}
 use Rattle.flow_migration.specs.declared.place.FlowPlace.{FlowPlace}
 use Rattle.flow_migration.specs.declared.place.FlowState.{FlowState}
 use Rattle.flow_migration.specs.declared.place.FlowState.TheVariants.{Front, Placed, Recall, Leaving}
 use Rattle.flow_migration.specs.declared.place.HalfAside.{HalfAside}
-use Rattle.flow_migration.specs.Desks.{lanes_of, homes_of, sent_at, home_at, order_count, fulls_at, sent_weight}
-use Rattle.flow_migration.specs.Desks.{home_weight}
+use Rattle.flow_migration.specs.Desks.{sent_weight, home_weight}
+use Rattle.worker_core.specs.Desks.{lanes_of, homes_of, sent_at, home_at, order_count, fulls_at}
 use Rattle.flow_migration.specs.Places.{place_at, accepted_at, accepted_by, accepted_count, queue_at, is_admitted}
 use Rattle.flow_migration.specs.Places.{pending, pending_at, front_weight, front_at, is_settled, Fits, at_end, to_end}
 use Rattle.flow_migration.specs.Places.{name_at, names_of}
 use Rattle.flow_migration.specs.Stays.{Where, AtFront, now_at, Owned, SlotKnows}
 use Rattle.flow_migration.specs.Keeps.{stand_of, StateIs, Keeps, PlaceKeeps, MayGive, MayGiveAt, IsReady}
 use Rattle.flow_migration.specs.Sides.{weight_at, asides_of, Tells, slot_at_place, BySlot, IsFlowSide}
-use Rattle.flow_migration.specs.Steps.{Grown}
+use Rattle.worker_core.specs.BySlot.{Grown}
 use Rattle.flow_migration.specs.Words.{Enters}
-use Rattle.flow_migration.proofs.Desks.{homes_sum}
+use Rattle.worker_core.proofs.AtDesks.{homes_sum}
 use Rattle.flow_migration.proofs.Slots.{by_index, knows_same, knows_nothing, stands_none, stands_here}
 
 -- an index of mapped items, where the default is mapped too
@@ -321,7 +322,8 @@ module _ {H N I : Type 0} (name : H → N) (slot_at : N → ℕ) (item_slot : I 
     fits = All-nil (Fits (length desks) room);
     short = omega arith;
     room_few = few;
-    few = let a : sum_by (order_count {H = H} {I = I}) desks ≡ 0 = new_sum order_count (λ desk is. ap length is.0)
+    few = let a : sum_by (order_count {O = FlowOrder H I} {H = H}) desks ≡ 0 =
+        new_sum order_count (λ desk is. ap length is.0)
         desks new in omega arith;
     asked_few = omega arith;
     counted = refl;

@@ -12,7 +12,7 @@ use Rattle.flow_core.proofs.Runs.{now_last, gone_last, standing}
 use Rattle.flow_core.proofs.SlotSums.{lists-append}
 use Rattle.flow_migration.specs.Stays.{Stay, Where, AtFront, Here, Away, reach, reaches, backs, stay_items, Chain}
 use Rattle.flow_migration.specs.Stays.{since_of, now_at, away_at, Owned, SlotKnows}
-use Rattle.flow_migration.proofs.Desks.{OneMore, OneHome}
+use Rattle.worker_core.proofs.AtDesks.{OneMore, OneHome}
 
 -- a fact at one index and at all others
 pub by_index : (P : ℕ → Type 0) (e : ℕ) → P e → ((d : ℕ) → d ≢ e → P d) → (d : ℕ) → P d

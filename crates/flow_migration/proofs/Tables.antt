@@ -6,26 +6,26 @@ use Rattle.std.specs.List.{sum_by, All}
 use Rattle.std.proofs.lemmas.List.{set-get_or, map-append}
 use Rattle.std.proofs.lemmas.Bool.{eq-eqb, ne_eqb}
 use Rattle.std.proofs.lemmas.List.Elements.{All-head, All-tail}
-use Rattle.flow_core.specs.declared.pairing.FlowDesk.{FlowDesk}
+use Rattle.flow_core.specs.Desks.{FlowDesk}
 use Rattle.flow_core.specs.declared.order.FlowOrder.{FlowOrder}
 use Rattle.flow_core.specs.declared.order.FlowOrder.TheVariants.{Arrive, Item}
 use Rattle.flow_core.specs.Orders.{stands_after, stands_from, stands, MayFollow}
-use Rattle.flow_core.specs.Counts.{Rises}
-use Rattle.flow_core.proofs.Changes.{rises_raised, then_rises}
+use Rattle.worker_core.specs.Counts.{Rises}
+use Rattle.worker_core.proofs.Rising.{rises_raised, then_rises}
 use Rattle.flow_migration.specs.declared.place.FlowPlace.{FlowPlace}
 use Rattle.flow_migration.specs.declared.place.FlowState.{FlowState}
 use Rattle.flow_migration.specs.declared.place.FlowState.TheVariants.{Front, Placed, Recall, Leaving}
 use Rattle.flow_migration.specs.declared.place.FlowNo.{FlowNo}
 use Rattle.flow_migration.specs.declared.place.HalfAside.{HalfAside}
 use Rattle.flow_migration.specs.Sides.{is_lost}
-use Rattle.flow_migration.specs.Desks.{sent_at, order_count, fulls_at, Given, Refused}
+use Rattle.worker_core.specs.Desks.{sent_at, order_count, fulls_at, Given, Refused}
 use Rattle.flow_migration.specs.Places.{is_settled, waits_for, leaves, placed_at, at_end, to_end, accepted_by}
 use Rattle.flow_migration.specs.Places.{place_at, parks_at, is_placed, Fits}
 use Rattle.flow_migration.specs.Keeps.{Stand, stand_of, Keeps, PlaceKeeps, MayGive, IsReady}
 use Rattle.flow_migration.specs.Steps.{Sends, Recalls, Serves, Goes, QueueRests, Empties, EmptiesPlaced, QueueTakes}
 use Rattle.flow_migration.specs.Steps.{Lands, Delivers, Accepts, no_item, Served, Drained, Moved, Gave, Homes}
 use Rattle.flow_migration.specs.Steps.{Welcomes, WelcomesAt}
-use Rattle.flow_migration.proofs.Desks.{given_more, refused_full, refused_sent}
+use Rattle.worker_core.proofs.AtDesks.{given_more, refused_full, refused_sent}
 use Rattle.flow_migration.proofs.Keeps.{keeps_none, keeps_then, keeps_arrive, keeps_item, keeps_leave, keeps_park}
 use Rattle.flow_migration.proofs.Keeps.{keeps_refused, keeps_goes_to}
 use Rattle.flow_migration.specs.Queues.{Shortens}

@@ -1,102 +1,14 @@
--- What the desks of a side gave and took, and what one step at one of them changes.
-use Rattle.std.specs.Prelude.{◌≡◌, ℕ, ◌<◌, ◌≤◌, List, [], ◌∷◌, ◌++◌, map, length, slice_index}
-use Rattle.std.specs.Prelude.{slice_index_or, slice_set}
+-- Numbers of the halves that went through the desks of a side.
+use Rattle.std.specs.Prelude.{ℕ}
 use Rattle.std.specs.List.{sum_by}
-use Rattle.lane_core.specs.declared.ends.Receiver.{Receiver}
-use Rattle.lane_core.specs.Ends.{sender_lane, sent, taken, full_answers, empty_answers, raised}
-use Rattle.worker_core.specs.Workers.{Lanes}
-use Rattle.flow_core.specs.declared.pairing.FlowDesk.{FlowDesk}
-use Rattle.flow_core.specs.declared.order.FlowOrder.{FlowOrder}
+use Rattle.lane_core.specs.Ends.{sent, taken}
+use Rattle.flow_core.specs.Desks.{FlowDesk}
 use Rattle.flow_core.specs.Orders.{halves_in}
-use Rattle.flow_core.specs.Workers.{desk_lanes}
 
 module _ {H I : Type 0} where
-  abbrev pub lanes_of : List (FlowDesk H I) → List Lanes
-  lanes_of desks = map desk_lanes desks
-
-  -- the ends of the lanes home
-  abbrev pub homes_of : List (FlowDesk H I) → List (Receiver H)
-  homes_of desks = map (λ (desk : FlowDesk H I). desk.home) desks
-
-  -- the orders that were sent to a slice, in order
-  abbrev pub sent_at : List (FlowDesk H I) → ℕ → List (FlowOrder H I)
-  sent_at desks slice = slice_index_or (map (λ (desk : FlowDesk H I). sent desk.orders) desks) slice []
-
-  -- the halves that were taken home from it, in order
-  abbrev pub home_at : List (FlowDesk H I) → ℕ → List H
-  home_at desks slice = slice_index_or (map (λ (desk : FlowDesk H I). taken desk.home) desks) slice []
-
-  abbrev pub order_count : FlowDesk H I → ℕ
-  order_count desk = length (sent desk.orders)
-
-  -- how often the lane of a slice was full
-  abbrev pub fulls_at : List (FlowDesk H I) → ℕ → ℕ
-  fulls_at desks slice = slice_index (map (λ (desk : FlowDesk H I). full_answers desk.orders) desks) slice
-
-  -- how many orders it has room for
-  abbrev pub room_at : List (FlowDesk H I) → ℕ → ℕ
-  room_at desks slice = slice_index (map (λ (desk : FlowDesk H I). (sender_lane desk.orders).room) desks) slice
-
-  -- how many orders were sent to a slice
-  abbrev pub sent_count : List (FlowDesk H I) → ℕ → ℕ
-  sent_count desks slice = slice_index (map order_count desks) slice
-
-  -- how often the lane home of a slice was empty
-  abbrev pub empties_at : List (FlowDesk H I) → ℕ → ℕ
-  empties_at desks slice = slice_index (map (λ (desk : FlowDesk H I). empty_answers desk.home) desks) slice
-
-  -- how many halves came home from a slice
-  abbrev pub home_count : List (FlowDesk H I) → ℕ → ℕ
-  home_count desks slice = slice_index (map (λ (desk : FlowDesk H I). length (taken desk.home)) desks) slice
-
   -- a number of the halves that were sent to a slice, and of those that came home from it
   abbrev pub sent_weight : (H → ℕ) → FlowDesk H I → ℕ
   sent_weight h desk = sum_by h (halves_in (sent desk.orders))
 
   abbrev pub home_weight : (H → ℕ) → FlowDesk H I → ℕ
   home_weight h desk = sum_by h (taken desk.home)
-
--- the desk of one slice changed, and its lanes are those it had
-pub record DeskChanged {H I : Type 0} (slice : ℕ) (before now : FlowDesk H I) (old new : List (FlowDesk H I)) :
-    Type 0 where
-  pub within : slice < length old
-  pub there : before ≡ slice_index_or old slice before
-  pub changed : new ≡ slice_set old slice now
-  pub lanes : desk_lanes now ≡ desk_lanes before
-
--- an order was put into the lane of a slice
-pub record Given {H I : Type 0} (slice : ℕ) (order : FlowOrder H I) (old new : List (FlowDesk H I)) : Type 0 where
-  pub before : FlowDesk H I
-  pub now : FlowDesk H I
-  pub desk : DeskChanged slice before now old new
-  pub home : now.home ≡ before.home
-  pub sent : sent now.orders ≡ sent before.orders ++ order ∷ []
-  pub fulls : full_answers now.orders ≡ full_answers before.orders
-
--- that lane was full, and as many orders as it has room for were sent in all
-pub record Refused {H I : Type 0} (slice : ℕ) (old new : List (FlowDesk H I)) : Type 0 where
-  pub before : FlowDesk H I
-  pub now : FlowDesk H I
-  pub desk : DeskChanged slice before now old new
-  pub home : now.home ≡ before.home
-  pub filled : (sender_lane before.orders).room ≤ length (sent before.orders)
-  pub sent : sent now.orders ≡ sent before.orders
-  pub fulls : full_answers now.orders ≡ raised (full_answers before.orders)
-
--- a half was taken from the lane home of a slice
-pub record Taken {H I : Type 0} (slice : ℕ) (half : H) (old new : List (FlowDesk H I)) : Type 0 where
-  pub before : FlowDesk H I
-  pub now : FlowDesk H I
-  pub desk : DeskChanged slice before now old new
-  pub orders : now.orders ≡ before.orders
-  pub taken : taken now.home ≡ taken before.home ++ half ∷ []
-  pub empties : empty_answers now.home ≡ empty_answers before.home
-
--- that lane was empty
-pub record Empty {H I : Type 0} (slice : ℕ) (old new : List (FlowDesk H I)) : Type 0 where
-  pub before : FlowDesk H I
-  pub now : FlowDesk H I
-  pub desk : DeskChanged slice before now old new
-  pub orders : now.orders ≡ before.orders
-  pub taken : taken now.home ≡ taken before.home
-  pub empties : empty_answers now.home ≡ raised (empty_answers before.home)

@@ -2,13 +2,14 @@
 use Rattle.std.specs.Prelude.{◌≡◌, ◌≢◌, ℕ, ◌+◌, ◌^◌, ◌<◌, ◌≤◌, true, false, List, length}
 use Rattle.std.specs.Prelude.{Option, Some, None}
 use Rattle.std.specs.List.{sum_by, All}
-use Rattle.flow_core.specs.declared.pairing.FlowDesk.{FlowDesk}
+use Rattle.flow_core.specs.Desks.{FlowDesk}
 use Rattle.flow_core.specs.Orders.{stands, now_of, gone_of}
-use Rattle.flow_core.specs.Counts.{Lasts}
+use Rattle.worker_core.specs.Counts.{Lasts}
 use Rattle.flow_migration.specs.declared.place.FlowPlace.{FlowPlace}
 use Rattle.flow_migration.specs.declared.place.FlowState.{FlowState}
 use Rattle.flow_migration.specs.declared.place.FlowState.TheVariants.{Front, Placed, Recall, Leaving}
-use Rattle.flow_migration.specs.Desks.{lanes_of, homes_of, sent_at, home_at, order_count, fulls_at, sent_weight}
+use Rattle.flow_migration.specs.Desks.{sent_weight}
+use Rattle.worker_core.specs.Desks.{lanes_of, homes_of, sent_at, home_at, order_count, fulls_at}
 use Rattle.flow_migration.specs.Places.{pending, pending_at, front_weight, accepted_by, at_end_at, to_end_at, queue_at}
 use Rattle.flow_migration.specs.Stays.{Stay, Where, AtFront, Here, Away, SlotKnows}
 

@@ -3,12 +3,14 @@ use Rattle.std.specs.Prelude.{◌≡◌, ℕ, ◌+◌, ◌*◌, ◌^◌, ◌<◌
 use Rattle.std.specs.Prelude.{if◌then◌else◌, Bool, List, [], ◌∷◌, length, slice_index_or, count_by, Option, Some}
 use Rattle.std.specs.Prelude.{None}
 use Rattle.std.specs.List.{sum_by, All, list_any}
-use Rattle.flow_core.specs.declared.pairing.FlowDesk.{FlowDesk}
-use Rattle.flow_core.specs.Counts.{Rises}
+use Rattle.flow_core.specs.Desks.{FlowDesk}
+use Rattle.worker_core.specs.Counts.{Rises}
 use Rattle.flow_migration.specs.declared.place.FlowPlace.{FlowPlace}
 use Rattle.flow_migration.specs.declared.place.HalfAside.{HalfAside}
-use Rattle.flow_migration.specs.Desks.{sent_at, home_at, order_count, sent_weight}
-use Rattle.flow_migration.specs.Desks.{home_weight, fulls_at, empties_at, home_count}
+use Rattle.flow_migration.specs.Desks.{sent_weight}
+use Rattle.worker_core.specs.Desks.{sent_at, home_at, order_count}
+use Rattle.flow_migration.specs.Desks.{home_weight}
+use Rattle.worker_core.specs.Desks.{fulls_at}
 use Rattle.flow_migration.specs.Places.{place_at, accepted_at, accepted_count, queue_at}
 use Rattle.flow_migration.specs.Places.{is_admitted, pending_at, front_at}
 use Rattle.flow_migration.specs.Places.{Fits, waits_at, queues_for, names_of}
@@ -95,10 +97,3 @@ abbrev pub QueuesMetFull : {H I : Type 0} → List (Option (FlowPlace H I)) → 
 QueuesMetFull places old new = (slot slice : ℕ) → queues_for (place_at places slot) ≡ Some slice
     → 0 < length (queue_at (place_at places slot))
     → Rises (fulls_at old slice) (fulls_at new slice)
-
--- the lane home of a slice was empty, or 64 halves were taken from it, or no more may be kept aside
-abbrev pub HomeEnded : {H I : Type 0} → ℕ → ℕ → ℕ → List (FlowDesk H I) → List (FlowDesk H I) → Type 0
-HomeEnded aside admitted slice old new =
-    Rises (empties_at old slice) (empties_at new slice)
-    ⊎ (home_count new slice ≡ home_count old slice + 64)
-    ⊎ (aside ≡ admitted)

@@ -1,16 +1,16 @@
 -- What one step does to the state of one slot, to its queue, and to the desks.
 use Rattle.std.specs.Prelude.{◌≡◌, ℕ, ◌+◌, ◌<◌, ◌≤◌, ◌⊎◌, Bool, true, false, List, [], ◌∷◌}
-use Rattle.std.specs.Prelude.{◌++◌, length, replicate, slice_set, Option, Some, None, Result, Ok, Err}
+use Rattle.std.specs.Prelude.{◌++◌, length, slice_set, Option, Some, None, Result, Ok, Err}
 use Rattle.lane_core.specs.Ends.{raised}
-use Rattle.flow_core.specs.declared.pairing.FlowDesk.{FlowDesk}
+use Rattle.flow_core.specs.Desks.{FlowDesk}
 use Rattle.flow_core.specs.declared.order.FlowOrder.TheVariants.{Arrive, Item, Leave}
-use Rattle.flow_core.specs.Counts.{Rises}
+use Rattle.worker_core.specs.Counts.{Rises}
 use Rattle.flow_migration.specs.declared.place.FlowPlace.{FlowPlace}
 use Rattle.flow_migration.specs.declared.place.FlowState.{FlowState}
 use Rattle.flow_migration.specs.declared.place.FlowState.TheVariants.{Front, Placed, Recall, Leaving}
 use Rattle.flow_migration.specs.declared.place.FlowNo.{FlowNo}
 use Rattle.flow_migration.specs.declared.place.FlowNo.TheVariants.{Full, NoMemory}
-use Rattle.flow_migration.specs.Desks.{fulls_at, Given, Refused}
+use Rattle.worker_core.specs.Desks.{fulls_at, Given, Refused}
 use Rattle.flow_migration.specs.Places.{place_at, accepted_by, parks_at, waits_at, queues_for, queue_at}
 use Rattle.flow_migration.specs.Places.{moved_at, accepted_at, state_at, leaves, Fits}
 use Rattle.flow_migration.specs.declared.place.HalfAside.{HalfAside}
@@ -192,10 +192,6 @@ abbrev pub AtSlot : {H I : Type 0} → (Option (FlowPlace H I) → Option (FlowP
 AtSlot {H} {I} Step slot places new_places old new =
     (place : Option (FlowPlace H I)) × (slot < length places) × (new_places ≡ slice_set places slot place)
     × Step (place_at places slot) place old new
-
--- a list of places with some more that are free
-abbrev pub Grown : {H I : Type 0} → List (Option (FlowPlace H I)) → List (Option (FlowPlace H I)) → Type 0
-Grown old new = (more : ℕ) × (new ≡ old ++ replicate more None)
 
 -- what a state becomes as a half comes home from a slice, which is handed back where it isn't expected from there
 abbrev pub Homes : {H : Type 0} → H → ℕ → FlowState H → FlowState H → Option H → Type 0

@@ -1,17 +1,16 @@
 -- Parts of a side that clauses speak of.
-use Rattle.std.specs.Prelude.{◌≡◌, ◌≢◌, ℕ, ◌+◌, ◌<◌, ◌≤◌, ◌⊎◌, Bool, true, false, List, map}
+use Rattle.std.specs.Prelude.{◌≡◌, ◌≢◌, ℕ, ◌+◌, ◌<◌, ◌≤◌, ◌⊎◌, Bool, List, map}
 use Rattle.std.specs.Prelude.{length, Option, Some, None, slice_set, replicate, [], ◌++◌}
 use Rattle.worker_core.specs.Workers.{Lanes}
-use Rattle.flow_core.specs.declared.pairing.FlowDesk.{FlowDesk}
+use Rattle.flow_core.specs.Desks.{FlowDesk}
 use Rattle.flow_core.specs.declared.flow.Flow.{Ghosts}
-use Rattle.flow_core.specs.Counts.{Rises}
+use Rattle.worker_core.specs.Counts.{Rises}
 use Rattle.flow_migration.specs.declared.place.FlowPlace.{FlowPlace}
 use Rattle.flow_migration.specs.declared.place.FlowState.TheVariants.{Front}
 use Rattle.flow_migration.specs.declared.place.HalfAside.{HalfAside}
 use Rattle.flow_migration.specs.declared.side.FlowSide.{FlowSide}
-use Rattle.flow_migration.specs.Desks.{lanes_of, fulls_at, room_at, sent_count, empties_at, home_count}
+use Rattle.worker_core.specs.Desks.{lanes_of, fulls_at, room_at, sent_count}
 use Rattle.flow_migration.specs.Places.{names_of, accepted_at, accepted_by, moved_at}
-use Rattle.flow_migration.specs.Sides.{HomeEnded}
 use Rattle.flow_migration.specs.Steps.{Sends}
 
 -- what pumping leaves: the names, the accepted items and whether it moved, by slot; the lanes; the room of a queue; and
@@ -73,27 +72,6 @@ module _ {H N I : Type 0} {g : Ghosts H N I} where
 abbrev pub MetFull : {H I : Type 0} → List (FlowDesk H I) → List (FlowDesk H I) → Type 0
 MetFull old new = (slice : ℕ) × Rises (fulls_at old slice) (fulls_at new slice)
     × (room_at new slice ≤ sent_count new slice)
-
--- a look at the lane home of a slice: a half was taken, or none, since the lane was empty or no more may be kept
--- aside
-pub record TookOne {H I : Type 0} (went : Bool) (slice admitted : ℕ) (aside new_aside : List (HalfAside H))
-    (old new : List (FlowDesk H I)) : Type 0 where
-  pub others : (other : ℕ) → other ≢ slice → (home_count new other ≡ home_count old other)
-      × (empties_at new other ≡ empties_at old other)
-  pub more : went ≡ true → (home_count new slice ≡ home_count old slice + 1)
-      × (empties_at new slice ≡ empties_at old slice)
-  pub ended : went ≡ false → Rises (empties_at old slice) (empties_at new slice) ⊎ (length new_aside ≡ admitted)
-  pub aside_grows : length aside ≤ length new_aside
-  pub fulls : (other : ℕ) → fulls_at new other ≡ fulls_at old other
-
--- the lane home of a slice was emptied as far as it may be at once
-pub record TookFrom {H I : Type 0} (slice admitted : ℕ) (aside new_aside : List (HalfAside H))
-    (old new : List (FlowDesk H I)) : Type 0 where
-  pub others : (other : ℕ) → other ≢ slice → (home_count new other ≡ home_count old other)
-      × (empties_at new other ≡ empties_at old other)
-  pub ended : HomeEnded (length new_aside) admitted slice old new
-  pub aside_grows : length aside ≤ length new_aside
-  pub fulls : (other : ℕ) → fulls_at new other ≡ fulls_at old other
 
 -- a half that was admitted stands at the front of its slot, and no other slot changed
 pub record Enters {H I : Type 0} (slot slice : ℕ) (moves : Bool) (half : H)

@@ -2,7 +2,7 @@
 ghost use Rattle.std.specs.Prelude.{◌≡◌, ◌≤◌, ◌<◌, ◌+◌, ◌*◌, ◌^◌, ◌⊎◌, ℕ, All, true};
 ghost use Rattle.std.specs.Prelude.{false, [], length, vec_len, vec_capacity, count_by, OnOk, OnErr, IfErr};
 ghost use Rattle.std.specs.List.{sum_by};
-ghost use Rattle.flow_core.specs.Workers.{IsNewDesk};
+ghost use Rattle.worker_core.specs.Workers.{IsNewDesk};
 ghost use Rattle.flow_migration.specs.Places.{names_of, Fits};
 ghost use Rattle.flow_migration.specs.Sides.{AllKnown, Balanced, BySlot, IsFlowSide};
 ghost use Rattle.flow_migration.specs.Steps.{asked_after, refused_after};
@@ -16,7 +16,7 @@ use std::alloc::Global;
 use std::collections::VecDeque;
 use std::snapshot::Snapshot;
 use std::sync::Wait;
-use worker_core::Log;
+use worker_core::{Log, grow, take_home, widen};
 
 /// How many halves `pump` takes from a lane home at once, at most.
 const HOME: usize = 64;
@@ -55,17 +55,20 @@ pub struct FlowEnded<H: Flow> {
 }
 
 impl<H: Flow> FlowSide<H> {
-    ghost use Rattle.flow_migration.specs.Desks.{lanes_of, homes_of, fulls_at, order_count};
-    ghost use Rattle.flow_core.specs.Counts.{Lasts};
+    ghost use Rattle.worker_core.specs.Desks.{lanes_of, homes_of, fulls_at, order_count};
+    ghost use Rattle.worker_core.specs.Counts.{Lasts};
     ghost use Rattle.flow_migration.specs.Places.{place_at, is_admitted, parks_at, waits_at, state_at, accepted_count};
-    ghost use Rattle.flow_migration.specs.Steps.{Served, Drained, Moved, Gave, AtSlot, Grown};
+    ghost use Rattle.flow_migration.specs.Steps.{Served, Drained, Moved, Gave, AtSlot};
+    ghost use Rattle.worker_core.specs.BySlot.{Grown};
     ghost use Rattle.flow_migration.specs.Pumps.{EachState, Pumps, IsOffered, KeepsAside, TakesHome};
     ghost use Rattle.flow_migration.specs.Queues.{EachShortens, QueuesStay};
-    ghost use Rattle.flow_migration.specs.Sides.{AllMetFull, QueuesMetFull, HomeEnded};
+    ghost use Rattle.flow_migration.specs.Sides.{AllMetFull, QueuesMetFull};
+    ghost use Rattle.worker_core.specs.Homes.{HomeEnded};
     ghost use Rattle.flow_migration.specs.Words.{desks_of, places_of, aside_of, queue_room_of, admitted_of, asked_of};
-    ghost use Rattle.flow_migration.specs.Words.{refused_of, roll_of, accepts_of, moves_of};
-    ghost use Rattle.flow_migration.specs.Words.{MetFull, Enters, Admits, TookOne};
-    ghost use Rattle.flow_migration.specs.Words.{TookFrom};
+    ghost use Rattle.flow_migration.specs.Words.{refused_of, roll_of, accepts_of};
+    ghost use Rattle.flow_migration.specs.Words.{MetFull, Enters, Admits};
+    ghost use Rattle.worker_core.specs.Homes.{TookOne};
+    ghost use Rattle.worker_core.specs.Homes.{TookFrom};
 
     /// A side with these desks, one for each slice in order, no slot, and queues of at most so many
     /// items, 1 to 256.
@@ -239,20 +242,10 @@ impl<H: Flow> FlowSide<H> {
         ensures places { result.places.items ≡ places_of self }
         ensures aside { result.aside.items ≡ aside_of self }
     {
-        let FlowSide {
-            alloc: _,
-            desks,
-            places,
-            aside,
-            room: _,
-            admitted: _,
-            asked: _,
-            refused: _,
-        } = self;
         FlowEnded {
-            desks,
-            places,
-            aside,
+            desks: self.desks,
+            places: self.places,
+            aside: self.aside,
         }
     }
 
@@ -265,8 +258,8 @@ impl<H: Flow> FlowSide<H> {
         ensures enough { OnOk result ((slot < vec_len self.new.places)
             × (admitted_of self.new < vec_capacity self.new.aside)) }
     {
-        steps::grow(&mut self.places, slot.0 as usize + 1)?;
-        steps::widen(&mut self.aside, self.admitted + 1)
+        grow(&mut self.places, slot.0 as usize + 1)?;
+        widen(&mut self.aside, self.admitted + 1)
     }
 
     // A half stands at the front of its slot.
@@ -397,7 +390,7 @@ impl<H: Flow> FlowSide<H> {
         if self.aside.len() >= self.admitted {
             return false;
         }
-        let Some(half) = steps::take_home(rt, &mut self.desks, slice) else {
+        let Some(half) = take_home(rt, &mut self.desks, slice) else {
             return false;
         };
         let slot = half.slot();

@@ -1,23 +1,22 @@
 //! Steps at one slot: an order is offered, an item is accepted, and a half comes home.
-ghost use Rattle.std.specs.Prelude.{◌≡◌, ◌≤◌, ◌<◌, ◌+◌, ◌^◌, cond, true, false, [], ◌∷◌};
-ghost use Rattle.std.specs.Prelude.{◌++◌, ℕ, Some, None, List, length, vec_len, vec_capacity, slice_set, OnOk, OnErr};
-ghost use Rattle.std.specs.Prelude.{IfErr, MatchOption};
+ghost use Rattle.std.specs.Prelude.{◌≡◌, ◌≤◌, ◌<◌, ◌+◌, ◌^◌, true, false, ◌∷◌};
+ghost use Rattle.std.specs.Prelude.{◌++◌, ℕ, Some, None, length, vec_len, slice_set, OnOk, OnErr};
+ghost use Rattle.std.specs.Prelude.{IfErr};
 ghost use Rattle.std.specs.List.{sum_by, All};
 ghost use Rattle.flow_core.specs.declared.order.FlowOrder.TheVariants.{Arrive, Item, Leave};
 ghost use Rattle.flow_core.specs.Orders.{MayFollow, stands};
-ghost use Rattle.flow_core.specs.Counts.{Rises};
 ghost use Rattle.flow_migration.specs.declared.place.FlowState.TheVariants.{Placed};
-ghost use Rattle.flow_migration.specs.Desks.{Given, Refused, Taken, Empty, order_count, sent_at, fulls_at};
+ghost use Rattle.worker_core.specs.Desks.{Given, Refused, order_count, sent_at};
 ghost use Rattle.flow_migration.specs.Places.{at_end, to_end, is_placed, is_settled};
 ghost use Rattle.flow_migration.specs.Places.{parks_at, place_at, is_admitted, Fits};
-ghost use Rattle.flow_migration.specs.Places.{placed_at, queue_at, accepted_by};
-ghost use Rattle.flow_migration.specs.Keeps.{Keeps, MayGive, IsReady};
+ghost use Rattle.flow_migration.specs.Places.{accepted_by};
+ghost use Rattle.flow_migration.specs.Keeps.{MayGive, IsReady};
 ghost use Rattle.flow_migration.specs.Sides.{is_lost};
 ghost use Rattle.flow_migration.specs.Steps.{Sends, Recalls, Serves, Goes};
 ghost use Rattle.flow_migration.specs.Steps.{SentFirst, QueueRests, Empties, EmptiesPlaced};
 ghost use Rattle.flow_migration.specs.Steps.{QueueTakes, Lands, Delivers, Accepts, Served};
 ghost use Rattle.flow_migration.specs.Steps.{Drained, Moved, Gave, AtSlot};
-ghost use Rattle.flow_migration.specs.Steps.{Grown, Homes, Welcomes, WelcomesAt};
+ghost use Rattle.flow_migration.specs.Steps.{Homes, Welcomes, WelcomesAt};
 
 use crate::place::{FlowNo, FlowPlace, FlowState, HalfAside};
 use flow_core::{Flow, FlowDesk, FlowKind, FlowOrder};
@@ -27,7 +26,7 @@ use std::collections::VecDeque;
 use std::sync::Wait;
 use worker_core::Log;
 
-// Offers an order at the desk of a slice.
+// Offers an order at the desk of a slice, which the law of its lane allows.
 fn offer<H: Flow, R: Wait>(
     rt: &R,
     desks: &mut Vec<FlowDesk<H>>,
@@ -41,7 +40,7 @@ fn offer<H: Flow, R: Wait>(
     ensures full { IfErr result (λ full. (full.0 ≡ order) × Refused slice desks.old.items desks.new.items) }
     ensures len { vec_len desks.new ≡ vec_len desks.old }
 {
-    desks[slice.0 as usize].orders.offer(rt, order)
+    worker_core::offer(rt, desks, slice, order)
 }
 
 // Sends a half to a slice, or keeps it at the front where that lane is full.
@@ -653,16 +652,6 @@ fn homed<H: Drop>(state: FlowState<H>, half: H, slice: usize) -> (FlowState<H>, 
     }
 }
 
-// Takes a half from the lane home of a slice.
-pub fn take_home<H: Flow, R: Wait>(rt: &R, desks: &mut Vec<FlowDesk<H>>, slice: usize) -> Option<H>
-    requires { slice < vec_len desks.old }
-    ensures taken { MatchOption result (Empty slice desks.old.items desks.new.items)
-        (λ half. Taken slice half desks.old.items desks.new.items) }
-    ensures len { vec_len desks.new ≡ vec_len desks.old }
-{
-    desks[slice].home.take(rt)
-}
-
 // Whether a half of a slot is kept aside.
 pub fn is_aside<H: FlowKind>(aside: &[HalfAside<H>], slot: Slot) -> bool
     ensures { result ≡ is_lost H.slot_of_half slot aside.now }
@@ -676,29 +665,4 @@ pub fn put<H: Flow>(places: &mut Vec<Option<FlowPlace<H>>>, slot: Slot, place: F
     ensures { places.new.items ≡ slice_set places.old.items slot (Some place) }
 {
     places[slot.0 as usize] = Some(place);
-}
-
-// Makes free places until there are so many.
-pub fn grow<H: Flow>(places: &mut Vec<Option<FlowPlace<H>>>, len: usize) -> Result<(), NoMemory>
-    requires room { (len ≤ 65533) × (vec_len places.old ≤ 65533) }
-    ensures short { vec_len places.new ≤ 65533 }
-    ensures grown { Grown places.old.items places.new.items }
-    ensures enough { OnOk result (len ≤ vec_len places.new) }
-{
-    while places.len() < len {
-        places.push(None)?;
-    }
-    Ok(())
-}
-
-// Makes room for so many items.
-pub fn widen<T>(items: &mut Vec<T>, room: usize) -> Result<(), NoMemory>
-    ensures items { items.new.items ≡ items.old.items }
-    ensures kept { vec_capacity items.old ≤ vec_capacity items.new }
-    ensures wide { OnOk result (room ≤ vec_capacity items.new) }
-{
-    if items.len() < room {
-        items.reserve(room - items.len())?;
-    }
-    Ok(())
 }

@@ -7,7 +7,7 @@ use Rattle.std.proofs.lemmas.List.Sums.{sum_by-append, sum_by_push}
 use Rattle.lane_core.specs.Ends.{sent, taken}
 use Rattle.worker_core.specs.declared.order.Order.{Order}
 use Rattle.worker_core.specs.declared.order.Order.TheVariants.{Arrive, Leave}
-use Rattle.worker_core.specs.declared.pairing.Desk.{Desk}
+use Rattle.worker_core.specs.Desks.{Desk}
 use Rattle.worker_core.specs.Names.{arrivals, weight}
 use Rattle.worker_core.proofs.Arrivals.{arrivals-append, weight-push}
 use Rattle.migration.specs.Desks.{sent_weight, home_weight}

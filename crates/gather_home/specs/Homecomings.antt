@@ -2,7 +2,7 @@
 use Rattle.std.specs.Prelude.{◌≡◌, ℕ, ◌+◌, List, [], ◌∷◌, map, Option, Some, None}
 use Rattle.std.specs.List.{sum_by, All}
 use Rattle.worker_core.specs.declared.order.Order.{Order}
-use Rattle.worker_core.specs.declared.pairing.Desk.{Desk}
+use Rattle.worker_core.specs.Desks.{Desk}
 use Rattle.worker_core.specs.declared.traveller.Traveller.{Ghosts}
 use Rattle.worker_core.specs.declared.worker.WorkerEnd.{WorkerEnd}
 use Rattle.worker_core.specs.declared.home_lane.HomeLane.{HomeLane}

@@ -1,5 +1,5 @@
 //! What is left of a side and its workers, until each half is found.
-ghost use Rattle.std.specs.Prelude.{◌≡◌, ◌≤◌, ◌<◌, ◌+◌, ℕ, [], None, length, map, vec_len, OnOk, OnErr, IfOk, IfErr};
+ghost use Rattle.std.specs.Prelude.{◌≡◌, ◌≤◌, ◌<◌, ◌+◌, ℕ, [], None, map, vec_len, OnOk, IfOk, IfErr};
 ghost use Rattle.std.specs.List.{sum_by};
 ghost use Rattle.worker_core.specs.Names.{weight};
 ghost use Rattle.migration.specs.Places.{names_of, weight_at};
@@ -12,7 +12,7 @@ use migration::{Place, SideEnd};
 use std::alloc::Global;
 use std::snapshot::Snapshot;
 use std::sync::Wait;
-use worker_core::{Desk, HomeLane, Order, Traveller, WorkerEnd, close_home};
+use worker_core::{Desk, HomeLane, LaneDesk, Order, Traveller, WorkerEnd, close_home};
 
 /// What is left of a side and its workers after want of memory. No half is lost.
 #[derive(Drop)]
@@ -155,7 +155,7 @@ impl<H: Traveller> Parts<H> {
         let Some(end) = self.ends.pop() else {
             unreachable!()
         };
-        let Desk { orders, home } = desk;
+        let LaneDesk { orders, home } = desk;
         let WorkerEnd {
             place,
             held,
@@ -173,7 +173,7 @@ impl<H: Traveller> Parts<H> {
                 Ok(())
             }
             Err(ends) => {
-                self.desks.push_reserved(Desk {
+                self.desks.push_reserved(LaneDesk {
                     orders: ends.tx,
                     home,
                 });

@@ -1,5 +1,4 @@
 pub mod Desks
-pub mod Homes
 pub mod Passes
 pub mod PlaceSteps
 pub mod Pumps

@@ -6,18 +6,18 @@ use Rattle.std.proofs.lemmas.List.{map-set, length-map, get_or-map, get_or-set_s
 use Rattle.std.proofs.lemmas.List.Elements.{All-nil, All-push, All-append, All-weaker}
 use borrow.Author.Tests.{eqb-true, eqb-false}
 use Rattle.lane_core.specs.Ends.{sent}
-use Rattle.worker_core.specs.declared.pairing.Desk.{Desk}
+use Rattle.worker_core.specs.Desks.{Desk}
 use Rattle.worker_core.specs.declared.order.Order.{Order}
 use Rattle.worker_core.specs.declared.order.Order.TheVariants.{Arrive, Leave}
 use Rattle.migration.specs.declared.place.Place.{Place}
 use Rattle.migration.specs.declared.place.State.{State}
 use Rattle.migration.specs.declared.place.State.TheVariants.{Front, Placed, Recall, Leaving}
-use Rattle.migration.specs.Desks.{Given, Refused, Taken, Empty}
+use Rattle.worker_core.specs.Desks.{Given, Refused, Taken, Empty}
 use Rattle.migration.specs.Places.{place_at, hop_at, is_leaving}
 use Rattle.migration.specs.Steps.{Serves, PlaceServed, ServedAt, Welcomes}
 use Rattle.migration.specs.Passes.{stage, stage_at, Unawaited, IsRecall, IsRecallAt, Falls, sent_at, Lawful, Gave}
 use Rattle.migration.specs.Passes.{Passes}
-use Rattle.migration.proofs.Desks.{changed_map}
+use Rattle.worker_core.proofs.AtDesks.{changed_map}
 
 module _ {H : Type 0} where
   pub falls_same : (place : Option (Place H)) → Falls place place

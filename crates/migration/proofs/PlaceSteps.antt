@@ -11,22 +11,27 @@ use Rattle.std.proofs.Math.Seq.{map-set_same}
 use borrow.Author.Tests.{eqb-true, ltb-true, ltb-false}
 use Rattle.std.proofs.lemmas.Bool.{eq-eqb}
 use Rattle.lane_core.specs.Ends.{sent, taken, raised}
-use Rattle.worker_core.specs.declared.pairing.Desk.{Desk}
+use Rattle.worker_core.specs.Desks.{Desk}
+use Rattle.worker_core.specs.declared.order.Order.{Order}
 use Rattle.worker_core.specs.Names.{arrivals, weight}
 use Rattle.worker_core.specs.Workers.{IsNewDesk}
 use Rattle.worker_core.proofs.Arrivals.{weight-push}
 use Rattle.migration.specs.declared.place.Place.{Place}
 use Rattle.migration.specs.declared.place.State.{State}
 use Rattle.migration.specs.declared.place.State.TheVariants.{Front, Placed, Recall, Leaving}
-use Rattle.migration.specs.Desks.{sent_weight, home_weight, lanes_of, homes_of, order_count, fulls_at, Taken, Empty}
+use Rattle.migration.specs.Desks.{sent_weight, home_weight}
+use Rattle.worker_core.specs.Desks.{lanes_of, homes_of, order_count, fulls_at, Taken, Empty}
 use Rattle.migration.specs.Places.{place_at, pending_at, is_admitted, is_waiting, is_waiting_at, waits_at, PlaceFits}
 use Rattle.migration.specs.Places.{at_end, to_end, hop_at, hops_of, name_at, names_of, front_at, front_weight}
 use Rattle.migration.specs.Places.{pending, weight_at, wait_weight, IsOwn, IsOwnAt}
 use Rattle.migration.specs.Steps.{Sends, Serves, Goes, PlaceServed, ServedAt, Moves, MovesAt, NewlyWaits, Welcomes}
-use Rattle.migration.specs.Steps.{Admits, Grown}
-use Rattle.migration.specs.Sides.{slot_at, BySlot, IsSide, Rose}
+use Rattle.migration.specs.Steps.{Admits}
+use Rattle.worker_core.specs.BySlot.{Grown}
+use Rattle.migration.specs.Sides.{slot_at, BySlot, IsSide}
+use Rattle.worker_core.specs.Counts.{Rises}
 use Rattle.migration.specs.Words.{ServedNext}
-use Rattle.migration.proofs.Desks.{changed_sum, changed_len, homes_sum}
+use Rattle.worker_core.proofs.Rising.{rises_raised}
+use Rattle.worker_core.proofs.AtDesks.{changed_sum, changed_len, homes_sum}
 use Rattle.migration.proofs.StateSteps.{StateStep, sends_step, serves_step, goes_step, sends_fit, serves_fit, goes_fit}
 use Rattle.migration.proofs.SideSteps.{at_slot, wait_weight_is, set_side, same_places, grown_side, place_grown}
 
@@ -38,12 +43,6 @@ sum_by-one : {X : Type 0} (xs : List X) → sum_by (λ _. 1) xs ≡ length xs
 sum_by-one [] = refl
 sum_by-one {X} (x ∷ xs) =
     let one : X → ℕ = λ _. 1 in let h = sum_by-one xs in let e = sum_by-cons one x xs in omega arith
-
-pub rose_raised : (old new : ℕ) → new ≡ raised old → Rose old new
-rose_raised old new e = elim (nat_lt old (2 ^ 64 - 1)) as (λ b. nat_lt old (2 ^ 64 - 1) ≡ b → Rose old new) [
-  | true ↦ λ low. let l : old < 2 ^ 64 - 1 = ltb-true old (2 ^ 64 - 1) low in inl (omega arith)
-  | false ↦ λ high. let h : 2 ^ 64 - 1 ≤ old = ltb-false old (2 ^ 64 - 1) high in inr (omega arith)
-] refl
 
 -- a weight that sees one slot alone
 abbrev pub on : ℕ → ℕ → ℕ
@@ -59,7 +58,8 @@ pub record PlaceStep {H N : Type 0} (name : H → N) (spare : ℕ) (old new : Op
   pub admitted : is_admitted new ≡ is_admitted old
   pub balance : (h : N → ℕ) → front_at name h new + sum_by (sent_weight name h) now ≡ front_at name h old
       + sum_by (sent_weight name h) desks
-  pub count : sum_by (order_count {H = H}) now + pending_at new ≤ sum_by (order_count {H = H}) desks
+  pub count : sum_by (order_count {O = Order H} {H = H}) now + pending_at new
+      ≤ sum_by (order_count {O = Order H} {H = H}) desks
       + pending_at old + spare
   pub fulls : (slice : ℕ) → (fulls_at now slice ≡ fulls_at desks slice)
       ⊎ (fulls_at now slice ≡ raised (fulls_at desks slice))
@@ -274,7 +274,7 @@ module _ {H N : Type 0} (name : H → N) (slot_of : N → ℕ) where
     fronts = λ slot. refl;
     queued = λ w. refl;
     fits = All-nil (PlaceFits (length desks) 0);
-    few = let a : sum_by (order_count {H = H}) desks ≡ 0 =
+    few = let a : sum_by (order_count {O = Order H} {H = H}) desks ≡ 0 =
         new_sum desks new order_count (λ d is. ap length is.0) in omega arith;
     asked_few = omega arith;
     counted = refl;
@@ -347,7 +347,7 @@ module _ {H N : Type 0} (name : H → N) (slot_of : N → ℕ) where
         later = omega arith;
         few = side.asked_few;
         count =
-            let s = changed_sum slice b n desks now took.desk (order_count {H = H}) in
+            let s = changed_sum slice b n desks now took.desk (order_count {O = Order H} {H = H}) in
             let t = ap (λ o. length (sent o)) took.orders in
             let p : pending_at (place_at places slot) ≡ 1 = ap pending_at was ∙ ap pending left in
             let q : pending_at place ≡ 1 = ap pending_at is ∙ ap pending front in omega arith;
@@ -378,7 +378,7 @@ module _ {H N : Type 0} (name : H → N) (slot_of : N → ℕ) where
       omega arith)
       (λ w. refl)
       (changed_len slice b n desks now took.desk)
-      (let s = changed_sum slice b n desks now took.desk (order_count {H = H}) in
+      (let s = changed_sum slice b n desks now took.desk (order_count {O = Order H} {H = H}) in
       let t = ap (λ o. length (sent o)) took.orders in omega arith)
       (let l = ap length more ∙ length-append aside (half ∷ []) in omega arith))
 
@@ -398,7 +398,7 @@ module _ {H N : Type 0} (name : H → N) (slot_of : N → ℕ) where
       omega arith)
       (λ w. refl)
       (changed_len slice b n desks now none.desk)
-      (let s = changed_sum slice b n desks now none.desk (order_count {H = H}) in
+      (let s = changed_sum slice b n desks now none.desk (order_count {O = Order H} {H = H}) in
       let t = ap (λ o. length (sent o)) none.orders in omega arith)
       side.aside_few
 
@@ -578,11 +578,11 @@ module _ {H N : Type 0} (name : H → N) (slot_of : N → ℕ) where
           served = served;
           others = λ other apart. ap (λ l. place_at l other) served.1
               ∙ get_or-set_other places slot other place None apart;
-          again = λ slice still. rose_raised (fulls_at desks slice) (fulls_at now slice)
+          again = λ slice still. rises_raised (fulls_at desks slice) (fulls_at now slice)
               (step.1 slice (sym (ap waits_at is) ∙ still));
           later = λ slice. elim (step.0.fulls slice) [
             | inl same ↦ inl same
-            | inr more ↦ inr (rose_raised (fulls_at desks slice) (fulls_at now slice) more)
+            | inr more ↦ inr (rises_raised (fulls_at desks slice) (fulls_at now slice) more)
           ];
         },
       )

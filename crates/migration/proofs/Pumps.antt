@@ -11,15 +11,15 @@ use Rattle.std.proofs.lemmas.List.Sorted.{IsPermutation-reverse, sum_by-IsPermut
 use Rattle.std.proofs.lemmas.List.Sums.{sum_by-cons, get_or-le-sum_by}
 use Rattle.std.proofs.lemmas.Bool.{eq-eqb}
 use borrow.Author.Tests.{eqb-true, eqb-false, ltb-true, ltb-false}
-use Rattle.worker_core.specs.declared.pairing.Desk.{Desk}
+use Rattle.worker_core.specs.Desks.{Desk}
 use Rattle.migration.specs.declared.place.Place.{Place}
-use Rattle.migration.specs.Desks.{Taken, Empty}
+use Rattle.worker_core.specs.Desks.{Taken, Empty}
 use Rattle.migration.specs.Places.{place_at, is_waiting, is_waiting_at, wait_weight}
 use Rattle.migration.specs.Steps.{ServedAt, Welcomes}
 use Rattle.migration.specs.Sides.{IsSide}
 use Rattle.migration.specs.Words.{ServedNext}
 use Rattle.migration.specs.Pumps.{orders_of, CameHome, TakesHome, LinedUp, ServesEach}
-use Rattle.migration.proofs.Desks.{changed_map}
+use Rattle.worker_core.proofs.AtDesks.{changed_map}
 use Rattle.migration.proofs.SideSteps.{at_slot, wait_weight_is}
 use Rattle.migration.proofs.PlaceSteps.{on, queued_here, waiting_within, leaving_idle}
 

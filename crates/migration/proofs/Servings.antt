@@ -7,18 +7,21 @@ use Rattle.std.proofs.lemmas.List.Sums.{sum_by_push, get_or-le-sum_by}
 use Rattle.std.proofs.lemmas.Bool.{eq-eqb, ne_eqb}
 use Rattle.std.proofs.Math.Seq.{map-set_same}
 use borrow.Author.Tests.{eqb-true, eqb-false}
-use Rattle.worker_core.specs.declared.pairing.Desk.{Desk}
+use Rattle.worker_core.specs.Desks.{Desk}
 use Rattle.worker_core.specs.Workers.{Lanes}
 use Rattle.migration.specs.declared.place.Place.{Place}
 use Rattle.migration.specs.declared.place.State.TheVariants.{Front, Placed, Recall, Leaving}
 use Rattle.lane_core.specs.declared.ends.Receiver.{Receiver}
 use Rattle.lane_core.specs.Ends.{taken, empty_answers}
-use Rattle.migration.specs.Desks.{fulls_at, homes_of, empties_at}
+use Rattle.worker_core.specs.Desks.{fulls_at, homes_of, empties_at}
 use Rattle.migration.specs.Places.{place_at, is_waiting, is_waiting_at, waits_at, waits_for, hop_at, hops_of, name_at}
 use Rattle.migration.specs.Places.{names_of, wait_weight}
 use Rattle.migration.specs.Steps.{Welcomes}
-use Rattle.migration.specs.Sides.{IsSide, Rose, AllMetFull, HomeEnded}
+use Rattle.migration.specs.Sides.{IsSide, AllMetFull}
+use Rattle.worker_core.specs.Counts.{Rises}
+use Rattle.worker_core.specs.Homes.{HomeEnded}
 use Rattle.migration.specs.Words.{Roll, ServedNext}
+use Rattle.worker_core.proofs.Rising.{rises_then, then_rises}
 use Rattle.migration.proofs.PlaceSteps.{on, waiting_within}
 use Rattle.migration.proofs.SideSteps.{at_slot, wait_weight_is}
 
@@ -56,7 +59,7 @@ module _ {H N : Type 0} (name : H → N) (places : List (Option (Place H))) (pla
 -- a slot that waits for a slice is still to be served, or met a full lane there
 abbrev pub Serving : {H : Type 0} → List ℕ → List (Option (Place H)) → List (Desk H) → List (Desk H) → Type 0
 Serving serving places desks now = (slot slice : ℕ) → waits_at (place_at places slot) ≡ Some slice
-    → (0 < sum_by (on slot) serving) ⊎ Rose (fulls_at desks slice) (fulls_at now slice)
+    → (0 < sum_by (on slot) serving) ⊎ Rises (fulls_at desks slice) (fulls_at now slice)
 
 waits_true : {H : Type 0} (place : Option (Place H)) (slice : ℕ) → waits_at place ≡ Some slice
     → is_waiting_at place ≡ true
@@ -87,41 +90,20 @@ module _ {H N : Type 0} (name : H → N) (slot_of : N → ℕ) where
       let e = ap (sum_by (on slot)) none in
       inl (omega arith)
 
-rose_later : (first before now : ℕ) → Rose first before → (now ≡ before) ⊎ Rose before now → Rose first now
-rose_later first before now rose more = elim more [
-  | inl same ↦ subst (Rose first) (sym same) rose
-  | inr again ↦ elim rose [
-    | inl low ↦ elim again [
-      | inl higher ↦ inl (omega arith)
-      | inr last ↦ inr last
-    ]
-    | inr last ↦ elim again [
-      | inl higher ↦ inr (omega arith)
-      | inr ends ↦ inr ends
-    ]
-  ]
-]
-
-rose_since : (first before now : ℕ) → (before ≡ first) ⊎ Rose first before → Rose before now → Rose first now
-rose_since first before now earlier again = elim earlier [
-  | inl same ↦ subst (λ (n : ℕ). Rose n now) same again
-  | inr rose ↦ rose_later first before now rose (inr again)
-]
-
 module _ {H N : Type 0} (name : H → N) (hop_of : H → ℕ) where
   pub serving_more : (serving new_serving : List ℕ) (places new_places : List (Option (Place H)))
       (first desks now : List (Desk H))
       → ((slice : ℕ) → (fulls_at desks slice ≡ fulls_at first slice)
-      ⊎ Rose (fulls_at first slice) (fulls_at desks slice))
+      ⊎ Rises (fulls_at first slice) (fulls_at desks slice))
       → Serving serving places first desks
       → ServedNext name hop_of serving new_serving places new_places desks now
       → Serving new_serving new_places first now
   serving_more serving new_serving places new_places first desks now earlier so_far served slot slice waits =
       elim (nat_eq slot served.slot) as (λ b. nat_eq slot served.slot ≡ b → (0 < sum_by (on slot) new_serving)
-      ⊎ Rose (fulls_at first slice) (fulls_at now slice)) [
+      ⊎ Rises (fulls_at first slice) (fulls_at now slice)) [
         | true ↦ λ e.
             let same : slot ≡ served.slot = eqb-true slot served.slot e in
-            inr (rose_since (fulls_at first slice) (fulls_at desks slice) (fulls_at now slice) (earlier slice)
+            inr (then_rises (fulls_at first slice) (fulls_at desks slice) (fulls_at now slice) (earlier slice)
             (served.again slice (ap (λ n. waits_at (place_at new_places n)) (sym same) ∙ waits)))
         | false ↦ λ e.
             let apart : slot ≢ served.slot = eqb-false slot served.slot e in
@@ -132,22 +114,22 @@ module _ {H N : Type 0} (name : H → N) (hop_of : H → ℕ) where
                   let c : on slot served.slot ≡ 0 = ap (λ t. cond t 1 0)
                   (ne_eqb served.slot slot (λ q. apart (sym q))) in
                   omega arith)
-              | inr rose ↦ inr (rose_later (fulls_at first slice) (fulls_at desks slice) (fulls_at now slice) rose
+              | inr rose ↦ inr (rises_then (fulls_at first slice) (fulls_at desks slice) (fulls_at now slice) rose
                   (served.later slice))
             ]
       ] refl
 
 module _ {H : Type 0} where
   pub later_more : (first desks now : List (Desk H)) (slice : ℕ)
-      → (fulls_at desks slice ≡ fulls_at first slice) ⊎ Rose (fulls_at first slice) (fulls_at desks slice)
-      → (fulls_at now slice ≡ fulls_at desks slice) ⊎ Rose (fulls_at desks slice) (fulls_at now slice)
-      → (fulls_at now slice ≡ fulls_at first slice) ⊎ Rose (fulls_at first slice) (fulls_at now slice)
+      → (fulls_at desks slice ≡ fulls_at first slice) ⊎ Rises (fulls_at first slice) (fulls_at desks slice)
+      → (fulls_at now slice ≡ fulls_at desks slice) ⊎ Rises (fulls_at desks slice) (fulls_at now slice)
+      → (fulls_at now slice ≡ fulls_at first slice) ⊎ Rises (fulls_at first slice) (fulls_at now slice)
   later_more first desks now slice earlier more = elim more [
     | inl same ↦ elim earlier [
       | inl still ↦ inl (same ∙ still)
-      | inr rose ↦ inr (subst (Rose (fulls_at first slice)) (sym same) rose)
+      | inr rose ↦ inr (subst (Rises (fulls_at first slice)) (sym same) rose)
     ]
-    | inr again ↦ inr (rose_since (fulls_at first slice) (fulls_at desks slice) (fulls_at now slice) earlier again)
+    | inr again ↦ inr (then_rises (fulls_at first slice) (fulls_at desks slice) (fulls_at now slice) earlier again)
   ]
 
   pub serving_none : (serving : List ℕ) (places : List (Option (Place H))) (desks now : List (Desk H))
@@ -162,30 +144,8 @@ module _ {H : Type 0} where
       → ((slice : ℕ) → fulls_at desks slice ≡ fulls_at first slice)
       → AllMetFull places desks now → AllMetFull places first now
   met_full_since places first desks now same met slot slice waits =
-      subst (λ (n : ℕ). Rose n (fulls_at now slice)) (same slice) (met slot slice waits)
+      subst (λ (n : ℕ). Rises n (fulls_at now slice)) (same slice) (met slot slice waits)
 
 pub none_left : (serving : List ℕ) → length serving ≡ 0 → serving ≡ []
 none_left [] none = refl
 none_left (x ∷ xs) none = absurd (omega arith)
-
--- how the lanes home ended stays, while orders are given
-pub ended_since : {H : Type 0} (admitted was : ℕ) (aside old_aside : List H) (slice : ℕ)
-    (first desks now : List (Desk H)) → homes_of now ≡ homes_of desks
-    → aside ≡ old_aside → admitted ≡ was → HomeEnded (length old_aside) was slice first desks
-    → HomeEnded (length aside) admitted slice first now
-ended_since {H} admitted was aside old_aside slice first desks now homes same alike ended = elim ended [
-  | inl rose ↦ inl (subst (Rose (empties_at first slice)) (sym (by_homes empty_answers)) rose)
-  | inr more ↦ elim more [
-    | inl many ↦ inr (inl (by_homes (λ home. length (taken home)) ∙ many))
-    | inr full ↦ inr (inr (ap length same ∙ full ∙ sym alike))
-  ]
-] where
-  map_map : {A B : Type 0} (f : A → B) (g : B → ℕ) (xs : List A) → map (λ x. g (f x)) xs ≡ map g (map f xs)
-  map_map f g [] = refl
-  map_map f g (x ∷ xs) = ap (λ l. g (f x) ∷ l) (map_map f g xs)
-
-  by_homes : (count : Receiver H → ℕ) → get_or (map (λ (desk : Desk H). count desk.home) now) slice 0
-      ≡ get_or (map (λ (desk : Desk H). count desk.home) desks) slice 0
-  by_homes count = ap (λ l. get_or l slice 0)
-      (map_map (λ (desk : Desk H). desk.home) count now ∙ ap (map count) homes
-      ∙ sym (map_map (λ (desk : Desk H). desk.home) count desks))

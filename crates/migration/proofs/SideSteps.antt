@@ -8,15 +8,18 @@ use Rattle.std.proofs.lemmas.List.Elements.{All-get_or, All-set, All-append, All
 use Rattle.std.proofs.lemmas.List.Sums.{sum_by-append, sum_by-set}
 use Rattle.std.proofs.lemmas.List.Folds.{sum_by-replicate}
 use borrow.Author.Tests.{eqb-true, eqb-false}
-use Rattle.worker_core.specs.declared.pairing.Desk.{Desk}
+use Rattle.worker_core.specs.Desks.{Desk}
+use Rattle.worker_core.specs.declared.order.Order.{Order}
 use Rattle.worker_core.specs.Names.{weight}
 use Rattle.worker_core.proofs.Arrivals.{sum_by-through}
 use Rattle.migration.specs.declared.place.Place.{Place}
 use Rattle.migration.specs.declared.place.State.TheVariants.{Front}
-use Rattle.migration.specs.Desks.{sent_weight, home_weight, order_count}
+use Rattle.migration.specs.Desks.{sent_weight, home_weight}
+use Rattle.worker_core.specs.Desks.{order_count}
 use Rattle.migration.specs.Places.{place_at, pending_at, is_admitted, is_waiting_at, PlaceFits, name_at, names_of}
 use Rattle.migration.specs.Places.{front_at, weight_at, wait_weight, IsOwn, IsOwnAt}
-use Rattle.migration.specs.Steps.{Grown, Welcomes, WelcomesAt}
+use Rattle.migration.specs.Steps.{Welcomes, WelcomesAt}
+use Rattle.worker_core.specs.BySlot.{Grown}
 use Rattle.migration.specs.Sides.{slot_at, BySlot, IsSide}
 
 -- an index of mapped items, where the default is mapped too
@@ -76,8 +79,8 @@ module _ {H N : Type 0} (name : H → N) (slot_of : N → ℕ) where
     pub fits : PlaceFits (length desks) new_asked place
     pub later : asked ≤ new_asked
     pub few : new_asked ≤ 2 ^ 48
-    pub count : sum_by (order_count {H = H}) now + pending_at place + 2 * asked
-        ≤ sum_by (order_count {H = H}) desks + pending_at (place_at places slot) + 2 * new_asked
+    pub count : sum_by (order_count {O = Order H} {H = H}) now + pending_at place + 2 * asked
+        ≤ sum_by (order_count {O = Order H} {H = H}) desks + pending_at (place_at places slot) + 2 * new_asked
     pub counted : new_admitted + cond (is_admitted (place_at places slot)) 1 0 ≡ admitted + cond (is_admitted place) 1 0
     pub aside_few : length new_aside ≤ new_admitted
 
@@ -147,7 +150,8 @@ module _ {H N : Type 0} (name : H → N) (slot_of : N → ℕ) where
       → ((h : N → ℕ) → weight name h new_aside + sum_by (sent_weight name h) now + sum_by (home_weight name h) desks
       ≡ weight name h aside + sum_by (sent_weight name h) desks + sum_by (home_weight name h) now)
       → ((w : ℕ → ℕ) → sum_by w new_waiting + sum_by w new_serving ≡ sum_by w waiting + sum_by w serving)
-      → length now ≡ length desks → sum_by (order_count {H = H}) now ≤ sum_by (order_count {H = H}) desks
+      → length now ≡ length desks
+      → sum_by (order_count {O = Order H} {H = H}) now ≤ sum_by (order_count {O = Order H} {H = H}) desks
       → length new_aside ≤ admitted
       → IsSide name slot_of places new_aside now new_waiting new_serving admitted asked
   same_places places aside new_aside desks now waiting new_waiting serving new_serving admitted asked side balance
@@ -210,29 +214,6 @@ module _ {H N : Type 0} (name : H → N) (slot_of : N → ℕ) where
             let a = side.counted in let c = grown_sum one places more refl in omega arith;
         aside_few = side.aside_few;
       }
-
-module _ {H : Type 0} where
-  pub grown_none : (places : List (Option (Place H))) → Grown places places
-  grown_none places = (0, sym (append_none places)) where
-    append_none : (xs : List (Option (Place H))) → xs ++ [] ≡ xs
-    append_none [] = refl
-    append_none (x ∷ xs) = ap (λ l. x ∷ l) (append_none xs)
-
-  pub grown_same : (places old new : List (Option (Place H))) → Grown places old → new ≡ old → Grown places new
-  grown_same places old new grown same = (grown.0, same ∙ grown.1)
-
-  pub grown_more : (places old new : List (Option (Place H))) → Grown places old → new ≡ old ++ None ∷ []
-      → Grown places new
-  grown_more places old new grown more =
-      (suc grown.0, more ∙ ap (λ l. l ++ None ∷ []) grown.1 ∙ one_more places grown.0) where
-        pushed : (n : ℕ) → replicate {A = Option (Place H)} n None ++ None ∷ [] ≡ replicate (suc n) None
-        pushed zero = refl
-        pushed (suc n) = ap (λ l. None ∷ l) (pushed n)
-
-        one_more : (xs : List (Option (Place H))) (n : ℕ)
-            → (xs ++ replicate n None) ++ None ∷ [] ≡ xs ++ replicate (suc n) None
-        one_more [] n = pushed n
-        one_more (x ∷ xs) n = ap (λ l. x ∷ l) (one_more xs n)
 
 module _ {H N : Type 0} (name : H → N) (slot_of : N → ℕ) where
   -- a half at the front is of its slot, also under another state of the same name

@@ -3,18 +3,21 @@ use Rattle.std.proofs.Common.{◌≡◌, ℕ, ◌+◌, ◌<◌, ◌≤◌, ◌�
 use Rattle.std.specs.Prelude.{Option, Some, None}
 use Rattle.std.specs.List.{sum_by}
 use Rattle.lane_core.specs.Ends.{sent, raised}
-use Rattle.worker_core.specs.declared.pairing.Desk.{Desk}
+use Rattle.worker_core.specs.Desks.{Desk}
+use Rattle.worker_core.specs.declared.order.Order.{Order}
 use Rattle.worker_core.specs.declared.order.Order.TheVariants.{Arrive, Leave}
 use Rattle.worker_core.specs.Names.{arrivals, weight}
 use Rattle.migration.specs.declared.place.Place.{Place}
 use Rattle.migration.specs.declared.place.State.{State}
 use Rattle.migration.specs.declared.place.State.TheVariants.{Front, Placed, Recall, Leaving}
-use Rattle.migration.specs.Desks.{sent_weight, lanes_of, homes_of, order_count, fulls_at, Given, Refused}
+use Rattle.migration.specs.Desks.{sent_weight}
+use Rattle.worker_core.specs.Desks.{lanes_of, homes_of, order_count, fulls_at, Given, Refused}
 use Rattle.migration.specs.Places.{pending, waits_for, front_weight, slices_fit}
 use Rattle.migration.specs.Steps.{Sends, Recalls, Serves, Goes, Homes, Welcomes}
 use Rattle.migration.proofs.Passes.{not_leaving}
-use Rattle.migration.proofs.Desks.{changed_sum, changed_map, changed_len, changed_lanes, arrive_weight, leave_weight}
-use Rattle.migration.proofs.Desks.{refused_sum, refused_full, refused_fulls, given_fulls, given_count}
+use Rattle.migration.proofs.Desks.{arrive_weight, leave_weight}
+use Rattle.worker_core.proofs.AtDesks.{changed_sum, changed_map, changed_len, changed_lanes, refused_sum}
+use Rattle.worker_core.proofs.AtDesks.{refused_full, refused_raised, given_fulls, given_count}
 
 -- a state changed with the desks; so many orders may be given more
 pub record StateStep {H N : Type 0} (name : H → N) (spare : ℕ) (old new : State H)
@@ -24,7 +27,8 @@ pub record StateStep {H N : Type 0} (name : H → N) (spare : ℕ) (old new : St
   pub long : length now ≡ length desks
   pub weight : (h : N → ℕ) → front_weight name h new + sum_by (sent_weight name h) now ≡ front_weight name h old
       + sum_by (sent_weight name h) desks
-  pub count : sum_by (order_count {H = H}) now + pending new ≤ sum_by (order_count {H = H}) desks + pending old + spare
+  pub count : sum_by (order_count {O = Order H} {H = H}) now + pending new
+      ≤ sum_by (order_count {O = Order H} {H = H}) desks + pending old + spare
   pub fulls : (slice : ℕ) → (fulls_at now slice ≡ fulls_at desks slice)
       ⊎ (fulls_at now slice ≡ raised (fulls_at desks slice))
 
@@ -58,7 +62,7 @@ module _ {H N : Type 0} (name : H → N) (desks now : List (Desk H)) where
         weight = λ h. let e = refused_sum at desks now refused
             (λ orders. weight name h (arrivals orders)) in let f = front h in omega arith;
         count = let e = refused_sum at desks now refused length in omega arith;
-        fulls = refused_fulls at desks now refused;
+        fulls = refused_raised at desks now refused;
       }
 
   arrive_step : (to : ℕ) (half told : H) → name told ≡ name half → Given to (Arrive told) desks now
@@ -103,7 +107,7 @@ module _ {H N : Type 0} (name : H → N) (desks now : List (Desk H)) where
     homes = ap homes_of same;
     long = ap length same;
     weight = λ h. let e = ap (sum_by (sent_weight name h)) same in let f = front h in omega arith;
-    count = let e = ap (sum_by (order_count {H = H})) same in omega arith;
+    count = let e = ap (sum_by (order_count {O = Order H} {H = H})) same in omega arith;
     fulls = λ slice. inl (ap (λ l. fulls_at l slice) same);
   }
 

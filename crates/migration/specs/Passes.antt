@@ -1,7 +1,7 @@
 -- What pumping leaves of places, of the halves kept aside and of the orders sent, however many steps it takes.
 use Rattle.std.specs.Prelude.{◌≡◌, ℕ, ◌≤◌, ◌⊎◌, List, [], ◌++◌, map, slice_index_or, Option, Some, None, All}
 use Rattle.lane_core.specs.Ends.{sent}
-use Rattle.worker_core.specs.declared.pairing.Desk.{Desk}
+use Rattle.worker_core.specs.Desks.{Desk}
 use Rattle.worker_core.specs.declared.order.Order.{Order}
 use Rattle.worker_core.specs.declared.order.Order.TheVariants.{Arrive, Leave}
 use Rattle.migration.specs.declared.place.Place.{Place}

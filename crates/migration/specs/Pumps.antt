@@ -4,7 +4,7 @@ use Rattle.std.specs.List.{All, Contains}
 use Rattle.std.specs.List.Sorted.{IsStrictlyIncreasing}
 use Rattle.lane_core.specs.declared.ends.Sender.{Sender}
 use Rattle.worker_core.specs.declared.order.Order.{Order}
-use Rattle.worker_core.specs.declared.pairing.Desk.{Desk}
+use Rattle.worker_core.specs.Desks.{Desk}
 use Rattle.migration.specs.declared.place.Place.{Place}
 use Rattle.migration.specs.Places.{place_at, is_waiting_at}
 use Rattle.migration.specs.Steps.{ServedAt, Welcomes}

@@ -1,11 +1,13 @@
 -- The facts that a side keeps, and what a clause says of it.
-use Rattle.std.specs.Prelude.{◌≡◌, ℕ, ◌+◌, ◌*◌, ◌^◌, ◌<◌, ◌≤◌, ◌⊎◌, ◌-◌, List, length}
+use Rattle.std.specs.Prelude.{◌≡◌, ℕ, ◌+◌, ◌*◌, ◌^◌, ◌≤◌, List, length}
 use Rattle.std.specs.Prelude.{slice_index_or, count_by, Option, Some, None}
 use Rattle.std.specs.List.{sum_by, All}
-use Rattle.worker_core.specs.declared.pairing.Desk.{Desk}
+use Rattle.worker_core.specs.Desks.{Desk}
 use Rattle.worker_core.specs.Names.{weight}
 use Rattle.migration.specs.declared.place.Place.{Place}
-use Rattle.migration.specs.Desks.{sent_weight, home_weight, order_count, fulls_at, empties_at, home_count}
+use Rattle.migration.specs.Desks.{sent_weight, home_weight}
+use Rattle.worker_core.specs.Counts.{Rises}
+use Rattle.worker_core.specs.Desks.{order_count, fulls_at}
 use Rattle.migration.specs.Places.{place_at, names_of, front_at, weight_at, wait_weight, pending_at, is_admitted}
 use Rattle.migration.specs.Places.{waits_at}
 use Rattle.migration.specs.Places.{PlaceFits, IsOwnAt}
@@ -40,18 +42,7 @@ pub record IsSide {H N : Type 0} (name : H → N) (slot_of : N
   pub counted : admitted ≡ count_by is_admitted places
   pub aside_few : length aside ≤ admitted
 
--- a count of answers rose, or stands at the last u64
-abbrev pub Rose : ℕ → ℕ → Type 0
-Rose old new = (old < new) ⊎ (2 ^ 64 - 1 ≤ new)
-
 -- each slot that still waits for a slice met a full lane of orders there
 abbrev pub AllMetFull : {H : Type 0} → List (Option (Place H)) → List (Desk H) → List (Desk H) → Type 0
 AllMetFull places old new =
-    (slot slice : ℕ) → waits_at (place_at places slot) ≡ Some slice → Rose (fulls_at old slice) (fulls_at new slice)
-
--- the lane home of a slice was empty, or 64 halves were taken from it, or no more may be kept aside
-abbrev pub HomeEnded : {H : Type 0} → ℕ → ℕ → ℕ → List (Desk H) → List (Desk H) → Type 0
-HomeEnded aside admitted slice old new =
-    Rose (empties_at old slice) (empties_at new slice)
-    ⊎ (home_count new slice ≡ home_count old slice + 64)
-    ⊎ (aside ≡ admitted)
+    (slot slice : ℕ) → waits_at (place_at places slot) ≡ Some slice → Rises (fulls_at old slice) (fulls_at new slice)

@@ -1,12 +1,12 @@
 -- What one step does to the state of one slot, and which order it gives.
 use Rattle.std.specs.Prelude.{◌≡◌, ℕ, ◌+◌, ◌<◌, ◌⊎◌, Bool, false, cond, List, ◌++◌, length}
 use Rattle.std.specs.Prelude.{replicate, slice_set, Option, Some, None}
-use Rattle.worker_core.specs.declared.pairing.Desk.{Desk}
+use Rattle.worker_core.specs.Desks.{Desk}
 use Rattle.worker_core.specs.declared.order.Order.TheVariants.{Arrive, Leave}
 use Rattle.migration.specs.declared.place.Place.{Place}
 use Rattle.migration.specs.declared.place.State.{State}
 use Rattle.migration.specs.declared.place.State.TheVariants.{Front, Placed, Recall, Leaving}
-use Rattle.migration.specs.Desks.{Given, Refused}
+use Rattle.worker_core.specs.Desks.{Given, Refused}
 use Rattle.migration.specs.Places.{place_at, is_waiting_at, is_leaving}
 use Rattle.migration.specs.Passes.{Unawaited}
 
@@ -93,10 +93,6 @@ abbrev pub MovesAt : {H : Type 0} → ℕ → ℕ → ℕ → List (Option (Plac
 MovesAt {H} slot slice until places new_places old new =
     (place : Option (Place H)) × (slot < length places) × (new_places ≡ slice_set places slot place)
     × Moves slot slice until (place_at places slot) place old new
-
--- a list of places with some more that are free
-abbrev pub Grown : {H : Type 0} → List (Option (Place H)) → List (Option (Place H)) → Type 0
-Grown old new = (more : ℕ) × (new ≡ old ++ replicate more None)
 
 -- a half was admitted at its slot under this hop, and sent to a slice or kept at the front, and no other slot changed
 pub record Admits {H N : Type 0} (name : H → N) (hop_of : H

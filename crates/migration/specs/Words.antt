@@ -1,15 +1,15 @@
 -- Parts of a side that clauses speak of.
-use Rattle.std.specs.Prelude.{◌≡◌, ◌≢◌, ℕ, ◌+◌, ◌≤◌, ◌⊎◌, Bool, true, false, List, []}
-use Rattle.std.specs.Prelude.{◌∷◌, ◌++◌, length, Option, Some}
-use Rattle.worker_core.specs.declared.pairing.Desk.{Desk}
+use Rattle.std.specs.Prelude.{◌≡◌, ◌≢◌, ℕ, ◌+◌, ◌≤◌, ◌⊎◌, Bool, List, []}
+use Rattle.std.specs.Prelude.{◌∷◌, ◌++◌, Option, Some}
+use Rattle.worker_core.specs.Desks.{Desk}
 use Rattle.worker_core.specs.declared.traveller.Traveller.{Ghosts}
 use Rattle.worker_core.specs.Workers.{Lanes}
 use Rattle.migration.specs.declared.place.Place.{Place}
 use Rattle.migration.specs.declared.side.Side.{Side}
-use Rattle.migration.specs.Desks.{lanes_of, fulls_at, empties_at, home_count}
+use Rattle.worker_core.specs.Desks.{lanes_of, fulls_at}
 use Rattle.migration.specs.Places.{place_at, names_of, hops_of, waits_at}
 use Rattle.migration.specs.Steps.{ServedAt}
-use Rattle.migration.specs.Sides.{Rose, HomeEnded}
+use Rattle.worker_core.specs.Counts.{Rises}
 
 -- what no call but admit and go changes: the names and the hops by slot, the lanes, and both counts
 pub record Roll (N : Type 0) : Type 0 where
@@ -51,26 +51,6 @@ module _ {H N : Type 0} {g : Ghosts H N} where
     asked = side.asked;
   }
 
--- a look at the lane home of a slice: a half was taken, or none, since the lane was empty or no more may be kept aside
-pub record TookOne {H : Type 0} (went : Bool) (slice admitted : ℕ) (aside new_aside : List H)
-    (old new : List (Desk H)) : Type 0 where
-  pub others : (other : ℕ) → other ≢ slice → (home_count new other ≡ home_count old other)
-      × (empties_at new other ≡ empties_at old other)
-  pub more : went ≡ true → (home_count new slice ≡ home_count old slice + 1)
-      × (empties_at new slice ≡ empties_at old slice)
-  pub ended : went ≡ false → Rose (empties_at old slice) (empties_at new slice) ⊎ (length new_aside ≡ admitted)
-  pub aside_grows : length aside ≤ length new_aside
-  pub fulls : (other : ℕ) → fulls_at new other ≡ fulls_at old other
-
--- the lane home of a slice was emptied as far as it may be at once
-pub record TookFrom {H : Type 0} (slice admitted : ℕ) (aside new_aside : List H)
-    (old new : List (Desk H)) : Type 0 where
-  pub others : (other : ℕ) → other ≢ slice → (home_count new other ≡ home_count old other)
-      × (empties_at new other ≡ empties_at old other)
-  pub ended : HomeEnded (length new_aside) admitted slice old new
-  pub aside_grows : length aside ≤ length new_aside
-  pub fulls : (other : ℕ) → fulls_at new other ≡ fulls_at old other
-
 -- the order of the slot that is served next was offered
 pub record ServedNext {H N : Type 0} (name : H → N) (hop_of : H → ℕ) (serving new_serving : List ℕ)
     (places new_places : List (Option (Place H))) (old new : List (Desk H)) : Type 0 where
@@ -80,5 +60,5 @@ pub record ServedNext {H N : Type 0} (name : H → N) (hop_of : H → ℕ) (serv
   pub served : ServedAt name hop_of slot waits places new_places old new
   pub others : (other : ℕ) → other ≢ slot → place_at new_places other ≡ place_at places other
   pub again : (slice : ℕ) → waits_at (place_at new_places slot) ≡ Some slice
-      → Rose (fulls_at old slice) (fulls_at new slice)
-  pub later : (slice : ℕ) → (fulls_at new slice ≡ fulls_at old slice) ⊎ Rose (fulls_at old slice) (fulls_at new slice)
+      → Rises (fulls_at old slice) (fulls_at new slice)
+  pub later : (slice : ℕ) → (fulls_at new slice ≡ fulls_at old slice) ⊎ Rises (fulls_at old slice) (fulls_at new slice)

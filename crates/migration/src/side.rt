@@ -1,7 +1,6 @@
 //! A side: the desks of its workers, and the state of each slot.
 ghost use Rattle.std.specs.Prelude.{◌≡◌, ◌≤◌, ◌<◌, ◌+◌, ◌*◌, ◌^◌, ◌⊎◌, ℕ, All, true};
-ghost use Rattle.std.specs.Prelude.{false, [], length, reverse, vec_len, vec_capacity, IsTrue, IsFalse, OnOk, OnErr};
-ghost use Rattle.std.specs.Prelude.{IfErr};
+ghost use Rattle.std.specs.Prelude.{false, [], length, reverse, vec_len, vec_capacity, OnOk, OnErr, IfErr};
 ghost use Rattle.worker_core.specs.Workers.{IsNewDesk};
 ghost use Rattle.migration.specs.Places.{names_of};
 ghost use Rattle.migration.specs.Sides.{Balanced, BySlot, IsSide};
@@ -13,7 +12,7 @@ use pc_base::{SliceNo, Slot};
 use std::alloc::Global;
 use std::snapshot::Snapshot;
 use std::sync::Wait;
-use worker_core::{Desk, Traveller};
+use worker_core::{Desk, Traveller, grow, take_home, widen};
 
 /// How many halves `pump` takes from a lane home at once, at most.
 const HOME: usize = 64;
@@ -51,15 +50,18 @@ pub struct SideEnd<H: Traveller> {
 }
 
 impl<H: Traveller> Side<H> {
-    ghost use Rattle.migration.specs.Desks.{lanes_of, homes_of, fulls_at};
+    ghost use Rattle.worker_core.specs.Desks.{lanes_of, homes_of, fulls_at};
     ghost use Rattle.migration.specs.Places.{place_at, is_admitted, is_placed_at};
-    ghost use Rattle.migration.specs.Steps.{Grown, Admits, MovesAt};
-    ghost use Rattle.migration.specs.Sides.{AllMetFull, HomeEnded};
+    ghost use Rattle.migration.specs.Steps.{Admits, MovesAt};
+    ghost use Rattle.worker_core.specs.BySlot.{Grown};
+    ghost use Rattle.migration.specs.Sides.{AllMetFull};
+    ghost use Rattle.worker_core.specs.Homes.{HomeEnded};
     ghost use Rattle.migration.specs.Passes.{Passes};
     ghost use Rattle.migration.specs.Pumps.{TakesHome, LinedUp, ServesEach, PumpsBySlot};
     ghost use Rattle.migration.specs.Words.{desks_of, places_of, aside_of, waiting_of, serving_of, admitted_of};
     ghost use Rattle.migration.specs.Words.{asked_of};
-    ghost use Rattle.migration.specs.Words.{roll_of, TookOne, TookFrom, ServedNext};
+    ghost use Rattle.migration.specs.Words.{roll_of, ServedNext};
+    ghost use Rattle.worker_core.specs.Homes.{TookOne, TookFrom};
 
     /// A side with these desks, one for each slice in order, and no slot.
     pub fn new(alloc: Global, desks: Vec<Desk<H>>) -> Side<H>
@@ -194,10 +196,7 @@ impl<H: Traveller> Side<H> {
             desks,
             places,
             aside,
-            waiting: _,
-            serving: _,
-            admitted: _,
-            asked: _,
+            ..
         } = self;
         SideEnd {
             desks,
@@ -216,10 +215,10 @@ impl<H: Traveller> Side<H> {
             × (admitted_of self.new < vec_capacity self.new.waiting)
             × (admitted_of self.new < vec_capacity self.new.serving)) }
     {
-        steps::grow(&mut self.places, slot.0 as usize + 1)?;
-        steps::widen(&mut self.aside, self.admitted + 1)?;
-        steps::widen(&mut self.waiting, self.admitted + 1)?;
-        steps::widen(&mut self.serving, self.admitted + 1)
+        grow(&mut self.places, slot.0 as usize + 1)?;
+        widen(&mut self.aside, self.admitted + 1)?;
+        widen(&mut self.waiting, self.admitted + 1)?;
+        widen(&mut self.serving, self.admitted + 1)
     }
 
     // Takes home what came, from each slice.
@@ -273,7 +272,7 @@ impl<H: Traveller> Side<H> {
         if self.aside.len() >= self.admitted {
             return false;
         }
-        let Some(half) = steps::take_home(rt, &mut self.desks, slice) else {
+        let Some(half) = take_home(rt, &mut self.desks, slice) else {
             return false;
         };
         let slot = half.slot();

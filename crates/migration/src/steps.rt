@@ -1,36 +1,20 @@
 //! Steps at one slot: an order is offered, and a half comes home.
-ghost use Rattle.std.specs.Prelude.{◌≡◌, ◌≤◌, ◌<◌, ◌+◌, ◌^◌, cond, true, [], ℕ, Some, List, length};
-ghost use Rattle.std.specs.Prelude.{reverse, vec_len, vec_capacity, slice_set, OnOk, IfErr, MatchOption};
+ghost use Rattle.std.specs.Prelude.{◌≡◌, ◌≤◌, ◌<◌, ◌+◌, ◌^◌, cond, true, [], ℕ, Some, length};
+ghost use Rattle.std.specs.Prelude.{reverse, vec_len, vec_capacity, slice_set};
 ghost use Rattle.std.specs.List.{sum_by};
 ghost use Rattle.std.specs.List.Sorted.{IsNonDecreasing};
-ghost use Rattle.migration.specs.Desks.{Given, Refused, Taken, Empty, order_count};
+ghost use Rattle.worker_core.specs.Desks.{order_count};
 ghost use Rattle.migration.specs.Places.{place_at, PlaceFits, slices_fit, is_admitted, is_placed, is_waiting};
 ghost use Rattle.migration.specs.Places.{is_waiting_at};
 ghost use Rattle.migration.specs.Steps.{Sends, Recalls, Serves, PlaceServed, ServedAt, Goes, Moves, MovesAt};
 ghost use Rattle.migration.specs.Steps.{NewlyWaits};
-ghost use Rattle.migration.specs.Steps.{Homes, Welcomes, WelcomesAt, Grown};
+ghost use Rattle.migration.specs.Steps.{Homes, Welcomes, WelcomesAt};
 
 use crate::place::{Place, State};
-use lane_core::{Full, NoMemory};
+use lane_core::Full;
 use pc_base::{SliceNo, Slot};
 use std::sync::Wait;
-use worker_core::{Desk, Order, Traveller};
-
-// Offers an order at the desk of a slice.
-fn offer<H: Traveller, R: Wait>(
-    rt: &R,
-    desks: &mut Vec<Desk<H>>,
-    slice: SliceNo,
-    order: Order<H>,
-) -> Result<(), Full<Order<H>>>
-    requires within { slice < vec_len desks.old }
-    requires few { sum_by order_count desks.old.items < 2 ^ 50 }
-    ensures given { OnOk result (Given slice order desks.old.items desks.new.items) }
-    ensures full { IfErr result (λ full. (full.0 ≡ order) × Refused slice desks.old.items desks.new.items) }
-    ensures len { vec_len desks.new ≡ vec_len desks.old }
-{
-    desks[slice.0 as usize].orders.offer(rt, order)
-}
+use worker_core::{Desk, Order, Traveller, offer};
 
 // Sends a half to a slice, or keeps it at the front where that lane is full.
 pub fn send<H: Traveller, R: Wait>(
@@ -298,39 +282,6 @@ fn homed<H: Drop>(state: State<H>, half: H) -> (State<H>, Option<H>)
         State::Recall { at, until, to } => (State::Recall { at, until, to }, Some(half)),
         State::Leaving { to, .. } => (State::Front { half, to }, None),
     }
-}
-
-// Takes a half from the lane home of a slice.
-pub fn take_home<H: Traveller, R: Wait>(rt: &R, desks: &mut Vec<Desk<H>>, slice: usize) -> Option<H>
-    requires { slice < vec_len desks.old }
-    ensures taken { MatchOption result (Empty slice desks.old.items desks.new.items)
-        (λ half. Taken slice half desks.old.items desks.new.items) }
-    ensures len { vec_len desks.new ≡ vec_len desks.old }
-{
-    desks[slice].home.take(rt)
-}
-
-// Makes free places until there are so many.
-pub fn grow<H: Drop>(places: &mut Vec<Option<Place<H>>>, len: usize) -> Result<(), NoMemory>
-    ensures grown { Grown places.old.items places.new.items }
-    ensures enough { OnOk result (len ≤ vec_len places.new) }
-{
-    while places.len() < len {
-        places.push(None)?;
-    }
-    Ok(())
-}
-
-// Makes room for so many items.
-pub fn widen<T>(items: &mut Vec<T>, room: usize) -> Result<(), NoMemory>
-    ensures items { items.new.items ≡ items.old.items }
-    ensures kept { vec_capacity items.old ≤ vec_capacity items.new }
-    ensures wide { OnOk result (room ≤ vec_capacity items.new) }
-{
-    if items.len() < room {
-        items.reserve(room - items.len())?;
-    }
-    Ok(())
 }
 
 // Notes that a slot waits.

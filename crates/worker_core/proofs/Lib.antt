@@ -1,5 +1,9 @@
 pub mod Arrivals
+pub mod AtDesks
+pub mod Growing
+pub mod Homes
 pub mod Leavings
+pub mod Rising
 pub mod Rounds
 pub mod Views
 mod Walks

@@ -1,4 +1,8 @@
 pub mod Answered
+pub mod BySlot
+pub mod Counts
+pub mod Desks
+pub mod Homes
 pub mod Leaves
 pub mod Names
 pub mod Opened

@@ -4,7 +4,7 @@ use Rattle.lane_core.specs.declared.ends.Sender.{Sender}
 use Rattle.lane_core.specs.declared.ends.Receiver.{Receiver}
 use Rattle.lane_core.specs.Ends.{Lane, sender_lane, receiver_lane, sent, taken}
 use Rattle.worker_core.specs.declared.order.Order.{Order}
-use Rattle.worker_core.specs.declared.pairing.Desk.{Desk}
+use Rattle.worker_core.specs.declared.desks.LaneDesk.{LaneDesk}
 use Rattle.worker_core.specs.declared.traveller.Traveller.{Ghosts}
 use Rattle.worker_core.specs.declared.worker.Worker.{Worker}
 use Rattle.worker_core.specs.declared.worker.WorkerEnd.{WorkerEnd}
@@ -15,12 +15,12 @@ use Rattle.worker_core.specs.Steps.{View}
 abbrev pub Lanes : Type 0
 Lanes = Lane × Lane
 
-module _ {H : Type 0} where
-  abbrev pub desk_lanes : Desk H → Lanes
+module _ {O H : Type 0} where
+  abbrev pub desk_lanes : LaneDesk O H → Lanes
   desk_lanes desk = (sender_lane desk.orders, receiver_lane desk.home)
 
   -- nothing was sent or taken at it yet
-  abbrev pub IsNewDesk : Desk H → Type 0
+  abbrev pub IsNewDesk : LaneDesk O H → Type 0
   IsNewDesk desk = (sent desk.orders ≡ []) × (taken desk.home ≡ [])
 
 module _ {H N : Type 0} {g : Ghosts H N} where

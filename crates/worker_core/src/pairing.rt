@@ -3,20 +3,14 @@ ghost use Rattle.std.specs.Prelude.{◌≡◌, [], IfOk};
 ghost use Rattle.lane_core.specs.Ends.{sender_lane, receiver_lane};
 ghost use Rattle.worker_core.specs.Workers.{desk_lanes, IsNewDesk, worker_lanes, place_of, held_of};
 
-use crate::{Order, Traveller, Worker};
-use lane_core::{Carried, NoMemory, Receiver, Sender, lane};
+use crate::desks::{Desk, LaneDesk};
+use crate::{Traveller, Worker};
+use lane_core::{NoMemory, lane};
 use pc_base::SliceNo;
 use std::alloc::Global;
 
 /// How many orders a worker's lane has room for, and how many halves its lane home.
 const ROOM: u32 = 64;
-
-/// The front's ends of the two lanes of one worker.
-#[derive(Drop)]
-pub struct Desk<H: Carried> {
-    pub orders: Sender<Order<H>>,
-    pub home: Receiver<H>,
-}
 
 /// A worker of a slice, which holds nothing, and the desk that it is served from.
 pub fn pair<H: Traveller>(alloc: Global, place: SliceNo) -> Result<(Desk<H>, Worker<H>), NoMemory>
@@ -30,7 +24,7 @@ pub fn pair<H: Traveller>(alloc: Global, place: SliceNo) -> Result<(Desk<H>, Wor
     let (orders, taking) = lane(alloc, ROOM)?;
     let (sending, home) = lane(alloc, ROOM)?;
     Ok((
-        Desk { orders, home },
+        LaneDesk { orders, home },
         Worker::new(alloc, place, taking, sending),
     ))
 }

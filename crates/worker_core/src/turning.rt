@@ -1,6 +1,6 @@
 //! The halves that a worker holds: which are told to leave, which is due, and a turn of each.
 ghost use Rattle.std.specs.Prelude.{◌≡◌, ◌≤◌, ◌<◌, ◌+◌, ◌==◌, not, All, List, length, map, vec_len};
-ghost use Rattle.std.specs.Prelude.{vec_capacity, IsNone, IsSome, IfSome, IfOk};
+ghost use Rattle.std.specs.Prelude.{vec_capacity, IsNone, IfSome, IfOk};
 ghost use Rattle.std.specs.List.{insert, position, filter};
 ghost use Rattle.worker_core.specs.declared.order.Order.{Order};
 ghost use Rattle.worker_core.specs.Leaves.{IsOrdered, IsTold, IsNoted, is_held, is_due};

@@ -1,7 +1,7 @@
 //! A worker: the halves that it holds, and the ends of its two lanes.
 ghost use Rattle.std.specs.Prelude.{◌≡◌, ◌≤◌, ◌<◌, ◌+◌, ◌⊎◌, [], All, length, vec_len};
 ghost use Rattle.std.specs.Prelude.{vec_capacity, IsTrue, IsFalse, IsSome, OnErr};
-ghost use Rattle.lane_core.specs.Ends.{sender_lane, receiver_lane, sent, taken, full_answers, empty_answers, raised};
+ghost use Rattle.lane_core.specs.Ends.{sent, taken, full_answers, empty_answers, raised};
 ghost use Rattle.worker_core.specs.Names.{Kept};
 ghost use Rattle.worker_core.specs.Leaves.{IsTold};
 ghost use Rattle.worker_core.specs.Turns.{AllTurned};

@@ -1,25 +1,17 @@
-use Rattle.std.proofs.Common.{[], List, ap, ◌∙◌, arith, length-append}
+use Rattle.std.proofs.Common.{List, ap, ◌∙◌}
 use Rattle.std.specs.List.{filter_map}
 use Rattle.bearer_state.specs.declared.version.ActiveBearer.{ActiveBearer}
 use Rattle.bearer_state.specs.Version.{VersionState}
 use Rattle.gate_model.specs.SlotPast.{SlotPast}
 use Rattle.audit_run.specs.Playing.{counters_of}
-use Rattle.audit_run.proofs.Loops.{behind_start}
 use Rattle.audit_run.proofs.Opens.{opens_are}
-use Rattle.audit_run.proofs.Steps.{has_room}
 use Rattle.audit_run.proofs.player.Player.opens.Goals as goal
-
-pub version-requires : goal.version-requires
-version-requires c =
-    let can = c.requires in
-    has_room c.args.self.now can.slot can.before [] (behind_start c.args.self.now can.slot can.before can.played)
-    (omega (arith, length-append can.before [], can.few))
 
 pub returns : goal.returns
 returns c = λ slot before has.
     let counted = c.still_open.result.now in
-    let version = c.in_ok-version.ensures ∙ ap (λ (past : SlotPast). past.packets.version) has.gateway in
+    let version = c.version-version.ensures ∙ ap (λ (past : SlotPast). past.packets.version) has.gateway in
     c.in_ok-counters.ensures
     ∙ ap (λ (bearers : List ActiveBearer). filter_map (counters_of counted) bearers)
-    (c.bearers.ensures.value ∙ ap (λ (v : VersionState). v.bearers) version)
+    (c.bearers-bearers.ensures.value ∙ ap (λ (v : VersionState). v.bearers) version)
     ∙ opens_are slot before counted (c.still_open.ensures ∙ has.book.opens)

@@ -1,6 +1,6 @@
 use Rattle.std.proofs.Common.{◌≡◌, true, false}
 use Rattle.std.specs.Prelude.{None, nat_lt}
-use Rattle.lane_core.specs.Ends.{sent, taken}
+use Rattle.lane_core.specs.Ends.{sent}
 use Rattle.flow_core.specs.Workers.{worker_lanes, place_of, view_of}
 use Rattle.flow_core.specs.Doing.{DoesMany}
 use Rattle.flow_core.specs.Steps.{Along, HasServed}

@@ -1,12 +1,12 @@
-use Rattle.std.proofs.Common.{rules, ◌≡◌, ◌++◌, ◌∷◌, [], ◌<◌, length, get_or, ◌∙◌, refl, subst, sym, ap, arith}
-use Rattle.std.specs.Prelude.{Option, Some, None}
+use Rattle.std.proofs.Common.{rules, ◌≡◌, ◌++◌, ◌∷◌, [], ◌<◌, length, get_or, ◌∙◌, refl, ap, arith}
+use Rattle.std.specs.Prelude.{Some}
 use Rattle.std.specs.List.{remove}
 use Rattle.std.specs.Option.{option_to_list}
 use Rattle.lane_core.specs.Ends.{sent, taken}
-use Rattle.flow_core.specs.declared.order.FlowOrder.{FlowOrder}
 use Rattle.flow_core.specs.declared.order.FlowOrder.TheVariants.{Arrive, Item, Leave}
 use Rattle.flow_core.specs.Places.{brought}
-use Rattle.flow_core.proofs.Knowing.{Knows, knows_arrive, knows_item, knows_leave, knows_lists, leaving_found, law_last, none_among, found_slot}
+use Rattle.flow_core.proofs.Knowing.{knows_arrive, knows_item, knows_leave, knows_lists, leaving_found, law_last}
+use Rattle.flow_core.proofs.Knowing.{none_among, found_slot}
 use Rattle.flow_core.proofs.worker.FlowWorker.take_order.Goals as goal
 
 pub invariant_of-self : goal.invariant_of-self

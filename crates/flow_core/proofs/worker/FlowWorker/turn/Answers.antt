@@ -1,4 +1,4 @@
-use Rattle.std.proofs.Common.{rules, ◌≡◌, ◌∙◌, inl, inr, true, false, sym, ap, subst}
+use Rattle.std.proofs.Common.{rules, ◌≡◌, ◌∙◌, inl, inr, sym, ap, subst}
 use Rattle.std.specs.Prelude.{Ok, Result, IfOk}
 use Rattle.std.specs.declared.alloc.AllocError.{AllocError}
 use Rattle.lane_core.specs.declared.did.Did.TheVariants.{Idle, Held, Worked}
@@ -9,7 +9,8 @@ use Rattle.flow_core.specs.declared.serving.Sent.{Sent}
 use Rattle.flow_core.specs.Doing.{SendsAs}
 use Rattle.flow_core.proofs.Chains.{turns_on, turns_left, turns_refused}
 use Rattle.flow_core.specs.Turns.{View, Rested, HasIdled}
-use Rattle.flow_core.proofs.Causes.{served_then, then_served, along_next, next_gone, next_learnt, idle_rested, idle_why, worked_after, worked_home, did_is, stopped_left, sent_absent}
+use Rattle.flow_core.proofs.Causes.{served_then, then_served, along_next, next_gone, next_learnt, idle_rested}
+use Rattle.flow_core.proofs.Causes.{idle_why, worked_after, worked_home, did_is, stopped_left, sent_absent}
 use Rattle.flow_core.proofs.worker.FlowWorker.turn.Goals as goal
 
 pub returns : goal.returns

@@ -8,7 +8,8 @@ use Rattle.lane_core.specs.Ends.{sent, taken}
 use Rattle.worker_core.specs.Names.{weight}
 use Rattle.flow_core.specs.Places.{brought}
 use Rattle.flow_core.specs.Orders.{halves_in, now_of, gone_of}
-use Rattle.flow_core.specs.Workers.{desk_lanes, end_lanes}
+use Rattle.flow_core.specs.Workers.{end_lanes}
+use Rattle.worker_core.specs.Workers.{desk_lanes}
 use Rattle.gather_home.proofs.Wholes.{lasts_same}
 use Rattle.flow_home.proofs.Laid.{closes_all, lawful_by}
 use Rattle.flow_home.proofs.parts.FlowParts.close_orders.Goals as goal

@@ -1,5 +1,5 @@
 use Rattle.std.proofs.Common.{rules, ◌≡◌, ◌∙◌, sym, subst, ap, List, arith}
-use Rattle.flow_core.specs.declared.pairing.FlowDesk.{FlowDesk}
+use Rattle.flow_core.specs.Desks.{FlowDesk}
 use Rattle.flow_migration.specs.Places.{place_at, is_admitted}
 use Rattle.flow_migration.specs.Words.{Admits}
 use Rattle.flow_migration.proofs.Sides.{place_grown}

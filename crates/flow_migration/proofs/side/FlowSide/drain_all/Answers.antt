@@ -1,5 +1,5 @@
 use Rattle.std.proofs.Common.{rules, ◌∙◌, inl, refl, arith}
-use Rattle.flow_core.proofs.Changes.{lasts_then}
+use Rattle.worker_core.proofs.Rising.{lasts_then}
 use Rattle.flow_migration.proofs.Passes.{Queues, meets_none, meets_more, meets_all, queues_not, waits_kept}
 use Rattle.flow_migration.proofs.Passes.{drained_still}
 use Rattle.flow_migration.proofs.Queues.{each_same, each_shortens}

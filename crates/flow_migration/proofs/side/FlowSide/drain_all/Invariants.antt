@@ -1,6 +1,6 @@
 use Rattle.std.proofs.Common.{◌≡◌, ℕ, vec_len}
-use Rattle.flow_core.specs.Counts.{Lasts}
-use Rattle.flow_migration.specs.Desks.{homes_of, fulls_at}
+use Rattle.worker_core.specs.Counts.{Lasts}
+use Rattle.worker_core.specs.Desks.{homes_of, fulls_at}
 use Rattle.flow_migration.specs.Places.{place_at, waits_at, state_at}
 use Rattle.flow_migration.specs.Queues.{EachShortens}
 use Rattle.flow_migration.specs.Words.{roll_of}

@@ -1,5 +1,5 @@
 use Rattle.std.proofs.Common.{rules, ◌∙◌, inl, refl, arith}
-use Rattle.flow_core.proofs.Changes.{lasts_then}
+use Rattle.worker_core.proofs.Rising.{lasts_then}
 use Rattle.flow_migration.proofs.Passes.{Waits, meets_none, meets_more, meets_all, waits_not, served_still}
 use Rattle.flow_migration.proofs.Queues.{queues_stay}
 use Rattle.flow_migration.proofs.Pumps.{each_offered_same, each_offered_then, each_served}

@@ -1,6 +1,6 @@
 use Rattle.std.proofs.Common.{◌∙◌, refl, sym, ap, arith}
 use Rattle.flow_migration.specs.Words.{Roll}
-use Rattle.flow_migration.proofs.Homes.{below_none, below_more}
+use Rattle.worker_core.proofs.Homes.{below_none, below_more}
 use Rattle.flow_migration.proofs.Pumps.{takes_none, takes_then}
 use Rattle.flow_migration.proofs.side.FlowSide.take_all.Goals as goal
 

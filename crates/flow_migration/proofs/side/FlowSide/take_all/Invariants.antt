@@ -1,7 +1,7 @@
 use Rattle.std.proofs.Common.{◌≡◌, vec_len}
 use Rattle.flow_migration.specs.Pumps.{TakesHome}
 use Rattle.flow_migration.specs.Words.{roll_of}
-use Rattle.flow_migration.proofs.Homes.{TakenBelow}
+use Rattle.worker_core.proofs.Homes.{TakenBelow}
 use Rattle.flow_migration.proofs.side.FlowSide.take_all.Given as goal
 
 abbrev pub invariant-loop-slice : goal.invariant-loop-slice

@@ -1,5 +1,5 @@
 use Rattle.std.proofs.Common.{rules, ◌∙◌, refl}
-use Rattle.flow_migration.proofs.Homes.{taking_none, taking_more, taking_ends, taking_all}
+use Rattle.worker_core.proofs.Homes.{taking_none, taking_more, taking_ends, taking_all}
 use Rattle.flow_migration.proofs.Pumps.{takes_none, takes_then}
 use Rattle.flow_migration.proofs.side.FlowSide.take_from.Goals as goal
 

@@ -1,7 +1,7 @@
 use Rattle.std.proofs.Common.{◌≡◌, vec_len}
 use Rattle.flow_migration.specs.Pumps.{TakesHome}
 use Rattle.flow_migration.specs.Words.{roll_of}
-use Rattle.flow_migration.proofs.Homes.{Taking}
+use Rattle.worker_core.proofs.Homes.{Taking}
 use Rattle.flow_migration.proofs.side.FlowSide.take_from.Given as goal
 
 abbrev pub invariant-loop : goal.invariant-loop

@@ -3,8 +3,8 @@ use Rattle.flow_migration.specs.declared.place.FlowPlace.{FlowPlace}
 use Rattle.flow_migration.specs.Places.{place_at, state_at, leaves, accepted_at, moved_at, names_of}
 use Rattle.flow_migration.specs.Pumps.{TakesHome}
 use Rattle.flow_migration.specs.Sides.{is_lost, IsFlowSide}
-use Rattle.flow_migration.proofs.Desks.{changed_lanes}
-use Rattle.flow_migration.proofs.Homes.{took_half, took_none, took_full}
+use Rattle.worker_core.proofs.AtDesks.{changed_lanes}
+use Rattle.worker_core.proofs.Homes.{took_half, took_none, took_full}
 use Rattle.flow_migration.proofs.Returns.{came_home, kept_aside, none_home, welcomed_lists}
 use Rattle.flow_migration.proofs.Passes.{roll_same}
 use Rattle.flow_migration.proofs.Pumps.{takes_none, takes_welcome, takes_aside}

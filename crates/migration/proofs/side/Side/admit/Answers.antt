@@ -1,11 +1,11 @@
 use Rattle.std.proofs.Common.{rules, ◌≡◌, ◌^◌, ◌+◌, Bool, false, cond, ◌<◌, ◌∙◌, length, refl, sym, ap, subst, arith}
 use Rattle.std.specs.List.{sum_by}
 use Rattle.migration.specs.declared.place.Place.{Place}
-use Rattle.migration.specs.Desks.{lanes_of}
+use Rattle.worker_core.specs.Desks.{lanes_of}
 use Rattle.migration.specs.Places.{is_admitted, place_at}
 use Rattle.migration.specs.Steps.{Admits}
 use Rattle.migration.proofs.PlaceSteps.{waiting_few, admitted_side, admits_from, still_free}
-use Rattle.migration.proofs.SideSteps.{grown_none}
+use Rattle.worker_core.proofs.Growing.{grown_none}
 use Rattle.migration.proofs.StateSteps.{sends_step}
 use Rattle.migration.proofs.side.Side.admit.Goals as goal
 

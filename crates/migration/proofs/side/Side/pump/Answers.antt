@@ -1,7 +1,8 @@
 use Rattle.std.proofs.Common.{◌∙◌, reverse, ap}
-use Rattle.migration.specs.Desks.{fulls_at, homes_of}
+use Rattle.worker_core.specs.Desks.{fulls_at, homes_of}
 use Rattle.migration.specs.Words.{Roll}
-use Rattle.migration.proofs.Servings.{met_full_since, ended_since}
+use Rattle.migration.proofs.Servings.{met_full_since}
+use Rattle.worker_core.proofs.Homes.{ended_since}
 use Rattle.migration.proofs.Passes.{passes_then}
 use Rattle.migration.proofs.Pumps.{takes_same}
 use Rattle.migration.proofs.side.Side.pump.Goals as goal

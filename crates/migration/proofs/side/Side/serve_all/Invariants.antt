@@ -1,6 +1,6 @@
 use Rattle.std.proofs.Common.{◌≡◌, ◌+◌, ◌⊎◌, ℕ, vec_len}
-use Rattle.migration.specs.Desks.{homes_of, fulls_at}
-use Rattle.migration.specs.Sides.{Rose}
+use Rattle.worker_core.specs.Desks.{homes_of, fulls_at}
+use Rattle.worker_core.specs.Counts.{Rises}
 use Rattle.migration.specs.Words.{roll_of}
 use Rattle.migration.proofs.Servings.{Serving}
 use Rattle.migration.proofs.Pumps.{Served}
@@ -15,7 +15,7 @@ invariant-loop g l =
     × (vec_len l.self.serving + l.counter ≡ vec_len l.fn.self.serving)
     × Serving l.self.serving.items l.self.places.items l.fn.self.desks.items l.self.desks.items
     × ((slice : ℕ) → (fulls_at l.self.desks.items slice ≡ fulls_at l.fn.self.desks.items slice)
-    ⊎ Rose (fulls_at l.fn.self.desks.items slice) (fulls_at l.self.desks.items slice))
+    ⊎ Rises (fulls_at l.fn.self.desks.items slice) (fulls_at l.self.desks.items slice))
     × Passes (λ half. g.H.Traveller.slot_of (g.H.Traveller.name half)) g.H.Traveller.hop_of l.fn.self.places.items
     l.self.places.items l.fn.self.aside.items l.self.aside.items
     l.fn.self.desks.items l.self.desks.items

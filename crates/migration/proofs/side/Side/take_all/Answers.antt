@@ -1,6 +1,6 @@
 use Rattle.std.proofs.Common.{◌∙◌, refl, sym, ap, arith}
 use Rattle.migration.specs.Words.{Roll}
-use Rattle.migration.proofs.Homes.{below_none, below_more}
+use Rattle.worker_core.proofs.Homes.{below_none, below_more}
 use Rattle.migration.proofs.Passes.{passes_same, passes_then}
 use Rattle.migration.proofs.Pumps.{takes_none, takes_then}
 use Rattle.migration.proofs.side.Side.take_all.Goals as goal

@@ -1,6 +1,6 @@
 use Rattle.std.proofs.Common.{◌≡◌, vec_len}
 use Rattle.migration.specs.Words.{roll_of}
-use Rattle.migration.proofs.Homes.{TakenBelow}
+use Rattle.worker_core.proofs.Homes.{TakenBelow}
 use Rattle.migration.specs.Passes.{Passes}
 use Rattle.migration.specs.Pumps.{TakesHome}
 use Rattle.migration.proofs.side.Side.take_all.Given as goal

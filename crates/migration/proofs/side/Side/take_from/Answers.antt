@@ -1,5 +1,5 @@
 use Rattle.std.proofs.Common.{rules, ◌∙◌, refl}
-use Rattle.migration.proofs.Homes.{taking_none, taking_more, taking_ends, taking_all}
+use Rattle.worker_core.proofs.Homes.{taking_none, taking_more, taking_ends, taking_all}
 use Rattle.migration.proofs.Passes.{passes_same, passes_then}
 use Rattle.migration.proofs.Pumps.{takes_none, takes_then}
 use Rattle.migration.proofs.side.Side.take_from.Goals as goal

@@ -1,8 +1,8 @@
 use Rattle.std.proofs.Common.{rules, ◌∙◌, [], ◌∷◌, ◌++◌, refl, sym, ap, subst, arith}
-use Rattle.migration.proofs.Desks.{changed_lanes}
+use Rattle.worker_core.proofs.AtDesks.{changed_lanes}
 use Rattle.migration.specs.Places.{place_at, names_of, hops_of}
 use Rattle.migration.proofs.PlaceSteps.{waiting_fewer, came_home, kept_aside, leaving_idle}
-use Rattle.migration.proofs.Homes.{took_half, took_none}
+use Rattle.worker_core.proofs.Homes.{took_half, took_none}
 use Rattle.migration.proofs.Servings.{roll_same, names_set, hops_set, welcomed_name}
 use Rattle.migration.proofs.Passes.{passes_same, passes_empty, passes_home, passes_aside}
 use Rattle.migration.proofs.Pumps.{takes_none, takes_empty, takes_aside, takes_half}

@@ -1,9 +1,0 @@
-use Rattle.std.proofs.Common.{◌-◌, vec_len}
-use Rattle.migration.specs.Steps.{Grown}
-use Rattle.migration.proofs.steps.grow.Given as goal
-
-abbrev pub decreases-loop-places : goal.decreases-loop-places
-decreases-loop-places g l = l.len - vec_len l.places
-
-abbrev pub invariant-loop-places : goal.invariant-loop-places
-invariant-loop-places g l = Grown l.fn.places.items l.places.items
