@@ -23,7 +23,7 @@ pub record SaysWhole (setup : Setup) (octets text : List ℕ) (found : Option �
   pub finds : Finds setup (texts_of octets).lines found
   pub says : text ≡ finding_text found
 
--- it is a front of that
+-- it is a prefix of that
 pub record SaysPart (setup : Setup) (octets text : List ℕ) : Type 0 where
   pub found : Option ℕ
   pub finds : Finds setup (texts_of octets).lines found

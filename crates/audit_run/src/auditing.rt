@@ -27,7 +27,7 @@ pub enum Audited {
     Refuted,
     /// The source failed; nothing was written.
     ReadFault,
-    /// The sink failed; a front of what is found was written.
+    /// The sink failed; a prefix of what is found was written.
     WriteFault,
     /// Memory ran out; nothing was written.
     NoMemory,

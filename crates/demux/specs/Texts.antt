@@ -23,7 +23,7 @@ replied word None = word ++ 32 ∷ codes "-"
 abbrev pub element_note : List ℕ → ℕ → ℕ → Option (List ℕ) → List ℕ
 element_note word kind instance reply = replied ((word ++ 32 ∷ decimal kind) ++ 32 ∷ decimal instance) reply
 
--- octets that are no message of GTPv2-C; no fault is want of memory
+-- octets that are no message of GTPv2-C; no fault is out of memory
 abbrev pub message_note : CBad → Option (List ℕ) → List ℕ
 message_note message_bad.Short reply = codes "s11 short"
 message_note message_bad.Version reply = codes "s11 version"
@@ -56,7 +56,7 @@ packet_note ip_bad.Version = codes "sgi ip version"
 packet_note ip_bad.Header = codes "sgi ip header"
 packet_note ip_bad.Total = codes "sgi ip total"
 
--- .. no traffic flow template; no fault is want of memory
+-- .. no traffic flow template; no fault is out of memory
 abbrev pub template_note : TBad → List ℕ
 template_note template_bad.Short = codes "tft short"
 template_note template_bad.Parameters = codes "tft parameters"

@@ -77,7 +77,7 @@ pub trait Flow: FlowKind {
     fn may(&self, item: &Self::Item) -> bool
         ensures { result ≡ takes self.now item.now };
 
-    /// Handles an item at a slice. For want of memory the item isn't handled.
+    /// Handles an item at a slice. Where memory runs out the item isn't handled.
     fn item(&mut self, place: SliceNo, item: &Self::Item) -> Result<(), NoMemory>
         requires { takes self.old item.now ≡ true }
         ensures name { name self.new ≡ name self.old }

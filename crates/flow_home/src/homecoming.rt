@@ -13,7 +13,7 @@ use std::alloc::Global;
 use std::sync::Wait;
 
 /// Finds each half that was admitted to a side, once, by slot, with its items that are left. The ends
-/// are those of the workers of its desks, in order. For want of memory what is left comes back.
+/// are those of the workers of its desks, in order. Where memory runs out what is left comes back.
 pub fn gather_flow<H: Flow, R: Wait>(
     rt: &R,
     alloc: Global,

@@ -17,7 +17,7 @@ use std::snapshot::Snapshot;
 use std::sync::Wait;
 use worker_core::{HomeLane, LaneDesk, close_home};
 
-/// What is left of a side and its workers after want of memory. No half and no item is lost.
+/// What is left of a side and its workers after running out of memory. No half and no item is lost.
 #[derive(Drop)]
 pub struct FlowParts<H: Flow> {
     alloc: Global,

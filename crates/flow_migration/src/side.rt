@@ -93,7 +93,7 @@ impl<H: Flow> FlowSide<H> {
     }
 
     /// Admits a half that has handled no item, which is bound for a slice, and offers it there at once.
-    /// It comes back for want of memory alone.
+    /// It comes back only where memory runs out.
     pub fn admit<R: Wait>(&mut self, rt: &R, half: H, slice: SliceNo, moved: bool) -> Result<(), H>
         requires fresh { is_admitted (place_at (places_of self.old) (H.slot_at (H.name half))) ≡ false }
         requires unhandled { H.handled half ≡ [] }

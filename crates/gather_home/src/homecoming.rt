@@ -11,7 +11,7 @@ use std::sync::Wait;
 use worker_core::{Traveller, WorkerEnd};
 
 /// Finds each half that was admitted to a side, once, by slot. The ends are those of the workers of
-/// its desks, in order. For want of memory what is left comes back.
+/// its desks, in order. Where memory runs out what is left comes back.
 pub fn gather<H: Traveller, R: Wait>(
     rt: &R,
     alloc: Global,

@@ -14,7 +14,7 @@ use std::snapshot::Snapshot;
 use std::sync::Wait;
 use worker_core::{Desk, HomeLane, LaneDesk, Order, Traveller, WorkerEnd, close_home};
 
-/// What is left of a side and its workers after want of memory. No half is lost.
+/// What is left of a side and its workers after running out of memory. No half is lost.
 #[derive(Drop)]
 pub struct Parts<H: Traveller> {
     alloc: Global,

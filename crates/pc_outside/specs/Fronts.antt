@@ -2,7 +2,7 @@
 use Rattle.std.specs.Prelude.{◌≡◌, ℕ, ◌<◌, List, ◌++◌, length, Option}
 use Rattle.std.specs.Io.KnownBytes.{Appends}
 
--- known octets grow by a front of the octets, and not by all of them
+-- known octets grow by a prefix of the octets, and not by all of them
 pub record AppendsFront (old new : Option (List ℕ)) (octets : List ℕ) : Type 0 where
   pub front : List ℕ
   pub rest : List ℕ

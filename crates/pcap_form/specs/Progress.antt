@@ -78,7 +78,7 @@ pub record IsSent (old new : Option (List ℕ)) (text waiting : List ℕ) : Type
 abbrev pub Takes : Option (List ℕ) → Option (List ℕ) → List ℕ → List ℕ → Type 0
 Takes old new text waiting = Stays old new text waiting ⊎ IsSent old new text waiting
 
--- what was written of the trace of these records where it is cut: a front of it, or that of some first ones
+-- what was written of the trace of these records where it is cut: a prefix of it, or that of some first ones
 abbrev pub CutAt : Unwritten → List Record → List ℕ → Type 0
 CutAt unwritten.WriteFault done text = (more : List ℕ) × (trace_of done ≡ text ++ more)
 CutAt unwritten.NoMemory done text =

@@ -27,7 +27,7 @@ pub record IsFaultText (octets left text : List ℕ) : Type 0 where
   pub sound : (capture_of taken).tail ≢ broken
   pub trace : text ≡ trace_of (capture_of taken).records
 
--- a front of the trace
+-- a prefix of the trace
 pub record IsCutText (octets text : List ℕ) : Type 0 where
   pub more : List ℕ
   pub parts : input_text octets ≡ text ++ more

@@ -18,7 +18,7 @@ use pc_base::SliceNo;
 use std::alloc::Global;
 use std::sync::Wait;
 
-/// What is left of a subscriber's front end and halves after want of memory. Nothing is lost.
+/// What is left of a subscriber's front end and halves after running out of memory. Nothing is lost.
 #[derive(Drop)]
 pub struct Parts {
     pub(crate) alloc: Global,

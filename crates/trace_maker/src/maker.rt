@@ -121,7 +121,7 @@ pub(crate) fn line_of(alloc: Global, plan: Plan) -> Result<TraceLine, NoMemory>
     })
 }
 
-/// Makes the next line; None exactly after the last. After want of memory the same line is the next.
+/// Makes the next line; None exactly after the last. After running out of memory the same line is the next.
 pub fn made_line(alloc: Global, maker: &mut Maker) -> Result<Option<TraceLine>, NoMemory>
     ensures made { IfOk result (λ line. MatchOption line ((maker.old ≡ []) × (maker.new ≡ []))
         (λ line. maker.old ≡ line ∷ maker.new)) }

@@ -57,7 +57,7 @@ pub fn make<K: Sink>(
     ensures whole { OnOk result (Appends (K.written sink.old) (K.written sink.new)
         (text_of (made seed subscribers lines))) }
 
-    // A fault leaves a front of the text; without memory the lines before are whole.
+    // A fault leaves a prefix of the text; without memory the lines before are whole.
     ensures cut { result ≡ Err MakeNo.WriteFault
         → AppendsFront (K.written sink.old) (K.written sink.new) (text_of (made seed subscribers lines)) }
     ensures no_memory { result ≡ Err MakeNo.NoMemory

@@ -48,7 +48,7 @@ pub trait Traveller: Carried {
         ensures done { done_of self.new ≡ done_of self.old }
         ensures counts { (turns self.new ≡ turns self.old) × (works self.new ≡ works self.old) };
 
-    /// Does a part of its work, at most `grain` items. After want of memory what was done stays done.
+    /// Does a part of its work, at most `grain` items. After running out of memory what was done stays done.
     fn turn<R: Wait>(&mut self, rt: &R, place: SliceNo, grain: u32) -> Result<Did, NoMemory>
         requires { 1 ≤ grain }
         ensures name { name self.new ≡ name self.old }

@@ -109,7 +109,7 @@ impl<H: Traveller> Worker<H> {
         ensures idle { result ≡ Ok Did.Idle → SameButHalves H.name (view_of self.old) (view_of self.new) }
         ensures held_never { result ≡ Ok Did.Held → ⊥ }
 
-        // For want of memory nothing changes but what a half did.
+        // Where memory runs out nothing changes but what a half did.
         ensures err { OnErr result (SameButHalves H.name (view_of self.old) (view_of self.new)) }
     {
         self.held.reserve(1)?;
