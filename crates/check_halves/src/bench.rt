@@ -15,7 +15,7 @@ use counter_half::{FlowHalf, FlowItem};
 use flow_core::Flow;
 use lane_core::Full;
 use pc_base::{Packet, SliceNo, Slot};
-use split_record::{Finished, FrontEnd, NoMemory, Parts, finish, split};
+use split_record::{Finished, FrontEnd, NoMemory, RecordParts, finish, split};
 use std::alloc::Global;
 use std::sync::Wait;
 use subscriber::{Subscriber, few_events_leave_room};
@@ -215,7 +215,7 @@ impl Bench {
 }
 
 // Goes on until memory is there, at most twice more.
-fn finished<R: Wait>(rt: &R, parts: Parts) -> Result<Finished, Stop> {
+fn finished<R: Wait>(rt: &R, parts: RecordParts) -> Result<Finished, Stop> {
     match parts.again(rt) {
         Ok(finished) => Ok(finished),
         Err(parts) => match parts.again(rt) {

@@ -4,7 +4,7 @@ ghost use Rattle.migration.specs.Places.{names_of};
 ghost use Rattle.gather_home.specs.Homecomings.{somes, AreEnds, AtSlots};
 ghost use Rattle.gather_home.specs.Words.{admitted_of};
 
-use crate::Parts;
+use crate::HomeParts;
 use migration::SideEnd;
 use std::alloc::Global;
 use std::sync::Wait;
@@ -17,7 +17,7 @@ pub fn gather<H: Traveller, R: Wait>(
     alloc: Global,
     side: SideEnd<H>,
     ends: Vec<WorkerEnd<H>>,
-) -> Result<Vec<H>, Parts<H>>
+) -> Result<Vec<H>, HomeParts<H>>
     requires { AreEnds side.desks.items ends.items }
 
     // The names of the halves are those that were admitted, by slot.
@@ -25,5 +25,5 @@ pub fn gather<H: Traveller, R: Wait>(
     ensures each { IfOk result (λ halves. AtSlots H.name H.slot_of side.places.items halves.items) }
     ensures parts { IfErr result (λ parts. admitted_of parts ≡ side.places.items) }
 {
-    Parts::new(alloc, side, ends).again(rt)
+    HomeParts::new(alloc, side, ends).again(rt)
 }

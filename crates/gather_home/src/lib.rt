@@ -7,4 +7,4 @@ mod parts;
 mod steps;
 
 pub use homecoming::gather;
-pub use parts::Parts;
+pub use parts::HomeParts;

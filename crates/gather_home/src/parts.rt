@@ -16,7 +16,7 @@ use worker_core::{Desk, HomeLane, LaneDesk, Order, Traveller, WorkerEnd, close_h
 
 /// What is left of a side and its workers after running out of memory. No half is lost.
 #[derive(Drop)]
-pub struct Parts<H: Traveller> {
+pub struct HomeParts<H: Traveller> {
     alloc: Global,
     /// The places as they were when the side stopped, for clauses alone.
     admitted: Snapshot<Vec<Option<Place<H>>>>,
@@ -37,10 +37,10 @@ pub struct Parts<H: Traveller> {
     ghost ends_of: { AreEnds desks.items ends.items },
 }
 
-impl<H: Traveller> Parts<H> {
+impl<H: Traveller> HomeParts<H> {
     ghost use Rattle.gather_home.specs.Words.{admitted_of};
 
-    pub(crate) fn new(alloc: Global, side: SideEnd<H>, ends: Vec<WorkerEnd<H>>) -> Parts<H>
+    pub(crate) fn new(alloc: Global, side: SideEnd<H>, ends: Vec<WorkerEnd<H>>) -> HomeParts<H>
         requires { AreEnds side.desks.items ends.items }
         ensures { admitted_of result ≡ side.places.items }
     {
@@ -50,7 +50,7 @@ impl<H: Traveller> Parts<H> {
             aside,
         } = side;
         let admitted = Snapshot::of(&places);
-        Parts {
+        HomeParts {
             alloc,
             admitted,
             places,
@@ -64,7 +64,7 @@ impl<H: Traveller> Parts<H> {
     }
 
     /// Goes on where memory was wanting.
-    pub fn again<R: Wait>(mut self, rt: &R) -> Result<Vec<H>, Parts<H>>
+    pub fn again<R: Wait>(mut self, rt: &R) -> Result<Vec<H>, HomeParts<H>>
         ensures home { IfOk result (λ halves. map H.name halves.items ≡ somes (names_of H.name (admitted_of self))) }
         ensures each { IfOk result (λ halves. AtSlots H.name H.slot_of (admitted_of self) halves.items) }
         ensures parts { IfErr result (λ parts. admitted_of parts ≡ admitted_of self) }
@@ -81,7 +81,7 @@ impl<H: Traveller> Parts<H> {
             ≡ sum_by (weight_at h) (names_of H.name (admitted_of self)) }
         ensures { map H.name result.items ≡ somes (names_of H.name (admitted_of self)) }
     {
-        let Parts { mut found, .. } = self;
+        let HomeParts { mut found, .. } = self;
         steps::sort(&mut found);
         found
     }

@@ -5,12 +5,12 @@ use Rattle.counter_half.specs.declared.items.FlowItem.{FlowItem}
 use Rattle.split_record.specs.Parts.{IsOf}
 use Rattle.split_record.specs.declared.front.FrontEnd.{FrontEnd}
 use Rattle.split_record.specs.declared.origin.Origin.{Origin}
-use Rattle.split_record.specs.declared.parts.Parts.{Parts}
+use Rattle.split_record.specs.declared.parts.RecordParts.{RecordParts}
 
-pub still_of : {A : Type 0} (result : Result A Parts) (before : Parts) (front : FrontEnd) (half : FlowHalf)
+pub still_of : {A : Type 0} (result : Result A RecordParts) (before : RecordParts) (front : FrontEnd) (half : FlowHalf)
     (left : List FlowItem) → IsOf before front half left
-    → IfErr result (λ (parts : Parts). parts.origin ≡ before.origin)
-    → IfErr result (λ (parts : Parts). IsOf parts front half left)
+    → IfErr result (λ (parts : RecordParts). parts.origin ≡ before.origin)
+    → IfErr result (λ (parts : RecordParts). IsOf parts front half left)
 still_of (Ok made) before front half left of same = tt
 still_of (Err parts) before front half left of same = record {
   front_is = ap (λ (o : Origin). o.front.value) same ∙ of.front_is;

@@ -8,7 +8,7 @@ ghost use Rattle.split_record.specs.Finishing.{AllMeetBehind, handled_as, counts
 ghost use Rattle.split_record.specs.Parts.{IsOf};
 ghost use Rattle.split_record.specs.Places.{at_closing};
 
-use crate::{FrontEnd, Parts};
+use crate::{FrontEnd, RecordParts};
 use charging_book::ChargeRow;
 use control_half::{CommandDone, ControlHalf};
 use counter_half::{FlowHalf, FlowItem, PacketDone, VersionDone};
@@ -42,7 +42,7 @@ pub fn finish<R: Wait>(
     control: ControlHalf,
     flow: FlowHalf,
     left: Vec<FlowItem>,
-) -> Result<Finished, Parts>
+) -> Result<Finished, RecordParts>
     requires one { AreOfOneSplit front control flow }
     requires accepted { AreAccepted front (handled_by flow ++ left.items) }
 
@@ -56,5 +56,5 @@ pub fn finish<R: Wait>(
 
     ensures parts { IfErr result (λ parts. IsOf parts front flow left.items) }
 {
-    Parts::new(alloc, front, control, flow, left).again(rt)
+    RecordParts::new(alloc, front, control, flow, left).again(rt)
 }

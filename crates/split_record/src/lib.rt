@@ -15,6 +15,6 @@ mod splitting;
 pub use finishing::{Finished, finish};
 pub use front::FrontEnd;
 pub use joining::events_are_of_lines;
-pub use parts::Parts;
+pub use parts::RecordParts;
 pub use splitting::split;
 pub use std::alloc::AllocError as NoMemory;

@@ -20,7 +20,7 @@ use std::sync::Wait;
 
 /// What is left of a subscriber's front end and halves after running out of memory. Nothing is lost.
 #[derive(Drop)]
-pub struct Parts {
+pub struct RecordParts {
     pub(crate) alloc: Global,
     pub(crate) origin: Origin,
     pub(crate) destination: SliceNo,
@@ -72,7 +72,7 @@ pub(crate) struct Commanded {
     pub(crate) rest: Vec<CommandItem>,
 }
 
-impl Parts {
+impl RecordParts {
     ghost use Rattle.split_record.specs.Parts.{IsOf};
 
     pub(crate) fn new(
@@ -81,7 +81,7 @@ impl Parts {
         control: ControlHalf,
         flow: FlowHalf,
         left: Vec<FlowItem>,
-    ) -> Parts
+    ) -> RecordParts
         requires one { AreOfOneSplit front control flow }
         requires accepted { AreAccepted front (handled_by flow ++ left.items) }
         ensures { IsOf result front flow left.items }
@@ -92,7 +92,7 @@ impl Parts {
             lane,
             ..
         } = front;
-        Parts {
+        RecordParts {
             alloc,
             origin,
             destination,
@@ -106,14 +106,14 @@ impl Parts {
     }
 
     /// Goes on where memory was wanting.
-    pub fn again<R: Wait>(self, rt: &R) -> Result<Finished, Parts>
+    pub fn again<R: Wait>(self, rt: &R) -> Result<Finished, RecordParts>
         ensures finished { IfOk result (λ made. Finishes (start_in self.origin) (commands_in self.origin)
             (items_in_all self.origin) (bound_for self.origin) made) }
         ensures placed { IfOk result (λ made. places_in made.packets.items ≡ places_in_all self.origin) }
         ensures met { IfOk result (λ made. LeftMeetAll self.origin made.packets.items) }
         ensures parts { IfErr result (λ parts. parts.origin ≡ self.origin) }
     {
-        let Parts {
+        let RecordParts {
             alloc,
             origin,
             destination,
@@ -122,14 +122,14 @@ impl Parts {
         match closed(rt, alloc, &origin, stage) {
             Ok(mut closing) => match closing.work(alloc, &origin) {
                 Ok(()) => Ok(closing.finished(&origin, destination)),
-                Err(_) => Err(Parts {
+                Err(_) => Err(RecordParts {
                     alloc,
                     origin,
                     destination,
                     stage: Stage::Closing(closing),
                 }),
             },
-            Err(stage) => Err(Parts {
+            Err(stage) => Err(RecordParts {
                 alloc,
                 origin,
                 destination,

@@ -1,6 +1,6 @@
 use Rattle.std.proofs.Common.{◌∙◌}
 use Rattle.gather_home.proofs.BySlots.{by_slot}
-use Rattle.gather_home.proofs.parts.Parts.sorted.Goals as goal
+use Rattle.gather_home.proofs.parts.HomeParts.sorted.Goals as goal
 
 pub returns : goal.returns
 returns g c =

@@ -11,7 +11,7 @@ use Rattle.split_record.specs.Places.{at_closing}
 use Rattle.split_record.specs.Rejoined.{AreAccepted, start_of, commands_sent}
 use Rattle.split_record.specs.declared.front.FrontEnd.{FrontEnd}
 use Rattle.split_record.proofs.Stages.{at_open}
-use Rattle.split_record.proofs.parts.Parts.new.Goals as goal
+use Rattle.split_record.proofs.parts.RecordParts.new.Goals as goal
 
 pub invariant_of-result-clause-accepted : goal.invariant_of-result-clause-accepted
 invariant_of-result-clause-accepted c =

@@ -1,7 +1,7 @@
 use Rattle.std.proofs.Common.{◌≡◌, ◌+◌, [], vec_len}
 use Rattle.std.specs.Prelude.{None}
 use Rattle.gather_home.specs.Words.{admitted_of}
-use Rattle.gather_home.proofs.parts.Parts.collect.Given as goal
+use Rattle.gather_home.proofs.parts.HomeParts.collect.Given as goal
 
 abbrev pub invariant-loop : goal.invariant-loop
 invariant-loop g l =

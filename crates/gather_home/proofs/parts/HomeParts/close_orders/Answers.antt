@@ -5,7 +5,7 @@ use Rattle.worker_core.specs.Names.{weight}
 use Rattle.migration.specs.Places.{front_at, weight_at, names_of}
 use Rattle.worker_core.specs.Workers.{desk_lanes, end_lanes}
 use Rattle.gather_home.proofs.Wholes.{lasts_same, closed_orders}
-use Rattle.gather_home.proofs.parts.Parts.close_orders.Goals as goal
+use Rattle.gather_home.proofs.parts.HomeParts.close_orders.Goals as goal
 
 pub close-requires-after_bounds : goal.close-requires-after_bounds
 close-requires-after_bounds g c κs within =
