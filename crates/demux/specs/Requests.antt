@@ -20,7 +20,8 @@ use Rattle.gtpv2_msg.specs.declared.kind.TheConstants.{UPDATE_BEARER_RESPONSE, D
 use Rattle.bearer_state.specs.declared.ask.Ask.{Ask}
 use Rattle.bearer_state.specs.declared.qos.Qos.{Qos}
 use Rattle.control_steps.specs.declared.command.CommandKind.{CommandKind}
-use Rattle.control_steps.specs.declared.command.CommandKind.TheVariants.{Create, Modify, Release, Delete, CreateAns, UpdateAns, DeleteAns}
+use Rattle.control_steps.specs.declared.command.CommandKind.TheVariants.{Create, Modify, Release, Delete}
+use Rattle.control_steps.specs.declared.command.CommandKind.TheVariants.{CreateAns, UpdateAns, DeleteAns}
 
 -- what a value holds, where it is of the kind
 abbrev pub imsi_value : IeValue → Option (List ℕ)

@@ -150,7 +150,8 @@ pub fn decide_bearer<'a>(
 ) -> Result<Decision<'a>, NoMemory>
     requires { IsSeq seq }
     ensures { (slices : ℕ) → IfOk result (λ decision. decision ≡ resolved slices book.now (ordered imsi.now
-        (templated (λ tft. order.AddBearer seq bearer.qci bearer.mbr_up bearer.mbr_down bearer.gbr_up bearer.gbr_down tft) octets.now))) }
+        (templated (λ tft. order.AddBearer seq bearer.qci bearer.mbr_up bearer.mbr_down
+        bearer.gbr_up bearer.gbr_down tft) octets.now))) }
 {
     match slot_and_template(alloc, book, imsi, octets)? {
         Ok((slot, tft)) => {

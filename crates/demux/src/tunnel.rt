@@ -11,11 +11,8 @@ use crate::{Decision, LentPacket};
 use address_book::AddressBook;
 use gtpu_codec::{GtpU, GtpUKind, read, write};
 use ipv4_packet::Ip4;
-use pc_base::{Addr4, Moment, NoMemory, Octets, Slot, Teid, Way};
+use pc_base::{GATEWAY_ADDR, Moment, NoMemory, Octets, Slot, Teid, Way};
 use std::alloc::Global;
-
-/// The address of the gateway's end of every tunnel, 192.0.2.1.
-const GATEWAY: Addr4 = Addr4(0xc000_0201);
 
 /// What octets of an eNodeB mean.
 #[tactic(auto, unfolding(crate::specs::Resolved::resolved))]
@@ -155,7 +152,7 @@ fn unknown_note(alloc: Global, teid: Teid) -> Result<Octets, NoMemory>
         &GtpU::ErrorIndication {
             seq: 0,
             teid,
-            peer: GATEWAY,
+            peer: GATEWAY_ADDR,
         },
     )?;
     told(alloc, "s1u unknown", reply.as_slice())

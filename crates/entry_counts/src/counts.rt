@@ -7,6 +7,9 @@ ghost use Rattle.entry_counts.specs.Counts.{packet_counts, plus, up_octets};
 use std::marker::Model;
 use text_fields::{cut, next_piece};
 
+// The octets of a G-PDU's header.
+const TUNNEL_LEN: u64 = 8;
+
 /// Counts of entries, and of octets of packets. A count stays at 2^64 − 1.
 #[derive(Drop)]
 pub struct EntryCounts {
@@ -19,26 +22,6 @@ pub struct EntryCounts {
     pub(crate) up: u64,
     pub(crate) down: u64,
 }
-
-impl Model for EntryCounts {
-    ghost use Rattle.entry_counts.specs.Counts.{Counts};
-
-    ghost Value = { Counts };
-
-    ghost view = { λ counts. record {
-      notes = counts.notes;
-      commands = counts.commands;
-      packets = counts.packets;
-      refusals = counts.refusals;
-      records = counts.records;
-      opens = counts.opens;
-      up = counts.up;
-      down = counts.down;
-    } };
-}
-
-// The octets of a G-PDU's header.
-const TUNNEL_LEN: u64 = 8;
 
 impl EntryCounts {
     /// Nothing is counted yet.
@@ -171,4 +154,21 @@ fn down_octets(verdict: Option<&[u8]>) -> u64
     } else {
         0
     }
+}
+
+impl Model for EntryCounts {
+    ghost use Rattle.entry_counts.specs.Counts.{Counts};
+
+    ghost Value = { Counts };
+
+    ghost view = { λ counts. record {
+      notes = counts.notes;
+      commands = counts.commands;
+      packets = counts.packets;
+      refusals = counts.refusals;
+      records = counts.records;
+      opens = counts.opens;
+      up = counts.up;
+      down = counts.down;
+    } };
 }

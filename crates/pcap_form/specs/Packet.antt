@@ -6,12 +6,9 @@ use Rattle.ipv4_packet.specs.Fields.{protocol_of, destination_of}
 use Rattle.ipv4_packet.specs.Packet.{packet_of}
 use Rattle.ipv4_packet.specs.Payload.{payload_of}
 use Rattle.ipv4_packet.specs.Refusal.{first_fault}
+use Rattle.pc_base.specs.Addresses.{gateway_addr}
 use Rattle.trace_lines.specs.declared.line.LineKind.{LineKind}
 use Rattle.trace_lines.specs.declared.line.LineKind.TheVariants as kind
-
--- the gateway's own address, 192.0.2.1
-abbrev pub gateway_addr : ℕ
-gateway_addr = 0xc000_0201
 
 -- the ports of GTPv2-C (TS 29.274, 4.1) and GTP-U (TS 29.281, 4.4.2)
 abbrev pub control_port : ℕ

@@ -5,16 +5,13 @@ ghost use Rattle.pcap_form.specs.Trace.{moment_of};
 
 use crate::CaptureHead;
 use crate::numbers::number32_at;
-use pc_base::Moment;
+use pc_base::{LAST_MOMENT, Moment};
 
 /// How many octets the head of a record has.
 pub const RECORD_LEN: usize = 16;
 
 /// The most octets that a record may hold: a greater captured length is none.
 pub const SNAPSHOT_MAX: u32 = 262_144;
-
-// The last moment, in microseconds.
-const LAST_MOMENT: u64 = (1 << 50) - 1;
 
 /// What a record's head says: its time in microseconds, rounded down and below 2^53, and how many
 /// octets were captured. The original length isn't looked at.

@@ -9,13 +9,10 @@ ghost use Rattle.pcap_form.specs.Packet.{message_of, packet_kind, port_of};
 
 use crate::{CaptureHead, LentKind, NoMemory};
 use ipv4_packet::{Ip4, UDP};
-use pc_base::{Addr4, Octets, slot_of_addr};
+use pc_base::{Addr4, GATEWAY_ADDR, Octets, slot_of_addr};
 use std::alloc::Global;
 use trace_lines::LineKind;
 use wire_octets::be16_at;
-
-/// The gateway's own address, 192.0.2.1.
-pub const GATEWAY_ADDR: u32 = 0xc000_0201;
 
 /// The port of GTPv2-C (TS 29.274, section 4.1).
 pub const S11_PORT: u16 = 2123;
@@ -104,7 +101,7 @@ fn ip_kind(octets: &[u8]) -> Option<LentKind<'_>>
 fn packet_kind<'a>(packet: &Ip4<'a>) -> Option<LentKind<'a>>
     ensures { said_by result ≡ packet_kind packet.now }
 {
-    if packet.destination() == GATEWAY_ADDR {
+    if packet.destination() == GATEWAY_ADDR.0 {
         message_kind(packet)
     } else if is_for_user(packet) {
         Some(LentKind::Sgi(packet.octets()))

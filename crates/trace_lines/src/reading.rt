@@ -11,12 +11,9 @@ ghost use Rattle.trace_lines.specs.declared.bad.LineBad.TheVariants.{NoMemory, F
 use crate::arguments::read_in;
 use crate::kinds::read_kind;
 use crate::{LineBad, TraceLine};
-use pc_base::Moment;
+use pc_base::{LAST_MOMENT, Moment};
 use std::alloc::Global;
 use text_fields::{cut, has_empty_field};
-
-// The last moment, in microseconds.
-const LAST_MOMENT: u64 = (1 << 50) - 1;
 
 /// What the line of this number says, where no moment below the least one may come: the text is the
 /// line without its newline.
