@@ -1,6 +1,7 @@
-ghost use Rattle.std.specs.Prelude.{◌≡◌};
+ghost use Rattle.std.specs.Prelude.{◌≡◌, IfOk};
 
 use pc_base::{Imsi, Kbps, Moment, Octets, Peer, SliceNo};
+use std::alloc::AllocError;
 use std::marker::Model;
 
 /// What a line says, by its kind. Octets are at least one, rates of a session (`up`, `down`) below
@@ -57,6 +58,66 @@ pub enum LineKind {
     Fence,
 }
 
+impl LineKind {
+    // A copy that owns its octets.
+    fn try_clone(&self) -> Result<LineKind, AllocError>
+        ensures { IfOk result (λ copy. copy ≡ self.now) }
+    {
+        Ok(match self {
+            LineKind::S11(octets) => LineKind::S11(octets.try_clone()?),
+            LineKind::S1u(octets) => LineKind::S1u(octets.try_clone()?),
+            LineKind::Sgi(octets) => LineKind::Sgi(octets.try_clone()?),
+            LineKind::Attach {
+                imsi,
+                enb,
+                up,
+                down,
+            } => LineKind::Attach {
+                imsi: *imsi,
+                enb: *enb,
+                up: *up,
+                down: *down,
+            },
+            LineKind::Bearer {
+                imsi,
+                qci,
+                mbr_up,
+                mbr_down,
+                gbr_up,
+                gbr_down,
+                tft,
+            } => LineKind::Bearer {
+                imsi: *imsi,
+                qci: *qci,
+                mbr_up: *mbr_up,
+                mbr_down: *mbr_down,
+                gbr_up: *gbr_up,
+                gbr_down: *gbr_down,
+                tft: tft.try_clone()?,
+            },
+            LineKind::Filters { imsi, ebi, tft } => LineKind::Filters {
+                imsi: *imsi,
+                ebi: *ebi,
+                tft: tft.try_clone()?,
+            },
+            LineKind::Drop { imsi, ebi } => LineKind::Drop {
+                imsi: *imsi,
+                ebi: *ebi,
+            },
+            LineKind::Ambr { imsi, up, down } => LineKind::Ambr {
+                imsi: *imsi,
+                up: *up,
+                down: *down,
+            },
+            LineKind::Move { imsi, slice } => LineKind::Move {
+                imsi: *imsi,
+                slice: *slice,
+            },
+            LineKind::Fence => LineKind::Fence,
+        })
+    }
+}
+
 /// A line of a trace: its number, counted from 1, its moment, and what it says.
 #[derive(Debug, Drop, PartialEq, Eq)]
 pub struct TraceLine {
@@ -75,4 +136,17 @@ impl Model for TraceLine {
     ghost invariant = { λ line. IsLine (record { number = line.number; moment = line.moment; kind = line.kind }) };
 
     ghost inverse = { λ value. record { number = value.number; moment = value.moment; kind = value.kind } };
+}
+
+impl TraceLine {
+    /// A copy that owns its octets.
+    pub fn try_clone(&self) -> Result<TraceLine, AllocError>
+        ensures { IfOk result (λ copy. copy ≡ self.now) }
+    {
+        Ok(TraceLine {
+            number: self.number,
+            moment: self.moment,
+            kind: self.kind.try_clone()?,
+        })
+    }
 }
