@@ -1,4 +1,4 @@
--- Want of memory: the one answer of a call that has no cause in what it was given.
+-- Out of memory: the one answer of a call that has no cause in what it was given.
 use Rattle.std.specs.Prelude.{◌≡◌, ◌⊎◌, Result, Err}
 
 -- The answer is this one, unless memory ran out: then it is the error that says so.
