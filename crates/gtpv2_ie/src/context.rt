@@ -11,12 +11,12 @@ use crate::cause::{CauseIe, push_cause};
 use crate::fault::IeBad;
 use crate::fteid::{Fteid, Fteids, push_fteid};
 use crate::kind::IeKind;
-use crate::octets::IeOctets;
 use crate::qos::{QosIe, push_qos};
 use crate::raw::{RawIe, read_ies};
 use crate::reading::plain_value;
 use crate::value::IeValue;
 use crate::writing::push_ie;
+use pc_base::Octets;
 use std::alloc::{AllocError as NoMemory, Global};
 
 /// A Bearer Context (TS 29.274, 8.28), whose value is elements again: the first EBI, Cause, TFT and
@@ -27,7 +27,7 @@ pub struct Context {
     pub ebi: Option<u8>,
     pub cause: Option<CauseIe>,
     /// A traffic flow template of 1 to 1,000 octets, not looked into.
-    pub tft: Option<IeOctets>,
+    pub tft: Option<Octets>,
     pub fteids: Fteids,
     pub qos: Option<QosIe>,
 }
@@ -134,7 +134,7 @@ fn push_first_cause(out: &mut Vec<u8>, cause: &Option<CauseIe>) -> Result<(), No
     }
 }
 
-fn push_tft(out: &mut Vec<u8>, tft: &Option<IeOctets>) -> Result<(), NoMemory>
+fn push_tft(out: &mut Vec<u8>, tft: &Option<Octets>) -> Result<(), NoMemory>
     requires { IfSome tft.now (IsOctets 1000) }
     ensures { OnOk result (out.new.items ≡ out.old.items ++ inner_spellings (if_some (λ t. IeValue.Tft t) tft.now)) }
 {
