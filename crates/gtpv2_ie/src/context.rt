@@ -2,7 +2,7 @@ ghost use Rattle.std.specs.Prelude.{◌≡◌, ◌<◌, ◌-◌, ◌^◌, length
 ghost use Rattle.gtpv2_ie.specs.Context.{context_with, put_in, put_if};
 ghost use Rattle.std.specs.List.{AllByRecursion};
 ghost use Rattle.gtpv2_ie.specs.Spelling.{context_octets, inner_spellings, if_some, fteid_element};
-ghost use Rattle.gtpv2_ie.specs.Validity.{IsContext, IsCounted, IsFteid, IsOctets};
+ghost use Rattle.gtpv2_ie.specs.Validity.{IsContext, IsCounted, IsElement, IsFteid, IsOctets};
 ghost use Rattle.gtpv2_ie.specs.Kind.{no_context};
 ghost use Rattle.gtpv2_ie.specs.Stand.{IsInside};
 ghost use Rattle.gtpv2_ie.specs.Value.{element_at, context_of};
@@ -14,7 +14,7 @@ use crate::kind::IeKind;
 use crate::qos::{QosIe, push_qos};
 use crate::raw::{RawIe, read_ies};
 use crate::reading::plain_value;
-use crate::value::IeValue;
+use crate::value::{Ie, IeValue};
 use crate::writing::push_ie;
 use pc_base::Octets;
 use std::alloc::{AllocError as NoMemory, Global};
@@ -33,7 +33,24 @@ pub struct Context {
 }
 
 impl Context {
-    ghost use Rattle.std.specs.Prelude.{◌≡◌, IfOk};
+    ghost use Rattle.std.specs.Prelude.{◌≡◌, ◌<◌, ◌^◌, length, IfOk};
+    ghost use Rattle.gtpv2_ie.specs.Context.{context_with};
+    ghost use Rattle.gtpv2_ie.specs.Spelling.{context_octets};
+    ghost use Rattle.gtpv2_ie.specs.Validity.{IsContext};
+
+    /// The Context of elements: of each type the first, of F-TEIDs all.
+    pub fn of(alloc: Global, ies: Vec<Ie>) -> Result<Context, NoMemory>
+        ensures value { IfOk result (λ context. context ≡ context_with ies.items) }
+
+        // An element can hold it where its octets fit the length field.
+        ensures valid { IfOk result (λ context. length (context_octets context) < 2 ^ 16 → IsContext context) }
+    {
+        let mut context = empty_context(alloc);
+        for ie in ies {
+            put_element(&mut context, ie)?;
+        }
+        Ok(context)
+    }
 
     /// A copy of the Context.
     pub fn try_clone(&self) -> Result<Self, NoMemory>
@@ -80,6 +97,14 @@ fn put(context: &mut Context, instance: u8, value: IeValue) -> Result<(), NoMemo
         }
         _ => Ok(()),
     }
+}
+
+/// Puts one more element into a Context.
+fn put_element(context: &mut Context, ie: Ie) -> Result<(), NoMemory>
+    ensures put { OnOk result (context.new ≡ put_in context.old ie) }
+    ensures valid { IsElement ie }
+{
+    put(context, ie.instance, ie.value)
 }
 
 /// Puts one more element of these octets into a Context, if it is inside its grammar.
