@@ -9,7 +9,7 @@ ghost use Rattle.control_steps.specs.Messages.{control_end, user_end, qos_ie};
 
 use crate::{NoMemory, REQUEST_ACCEPTED};
 use bearer_state::Qos;
-use gtpv2_ie::{CauseIe, Context, Fteid, Fteids, Ie, IeOctets, IeValue, QosIe};
+use gtpv2_ie::{CauseIe, Context, Fteid, Fteids, Ie, Octets, IeValue, QosIe};
 use pc_base::{Slot, TeidUse, addr_of, teid_of};
 use std::alloc::Global;
 
@@ -111,7 +111,7 @@ pub fn new_context(
     alloc: Global,
     slot: Slot,
     index: u8,
-    tft: IeOctets,
+    tft: Octets,
     qos: &Qos,
 ) -> Result<Ie, NoMemory>
     requires index { index ≤ 10 }
@@ -135,7 +135,7 @@ pub fn new_context(
 }
 
 /// The Bearer Context of a bearer that changes. Takes no memory.
-pub fn changed_context(alloc: Global, ebi: u8, tft: Option<IeOctets>) -> Ie
+pub fn changed_context(alloc: Global, ebi: u8, tft: Option<Octets>) -> Ie
     requires ebi { IsEbi ebi }
     requires tft { IfSome tft (IsOctets 1000) }
     ensures { result ≡ record { instance = 0; value = IeValue.Context (changed_context ebi tft) } }

@@ -18,7 +18,7 @@ use crate::contexts::{
 };
 use crate::{NEW_PDN_TYPE, NoMemory, REQUEST_ACCEPTED};
 use bearer_state::{Ask, Bearers, Qos};
-use gtpv2_ie::{Ie, IeOctets, IeValue};
+use gtpv2_ie::{Ie, Octets, IeValue};
 use gtpv2_msg::{
     CREATE_BEARER_REQUEST, CREATE_SESSION_RESPONSE, DELETE_BEARER_REQUEST, Ies,
     MODIFY_BEARER_RESPONSE, Msg, UPDATE_BEARER_REQUEST,
@@ -33,7 +33,7 @@ pub struct BearerAsked {
     /// 0 to 10.
     pub index: u8,
     /// Its filters as a template.
-    pub tft: IeOctets,
+    pub tft: Octets,
     pub qos: Qos,
 }
 
@@ -143,11 +143,11 @@ fn asks_accepted(
 }
 
 /// The octets of a template.
-pub fn tft_octets(alloc: Global, tft: &Tft) -> Result<IeOctets, NoMemory>
+pub fn tft_octets(alloc: Global, tft: &Tft) -> Result<Octets, NoMemory>
     ensures octets { IfOk result (λ octets. octets ≡ spelling tft.now) }
     ensures valid { IfOk result (IsOctets 1000) }
 {
-    Ok(IeOctets::of(tft_codec::write(alloc, tft)?))
+    Ok(Octets::of(tft_codec::write(alloc, tft)?))
 }
 
 /// A Create Bearer Request, linked to the default bearer of this EBI.
@@ -188,7 +188,7 @@ pub fn update_bearer_request(
     teid: u32,
     seq: u32,
     ebi: u8,
-    tft: Option<IeOctets>,
+    tft: Option<Octets>,
     up: Kbps,
     down: Kbps,
 ) -> Result<Msg, NoMemory>

@@ -18,7 +18,7 @@ ghost use Rattle.control_steps.specs.Steps.{Does};
 use crate::answer::{octets_of, silent};
 use crate::{NoMemory, messages};
 use bearer_state::{Bearers, Session};
-use gtpv2_ie::IeOctets;
+use gtpv2_ie::Octets;
 use pc_base::{Kbps, Octets, Outcome, Peer, Reply};
 use std::alloc::Global;
 use tft_codec::{Filters, Tft, TftNo, apply};
@@ -57,7 +57,7 @@ fn update_order(
     mme: Option<Peer>,
     seq: u32,
     ebi: u8,
-    tft: Option<IeOctets>,
+    tft: Option<Octets>,
     up: Kbps,
     down: Kbps,
 ) -> Result<Option<Octets>, NoMemory>

@@ -7,7 +7,7 @@
 //! use pc_base::Teid;
 //! use std::test::Fail;
 //!
-//! fn packet_in_its_tunnel(rt: HostRuntime) -> Result<(), Fail> {
+//! fn main(rt: HostRuntime) -> Result<(), Fail> {
 //!     let gpdu = [0x30, 0xff, 0, 2, 0, 0, 0, 0x11, 0x45, 0];
 //!     let Ok((head, payload)) = read(&gpdu) else {
 //!         return Err("a message".into());

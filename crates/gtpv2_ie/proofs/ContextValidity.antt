@@ -188,6 +188,33 @@ holds_more raws i none old new ie inside holds counted new_is =
     (subst (λ (n : ℕ). HoldsUpTo n (put_if old ie)) len
     (put_if-holds (spanned (take i raws)) ((get_or raws i none).to - (get_or raws i none).from) old ie holds counted))
 
+-- one more element in its range
+pub put_holds : (old new : Context) (ie : Element) → HoldsUpTo (length (context_octets old)) old → IsElement ie
+    → new ≡ put_in old ie → HoldsUpTo (length (context_octets new)) new
+put_holds old new ie holds is new_is =
+    let put = put_in-holds (length (context_octets old)) old ie holds is in
+    subst (λ (c : Context). HoldsUpTo (length (context_octets c)) c) (sym new_is)
+    (record {
+      ebi = put.ebi;
+      cause = put.cause;
+      tft = put.tft;
+      fteids = put.fteids;
+      qos = put.qos;
+      octets = omega arith;
+    })
+
+-- a Context that fits the length field
+pub fits_valid : (c : Context) → HoldsUpTo (length (context_octets c)) c → length (context_octets c) < 2 ^ 16
+    → IsContext c
+fits_valid c holds fits = record {
+  ebi = holds.ebi;
+  cause = holds.cause;
+  tft = holds.tft;
+  fteids = holds.fteids;
+  qos = holds.qos;
+  len = fits;
+}
+
 -- a Context of no elements
 pub holds_none : (raws : List RawIe) → HoldsUpTo (spanned (take 0 raws)) (context_with [])
 holds_none raws = record { ebi = tt; cause = tt; tft = tt; fteids = tt; qos = tt; octets = omega arith }

@@ -2,7 +2,7 @@ ghost use Rattle.std.specs.Prelude.{◌≡◌, ◌<◌, ◌-◌, ◌^◌, length
 ghost use Rattle.gtpv2_ie.specs.Context.{context_with, put_in, put_if};
 ghost use Rattle.std.specs.List.{AllByRecursion};
 ghost use Rattle.gtpv2_ie.specs.Spelling.{context_octets, inner_spellings, if_some, fteid_element};
-ghost use Rattle.gtpv2_ie.specs.Validity.{IsContext, IsCounted, IsFteid, IsOctets};
+ghost use Rattle.gtpv2_ie.specs.Validity.{IsContext, IsCounted, IsElement, IsFteid, IsOctets};
 ghost use Rattle.gtpv2_ie.specs.Kind.{no_context};
 ghost use Rattle.gtpv2_ie.specs.Stand.{IsInside};
 ghost use Rattle.gtpv2_ie.specs.Value.{element_at, context_of};
@@ -11,12 +11,12 @@ use crate::cause::{CauseIe, push_cause};
 use crate::fault::IeBad;
 use crate::fteid::{Fteid, Fteids, push_fteid};
 use crate::kind::IeKind;
-use crate::octets::IeOctets;
 use crate::qos::{QosIe, push_qos};
 use crate::raw::{RawIe, read_ies};
 use crate::reading::plain_value;
-use crate::value::IeValue;
+use crate::value::{Ie, IeValue};
 use crate::writing::push_ie;
+use pc_base::Octets;
 use std::alloc::{AllocError as NoMemory, Global};
 
 /// A Bearer Context (TS 29.274, 8.28), whose value is elements again: the first EBI, Cause, TFT and
@@ -27,13 +27,30 @@ pub struct Context {
     pub ebi: Option<u8>,
     pub cause: Option<CauseIe>,
     /// A traffic flow template of 1 to 1,000 octets, not looked into.
-    pub tft: Option<IeOctets>,
+    pub tft: Option<Octets>,
     pub fteids: Fteids,
     pub qos: Option<QosIe>,
 }
 
 impl Context {
-    ghost use Rattle.std.specs.Prelude.{◌≡◌, IfOk};
+    ghost use Rattle.std.specs.Prelude.{◌≡◌, ◌<◌, ◌^◌, length, IfOk};
+    ghost use Rattle.gtpv2_ie.specs.Context.{context_with};
+    ghost use Rattle.gtpv2_ie.specs.Spelling.{context_octets};
+    ghost use Rattle.gtpv2_ie.specs.Validity.{IsContext};
+
+    /// The Context of elements: of each type the first, of F-TEIDs all.
+    pub fn of(alloc: Global, ies: Vec<Ie>) -> Result<Context, NoMemory>
+        ensures value { IfOk result (λ context. context ≡ context_with ies.items) }
+
+        // An element can hold it where its octets fit the length field.
+        ensures valid { IfOk result (λ context. length (context_octets context) < 2 ^ 16 → IsContext context) }
+    {
+        let mut context = empty_context(alloc);
+        for ie in ies {
+            put_element(&mut context, ie)?;
+        }
+        Ok(context)
+    }
 
     /// A copy of the Context.
     pub fn try_clone(&self) -> Result<Self, NoMemory>
@@ -80,6 +97,14 @@ fn put(context: &mut Context, instance: u8, value: IeValue) -> Result<(), NoMemo
         }
         _ => Ok(()),
     }
+}
+
+/// Puts one more element into a Context.
+fn put_element(context: &mut Context, ie: Ie) -> Result<(), NoMemory>
+    ensures put { OnOk result (context.new ≡ put_in context.old ie) }
+    ensures valid { IsElement ie }
+{
+    put(context, ie.instance, ie.value)
 }
 
 /// Puts one more element of these octets into a Context, if it is inside its grammar.
@@ -134,7 +159,7 @@ fn push_first_cause(out: &mut Vec<u8>, cause: &Option<CauseIe>) -> Result<(), No
     }
 }
 
-fn push_tft(out: &mut Vec<u8>, tft: &Option<IeOctets>) -> Result<(), NoMemory>
+fn push_tft(out: &mut Vec<u8>, tft: &Option<Octets>) -> Result<(), NoMemory>
     requires { IfSome tft.now (IsOctets 1000) }
     ensures { OnOk result (out.new.items ≡ out.old.items ++ inner_spellings (if_some (λ t. IeValue.Tft t) tft.now)) }
 {

@@ -4,7 +4,7 @@ ghost use Rattle.gtpv2_ie.specs.Kind.{least_len};
 ghost use Rattle.gtpv2_ie.specs.Validity.{IsEbi};
 
 use crate::kind::IeKind;
-use crate::octets::IeOctets;
+use pc_base::Octets;
 use std::alloc::{AllocError as NoMemory, Global};
 use wire_octets::be32_at;
 
@@ -48,11 +48,11 @@ pub fn paa_of(octets: &[u8]) -> Option<u32>
 }
 
 /// Octets that are not looked into, at most so many.
-pub fn octets_of(alloc: Global, octets: &[u8], most: usize) -> Result<Option<IeOctets>, NoMemory>
+pub fn octets_of(alloc: Global, octets: &[u8], most: usize) -> Result<Option<Octets>, NoMemory>
     ensures { IfOk result (λ found. found ≡ grammar.octets_of most octets.now) }
 {
     if octets.len() <= most {
-        Ok(Some(IeOctets::of(Vec::from_slice(alloc, octets)?)))
+        Ok(Some(Octets::of(Vec::from_slice(alloc, octets)?)))
     } else {
         Ok(None)
     }

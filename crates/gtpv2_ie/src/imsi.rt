@@ -17,7 +17,7 @@ ghost use Rattle.std.specs.Option.{option_map};
 ghost use Rattle.std.specs.List.{AllByRecursion};
 ghost use Rattle.gtpv2_ie.specs.Imsi.{IsImsi, octet_of, digit_pair, pair_digits, digits_of, imsi_of, imsi_octets};
 
-use crate::octets::IeOctets;
+use pc_base::Octets;
 use std::alloc::{AllocError as NoMemory, Global};
 
 /// The high nibble of the last octet of an odd count.
@@ -65,12 +65,12 @@ fn digits_of(alloc: Global, octets: &[u8]) -> Result<Option<Vec<u8>>, NoMemory>
 }
 
 /// The IMSI that octets spell (TS 29.274, 8.3).
-pub fn imsi_of(alloc: Global, octets: &[u8]) -> Result<Option<IeOctets>, NoMemory>
+pub fn imsi_of(alloc: Global, octets: &[u8]) -> Result<Option<Octets>, NoMemory>
     ensures value { IfOk result (λ imsi. imsi ≡ imsi_of octets.now) }
     ensures valid { IfOk result (λ imsi. IfSome imsi IsImsi) }
 {
     match digits_of(alloc, octets)? {
-        Some(digits) if digits.len() >= 6 && digits.len() <= 15 => Ok(Some(IeOctets::of(digits))),
+        Some(digits) if digits.len() >= 6 && digits.len() <= 15 => Ok(Some(Octets::of(digits))),
         _ => Ok(None),
     }
 }

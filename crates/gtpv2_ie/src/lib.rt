@@ -6,7 +6,7 @@
 //! use gtpv2_ie::{Ie, IeValue, read_ies, read_value, write_ie};
 //! use std::test::Fail;
 //!
-//! fn bearer_identity_both_ways(rt: HostRuntime) -> Result<(), Fail> {
+//! fn main(rt: HostRuntime) -> Result<(), Fail> {
 //!     let ebi = b"\x49\x00\x01\x00\x05";
 //!     for ie in &read_ies(rt.alloc(), ebi)? {
 //!         assert!(rt; ie.from <= ie.to && ie.to <= ebi.len());
@@ -31,7 +31,6 @@ mod imsi;
 pub mod interface;
 mod kind;
 mod laws;
-mod octets;
 mod qos;
 mod raw;
 mod reading;
@@ -44,7 +43,6 @@ pub use fault::IeBad;
 pub use fteid::{Fteid, Fteids};
 pub use kind::IeKind;
 pub use laws::elements_read_back;
-pub use octets::IeOctets;
 pub use qos::QosIe;
 pub use raw::{RawIe, read_ies};
 pub use reading::read_value;

@@ -2,8 +2,8 @@ use crate::cause::CauseIe;
 use crate::context::Context;
 use crate::fteid::Fteid;
 use crate::kind::IeKind;
-use crate::octets::IeOctets;
 use crate::qos::QosIe;
+use pc_base::Octets;
 use std::alloc::AllocError as NoMemory;
 use std::fmt;
 use std::marker::Model;
@@ -13,12 +13,12 @@ use std::marker::Model;
 #[derive(Clone, Drop, PartialEq, Eq)]
 pub enum IeValue {
     /// 6 to 15 digits in ASCII.
-    Imsi(IeOctets),
+    Imsi(Octets),
     Cause(CauseIe),
     /// The restart counter.
     Recovery(u8),
     /// 1 to 100 octets, not looked into.
-    Apn(IeOctets),
+    Apn(Octets),
     /// Uplink and downlink, in kbps.
     Ambr(u32, u32),
     /// The EPS bearer identity: 0 or 5 to 15.
@@ -29,7 +29,7 @@ pub enum IeValue {
     /// The radio access technology.
     Rat(u8),
     /// 1 to 1,000 octets, not looked into.
-    Tft(IeOctets),
+    Tft(Octets),
     Fteid(Fteid),
     Context(Context),
     /// The PDN type: 1 IPv4, 2 IPv6, 3 both.
@@ -71,7 +71,7 @@ impl IeValue {
 
 /// Prints ASCII digits as they are.
 #[derive(Drop)]
-struct Digits<'a>(&'a IeOctets);
+struct Digits<'a>(&'a Octets);
 
 impl fmt::Debug for Digits<'_> {
     fn fmt<W: fmt::Write>(&self, f: &mut fmt::Formatter<W>) -> fmt::Result {

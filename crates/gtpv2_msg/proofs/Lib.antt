@@ -8,3 +8,4 @@ mod MeetsLemmas
 mod ReadingLemmas
 mod RoundTrip
 mod WhatIsRead
+mod ReadContexts

@@ -272,7 +272,8 @@ context_with_few (ie ∷ ies) =
 no_contexts : (octets : List ℕ) → IfSome (no_context octets) (λ c. length (empty_context c) ≤ length octets)
 no_contexts octets = tt
 
-context_few : (octets : List ℕ) (read : Result (List RawIe) IeBad) → ies_of octets ≡ read
+-- a Context is written in no more octets than it was read from
+pub context_few : (octets : List ℕ) (read : Result (List RawIe) IeBad) → ies_of octets ≡ read
     → IfSome (context_in octets read) (λ c. length (context_octets c) ≤ length octets)
 context_few octets (Err bad) is = tt
 context_few octets (Ok raws) is =

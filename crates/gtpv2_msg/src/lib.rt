@@ -8,7 +8,7 @@
 //! use gtpv2_msg::{ECHO_REQUEST, read, write};
 //! use std::test::Fail;
 //!
-//! fn echo_both_ways(rt: HostRuntime) -> Result<(), Fail> {
+//! fn main(rt: HostRuntime) -> Result<(), Fail> {
 //!     let echo = b"\x40\x01\x00\x09\x00\x00\x07\x00\x03\x00\x01\x00\x05";
 //!     let message = read(rt.alloc(), echo)?;
 //!     assert_eq!(rt; (message.kind, message.seq), (ECHO_REQUEST, 7));

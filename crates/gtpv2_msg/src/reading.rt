@@ -1,4 +1,4 @@
-ghost use Rattle.std.specs.Prelude.{◌≡◌, ◌≤◌, List, length, All, IfOk, IfErr, IfSome, Ok, Err, Some};
+ghost use Rattle.std.specs.Prelude.{◌≡◌, ◌≤◌, ℕ, List, length, All, IfOk, IfErr, IfSome, Ok, Err, Some};
 ghost use Rattle.gtpv2_ie.specs.Spelling.{spellings};
 ghost use Rattle.gtpv2_ie.specs.Stand.{Stand, IsInside};
 ghost use Rattle.gtpv2_msg.specs.Elements.{contexts_in};
@@ -6,43 +6,42 @@ ghost use Rattle.gtpv2_msg.specs.HasRequired.{HasRequired};
 ghost use Rattle.gtpv2_msg.specs.Message.{Message};
 ghost use Rattle.gtpv2_msg.specs.Reading.{IsBody, Spells};
 ghost use Rattle.gtpv2_msg.specs.Refusal.{body_fault, first_fault, Tells, IsRefusal, IsFraming};
-ghost use Rattle.gtpv2_msg.specs.Required as table;
+ghost use Rattle.gtpv2_msg.specs.Required.{RequiredIes as Asked};
 ghost use Rattle.gtpv2_msg.specs.RowFault as grammar;
 ghost use Rattle.wire_octets.specs.Memory.{OrNoMemory};
 
 use crate::contexts::contexts_fault;
 use crate::element::ReadIe;
-use crate::elements::{known_of, read_elements};
+use crate::elements::{known_of, read_message_elements};
 use crate::fault::CBad;
 use crate::header::read_header;
 use crate::message::{Ies, Msg};
 use crate::required::kinds_fault;
-use crate::table::required;
+use crate::table::{RequiredIes, required};
 use gtpv2_ie::{Ie, IeBad, RawIe, read_ies};
-use std::alloc::{AllocError as NoMemory, Global};
+use std::alloc::Global;
 
-/// What is wrong with the elements of a message type, in the order of its row.
+/// What is wrong with the elements of a message type, in the order of its row, where it is known what
+/// is wrong inside their Contexts.
 fn row_fault(
-    alloc: Global,
-    kind: u8,
-    octets: &[u8],
+    row: &RequiredIes,
     raws: &[RawIe],
     ies: &[ReadIe],
-) -> Result<Option<CBad>, NoMemory>
-    requires { All (IsInside octets.now) raws.now }
-    ensures { IfOk result (λ fault.
-        fault ≡ grammar.row_fault (table.required kind) ies.now (contexts_in octets.now raws.now)) }
+    inside: Option<CBad>,
+) -> Option<CBad>
+    ensures { (octets : List ℕ) (asked : Asked) → row.now.before.now ≡ asked.before → row.now.must ≡ asked.must
+        → row.now.after.now ≡ asked.after → inside ≡ grammar.inside_fault asked.inside (contexts_in octets raws.now)
+        → result ≡ grammar.row_fault asked ies.now (contexts_in octets raws.now) }
 {
-    let row = required(kind);
     let before = kinds_fault(ies, row.before);
     if before.is_some() {
-        return Ok(before);
+        return before;
     }
-    let contexts = contexts_fault(alloc, octets, raws, row.must, row.inside)?;
+    let contexts = contexts_fault(raws, row.must, inside);
     if contexts.is_some() {
-        return Ok(contexts);
+        return contexts;
     }
-    Ok(kinds_fault(ies, row.after))
+    kinds_fault(ies, row.after)
 }
 
 /// The elements that stand at places behind a header of some type.
@@ -55,8 +54,9 @@ fn read_required(alloc: Global, kind: u8, octets: &[u8], raws: &[RawIe]) -> Resu
     // They are written in no more octets.
     ensures no_longer { IfOk result (λ ies. length (spellings ies.items) ≤ length octets.now) }
 {
-    let ies = read_elements(alloc, octets, raws)?;
-    match row_fault(alloc, kind, octets, raws, &ies)? {
+    let row = required(kind);
+    let (ies, inside) = read_message_elements(alloc, octets, raws, row.inside)?;
+    match row_fault(&row, raws, &ies, inside) {
         Some(bad) => Err(bad),
         None => Ok(known_of(alloc, ies)?),
     }

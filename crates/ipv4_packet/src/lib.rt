@@ -6,7 +6,7 @@
 //! use ipv4_packet::Ip4;
 //! use std::test::Fail;
 //!
-//! fn ports_of_a_datagram(rt: HostRuntime) -> Result<(), Fail> {
+//! fn main(rt: HostRuntime) -> Result<(), Fail> {
 //!     let octets = b"\x45\0\0\x1c\0\0\0\0\x40\x11\0\0\xcb\0\x71\x09\x0a\x2d\0\x02\x13\xc4\x27\x10\0\x08\0\0";
 //!     let packet = Ip4::read(octets)?;
 //!     assert_eq!(rt; (packet.source(), packet.destination()), (0xcb00_7109, 0x0a2d_0002));

@@ -3,10 +3,14 @@
 //! its number. TEIDs are those of TS 29.281, the IMSI that of TS 23.003. Only copies take memory.
 //!
 //! ```
-//! let slot = Slot(254);
-//! assert_eq!(addr_of(slot), Addr4(0x0a2d_0100));
-//! let bearer = teid_of(slot, TeidUse::Bearer(0));
-//! assert_eq!(slot_of_teid(bearer), Some((slot, TeidUse::Bearer(0))));
+//! use pc_base::{Addr4, Slot, TeidUse, addr_of, slot_of_teid, teid_of};
+//!
+//! fn main(rt: HostRuntime) {
+//!     let slot = Slot(254);
+//!     assert_eq!(rt; addr_of(slot), Addr4(0x0a2d_0100));
+//!     let bearer = teid_of(slot, TeidUse::Bearer(0));
+//!     assert_eq!(rt; slot_of_teid(bearer), Some((slot, TeidUse::Bearer(0))));
+//! }
 //! ```
 #![tactic(auto)]
 

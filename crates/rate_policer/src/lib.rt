@@ -6,7 +6,7 @@
 //! use pc_base::{Kbps, Moment};
 //! use rate_policer::Bucket;
 //!
-//! fn burst_and_what_the_rate_brings(rt: HostRuntime) {
+//! fn main(rt: HostRuntime) {
 //!     let mut bucket = Bucket::new(Kbps(8));
 //!     assert!(rt; bucket.ask(Moment(0), 3_000));
 //!     if bucket.last() <= Moment(1_000) {

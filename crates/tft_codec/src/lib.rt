@@ -7,7 +7,7 @@
 //! use std::test::Fail;
 //! use tft_codec::{Component, Filters, apply, read, write};
 //!
-//! fn template_both_ways(rt: HostRuntime) -> Result<(), Fail> {
+//! fn main(rt: HostRuntime) -> Result<(), Fail> {
 //!     let octets = [0x21, 0x30, 9, 2, 0x30, 17];
 //!     let tft = read(rt.alloc(), &octets)?;
 //!     assert_eq!(rt; write(rt.alloc(), &tft)?.as_slice(), octets.as_slice());

@@ -9,7 +9,7 @@
 //! use tft_codec::{BearerFilters, Filters, apply, read};
 //! use tft_match::choose;
 //!
-//! fn bearer_by_port(rt: HostRuntime) -> Result<(), Fail> {
+//! fn main(rt: HostRuntime) -> Result<(), Fail> {
 //!     let octets = b"\x45\0\0\x1c\0\0\0\0\x40\x11\0\0\xcb\0\x71\x09\x0a\x2d\0\x02\x13\xc4\x27\x10\0\x08\0\0";
 //!     let packet = Ip4::read(octets)?;
 //!     let from_5060 = read(rt.alloc(), &[0x21, 0x30, 9, 3, 0x50, 0x13, 0xc4])?;

@@ -3,9 +3,13 @@
 //! answer or out of memory that the crates above cite.
 //!
 //! ```
-//! let octets = be24_octets(0x0102_03);
-//! assert_eq!(be24(&octets, 0), Some(0x0102_03));
-//! assert_eq!(be24(&octets, 1), None);
+//! use wire_octets::{be24, be24_octets};
+//!
+//! fn main(rt: HostRuntime) {
+//!     let octets = be24_octets(0x0102_03);
+//!     assert_eq!(rt; be24(&octets, 0), Some(0x0102_03));
+//!     assert_eq!(rt; be24(&octets, 1), None);
+//! }
 //! ```
 #![tactic(auto)]
 
