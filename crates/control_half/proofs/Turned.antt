@@ -14,7 +14,7 @@ use Rattle.control_half.specs.declared.items.CommandItem.{CommandItem}
 use Rattle.control_half.specs.declared.inner.ControlInner.{ControlInner}
 use Rattle.control_half.specs.Half.{IsSameHalf, seen_of}
 use Rattle.control_half.specs.Turns.{Grew, IsAhead, HasOtherFloor, Stops, SendsAs, IsLatest, StoppedFor, Seen, CameTo}
-use Rattle.control_half.specs.Turns.{Stopped, Ended, came_to, size}
+use Rattle.control_half.specs.Turns.{Rested, Stopped, Ended, came_to, size}
 
 pub grew_more : {X : Type 0} (a b c : List X) → Grew a b → Grew b c → Grew a c
 grew_more a b c one more = (
@@ -125,22 +125,27 @@ module _ {g : Ghosts VersionState} where
   came : (applied before : Bool) (behind : Option Bool) (old new : Seen g) (kept first : Option (Batch VersionState g))
       (sent : List (Batch VersionState g)) (fulls : ℕ)
       → SendsAs (Some before) old.batch first old.sent sent old.fulls fulls → (applied ≡ true → old.number < new.number)
+      → (applied ≡ false → new.number ≡ old.number)
       → Stops new.hop kept new.head old.empties new.empties
       → SendsAs behind kept new.batch sent new.sent fulls new.fulls
       → CameTo (came_to applied before behind) old new
-  came true before behind old new kept first sent fulls one some stops sends = inl (some refl)
-  came false true behind old new kept first sent fulls one some stops sends =
+  came true before behind old new kept first sent fulls one some none stops sends = inl (some refl)
+  came false true behind old new kept first sent fulls one some none stops sends =
       inr (let more = longer sent new.sent (grew_sent behind kept new.batch sent new.sent fulls new.fulls sends) in
       omega (arith, one_longer old.sent sent one.0 one.3, more))
-  came false false None old new kept first sent fulls one some stops sends = sends.2 ∙ ap raised one.3
-  came false false (Some true) old new kept first sent fulls one some stops sends =
+  came false false None old new kept first sent fulls one some none stops sends =
+      (record { number = none refl; sent = sends.1 ∙ one.2 }, sends.2 ∙ ap raised one.3)
+  came false false (Some true) old new kept first sent fulls one some none stops sends =
       inr (omega (
         arith,
         ap (λ (l : List (Batch VersionState g)). length l) one.2,
         one_longer sent new.sent sends.0 sends.3,
       ))
-  came false false (Some false) old new kept first sent fulls one some stops sends =
-      (sends.1, stops_none new.hop kept new.head old.empties new.empties sends.0 stops)
+  came false false (Some false) old new kept first sent fulls one some none stops sends = (
+    record { number = none refl; sent = sends.2 ∙ one.2 },
+    sends.1,
+    stops_none new.hop kept new.head old.empties new.empties sends.0 stops,
+  )
 
   stopped : (did : Did) (behind : Option Bool) (old new : Seen g) (kept : Option (Batch VersionState g))
       (sent : List (Batch VersionState g)) (fulls : ℕ)
@@ -163,6 +168,7 @@ module _ (old one two new : ControlInner) (applied before : Bool) (behind : Opti
     pub commands_one : one.commands ≡ old.commands
     pub versions_two : two.versions ≡ one.versions
     pub some : applied ≡ true → one.control.number < two.control.number
+    pub none : applied ≡ false → two.control.number ≡ one.control.number
     pub few : two.control.number ≤ one.control.number + 16
     pub stops : Stops two.hop two.batch two.head (empty_answers one.commands) (empty_answers two.commands)
     pub sends_behind : SendsAs behind two.batch new.batch (sent two.versions) (sent new.versions)
@@ -194,6 +200,7 @@ module _ (old one two new : ControlInner) (applied before : Bool) (behind : Opti
       (full_answers two.versions) (sends_to_two t)
       (λ is. let more = t.some is in omega
       (arith, more, ap (λ k. k.number) t.control_one, ap (λ k. k.number) t.control_new))
+      (λ is. ap (λ k. k.number) t.control_new ∙ t.none is ∙ ap (λ k. k.number) t.control_one)
       (stops_new t) t.sends_behind
 
   turn_stopped : (did : Did) → Turns → Stopped did (seen_of old) (seen_of new)
@@ -227,7 +234,7 @@ pub turn_held : (old new : ControlInner) → SendsAs None old.batch new.batch (s
     (full_answers old.versions) (full_answers new.versions) → new.control ≡ old.control
     → Ended Held (seen_of old) (seen_of new)
 turn_held old new sends control = record {
-  came = sends.2;
+  came = (record { number = ap (λ k. k.number) control; sent = sends.1 }, sends.2);
   stopped = tt;
   commands = omega (arith, ap (λ k. k.number) control);
   batches = omega (arith, ap (λ l. length l) sends.1);

@@ -91,11 +91,17 @@ pub record Seen (g : Ghosts VersionState) : Type 0 where
   pub fulls : ℕ
 
 module _ {g : Ghosts VersionState} where
-  -- Idle: no batch is kept, and no command came, or the one at the head is ahead. Held: the lane of versions was full.
-  -- Worked: a command was applied, or a batch sent.
+  -- no command was applied, and no batch sent
+  pub record Rested (old new : Seen g) : Type 0 where
+    pub number : new.number ≡ old.number
+    pub sent : new.sent ≡ old.sent
+
+  -- Idle: nothing was done, no batch is kept, and no command came, or the one at the head is ahead. Held: nothing was
+  -- done, and the lane of versions was full. Worked: a command was applied, or a batch sent.
   abbrev pub CameTo : Did → Seen g → Seen g → Type 0
-  CameTo Idle old new = (new.batch ≡ None) × ((new.empties ≡ raised old.empties) ⊎ IsAhead new.hop new.head)
-  CameTo Held old new = new.fulls ≡ raised old.fulls
+  CameTo Idle old new = Rested old new × (new.batch ≡ None)
+      × ((new.empties ≡ raised old.empties) ⊎ IsAhead new.hop new.head)
+  CameTo Held old new = Rested old new × (new.fulls ≡ raised old.fulls)
   CameTo Worked old new = (old.number < new.number) ⊎ (length old.sent < length new.sent)
 
   -- a turn that isn't held stops for a reason

@@ -3,6 +3,7 @@ pub mod Handled
 pub mod Interleaved
 pub mod Kept
 pub mod Learnt
+pub mod Moments
 pub mod Named
 pub mod State
 pub mod Told

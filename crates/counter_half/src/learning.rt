@@ -18,7 +18,7 @@ const MOST_PACKETS: usize = 0x4_0000_0000_0000;
 
 impl FlowHalf {
     ghost use Rattle.counter_half.specs.Half.{name_of, handled_by, places_of, may_take, asks_of};
-    ghost use Rattle.counter_half.specs.Half.{learns_of, batches_of, HalfStops};
+    ghost use Rattle.counter_half.specs.Half.{learns_of, batches_of, HalfStops, Judges};
 
     /// Learns at most so many batches, as long as they come and their floors are met. Tells whether it
     /// learnt one. When out of memory, what was learnt stays learnt, and nothing is lost.
@@ -51,13 +51,15 @@ impl FlowHalf {
         self.inner.may_handle(item)
     }
 
-    /// Handles an item at a slice. When out of memory, nothing changes.
+    /// Handles an item at a slice, at the last one's moment where its own is earlier. When out of memory,
+    /// nothing changes.
     pub fn handle(&mut self, place: SliceNo, item: &FlowItem) -> Result<(), NoMemory>
         requires { may_take self.old item.now ≡ true }
 
         ensures name { name_of self.new ≡ name_of self.old }
         ensures ok { OnOk result (handled_by self.new ≡ handled_by self.old ++ item.now ∷ []) }
         ensures place { OnOk result (places_of self.new ≡ places_of self.old ++ places.At place ∷ []) }
+        ensures judged { OnOk result (Judges item.now.packet self.old self.new) }
         ensures err { OnErr result (handled_by self.new ≡ handled_by self.old) }
         ensures no_place { OnErr result (places_of self.new ≡ places_of self.old) }
         ensures met { self.new.inner.value.state.met ≡ self.old.inner.value.state.met }
@@ -70,7 +72,7 @@ impl FlowHalf {
 
 impl FlowInner {
     ghost use Rattle.counter_half.specs.Half.{inner_name, inner_handled, inner_places, inner_takes, batches_learnt};
-    ghost use Rattle.counter_half.specs.Half.{IsReady, HasNoMore, Stops};
+    ghost use Rattle.counter_half.specs.Half.{IsReady, HasNoMore, Stops, JudgesInner};
 
     // Learns, and counts that it was asked to.
     fn learn_at_most<R: Wait>(&mut self, rt: &R, most: u32) -> Result<bool, NoMemory>
@@ -108,6 +110,7 @@ impl FlowInner {
         ensures name { inner_name self.new ≡ inner_name self.old }
         ensures ok { OnOk result (inner_handled self.new ≡ inner_handled self.old ++ item.now ∷ []) }
         ensures place { OnOk result (inner_places self.new ≡ inner_places self.old ++ places.At place ∷ []) }
+        ensures judged { OnOk result (JudgesInner item.now.packet self.old self.new) }
         ensures err { OnErr result (inner_handled self.new ≡ inner_handled self.old) }
         ensures no_place { OnErr result (inner_places self.new ≡ inner_places self.old) }
         ensures met { self.new.state.met ≡ self.old.state.met }

@@ -1,12 +1,13 @@
 //! One version more, and one packet more.
 ghost use Rattle.std.specs.Prelude.{◌≡◌, ℕ, ◌+◌, ◌<◌, ◌≤◌, ◌^◌, [], ◌∷◌, ◌++◌, true};
-ghost use Rattle.std.specs.Prelude.{false, length, map, IfOk, IfSome, OnOk, OnErr};
+ghost use Rattle.std.specs.Prelude.{false, Some, length, map, IfOk, OnOk, OnErr};
 ghost use Rattle.packet_steps.specs.Past.{Past};
 ghost use Rattle.packet_steps.specs.Verdicts.{judged};
 ghost use Rattle.packet_steps.specs.Standing.{StandsFor, AreFew, last_of};
 ghost use Rattle.control_half.specs.Batch.{versions_of, floor_of};
 ghost use Rattle.control_half.specs.Published.{in_batch};
 ghost use Rattle.counter_half.specs.declared.items.PacketDone.{PacketDone};
+ghost use Rattle.counter_half.specs.Moments.{later, not_before, IsJudged};
 
 use crate::flow_state::FlowState;
 use crate::laws::known_pasts;
@@ -60,7 +61,8 @@ impl FlowState {
         Ok(true)
     }
 
-    /// Judges a packet whose floor is met. Where memory is wanting, nothing changes.
+    /// Judges a packet whose floor is met, at the last packet's moment where its own is earlier. Where memory
+    /// is wanting, nothing changes.
     pub fn meet(&mut self, place: Place, item: &FlowItem) -> Result<(), NoMemory>
         requires floor { item.now.floor ≤ self.old.met }
         requires few { self.old.done < 2 ^ 61 }
@@ -73,6 +75,8 @@ impl FlowState {
         ensures done { OnOk result (self.new.done ≡ self.old.done + 1) }
         ensures place { OnOk result (map (λ (d : PacketDone). d.place) self.new.notes.items
             ≡ map (λ (d : PacketDone). d.place) self.old.notes.items ++ place ∷ []) }
+        ensures judged { OnOk result (IsJudged item.now.packet self.old.version self.old.counters self.new.counters
+            self.old.notes.items self.new.notes.items) }
         ensures kept { OnErr result ((self.new.handled.items ≡ self.old.handled.items) × (self.new.done ≡ self.old.done)
             × (self.new.notes.items ≡ self.old.notes.items)) }
     {
@@ -97,12 +101,11 @@ impl FlowState {
 fn verdict(counters: &mut Counters, version: &Version, packet: &Packet) -> Result<Verdict, NoMemory>
     ensures verdict { (past : Past) (taken : ℕ) → StandsFor counters.old past taken → past.version ≡ version.now
         → AreFew past.charged
-        → IfSome (last_of counters.old) (λ last. last ≤ packet.now.moment)
-        → IfOk result (λ verdict. verdict ≡ (judged past packet.now).1) }
+        → IfOk result (λ verdict. verdict ≡ (judged past (not_before (last_of counters.old) packet.now)).1) }
     ensures stands { (past : Past) (taken : ℕ) → StandsFor counters.old past taken → past.version ≡ version.now
         → AreFew past.charged
-        → IfSome (last_of counters.old) (λ last. last ≤ packet.now.moment)
-        → OnOk result (StandsFor counters.new (judged past packet.now).0 taken) }
+        → OnOk result (StandsFor counters.new (judged past (not_before (last_of counters.old) packet.now)).0 taken) }
+    ensures last { OnOk result (last_of counters.new ≡ Some (later (last_of counters.old) packet.now.moment)) }
     ensures unchanged { OnErr result (counters.new ≡ counters.old) }
 {
     match counters.last() {

@@ -16,6 +16,7 @@ turns_of g c = record {
   commands_one = c.send.ensures.commands;
   versions_two = c.apply_all.ensures.versions;
   some = c.in_ok-applied.ensures.applied;
+  none = c.in_ok-applied.ensures.none;
   few = c.in_ok-applied.ensures.few;
   stops = c.in_ok-applied.ensures.stops;
   sends_behind = c.send-behind.ensures.sends;
