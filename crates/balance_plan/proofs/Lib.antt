@@ -1,0 +1,4 @@
+pub mod Choosing
+pub mod Moving
+pub mod Totals
+pub mod Stepping
