@@ -3,11 +3,19 @@
 #![tactic(auto)]
 
 mod ask;
+mod front;
+mod grow;
+mod halves;
 mod met;
 mod planning;
+mod setup;
+mod sides;
 mod slot;
 mod standing;
+mod turning;
 mod turns;
+mod workers;
+mod world;
 
 pub use ask::{Ask, Rooms};
 pub use met::{Met, Outcome};

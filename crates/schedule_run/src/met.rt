@@ -35,3 +35,18 @@ impl Model for Met {
 
     ghost inverse = { λ met. record { commands = met.commands; place = met.place } };
 }
+
+/// What the packets of a slot meet, in their order.
+#[derive(Drop)]
+pub struct SlotMets {
+    pub items: Vec<Met>,
+}
+
+impl Model for SlotMets {
+    ghost use Rattle.std.specs.Prelude.{List};
+    ghost use Rattle.slice_schedule.specs.Slots as slots;
+
+    ghost Value = { List slots.Met };
+
+    ghost view = { λ met. met.items.items };
+}

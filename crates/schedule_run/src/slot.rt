@@ -15,22 +15,22 @@ use std::marker::Model;
 /// A slot in an epoch: what was accepted, and cut points in that.
 #[derive(Drop)]
 pub struct SlotNumbers {
-    moves: Vec<u8>,
-    commands: Vec<CommandTags>,
-    packets: Vec<usize>,
-    commands_before: usize,
-    packets_before: usize,
-    control: Standing,
-    arrived: usize,
-    taken: usize,
-    applied: usize,
-    unsent: Option<usize>,
-    sent: VecDeque<usize>,
-    flow: Standing,
-    batch: Option<usize>,
-    learnt: usize,
-    met: Vec<Met>,
-    queued: usize,
+    pub(crate) moves: Vec<u8>,
+    pub(crate) commands: Vec<CommandTags>,
+    pub(crate) packets: Vec<usize>,
+    pub(crate) commands_before: usize,
+    pub(crate) packets_before: usize,
+    pub(crate) control: Standing,
+    pub(crate) arrived: usize,
+    pub(crate) taken: usize,
+    pub(crate) applied: usize,
+    pub(crate) unsent: Option<usize>,
+    pub(crate) sent: VecDeque<usize>,
+    pub(crate) flow: Standing,
+    pub(crate) batch: Option<usize>,
+    pub(crate) learnt: usize,
+    pub(crate) met: Vec<Met>,
+    pub(crate) queued: usize,
 }
 
 impl Model for SlotNumbers {
@@ -154,6 +154,17 @@ impl SlotNumbers {
     {
         let floor = self.commands_before;
         self.packets.push(floor)?;
+        Ok(())
+    }
+
+    /// A packet waits at the front.
+    pub fn park(&mut self) -> Result<(), AllocError>
+        requires { self.old.queued < 2 ^ 32 }
+        ensures { OnOk result (self.new ≡ record (with_packet self.old) { queued = self.old.queued + 1 }) }
+    {
+        let floor = self.commands_before;
+        self.packets.push(floor)?;
+        self.queued += 1;
         Ok(())
     }
 

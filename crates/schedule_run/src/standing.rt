@@ -60,3 +60,11 @@ impl Model for HeldControl {
 
     ghost inverse = { λ held. record { slot = held.slot; until = held.until } };
 }
+
+/// How a data worker's turn goes on: by the next order, by the half whose turn is next, or not at all.
+#[derive(Clone, Copy)]
+pub enum Going {
+    More,
+    Round,
+    Over,
+}
