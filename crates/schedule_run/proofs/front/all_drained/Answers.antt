@@ -1,0 +1,16 @@
+use Rattle.std.proofs.Common.{rules, ◌≡◌, ◌∙◌, ap, length}
+use Rattle.slice_schedule.specs.Front.{drain}
+use Rattle.schedule_run.specs.Setups.{bounds_of}
+use Rattle.schedule_run.specs.Worlds.{world_of}
+use Rattle.schedule_run.proofs.Loops.{each_more, each_done}
+use Rattle.schedule_run.proofs.front.all_drained.Goals as goal
+
+pub loop-slot-preserved : goal.loop-slot-preserved
+loop-slot-preserved c =
+    each_more (drain c.args.setup.now.rooms) (length c.args.numbers.now.slots.items) c.loop-slot.slot
+    (world_of c.loop-slot.numbers) _ _ (search rules) c.in_ok-drain.ensures c.loop-slot.invariant
+
+pub returns : goal.returns
+returns c =
+    each_done (drain c.args.setup.now.rooms) (length c.args.numbers.now.slots.items) c.loop-slot.slot
+    (world_of c.loop-slot.numbers) _ (search rules) c.loop-slot.invariant

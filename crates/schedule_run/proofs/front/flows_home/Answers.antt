@@ -1,0 +1,16 @@
+use Rattle.std.proofs.Common.{rules, ◌≡◌, ◌∙◌, ap, length}
+use Rattle.slice_schedule.specs.Front.{flow_home}
+use Rattle.schedule_run.specs.Setups.{bounds_of}
+use Rattle.schedule_run.specs.Worlds.{world_of}
+use Rattle.schedule_run.proofs.Loops.{each_more, each_done}
+use Rattle.schedule_run.proofs.front.flows_home.Goals as goal
+
+pub loop-slice-preserved : goal.loop-slice-preserved
+loop-slice-preserved c =
+    each_more (flow_home) (length c.args.numbers.now.flows.items) c.loop-slice.slice
+    (world_of c.loop-slice.numbers) _ _ (search rules) c.in_ok-flow_home.ensures c.loop-slice.invariant
+
+pub returns : goal.returns
+returns c =
+    each_done (flow_home) (length c.args.numbers.now.flows.items) c.loop-slice.slice
+    (world_of c.loop-slice.numbers) _ (search rules) c.loop-slice.invariant

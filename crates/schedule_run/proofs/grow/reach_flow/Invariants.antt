@@ -1,0 +1,11 @@
+use Rattle.std.proofs.Common.{ℕ, ◌+◌, ◌-◌, length}
+use Rattle.slice_schedule.specs.Slots.{fresh_slot}
+use Rattle.slice_schedule.specs.World.{fresh_control, fresh_flow}
+use Rattle.schedule_run.proofs.Grown.{Grows}
+use Rattle.schedule_run.proofs.grow.reach_flow.Given as goal
+
+abbrev pub invariant-loop-alloc : goal.invariant-loop-alloc
+invariant-loop-alloc l = Grows fresh_flow l.fn.flows.items l.flows.items l.slice
+
+abbrev pub decreases-loop-alloc : goal.decreases-loop-alloc
+decreases-loop-alloc l = l.slice + 1 - length l.flows.items

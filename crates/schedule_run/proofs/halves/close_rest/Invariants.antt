@@ -1,0 +1,9 @@
+use Rattle.std.proofs.Common.{◌≡◌, ℕ, ◌-◌, ◌≤◌, length}
+use Rattle.schedule_run.specs.Parts.{met_behind}
+use Rattle.schedule_run.proofs.halves.close_rest.Given as goal
+
+abbrev pub invariant-loop : goal.invariant-loop
+invariant-loop l = record {
+  known : l.known ≤ length l.commands;
+  ahead : met_behind l.commands l.known l.met.items (l.rest - l.counter) ≡ met_behind l.commands l.learnt l.fn.met.items l.rest;
+}

@@ -1,0 +1,10 @@
+use Rattle.std.proofs.Common.{◌≡◌, ℕ, ◌-◌}
+use Rattle.slice_schedule.specs.Numbers.{times}
+use Rattle.slice_schedule.specs.FlowTurns.{doing, order_step, take_orders}
+use Rattle.schedule_run.specs.Worlds.{world_of, going_of}
+use Rattle.schedule_run.proofs.turning.take_orders.Given as goal
+
+abbrev pub invariant-loop : goal.invariant-loop
+invariant-loop l =
+    times (8 - l.counter) (order_step l.slice) (doing (world_of l.numbers) (going_of l.going))
+    ≡ take_orders l.slice (doing (world_of l.fn.numbers) (going_of l.first))

@@ -1,0 +1,23 @@
+-- The lines of an epoch as its schedule takes them.
+use Rattle.std.specs.Prelude.{ℕ, ◌%◌, List, [], ◌∷◌, get_or, map, length}
+use Rattle.slice_schedule.specs.Front.{Asks, nothing, command, packet, move}
+use Rattle.slice_schedule.specs.Schedule.{Driven}
+use Rattle.schedule_run.specs.declared.ask.Ask.{Ask}
+use Rattle.schedule_run.specs.declared.ask.Ask.TheVariants as ask
+
+-- what a line asks
+abbrev pub asked : Ask → Asks
+asked ask.Nothing = nothing
+asked (ask.Command slot) = command slot
+asked (ask.Packet slot) = packet slot
+asked (ask.Move slot slice) = move slot slice
+
+-- each line with the turns behind it, none where none are told
+abbrev pub driven_by : List Asks → List (List ℕ) → List Driven
+driven_by [] turns = []
+driven_by (asks ∷ others) [] = record { asks = asks; turns = [] } ∷ driven_by others []
+driven_by (asks ∷ others) (first ∷ turns) = record { asks = asks; turns = first } ∷ driven_by others turns
+
+-- where a slot is bound for as the epoch begins: by the list, and else for its home slice
+abbrev pub bound_in : (slices : ℕ) → List ℕ → ℕ → ℕ
+bound_in slices bounds slot = get_or bounds slot (slot % slices)

@@ -1,0 +1,419 @@
+//! What the front does: it takes halves home, offers orders, and accepts or refuses.
+ghost use Rattle.std.specs.Prelude.{◌≡◌, ℕ, ◌+◌, ◌-◌, OnOk, IfOk, length, fold, min};
+ghost use Rattle.slice_schedule.specs.World as world;
+ghost use Rattle.slice_schedule.specs.Slots as slots;
+ghost use Rattle.slice_schedule.specs.Front as front;
+ghost use Rattle.schedule_run.specs.Lines.{asked};
+ghost use Rattle.schedule_run.specs.Numbers.{standing_of, control_order, flow_order};
+ghost use Rattle.schedule_run.specs.Setups.{bounds_of};
+ghost use Rattle.schedule_run.specs.Worlds.{world_of};
+
+use crate::setup::Setup;
+use crate::sides::{
+    clear_control_home, clear_flow_home, control_sent, flow_sent, lane_of, order_control, order_flow, order_items,
+    orders_of,
+};
+use crate::standing::{ControlOrder, FlowOrder, Standing};
+use crate::world::{
+    Numbers, add_command, add_packet, bound_for, call_control, call_flow, control_of, flow_of, has_room, move_on,
+    park, parks_at, queued_of, set_control, set_flow, set_queued, tell_moves,
+};
+use crate::{Ask, Outcome};
+use std::alloc::AllocError;
+
+/// Where a half is that was sent home, if it was.
+fn back(standing: Standing) -> Standing
+    ensures { standing_of result ≡ front.back (standing_of standing) }
+{
+    match standing {
+        Standing::Absent => Standing::Absent,
+        Standing::Front => Standing::Front,
+        Standing::Placed(slice) => Standing::Placed(slice),
+        Standing::Recalled(slice, until) => Standing::Recalled(slice, until),
+        Standing::Leaving => Standing::Front,
+    }
+}
+
+fn control_back(numbers: &mut Numbers, slot: usize) -> Result<(), AllocError>
+    ensures { OnOk result (world_of numbers.new ≡ front.control_back (world_of numbers.old) slot) }
+{
+    let standing = back(control_of(numbers, slot));
+    set_control(numbers, slot, standing)
+}
+
+fn flow_back(numbers: &mut Numbers, slot: usize) -> Result<(), AllocError>
+    ensures { OnOk result (world_of numbers.new ≡ front.flow_back (world_of numbers.old) slot) }
+{
+    let standing = back(flow_of(numbers, slot));
+    set_flow(numbers, slot, standing)
+}
+
+/// Takes the control halves home that a slice sent.
+fn control_home(numbers: &mut Numbers, slice: usize) -> Result<(), AllocError>
+    ensures { OnOk result (world_of numbers.new ≡ front.control_home (world_of numbers.old) slice) }
+{
+    let count = control_sent(numbers, slice).len();
+    for place in 0..count {
+        let home = control_sent(numbers, slice);
+        let slot = home[place];
+        control_back(numbers, slot)?;
+    }
+    clear_control_home(numbers, slice)
+}
+
+/// Takes the counter halves home that a slice sent.
+fn flow_home(numbers: &mut Numbers, slice: usize) -> Result<(), AllocError>
+    ensures { OnOk result (world_of numbers.new ≡ front.flow_home (world_of numbers.old) slice) }
+{
+    let count = flow_sent(numbers, slice).len();
+    for place in 0..count {
+        let home = flow_sent(numbers, slice);
+        let slot = home[place];
+        flow_back(numbers, slot)?;
+    }
+    clear_flow_home(numbers, slice)
+}
+
+/// Offers an order to a control worker.
+fn control_ordered(
+    numbers: &mut Numbers,
+    slice: usize,
+    slot: usize,
+    order: ControlOrder,
+    standing: Standing,
+) -> Result<(), AllocError>
+    ensures { OnOk result (world_of numbers.new
+        ≡ front.control_ordered (world_of numbers.old) slice slot (control_order order) (standing_of standing)) }
+{
+    if orders_of(numbers, slice) < 64 {
+        order_control(numbers, slice, order)?;
+        return set_control(numbers, slot, standing);
+    }
+    Ok(())
+}
+
+/// Offers what the control half of a slot owes.
+fn control_offer(numbers: &mut Numbers, setup: &Setup<'_>, slot: usize) -> Result<(), AllocError>
+    ensures { OnOk result (world_of numbers.new ≡ front.control_offer (bounds_of setup.now) (world_of numbers.old) slot) }
+{
+    match control_of(numbers, slot) {
+        Standing::Absent => Ok(()),
+        Standing::Front => {
+            let slice = bound_for(numbers, setup, slot);
+            tell_moves(numbers, slot)?;
+            control_ordered(numbers, slice, slot, ControlOrder::Come(slot), Standing::Placed(slice))
+        }
+        Standing::Placed(_) => Ok(()),
+        Standing::Recalled(slice, until) => {
+            control_ordered(numbers, slice, slot, ControlOrder::Go(slot, until), Standing::Leaving)
+        }
+        Standing::Leaving => Ok(()),
+    }
+}
+
+/// Offers an order to a slice's lane.
+fn flow_ordered(
+    numbers: &mut Numbers,
+    setup: &Setup<'_>,
+    slice: usize,
+    slot: usize,
+    order: FlowOrder,
+    standing: Standing,
+) -> Result<(), AllocError>
+    ensures { OnOk result (world_of numbers.new ≡ front.flow_ordered setup.now.rooms (world_of numbers.old) slice slot
+        (flow_order order) (standing_of standing)) }
+{
+    if lane_of(numbers, slice) < setup.lane() {
+        order_flow(numbers, slice, order)?;
+        return set_flow(numbers, slot, standing);
+    }
+    Ok(())
+}
+
+/// Offers what the counter half of a slot owes.
+fn flow_offer(numbers: &mut Numbers, setup: &Setup<'_>, slot: usize) -> Result<(), AllocError>
+    ensures { OnOk result (world_of numbers.new
+        ≡ front.flow_offer setup.now.rooms (bounds_of setup.now) (world_of numbers.old) slot) }
+{
+    match flow_of(numbers, slot) {
+        Standing::Absent => Ok(()),
+        Standing::Front => {
+            let slice = bound_for(numbers, setup, slot);
+            flow_ordered(numbers, setup, slice, slot, FlowOrder::Arrive(slot), Standing::Placed(slice))
+        }
+        Standing::Placed(_) => Ok(()),
+        Standing::Recalled(slice, _) => {
+            flow_ordered(numbers, setup, slice, slot, FlowOrder::Leave(slot), Standing::Leaving)
+        }
+        Standing::Leaving => Ok(()),
+    }
+}
+
+/// Packets that wait go into the lane of this slice, as many as there is room for.
+fn drain_on(numbers: &mut Numbers, setup: &Setup<'_>, slot: usize, slice: usize) -> Result<(), AllocError>
+    ensures { OnOk result (world_of numbers.new ≡ front.drained setup.now.rooms (world_of numbers.old) slice slot
+        (min (world.slot_at (world_of numbers.old) slot).queued
+        (setup.now.rooms.lane - length (world.flow_at (world_of numbers.old) slice).orders))) }
+{
+    let queued = queued_of(numbers, slot);
+    let room = setup.lane().saturating_sub(lane_of(numbers, slice));
+    let count = if queued < room { queued } else { room };
+    order_items(numbers, slice, slot, count)?;
+    set_queued(numbers, slot, queued - count)
+}
+
+fn drain(numbers: &mut Numbers, setup: &Setup<'_>, slot: usize) -> Result<(), AllocError>
+    ensures { OnOk result (world_of numbers.new ≡ front.drain setup.now.rooms (world_of numbers.old) slot) }
+{
+    match flow_of(numbers, slot) {
+        Standing::Absent => Ok(()),
+        Standing::Front => Ok(()),
+        Standing::Placed(slice) => drain_on(numbers, setup, slot, slice),
+        Standing::Recalled(_, _) => Ok(()),
+        Standing::Leaving => Ok(()),
+    }
+}
+
+fn controls_home(numbers: &mut Numbers) -> Result<(), AllocError>
+    ensures { OnOk result (world_of numbers.new ≡ front.controls_home (world_of numbers.old)) }
+{
+    for slice in 0..numbers.controls.len() {
+        control_home(numbers, slice)?;
+    }
+    Ok(())
+}
+
+fn controls_offered(numbers: &mut Numbers, setup: &Setup<'_>) -> Result<(), AllocError>
+    ensures { OnOk result (world_of numbers.new ≡ front.controls_offered (bounds_of setup.now) (world_of numbers.old)) }
+{
+    for slot in 0..numbers.slots.len() {
+        control_offer(numbers, setup, slot)?;
+    }
+    Ok(())
+}
+
+fn flows_home(numbers: &mut Numbers) -> Result<(), AllocError>
+    ensures { OnOk result (world_of numbers.new ≡ front.flows_home (world_of numbers.old)) }
+{
+    for slice in 0..numbers.flows.len() {
+        flow_home(numbers, slice)?;
+    }
+    Ok(())
+}
+
+fn flows_offered(numbers: &mut Numbers, setup: &Setup<'_>) -> Result<(), AllocError>
+    ensures { OnOk result (world_of numbers.new
+        ≡ front.flows_offered setup.now.rooms (bounds_of setup.now) (world_of numbers.old)) }
+{
+    for slot in 0..numbers.slots.len() {
+        flow_offer(numbers, setup, slot)?;
+    }
+    Ok(())
+}
+
+fn all_drained(numbers: &mut Numbers, setup: &Setup<'_>) -> Result<(), AllocError>
+    ensures { OnOk result (world_of numbers.new ≡ front.all_drained setup.now.rooms (world_of numbers.old)) }
+{
+    for slot in 0..numbers.slots.len() {
+        drain(numbers, setup, slot)?;
+    }
+    Ok(())
+}
+
+/// Before each line: the control side, then the data side.
+pub fn pump(numbers: &mut Numbers, setup: &Setup<'_>) -> Result<(), AllocError>
+    ensures { OnOk result (world_of numbers.new
+        ≡ front.pumped setup.now.rooms (bounds_of setup.now) (world_of numbers.old)) }
+{
+    controls_home(numbers)?;
+    controls_offered(numbers, setup)?;
+    flows_home(numbers)?;
+    flows_offered(numbers, setup)?;
+    all_drained(numbers, setup)
+}
+
+/// Makes the halves of a slot.
+fn make(numbers: &mut Numbers, setup: &Setup<'_>, slot: usize) -> Result<(), AllocError>
+    ensures { OnOk result (world_of numbers.new
+        ≡ front.made setup.now.rooms (bounds_of setup.now) (world_of numbers.old) slot) }
+{
+    set_control(numbers, slot, Standing::Front)?;
+    control_offer(numbers, setup, slot)?;
+    set_flow(numbers, slot, Standing::Front)?;
+    flow_offer(numbers, setup, slot)
+}
+
+/// Whether there is no half yet.
+fn is_absent(standing: Standing) -> bool
+    ensures { result ≡ slots.is_absent (standing_of standing) }
+{
+    matches!(standing, Standing::Absent)
+}
+
+fn is_placed(standing: Standing) -> bool
+    ensures { result ≡ slots.is_placed (standing_of standing) }
+{
+    matches!(standing, Standing::Placed(_))
+}
+
+fn is_front(standing: Standing) -> bool
+    ensures { result ≡ front.is_front (standing_of standing) }
+{
+    matches!(standing, Standing::Front)
+}
+
+/// A slot's first command or packet makes its halves.
+fn admit(numbers: &mut Numbers, setup: &Setup<'_>, slot: usize) -> Result<(), AllocError>
+    ensures { OnOk result (world_of numbers.new
+        ≡ front.admitted setup.now.rooms (bounds_of setup.now) (world_of numbers.old) slot) }
+{
+    if is_absent(control_of(numbers, slot)) {
+        return make(numbers, setup, slot);
+    }
+    Ok(())
+}
+
+/// What becomes of a line that is taken.
+const TAKEN: Outcome = Outcome {
+    taken: true,
+    parked: false,
+};
+
+/// What becomes of a packet that is parked.
+const PARKED: Outcome = Outcome {
+    taken: true,
+    parked: true,
+};
+
+/// What becomes of a line that is refused.
+const REFUSED: Outcome = Outcome {
+    taken: false,
+    parked: false,
+};
+
+fn offer_command(numbers: &mut Numbers, setup: &Setup<'_>, slot: usize) -> Result<Outcome, AllocError>
+    ensures { IfOk result (λ outcome. record { world = world_of numbers.new; outcome = outcome }
+        ≡ front.offer_command setup.now.rooms (world_of numbers.old) slot) }
+{
+    if has_room(numbers, slot, setup.room()) {
+        add_command(numbers, slot)?;
+        Ok(TAKEN)
+    } else {
+        Ok(REFUSED)
+    }
+}
+
+fn park_packet(numbers: &mut Numbers, setup: &Setup<'_>, slot: usize) -> Result<Outcome, AllocError>
+    ensures { IfOk result (λ outcome. record { world = world_of numbers.new; outcome = outcome }
+        ≡ front.park_packet setup.now.rooms (world_of numbers.old) slot) }
+{
+    if queued_of(numbers, slot) < setup.room() {
+        park(numbers, slot)?;
+        Ok(PARKED)
+    } else {
+        Ok(REFUSED)
+    }
+}
+
+/// A packet goes into the lane of this slice.
+fn send_on(numbers: &mut Numbers, setup: &Setup<'_>, slot: usize, slice: usize) -> Result<Outcome, AllocError>
+    ensures { IfOk result (λ outcome. record { world = world_of numbers.new; outcome = outcome }
+        ≡ front.send_packet_at setup.now.rooms (world_of numbers.old) slot (slots.placed slice)) }
+{
+    if lane_of(numbers, slice) < setup.lane() {
+        order_flow(numbers, slice, FlowOrder::Item(slot))?;
+        add_packet(numbers, slot)?;
+        Ok(TAKEN)
+    } else {
+        Ok(REFUSED)
+    }
+}
+
+fn send_packet(numbers: &mut Numbers, setup: &Setup<'_>, slot: usize) -> Result<Outcome, AllocError>
+    ensures { IfOk result (λ outcome. record { world = world_of numbers.new; outcome = outcome }
+        ≡ front.send_packet setup.now.rooms (world_of numbers.old) slot) }
+{
+    match flow_of(numbers, slot) {
+        Standing::Absent => Ok(REFUSED),
+        Standing::Front => Ok(REFUSED),
+        Standing::Placed(slice) => send_on(numbers, setup, slot, slice),
+        Standing::Recalled(_, _) => Ok(REFUSED),
+        Standing::Leaving => Ok(REFUSED),
+    }
+}
+
+/// A half that is still at the front is offered once more.
+fn arrive_first(numbers: &mut Numbers, setup: &Setup<'_>, slot: usize) -> Result<(), AllocError>
+    ensures { OnOk result (world_of numbers.new
+        ≡ front.arrived_first setup.now.rooms (bounds_of setup.now) (world_of numbers.old) slot) }
+{
+    if is_front(flow_of(numbers, slot)) {
+        return flow_offer(numbers, setup, slot);
+    }
+    Ok(())
+}
+
+fn offer_packet(numbers: &mut Numbers, setup: &Setup<'_>, slot: usize) -> Result<Outcome, AllocError>
+    ensures { IfOk result (λ outcome. record { world = world_of numbers.new; outcome = outcome }
+        ≡ front.offer_packet setup.now.rooms (bounds_of setup.now) (world_of numbers.old) slot) }
+{
+    if parks_at(numbers, slot) {
+        park_packet(numbers, setup, slot)
+    } else {
+        arrive_first(numbers, setup, slot)?;
+        send_packet(numbers, setup, slot)
+    }
+}
+
+fn recall_control(numbers: &mut Numbers, setup: &Setup<'_>, slot: usize) -> Result<(), AllocError>
+    ensures { OnOk result (world_of numbers.new
+        ≡ front.control_recalled (bounds_of setup.now) (world_of numbers.old) slot) }
+{
+    if is_placed(control_of(numbers, slot)) {
+        call_control(numbers, slot)?;
+        return control_offer(numbers, setup, slot);
+    }
+    Ok(())
+}
+
+fn recall_flow(numbers: &mut Numbers, setup: &Setup<'_>, slot: usize) -> Result<(), AllocError>
+    ensures { OnOk result (world_of numbers.new
+        ≡ front.flow_recalled setup.now.rooms (bounds_of setup.now) (world_of numbers.old) slot) }
+{
+    if is_placed(flow_of(numbers, slot)) {
+        call_flow(numbers, slot)?;
+        return flow_offer(numbers, setup, slot);
+    }
+    Ok(())
+}
+
+fn move_slot(numbers: &mut Numbers, setup: &Setup<'_>, slot: usize, slice: u8) -> Result<(), AllocError>
+    ensures { OnOk result (world_of numbers.new
+        ≡ front.move_slot setup.now.rooms (bounds_of setup.now) (world_of numbers.old) slot slice) }
+{
+    move_on(numbers, slot, slice)?;
+    recall_control(numbers, setup, slot)?;
+    recall_flow(numbers, setup, slot)
+}
+
+/// What becomes of a line, behind the pump.
+pub fn line_done(numbers: &mut Numbers, setup: &Setup<'_>, ask: Ask) -> Result<Outcome, AllocError>
+    ensures { IfOk result (λ outcome. record { world = world_of numbers.new; outcome = outcome }
+        ≡ front.line_done setup.now.rooms (bounds_of setup.now) (world_of numbers.old) (asked ask)) }
+{
+    match ask {
+        Ask::Nothing => Ok(TAKEN),
+        Ask::Command(slot) => {
+            admit(numbers, setup, slot as usize)?;
+            offer_command(numbers, setup, slot as usize)
+        }
+        Ask::Packet(slot) => {
+            admit(numbers, setup, slot as usize)?;
+            offer_packet(numbers, setup, slot as usize)
+        }
+        Ask::Move(slot, slice) => {
+            move_slot(numbers, setup, slot as usize, slice)?;
+            Ok(TAKEN)
+        }
+    }
+}

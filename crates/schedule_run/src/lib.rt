@@ -1,0 +1,23 @@
+//! The schedule of an epoch in code: which lines are taken, refused and parked under its turns, and how many
+//! commands each packet meets, and where.
+#![tactic(auto)]
+
+mod ask;
+mod front;
+mod grow;
+mod halves;
+mod met;
+mod planning;
+mod setup;
+mod sides;
+mod slot;
+mod standing;
+mod turning;
+mod turns;
+mod workers;
+mod world;
+
+pub use ask::{Ask, Rooms};
+pub use met::{Met, Outcome};
+pub use planning::{Scheduled, schedule};
+pub use turns::Turns;

@@ -1,0 +1,215 @@
+//! The schedule of an epoch.
+ghost use Rattle.std.specs.Prelude.{◌≡◌, ℕ, ◌+◌, ◌*◌, ◌<◌, ◌≤◌, IfOk, OnOk, length, map, fold};
+ghost use Rattle.slice_schedule.specs.Slots.{SlotNow};
+ghost use Rattle.slice_schedule.specs.Halves.{closed};
+ghost use Rattle.slice_schedule.specs.World.{start};
+ghost use Rattle.slice_schedule.specs.Turns as draw;
+ghost use Rattle.slice_schedule.specs.Schedule as epoch;
+ghost use Rattle.schedule_run.specs.Lines.{asked, driven_by, bound_in};
+ghost use Rattle.schedule_run.specs.Plan.{mets_of};
+ghost use Rattle.schedule_run.specs.Setups.{bounds_of};
+ghost use Rattle.schedule_run.specs.Told.{AreWorkers, turns_told, turns_behind, told_first, turns_after, lines_of};
+ghost use Rattle.schedule_run.specs.Worlds.{world_of};
+
+use crate::front::{line_done, pump};
+use crate::halves::close;
+use crate::met::SlotMets;
+use crate::setup::Setup;
+use crate::slot::SlotNumbers;
+use crate::turning::{turn, turn_all};
+use crate::world::Numbers;
+use crate::{Ask, Met, Outcome, Rooms, Turns};
+use std::alloc::{AllocError, Global};
+use std::marker::Model;
+
+/// What becomes of each line, and what the packets of each slot meet.
+#[derive(Drop)]
+pub struct Scheduled {
+    outcomes: Vec<Outcome>,
+    mets: Vec<SlotMets>,
+}
+
+impl Model for Scheduled {
+    ghost use Rattle.schedule_run.specs.Plan.{Plan};
+
+    ghost Value = { Plan };
+
+    ghost view = { λ plan. record { outcomes = plan.outcomes.items; mets = plan.mets.items } };
+}
+
+impl Scheduled {
+    /// By line.
+    pub fn outcomes(&self) -> &[Outcome]
+        ensures { result.now ≡ self.now.outcomes }
+    {
+        self.outcomes.as_slice()
+    }
+
+    /// What the accepted packets of this slot met, in their order.
+    pub fn mets(&self, slot: u32) -> &[Met]
+        ensures { result.now ≡ mets_of self.now slot }
+    {
+        let slot = slot as usize;
+        if slot < self.mets.len() {
+            let met = &self.mets[slot];
+            met.items.as_slice()
+        } else {
+            &[]
+        }
+    }
+}
+
+/// The state of the generator behind this one.
+fn next_state(state: u64) -> u64
+    ensures { result ≡ draw.next_state state }
+{
+    state
+        .wrapping_mul(6_364_136_223_846_793_005)
+        .wrapping_add(1_442_695_040_888_963_407)
+}
+
+/// The worker that a state draws.
+fn drawn(limit: u64, state: u64) -> u32
+    requires { (1 ≤ limit) × (limit ≤ 128) }
+    ensures worker { result ≡ draw.drawn_of limit state }
+    ensures below { result < 128 }
+{
+    ((state >> 33) % limit) as u32
+}
+
+/// Draws so many workers, of which each has its turn, and returns the state behind them.
+fn draw_turns(
+    numbers: &mut Numbers,
+    setup: &Setup<'_>,
+    slices: u8,
+    state: u64,
+    count: u32,
+) -> Result<u64, AllocError>
+    requires { (1 ≤ slices) × (slices ≤ 64) }
+    ensures world { OnOk result (world_of numbers.new ≡ epoch.turned_all setup.now.rooms (world_of numbers.old)
+        (draw.draws (2 * slices) state count)) }
+    ensures state { IfOk result (λ behind. behind ≡ draw.state_behind state count) }
+{
+    let limit = u64::from(slices) * 2;
+    let mut behind = state;
+    for _ in 0..count {
+        behind = next_state(behind);
+        let worker = drawn(limit, behind);
+        turn(numbers, setup, worker)?;
+    }
+    Ok(behind)
+}
+
+/// The turns behind a line.
+fn turn_behind(
+    numbers: &mut Numbers,
+    setup: &Setup<'_>,
+    slices: u8,
+    turns: &mut Turns,
+) -> Result<(), AllocError>
+    requires slices { (1 ≤ slices) × (slices ≤ 64) }
+    requires workers { AreWorkers slices turns.old }
+    ensures world { OnOk result (world_of numbers.new ≡ epoch.turned_all setup.now.rooms (world_of numbers.old)
+        (told_first turns.old slices)) }
+    ensures turns { OnOk result (turns.new ≡ turns_after turns.old) }
+{
+    match turns {
+        Turns::List(listed) => turn_all(numbers, setup, listed.as_slice()),
+        Turns::Drawn { state, per } => {
+            *state = draw_turns(numbers, setup, slices, *state, *per)?;
+            Ok(())
+        }
+    }
+}
+
+/// A line, and the turns behind it.
+fn line(
+    numbers: &mut Numbers,
+    setup: &Setup<'_>,
+    slices: u8,
+    ask: Ask,
+    turns: &mut Turns,
+) -> Result<Outcome, AllocError>
+    requires slices { (1 ≤ slices) × (slices ≤ 64) }
+    requires workers { AreWorkers slices turns.old }
+    ensures outcome { IfOk result (λ outcome. outcome ≡ (epoch.line_of setup.now.rooms (bounds_of setup.now)
+        (world_of numbers.old) (record { asks = asked ask; turns = told_first turns.old slices })).outcome) }
+    ensures world { OnOk result (world_of numbers.new ≡ epoch.behind_line setup.now.rooms (bounds_of setup.now)
+        (world_of numbers.old) (record { asks = asked ask; turns = told_first turns.old slices })) }
+    ensures turns { OnOk result (turns.new ≡ turns_after turns.old) }
+{
+    pump(numbers, setup)?;
+    let outcome = line_done(numbers, setup, ask)?;
+    turn_behind(numbers, setup, slices, turns)?;
+    Ok(outcome)
+}
+
+/// All lines.
+fn lines(
+    numbers: &mut Numbers,
+    setup: &Setup<'_>,
+    slices: u8,
+    asks: &[Ask],
+    turns: &mut Turns,
+) -> Result<Vec<Outcome>, AllocError>
+    requires slices { (1 ≤ slices) × (slices ≤ 64) }
+    requires workers { AreWorkers slices turns.old }
+    ensures outcomes { IfOk result (λ outcomes. outcomes.items ≡ epoch.outcomes setup.now.rooms (bounds_of setup.now)
+        (world_of numbers.old) (lines_of turns.old slices asks.now)) }
+    ensures world { OnOk result (world_of numbers.new ≡ epoch.behind_lines setup.now.rooms (bounds_of setup.now)
+        (world_of numbers.old) (lines_of turns.old slices asks.now)) }
+    ensures turns { OnOk result (turns.new ≡ turns_behind turns.old (length asks.now)) }
+{
+    let mut outcomes = Vec::with_capacity(numbers.alloc, asks.len())?;
+    for ask in asks {
+        let outcome = line(numbers, setup, slices, *ask, turns)?;
+        outcomes.push(outcome)?;
+    }
+    Ok(outcomes)
+}
+
+/// What the packets of each slot met, as the epoch closes.
+fn close_all(alloc: Global, slots: Vec<SlotNumbers>) -> Result<Vec<SlotMets>, AllocError>
+    ensures { IfOk result (λ mets. mets.items ≡ map (λ (slot : SlotNow). (closed slot).met) slots.items) }
+{
+    let mut mets = Vec::with_capacity(alloc, slots.len())?;
+    for slot in slots {
+        let met = close(slot)?;
+        mets.push(met)?;
+    }
+    Ok(mets)
+}
+
+/// The schedule of an epoch: by the rooms of its queues, how many slices it has, where each slot is bound for as it
+/// begins (a slot without a bound for its home slice, its number modulo the slices), and what its lines ask, under
+/// these turns.
+pub fn schedule(
+    alloc: Global,
+    rooms: Rooms,
+    slices: u8,
+    bounds: &[u8],
+    asks: &[Ask],
+    turns: &mut Turns,
+) -> Result<Scheduled, AllocError>
+    requires slices { (1 ≤ slices) × (slices ≤ 64) }
+    requires workers { AreWorkers slices turns.old }
+
+    ensures outcomes { IfOk result (λ plan. plan.outcomes
+        ≡ epoch.outcomes rooms (bound_in slices bounds.now) start
+        (driven_by (map asked asks.now) (turns_told turns.old slices (length asks.now)))) }
+    ensures met { IfOk result (λ plan. (slot : ℕ) → mets_of plan slot
+        ≡ epoch.mets rooms (bound_in slices bounds.now)
+        (driven_by (map asked asks.now) (turns_told turns.old slices (length asks.now))) slot) }
+    ensures turns { OnOk result (turns.new ≡ turns_behind turns.old (length asks.now)) }
+{
+    let setup = Setup::new(rooms, slices, bounds);
+    let mut numbers = Numbers {
+        alloc,
+        slots: Vec::new(alloc),
+        controls: Vec::new(alloc),
+        flows: Vec::new(alloc),
+    };
+    let outcomes = lines(&mut numbers, &setup, slices, asks, turns)?;
+    let mets = close_all(alloc, numbers.slots)?;
+    Ok(Scheduled { outcomes, mets })
+}

@@ -1,0 +1,65 @@
+//! The setup of an epoch.
+ghost use Rattle.std.specs.Prelude.{◌≡◌, ◌≤◌};
+ghost use Rattle.schedule_run.specs.Setups.{EpochSetup, bounds_of};
+
+use crate::Rooms;
+use std::marker::Model;
+
+/// The rooms of an epoch, its slices, and where slots are bound for as it begins.
+#[derive(Drop)]
+pub struct Setup<'a> {
+    rooms: Rooms,
+    slices: u8,
+    bounds: &'a [u8],
+}
+
+impl<'a> Model for Setup<'a> {
+    ghost use Rattle.std.specs.Prelude.{◌≤◌};
+    ghost use Rattle.schedule_run.specs.Setups.{EpochSetup};
+
+    ghost Value = { EpochSetup };
+
+    ghost view = { λ setup. record { rooms = setup.rooms; slices = setup.slices; bounds = setup.bounds.now } };
+
+    ghost invariant = { λ setup. 1 ≤ setup.slices };
+}
+
+impl<'a> Setup<'a> {
+    pub fn new(rooms: Rooms, slices: u8, bounds: &'a [u8]) -> Setup<'a>
+        requires { 1 ≤ slices }
+        ensures { result ≡ record { rooms = rooms; slices = slices; bounds = bounds.now } }
+    {
+        Setup {
+            rooms,
+            slices,
+            bounds,
+        }
+    }
+
+    /// The room of a slot's queues.
+    pub fn room(&self) -> usize
+        ensures { result ≡ self.now.rooms.room }
+    {
+        let rooms = &self.rooms;
+        rooms.room as usize
+    }
+
+    /// The room of a slice's lane.
+    pub fn lane(&self) -> usize
+        ensures { result ≡ self.now.rooms.lane }
+    {
+        let rooms = &self.rooms;
+        rooms.lane as usize
+    }
+
+    /// Where a slot is bound for.
+    pub fn bound(&self, slot: usize) -> usize
+        ensures { result ≡ bounds_of self.now slot }
+    {
+        if slot < self.bounds.len() {
+            usize::from(self.bounds[slot])
+        } else {
+            slot % usize::from(self.slices)
+        }
+    }
+}

@@ -1,0 +1,232 @@
+//! The numbers of a slot.
+ghost use Rattle.std.specs.Prelude.{◌≡◌, ℕ, ◌+◌, ◌-◌, ◌^◌, ◌<◌, IfOk, OnOk, length, nat_lt, nat_le};
+ghost use Rattle.slice_schedule.specs.Slots.{SlotNow, fresh_slot};
+ghost use Rattle.slice_schedule.specs.Front.{control_called, with_command, parks, with_packet, moved};
+ghost use Rattle.slice_schedule.specs.Halves as halves;
+ghost use Rattle.schedule_run.specs.Numbers.{standing_of};
+
+use crate::Met;
+use crate::standing::{CommandTags, Standing};
+use pc_base::Place;
+use std::alloc::{AllocError, Global};
+use std::collections::VecDeque;
+use std::marker::Model;
+
+/// A slot in an epoch: what was accepted, and cut points in that.
+#[derive(Drop)]
+pub struct SlotNumbers {
+    pub(crate) moves: Vec<u8>,
+    pub(crate) commands: Vec<CommandTags>,
+    pub(crate) packets: Vec<usize>,
+    pub(crate) commands_before: usize,
+    pub(crate) packets_before: usize,
+    pub(crate) control: Standing,
+    pub(crate) arrived: usize,
+    pub(crate) taken: usize,
+    pub(crate) applied: usize,
+    pub(crate) unsent: Option<usize>,
+    pub(crate) sent: VecDeque<usize>,
+    pub(crate) flow: Standing,
+    pub(crate) batch: Option<usize>,
+    pub(crate) learnt: usize,
+    pub(crate) met: Vec<Met>,
+    pub(crate) queued: usize,
+}
+
+impl Model for SlotNumbers {
+    ghost use Rattle.std.specs.Prelude.{length};
+    ghost use Rattle.slice_schedule.specs.Slots.{SlotNow};
+    ghost use Rattle.slice_schedule.specs.Fits.{Sizes};
+    ghost use Rattle.schedule_run.specs.Numbers.{standing_of, last_of};
+
+    ghost Value = { SlotNow };
+
+    ghost view = { λ slot. record {
+      hop = length slot.moves.items;
+      bound = last_of slot.moves.items;
+      commands = slot.commands.items;
+      packets = slot.packets.items;
+      commands_before = slot.commands_before;
+      packets_before = slot.packets_before;
+      control = standing_of slot.control;
+      arrived = slot.arrived;
+      taken = slot.taken;
+      applied = slot.applied;
+      unsent = slot.unsent;
+      sent = slot.sent.items;
+      flow = standing_of slot.flow;
+      batch = slot.batch;
+      learnt = slot.learnt;
+      met = slot.met.items;
+      queued = slot.queued;
+    } };
+
+    ghost invariant = { λ slot.
+        Sizes slot.learnt slot.batch slot.sent.items slot.unsent slot.applied (length slot.commands.items) };
+}
+
+impl SlotNumbers {
+    /// A slot without a line.
+    pub fn new(alloc: Global) -> SlotNumbers
+        ensures { result ≡ fresh_slot }
+    {
+        SlotNumbers {
+            moves: Vec::new(alloc),
+            commands: Vec::new(alloc),
+            packets: Vec::new(alloc),
+            commands_before: 0,
+            packets_before: 0,
+            control: Standing::Absent,
+            arrived: 0,
+            taken: 0,
+            applied: 0,
+            unsent: None,
+            sent: VecDeque::new(alloc),
+            flow: Standing::Absent,
+            batch: None,
+            learnt: 0,
+            met: Vec::new(alloc),
+            queued: 0,
+        }
+    }
+
+    /// Where its control half is.
+    pub fn control(&self) -> Standing
+        ensures { standing_of result ≡ self.now.control }
+    {
+        self.control
+    }
+
+    /// Where its counter half is.
+    pub fn flow(&self) -> Standing
+        ensures { standing_of result ≡ self.now.flow }
+    {
+        self.flow
+    }
+
+    pub fn set_control(&mut self, standing: Standing)
+        ensures { self.new ≡ record self.old { control = standing_of standing } }
+    {
+        self.control = standing;
+    }
+
+    pub fn set_flow(&mut self, standing: Standing)
+        ensures { self.new ≡ record self.old { flow = standing_of standing } }
+    {
+        self.flow = standing;
+    }
+
+    /// The control half is told of all moves.
+    pub fn tell_moves(&mut self)
+        ensures { self.new ≡ record self.old { arrived = self.old.hop } }
+    {
+        self.arrived = self.moves.len();
+    }
+
+    /// The slice of its last move.
+    pub fn bound(&self) -> Option<usize>
+        ensures { result ≡ self.now.bound }
+    {
+        match self.moves.last() {
+            Some(slice) => Some(usize::from(*slice)),
+            None => None,
+        }
+    }
+
+    /// Whether a command may be taken.
+    pub fn has_room(&self, room: usize) -> bool
+        ensures { result ≡ nat_lt (length self.now.commands - self.now.taken) room }
+    {
+        self.commands.len().saturating_sub(self.taken) < room
+    }
+
+    pub fn add_command(&mut self) -> Result<(), AllocError>
+        ensures { OnOk result (self.new ≡ with_command self.old) }
+    {
+        let hop = self.moves.len();
+        let floor = self.packets_before;
+        self.commands.push(CommandTags { hop, floor })?;
+        Ok(())
+    }
+
+    pub fn add_packet(&mut self) -> Result<(), AllocError>
+        ensures { OnOk result (self.new ≡ with_packet self.old) }
+    {
+        let floor = self.commands_before;
+        self.packets.push(floor)?;
+        Ok(())
+    }
+
+    /// A packet waits at the front.
+    pub fn park(&mut self) -> Result<(), AllocError>
+        requires { self.old.queued < 2 ^ 32 }
+        ensures { OnOk result (self.new ≡ record (with_packet self.old) { queued = self.old.queued + 1 }) }
+    {
+        let floor = self.commands_before;
+        self.packets.push(floor)?;
+        self.queued += 1;
+        Ok(())
+    }
+
+    /// Whether the next packet waits at the front.
+    pub fn parks(&self) -> bool
+        ensures { result ≡ parks self.now }
+    {
+        !self.moves.is_empty() && (!matches!(self.flow, Standing::Placed(_)) || self.queued > 0)
+    }
+
+    /// How many packets wait at the front.
+    pub fn queued(&self) -> usize
+        ensures { result ≡ self.now.queued }
+    {
+        self.queued
+    }
+
+    pub fn set_queued(&mut self, queued: usize)
+        ensures { self.new ≡ record self.old { queued = queued } }
+    {
+        self.queued = queued;
+    }
+
+    /// A move to this slice.
+    pub fn go(&mut self, slice: u8) -> Result<(), AllocError>
+        ensures { OnOk result (self.new ≡ moved slice self.old) }
+    {
+        self.moves.push(slice)?;
+        self.commands_before = self.commands.len();
+        self.packets_before = self.packets.len();
+        Ok(())
+    }
+
+    /// A control half on a slice is called back, once all commands so far are done.
+    pub fn call_control(&mut self)
+        ensures { self.new ≡ record self.old { control = control_called self.old.control (length self.old.commands) } }
+    {
+        if let Standing::Placed(slice) = self.control {
+            self.control = Standing::Recalled(slice, self.commands.len());
+        }
+    }
+
+    /// A counter half on a slice is called back.
+    pub fn call_flow(&mut self)
+        ensures { self.new ≡ record self.old { flow = control_called self.old.flow 0 } }
+    {
+        if let Standing::Placed(slice) = self.flow {
+            self.flow = Standing::Recalled(slice, 0);
+        }
+    }
+
+    /// How many commands are applied.
+    pub fn applied(&self) -> usize
+        ensures { result ≡ self.now.applied }
+    {
+        self.applied
+    }
+
+    /// What its packets met.
+    pub fn met(&self) -> &[Met]
+        ensures { result.now ≡ self.now.met }
+    {
+        self.met.as_slice()
+    }
+}
