@@ -39,7 +39,7 @@ struct Bench {
     last: u64,
     moves: u8,
     ghost one: { AreOfOneSplit front control flow },
-    ghost accepted: { AreAccepted front (handled_by flow ++ left.items) } by { accepted_prop front (handled_by flow ++ left.items) },
+    ghost accepted: { AreAccepted front (handled_by flow ++ left.items) } by { accepted_prop },
     ghost begun: { unwrap_or (last_of (start_of front)) 0 ≤ last },
     ghost late: { All (λ (i : FlowItem). i.packet.moment ≤ last) (handled_by flow ++ left.items) },
     ghost moved: { front.hop ≡ moves },

@@ -31,8 +31,8 @@ standing_prop first commands item = λ a b i. record {
       b.below i;
 }
 
-pub accepted_prop : (front : FrontEnd) (items : List FlowItem) → IsProp (AreAccepted front items)
-accepted_prop front items = λ a b i. record {
+pub accepted_prop : {front : FrontEnd} {items : List FlowItem} → IsProp (AreAccepted front items)
+accepted_prop {front} {items} = λ a b i. record {
   counted = Coded-set coded_ℕ _ _ a.counted b.counted i;
   numbered = numbered_prop _ _ items a.numbered b.numbered i;
   standing = All_prop (MayStand _ _) (standing_prop _ _) items a.standing b.standing i;

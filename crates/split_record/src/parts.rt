@@ -25,7 +25,7 @@ pub struct RecordParts {
     pub(crate) origin: Origin,
     pub(crate) destination: SliceNo,
     pub(crate) stage: Stage,
-    ghost accepted: { AreAccepted origin.front.value (items_in_all origin) } by { accepted_prop origin.front.value (items_in_all origin) },
+    ghost accepted: { AreAccepted origin.front.value (items_in_all origin) } by { accepted_prop },
     ghost whole: { IsAt origin stage },
     ghost bound: { destination ≡ origin.front.value.destination },
 }
