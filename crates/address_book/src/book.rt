@@ -1,5 +1,5 @@
 //! The address book.
-ghost use Rattle.std.specs.Prelude.{◌≡◌, ◌↔◌, [], length, None, IfOk, IfSome, OnOk, OnErr};
+ghost use Rattle.std.specs.Prelude.{◌≡◌, ◌↔◌, [], ◌∷◌, ◌++◌, length, Some, None, IfOk, IfSome, OnOk, OnErr};
 ghost use Rattle.address_book.specs.declared.book.AdmitNo.TheVariants as no;
 ghost use Rattle.address_book.specs.Book.{IsBook, IsFull, slot_in, admitted};
 
@@ -73,6 +73,21 @@ impl AddressBook {
         if let Some(slot) = self.slots.get(&imsi) {
             return Ok(*slot);
         }
+        self.admit_new(imsi)
+    }
+
+    /// The next slot, for an IMSI that the book hasn't; it isn't looked up.
+    pub fn admit_new(&mut self, imsi: Imsi) -> Result<Slot, AdmitNo>
+        requires { slot_in self.old imsi ≡ None }
+
+        ensures next { IfOk result (λ slot. slot ≡ length self.old) }
+        ensures slot { IfOk result (λ slot. slot_in self.new imsi ≡ Some slot) }
+        ensures admitted { OnOk result (self.new ≡ self.old ++ imsi ∷ []) }
+
+        // The pool is used up exactly at a full book.
+        ensures pool_used { (result ≡ Err AdmitNo.PoolUsed) ↔ IsFull self.old }
+        ensures kept { OnErr result (self.new ≡ self.old) }
+    {
         let place = self.imsis.len();
         if place > LAST_SLOT as usize {
             return Err(AdmitNo::PoolUsed);

@@ -32,7 +32,7 @@ pub fn whose(book: &AddressBook, imsi: Imsi) -> Option<Whose>
 
 impl Whose {
     /// The slot: a new IMSI takes the next one, and is in the book then. It is what `decide` gave for
-    /// this book. Where memory is wanting, the book is as before.
+    /// this book. Out of memory, the book is as before.
     pub fn admit(self, book: &mut AddressBook) -> Result<Slot, NoMemory>
         requires { IsDue book.old self }
 
@@ -42,7 +42,7 @@ impl Whose {
     {
         match self {
             Whose::Known(slot) => Ok(slot),
-            Whose::New(imsi) => match book.admit(imsi) {
+            Whose::New(imsi) => match book.admit_new(imsi) {
                 Ok(slot) => Ok(slot),
                 Err(AdmitNo::NoMemory) => Err(NoMemory),
                 Err(AdmitNo::PoolUsed) => unreachable!(),

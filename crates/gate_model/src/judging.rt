@@ -11,7 +11,7 @@ use crate::NoMemory;
 use crate::memory::Memory;
 use bearer_state::{ActiveBearer, Version};
 use ipv4_packet::Ip4;
-use packet_steps::{HeldPacket, MOST_HELD, gpdu, notification, packet_len, whole};
+use packet_steps::{HeldPacket, MOST_HELD, gpdu, notification};
 use pc_base::{Octets, Packet, Peer, Verdict, Way, addr_of};
 use tft_match::choose;
 
@@ -35,7 +35,7 @@ impl Memory {
         if !version.live {
             return Ok(Verdict::NoBearer);
         }
-        let Some(ip) = whole(packet.octets.as_slice()) else {
+        let Some(ip) = Ip4::whole(packet.octets.as_slice()) else {
             return Ok(Verdict::NoBearer);
         };
         match packet.way {
@@ -54,13 +54,13 @@ impl Memory {
         if ip.source() != addr_of(version.slot).0 {
             return Ok(Verdict::Spoof);
         }
-        let octets = ip.octets();
-        if !self.forward(version, bearer, true, packet_len(octets))? {
+        let len = u32::from(ip.total_len());
+        if !self.forward(version, bearer, true, len)? {
             return Ok(Verdict::Policed { life: bearer.life });
         }
         Ok(Verdict::Up {
             life: bearer.life,
-            octets: Octets::of(Vec::from_slice(self.allocator(), octets)?),
+            octets: Octets::of(Vec::from_slice(self.allocator(), ip.octets())?),
         })
     }
 
@@ -77,7 +77,7 @@ impl Memory {
         let Some(bearer) = taking(version, ip) else {
             return Ok(Verdict::NoBearer);
         };
-        let len = packet_len(ip.octets());
+        let len = u32::from(ip.total_len());
         match bearer.enb {
             Some(peer) => self.judge_to(version, ip, bearer, peer, len),
             None => self.judge_waiting(version, packet, bearer),

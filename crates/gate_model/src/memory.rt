@@ -1,53 +1,17 @@
-//! What the plain gateway keeps of packets.
+//! What the reference gateway keeps of packets.
 ghost use Rattle.std.specs.Prelude.{◌≡◌, IfOk, OnOk, unwrap_or};
 ghost use Rattle.packet_steps.specs.Past.{row_for, with_row, with_held};
-ghost use Rattle.packet_steps.specs.Policing.{costs, history_for, is_policed_with, same_way, rate_for, passes};
+ghost use Rattle.packet_steps.specs.Policing.{costs, history_for, is_policed_with, rate_for, passes};
 ghost use Rattle.gate_model.specs.Memory.{past_at};
 
 use crate::NoMemory;
 use bearer_state::{ActiveBearer, Version, is_guaranteed};
 use charging_book::Posting;
-use packet_steps::HeldPacket;
+use packet_steps::{Forwarded, HeldPacket, same_way};
 use pc_base::{Kbps, Moment};
 use rate_policer::{Cost, conforms};
 use std::alloc::Global;
 use std::marker::Model;
-
-/// A packet as it was forwarded: the life of its bearer, which way, how many octets it has, when; and the
-/// bearer's class of service and how often the AMBR had been set then.
-#[derive(Clone, Copy, Debug)]
-pub struct Forwarded {
-    life: u64,
-    up: bool,
-    octets: u32,
-    at: Moment,
-    qci: u8,
-    rates: u64,
-}
-
-impl Model for Forwarded {
-    ghost use Rattle.packet_steps.specs.Rows.{ForwardedRow};
-
-    ghost Value = { ForwardedRow };
-
-    ghost view = { λ row. record {
-      life = row.life;
-      up = row.up;
-      octets = row.octets;
-      at = row.at;
-      qci = row.qci;
-      rates = row.rates;
-    } };
-
-    ghost inverse = { λ row. record {
-      life = row.life;
-      up = row.up;
-      octets = row.octets;
-      at = row.at;
-      qci = row.qci;
-      rates = row.rates;
-    } };
-}
 
 /// The plain lists of what was forwarded, what is held and what the book heard, and the moment of the last
 /// packet.
@@ -233,19 +197,9 @@ fn copy_of(alloc: Global, held: &[HeldPacket]) -> Result<Vec<HeldPacket>, NoMemo
 {
     let mut copy = Vec::new(alloc);
     for row in held {
-        copy.push(row_of(row)?)?;
+        copy.push(row.try_clone()?)?;
     }
     Ok(copy)
-}
-
-/// A held packet like this one.
-pub(crate) fn row_of(held: &HeldPacket) -> Result<HeldPacket, NoMemory>
-    ensures { IfOk result (λ copy. copy ≡ held.now) }
-{
-    Ok(HeldPacket {
-        packet: held.packet.try_clone()?,
-        life: held.life,
-    })
 }
 
 /// The rate that polices a bearer one way.
@@ -269,12 +223,6 @@ fn is_policed_with(version: &Version, bearer: &ActiveBearer, up: bool, row: &For
     } else {
         !is_guaranteed(row.qci) && row.rates == version.rates && same_way(row.up, up)
     }
-}
-
-fn same_way(own: bool, up: bool) -> bool
-    ensures { result ≡ same_way own up }
-{
-    if own { up } else { !up }
 }
 
 /// What such rows cost.

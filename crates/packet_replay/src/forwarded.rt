@@ -1,49 +1,12 @@
-//! A packet as it was forwarded, and what polices it.
+//! What polices a packet that was forwarded.
 ghost use Rattle.std.specs.Prelude.{◌≡◌, List};
-ghost use Rattle.packet_steps.specs.Policing.{costs, history_for, same_way};
+ghost use Rattle.packet_steps.specs.Policing.{costs, history_for};
 ghost use Rattle.bearer_state.specs.Version.{VersionState};
 ghost use Rattle.packet_steps.specs.Rows.{ForwardedRow};
 ghost use Rattle.packet_replay.specs.Metering.{counted_by, is_counted};
 
 use bearer_state::{ActiveBearer, is_guaranteed};
-use pc_base::Moment;
-use std::marker::Model;
-
-/// A packet as it was forwarded: the life of its bearer, which way, how many octets it has, when; and the
-/// bearer's class of service and how often the AMBR had been set then.
-#[derive(Clone, Copy, Debug)]
-pub struct Forwarded {
-    pub(crate) life: u64,
-    pub(crate) up: bool,
-    pub(crate) octets: u32,
-    pub(crate) at: Moment,
-    pub(crate) qci: u8,
-    pub(crate) rates: u64,
-}
-
-impl Model for Forwarded {
-    ghost use Rattle.packet_steps.specs.Rows.{ForwardedRow};
-
-    ghost Value = { ForwardedRow };
-
-    ghost view = { λ row. record {
-      life = row.life;
-      up = row.up;
-      octets = row.octets;
-      at = row.at;
-      qci = row.qci;
-      rates = row.rates;
-    } };
-
-    ghost inverse = { λ row. record {
-      life = row.life;
-      up = row.up;
-      octets = row.octets;
-      at = row.at;
-      qci = row.qci;
-      rates = row.rates;
-    } };
-}
+use packet_steps::{Forwarded, same_way};
 
 /// What one rate polices one way: a life whose rate is its own, or all that share the AMBR since it was set
 /// so often.
@@ -83,10 +46,4 @@ pub(crate) fn is_counted(policed: &Policed, row: &Forwarded) -> bool
     } else {
         !is_guaranteed(row.qci) && row.rates == policed.number && same_way(row.up, policed.up)
     }
-}
-
-fn same_way(own: bool, up: bool) -> bool
-    ensures { result ≡ same_way own up }
-{
-    if own { up } else { !up }
 }

@@ -14,7 +14,7 @@ use crate::NoMemory;
 use crate::replay::PacketReplay;
 use bearer_state::{ActiveBearer, Version};
 use ipv4_packet::Ip4;
-use packet_steps::{HeldPacket, LentVerdict, MOST_HELD, notification, packet_len};
+use packet_steps::{HeldPacket, LentVerdict, MOST_HELD, notification};
 use pc_base::{Moment, Octets, Packet, Peer, Way, addr_of};
 use tft_match::choose;
 
@@ -68,13 +68,12 @@ impl PacketReplay {
         if ip.source() != addr_of(self.version.slot).0 {
             return Ok(LentVerdict::Spoof);
         }
-        let octets = ip.octets();
-        if !self.forward(&bearer, true, packet_len(octets))? {
+        if !self.forward(&bearer, true, u32::from(ip.total_len()))? {
             return Ok(LentVerdict::Policed { life: bearer.life });
         }
         Ok(LentVerdict::Up {
             life: bearer.life,
-            octets,
+            octets: ip.octets(),
         })
     }
 
@@ -109,14 +108,13 @@ impl PacketReplay {
         ensures { (packet : Packet) → packet.octets ≡ ip.now
             → IfOk result (Judges self.new (judged_to self.old packet bearer.now (Some peer))) }
     {
-        let octets = ip.octets();
-        if !self.forward(bearer, false, packet_len(octets))? {
+        if !self.forward(bearer, false, u32::from(ip.total_len()))? {
             return Ok(LentVerdict::Policed { life: bearer.life });
         }
         Ok(LentVerdict::Down {
             life: bearer.life,
             peer,
-            octets,
+            octets: ip.octets(),
         })
     }
 
@@ -137,7 +135,6 @@ impl PacketReplay {
             return Ok(LentVerdict::Idle { life: bearer.life });
         }
         let octets = ip.octets();
-        let _short = packet_len(octets);
         let message = self.notice(number, bearer.ebi)?;
         let alloc = *self.held.allocator();
         let packet = Packet {

@@ -49,7 +49,7 @@ impl PacketReplay {
         match enb {
             Some(peer) => self.release_to(row, effects, &bearer, peer),
             None => {
-                self.held.push(copy_of(row)?)?;
+                self.held.push(row.try_clone()?)?;
                 Ok(())
             }
         }
@@ -86,16 +86,6 @@ fn active_of(version: &Version, life: u64) -> Option<ActiveBearer>
         Some(bearer) => Some(*bearer),
         None => None,
     }
-}
-
-// A held packet like this one.
-fn copy_of(held: &HeldPacket) -> Result<HeldPacket, NoMemory>
-    ensures { IfOk result (λ copy. copy ≡ held.now) }
-{
-    Ok(HeldPacket {
-        packet: held.packet.try_clone()?,
-        life: held.life,
-    })
 }
 
 // One effect more: the fate of a held packet.

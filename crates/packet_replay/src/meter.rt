@@ -5,7 +5,8 @@ ghost use Rattle.packet_steps.specs.Rows.{ForwardedRow};
 ghost use Rattle.packet_replay.specs.Metering.{Represents, counted_by};
 
 use crate::NoMemory;
-use crate::forwarded::{Forwarded, Policed, is_counted};
+use crate::forwarded::{Policed, is_counted};
+use packet_steps::Forwarded;
 use pc_base::Kbps;
 use rate_policer::{Bucket, Cost};
 use std::alloc::Global;

@@ -4,7 +4,7 @@ ghost use Rattle.packet_steps.specs.Past.{row_for, with_row};
 ghost use Rattle.packet_steps.specs.Policing.{passes, rate_for};
 
 use crate::NoMemory;
-use crate::forwarded::{Forwarded, policed_by};
+use crate::forwarded::policed_by;
 use crate::history::History;
 use bearer_state::{ActiveBearer, Version, is_guaranteed};
 use charging_book::Posting;

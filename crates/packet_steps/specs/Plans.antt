@@ -1,5 +1,5 @@
 -- What is decided of a packet before it is done.
-use Rattle.std.specs.Prelude.{◌≡◌, ℕ, Bool, true, false, List, [], ◌∷◌, ◌++◌, length, Option, Some, None}
+use Rattle.std.specs.Prelude.{◌≡◌, ℕ, Bool, true, false, List, [], ◌∷◌, ◌++◌, Option, Some, None}
 use Rattle.std.specs.List.{Contains}
 use Rattle.pc_base.specs.declared.packet.Packet.{Packet}
 use Rattle.pc_base.specs.declared.packet.Verdict.{Verdict}
@@ -39,8 +39,8 @@ verdict_by plan.Spoof octets = verdict.Spoof
 verdict_by (plan.Idle life) octets = verdict.Idle life
 verdict_by (plan.Hold life message) octets = verdict.Held life message
 verdict_by (plan.Policed life) octets = verdict.Policed life
-verdict_by (plan.Up bearer bucket) octets = verdict.Up bearer.life octets
-verdict_by (plan.Down bearer peer bucket) octets = verdict.Down bearer.life peer.addr (gpdu peer octets)
+verdict_by (plan.Up bearer bucket len) octets = verdict.Up bearer.life octets
+verdict_by (plan.Down bearer peer bucket len) octets = verdict.Down bearer.life peer.addr (gpdu peer octets)
 
 -- what a plan makes of a past
 abbrev pub Does : Plan → Past → Packet → Past → Type 0
@@ -49,8 +49,8 @@ Does plan.Spoof past packet next = next ≡ past
 Does (plan.Idle life) past packet next = next ≡ past
 Does (plan.Hold life message) past packet next = next ≡ with_held past (record { packet = packet; life = life })
 Does (plan.Policed life) past packet next = next ≡ past
-Does (plan.Up bearer bucket) past packet next = Passes past bearer true (length packet.octets) bucket next
-Does (plan.Down bearer peer bucket) past packet next = Passes past bearer false (length packet.octets) bucket next
+Does (plan.Up bearer bucket len) past packet next = Passes past bearer true len bucket next
+Does (plan.Down bearer peer bucket len) past packet next = Passes past bearer false len bucket next
 
 -- a plan is this past and verdict, of a packet
 pub record Plans (past : Past) (packet : Packet) (outcome : Past × Verdict) (p : Plan) : Type 0 where

@@ -12,7 +12,7 @@ use std::alloc::Global;
 use std::marker::Model;
 
 /// The buckets, the charging book and the held packets of a subscriber. A contract speaks of them by
-/// the subscriber's past, and by how many of its charging records were taken out: they stand for these.
+/// the subscriber's past, and by how many of its charging records were taken out: they represent these.
 #[derive(Drop)]
 pub struct Counters {
     pub(crate) meters: Meters,

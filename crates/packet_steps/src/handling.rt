@@ -1,9 +1,8 @@
 //! A packet is judged and done.
-ghost use Rattle.std.specs.Prelude.{◌≡◌, ℕ, ◌≤◌, IfOk, IfSome, OnOk, OnErr, IsNone, Some, false};
+ghost use Rattle.std.specs.Prelude.{◌≡◌, ℕ, ◌≤◌, IfOk, IfSome, OnOk, OnErr, Some};
 ghost use Rattle.pc_base.specs.declared.packet.Packet.{Packet};
-ghost use Rattle.ipv4_packet.specs.Packet.{IsPacket};
 ghost use Rattle.packet_steps.specs.Past.{Past};
-ghost use Rattle.packet_steps.specs.Verdicts.{judged, is_packet};
+ghost use Rattle.packet_steps.specs.Verdicts.{judged};
 ghost use Rattle.packet_steps.specs.Standing.{StandsFor, AreFew, last_of};
 ghost use Rattle.packet_steps.specs.Lent.{verdict_of};
 
@@ -62,7 +61,7 @@ pub fn handle(
     ensures unchanged { OnErr result (counters.new ≡ counters.old) }
 {
     let octets = packet.octets.as_slice();
-    let Some(ip) = whole(octets) else {
+    let Some(ip) = Ip4::whole(octets) else {
         counters.stay(packet.moment);
         return Ok(Verdict::NoBearer);
     };
@@ -144,15 +143,4 @@ fn owned(
     let verdict = plan.verdict(alloc, octets)?;
     counters.carry_out(&plan, number, moment, way, octets)?;
     Ok(verdict)
-}
-
-/// The packet that octets are, whole.
-pub fn whole(octets: &[u8]) -> Option<Ip4<'_>>
-    ensures packet { IfSome result (λ ip. (ip ≡ octets.now) × IsPacket octets.now) }
-    ensures none { IsNone result → is_packet octets.now ≡ false }
-{
-    match Ip4::read(octets) {
-        Ok(ip) if ip.octets().len() == octets.len() => Some(ip),
-        _ => None,
-    }
 }

@@ -1,4 +1,5 @@
 //! A packet that waits for its bearer's eNodeB.
+use crate::NoMemory;
 use pc_base::Packet;
 use std::marker::Model;
 
@@ -18,4 +19,18 @@ impl Model for HeldPacket {
     ghost view = { λ held. record { packet = held.packet; life = held.life } };
 
     ghost invariant = { λ held. length held.packet.octets < 2 ^ 16 };
+}
+
+impl HeldPacket {
+    ghost use Rattle.std.specs.Prelude.{◌≡◌, IfOk};
+
+    /// A copy of the packet.
+    pub fn try_clone(&self) -> Result<HeldPacket, NoMemory>
+        ensures { IfOk result (λ copy. copy ≡ self.now) }
+    {
+        Ok(HeldPacket {
+            packet: self.packet.try_clone()?,
+            life: self.life,
+        })
+    }
 }

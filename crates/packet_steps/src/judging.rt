@@ -1,5 +1,5 @@
 //! What becomes of a packet.
-ghost use Rattle.std.specs.Prelude.{◌≡◌, ℕ, ◌<◌, ◌≤◌, ◌^◌, length, IfOk, IfSome, OnOk, OnErr, Option};
+ghost use Rattle.std.specs.Prelude.{◌≡◌, ℕ, ◌<◌, ◌≤◌, IfOk, IfSome, OnOk, OnErr, Option};
 ghost use Rattle.std.specs.List.{Contains};
 ghost use Rattle.std.specs.Option.{option_copied};
 ghost use Rattle.pc_base.specs.declared.packet.Packet.{Packet};
@@ -68,13 +68,12 @@ impl Counters {
         if ip.source() != addr_of(version.slot).0 {
             return Plan::Spoof;
         }
-        match self
-            .meters
-            .tried(bearer, true, moment, packet_len(ip.octets()))
-        {
+        let len = u32::from(ip.total_len());
+        match self.meters.tried(bearer, true, moment, len) {
             Some(bucket) => Plan::Up {
                 bearer: *bearer,
                 bucket,
+                len,
             },
             None => Plan::Policed { life: bearer.life },
         }
@@ -101,14 +100,13 @@ impl Counters {
         let Some(peer) = bearer.enb else {
             return self.plan_waiting(version, number, bearer);
         };
-        match self
-            .meters
-            .tried(bearer, false, moment, packet_len(ip.octets()))
-        {
+        let len = u32::from(ip.total_len());
+        match self.meters.tried(bearer, false, moment, len) {
             Some(bucket) => Ok(Plan::Down {
                 bearer: *bearer,
                 peer,
                 bucket,
+                len,
             }),
             None => Ok(Plan::Policed { life: bearer.life }),
         }
@@ -184,13 +182,4 @@ fn taking<'v>(version: &'v Version, ip: &Ip4<'_>) -> Option<&'v ActiveBearer>
         Some(index) => active_at(version, index),
         None => None,
     }
-}
-
-/// How many octets a packet has, as it says itself.
-pub fn packet_len(octets: &[u8]) -> u32
-    requires { IsPacket octets.now }
-    ensures len { result ≡ length octets.now }
-    ensures bound { result < 2 ^ 16 }
-{
-    0x100 * u32::from(octets[2]) + u32::from(octets[3])
 }

@@ -10,7 +10,8 @@ use pc_base::{Octets, Peer, Verdict};
 use rate_policer::Bucket;
 use std::alloc::Global;
 
-/// What is to become of a packet. What passes comes with the bucket that is left.
+/// What is to become of a packet. What passes comes with the bucket that is left, and
+/// with how many octets the packet has.
 #[derive(Debug, Drop)]
 pub enum Plan {
     NoBearer,
@@ -28,11 +29,13 @@ pub enum Plan {
     Up {
         bearer: ActiveBearer,
         bucket: Bucket,
+        len: u32,
     },
     Down {
         bearer: ActiveBearer,
         peer: Peer,
         bucket: Bucket,
+        len: u32,
     },
 }
 

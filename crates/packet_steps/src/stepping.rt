@@ -10,7 +10,6 @@ ghost use Rattle.packet_steps.specs.Standing.{StandsFor, AreFew, last_of};
 ghost use Rattle.packet_steps.specs.Plans.{Does, PolicesBehind};
 
 use crate::counters::Counters;
-use crate::judging::packet_len;
 use crate::plan::Plan;
 use crate::{HeldPacket, NoMemory};
 use bearer_state::ActiveBearer;
@@ -39,10 +38,18 @@ impl Counters {
         ensures moment { OnOk result (last_of self.new ≡ Some moment) }
         ensures unchanged { OnErr result (self.new ≡ self.old) }
     {
-        let len = packet_len(octets);
         match plan {
-            Plan::Up { bearer, bucket } => self.pass(bearer, true, *bucket, moment, len),
-            Plan::Down { bearer, bucket, .. } => self.pass(bearer, false, *bucket, moment, len),
+            Plan::Up {
+                bearer,
+                bucket,
+                len,
+            } => self.pass(bearer, true, *bucket, moment, *len),
+            Plan::Down {
+                bearer,
+                bucket,
+                len,
+                ..
+            } => self.pass(bearer, false, *bucket, moment, *len),
             Plan::Hold { life, .. } => self.hold(*life, number, moment, way, octets),
             Plan::NoBearer | Plan::Spoof | Plan::Idle { .. } | Plan::Policed { .. } => {
                 self.stay(moment);

@@ -1,10 +1,26 @@
-use Rattle.std.proofs.Common.{List, ℕ, sym, ◌∙◌, ap}
+use Rattle.std.proofs.Common.{◌≡◌, false, List, ℕ, sym, subst, ◌∙◌, ap}
 use Rattle.pc_base.specs.declared.packet.Packet.{Packet}
+use Rattle.pc_base.specs.declared.packet.Verdict.{Verdict}
 use Rattle.pc_base.specs.declared.packet.Way.{Way}
+use Rattle.packet_steps.specs.Past.{Past}
+use Rattle.packet_steps.specs.Standing.{StandsFor}
+use Rattle.packet_steps.specs.Verdicts.{is_packet}
+use Rattle.packet_steps.proofs.PacketLemmas.{not_whole, not_judged}
+use Rattle.packet_steps.proofs.StandingLemmas.{late_by}
 use Rattle.packet_steps.proofs.handling.handle.Goals as goal
 
 abbrev with : Packet → Way → List ℕ → Packet
 with packet way octets = record { number = packet.number; moment = packet.moment; way = way; octets = octets }
+
+pub returns-in_default-clause-stands : goal.returns-in_default-clause-stands
+returns-in_default-clause-stands c = λ past taken stands same few.
+    let packet = c.args.packet.now in
+    let fails : is_packet packet.octets ≡ false =
+    ap is_packet (sym c.as_slice-octets.ensures)
+    ∙ not_whole c.as_slice-octets.result.now c.whole.result c.in_default.is c.whole.ensures.found in
+    subst (λ (outcome : Past × Verdict). StandsFor c.stay.new.self outcome.0 taken) (sym (not_judged past packet fails))
+    (c.stay.ensures.stands past taken stands
+    (late_by c.args.counters.now past taken packet.moment stands c.requires))
 
 pub returns-in-Up-clause-verdict : goal.returns-in-Up-clause-verdict
 returns-in-Up-clause-verdict c = λ past taken stands same few.
