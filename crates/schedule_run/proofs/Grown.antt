@@ -60,3 +60,29 @@ pub changed : {X : Type 0} (fresh : X) (old new : List X) (n : ℕ) (change : X 
     → set new n y ≡ put_at fresh old n (change (value_at fresh old n))
 changed fresh old new n change x y reached is by =
     reached.puts y ∙ ap (put_at fresh old n) (by ∙ ap change (is ∙ reached.value x))
+
+pub changed_within : {X : Type 0} (fresh : X) (xs : List X) (n : ℕ) (change : X → X) (x y : X) → n < length xs
+    → x ≡ get_or xs n x → y ≡ change x → set xs n y ≡ put_at fresh xs n (change (value_at fresh xs n))
+changed_within fresh xs n change x y within is by =
+    set-put fresh xs n y within ∙ ap (put_at fresh xs n) (by ∙ ap change (is ∙ value-within fresh x xs n within))
+
+-- one change behind another
+pub value_put : {X : Type 0} (fresh : X) (xs : List X) (n : ℕ) (x : X) → value_at fresh (put_at fresh xs n x) n ≡ x
+value_put fresh [] zero x = refl
+value_put fresh [] (suc n) x = value_put fresh [] n x
+value_put fresh (y ∷ ys) zero x = refl
+value_put fresh (y ∷ ys) (suc n) x = value_put fresh ys n x
+
+pub put_put : {X : Type 0} (fresh : X) (xs : List X) (n : ℕ) (x z : X)
+    → put_at fresh (put_at fresh xs n x) n z ≡ put_at fresh xs n z
+put_put fresh [] zero x z = refl
+put_put fresh [] (suc n) x z = ap (λ zs. fresh ∷ zs) (put_put fresh [] n x z)
+put_put fresh (y ∷ ys) zero x z = refl
+put_put fresh (y ∷ ys) (suc n) x z = ap (λ zs. y ∷ zs) (put_put fresh ys n x z)
+
+pub changed_twice : {X : Type 0} (fresh : X) (xs : List X) (n : ℕ) (x : X) (change : X → X)
+    → put_at fresh (put_at fresh xs n x) n (change (value_at fresh (put_at fresh xs n x) n))
+    ≡ put_at fresh xs n (change x)
+changed_twice fresh xs n x change =
+    ap (λ y. put_at fresh (put_at fresh xs n x) n (change y)) (value_put fresh xs n x)
+    ∙ put_put fresh xs n x (change x)

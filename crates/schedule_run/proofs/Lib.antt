@@ -4,4 +4,5 @@ pub mod Edited
 pub mod Batches
 pub mod Loops
 pub mod Rounds
-pub mod Planning
+pub mod Epochs
+pub mod Turned

@@ -8,7 +8,7 @@ module _ (rooms : Rooms) (slice count i place : ℕ) (world after all : World) (
     (after_is : after ≡ half_turned rooms world slot) (worked_is : worked ≡ has_worked rooms world slot)
     (next_is : next ≡ next_place after slice place)
     (ahead : work_round rooms slice place (count - i) world ≡ all) where
-  own : ℕ
+  abbrev own : ℕ
   own = slot_held world slice place
 
   turned_is : after ≡ half_turned rooms world own

@@ -90,7 +90,7 @@ fn draw_turns(
         (draw.draws (2 * slices) state count)) }
     ensures state { IfOk result (λ behind. behind ≡ draw.state_behind state count) }
 {
-    let limit = u64::from(slices) * 2;
+    let limit = 2 * u64::from(slices);
     let mut behind = state;
     for _ in 0..count {
         behind = next_state(behind);

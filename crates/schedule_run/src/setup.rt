@@ -1,5 +1,5 @@
 //! The setup of an epoch.
-ghost use Rattle.std.specs.Prelude.{◌≡◌, ◌≤◌};
+ghost use Rattle.std.specs.Prelude.{◌≡◌, ◌<◌, ◌≤◌, ◌^◌};
 ghost use Rattle.schedule_run.specs.Setups.{EpochSetup, bounds_of};
 
 use crate::Rooms;
@@ -38,7 +38,8 @@ impl<'a> Setup<'a> {
 
     /// The room of a slot's queues.
     pub fn room(&self) -> usize
-        ensures { result ≡ self.now.rooms.room }
+        ensures room { result ≡ self.now.rooms.room }
+        ensures few { result < 2 ^ 32 }
     {
         let rooms = &self.rooms;
         rooms.room as usize

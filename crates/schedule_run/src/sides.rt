@@ -232,7 +232,10 @@ pub fn take_control(numbers: &mut Numbers, slice: usize) -> Option<ControlOrder>
 {
     if slice < numbers.controls.len() {
         let worker = &mut numbers.controls[slice];
-        worker.take()
+        match worker.take() {
+            Some(order) => Some(order),
+            None => None,
+        }
     } else {
         None
     }
@@ -249,7 +252,10 @@ pub fn take_flow(numbers: &mut Numbers, slice: usize) -> Option<FlowOrder>
 {
     if slice < numbers.flows.len() {
         let worker = &mut numbers.flows[slice];
-        worker.take()
+        match worker.take() {
+            Some(order) => Some(order),
+            None => None,
+        }
     } else {
         None
     }

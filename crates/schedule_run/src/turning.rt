@@ -80,7 +80,8 @@ fn work_round(
         let worked = turn_half(numbers, setup, slot)?;
         place = next_place(numbers, slice, place);
         if worked {
-            return set_control_cursor(numbers, slice, place);
+            set_control_cursor(numbers, slice, place)?;
+            return Ok(());
         }
     }
     Ok(())
@@ -124,7 +125,10 @@ pub fn control_turn(numbers: &mut Numbers, setup: &Setup<'_>, slice: usize) -> R
     ensures { OnOk result (world_of numbers.new ≡ control.control_turn setup.now.rooms slice (world_of numbers.old)) }
 {
     match take_control(numbers, slice) {
-        Some(order) => tell(numbers, slice, order),
+        Some(order) => {
+            tell(numbers, slice, order)?;
+            Ok(())
+        }
         None => go_or_work(numbers, setup, slice),
     }
 }
@@ -236,19 +240,30 @@ fn take_orders(numbers: &mut Numbers, slice: usize, first: Going) -> Result<Goin
     Ok(going)
 }
 
+/// The slot of the counter half at a place.
+fn held_at(held: &[usize], place: usize) -> usize
+    ensures { result ≡ get_or held.now place 0 }
+{
+    if place < held.len() {
+        held[place]
+    } else {
+        0
+    }
+}
+
 /// The half whose turn is next learns.
 fn learn_next(numbers: &mut Numbers, slice: usize) -> Result<(), AllocError>
     ensures { OnOk result (world_of numbers.new ≡ flow.learn_next slice (world_of numbers.old)
         (world.flow_at (world_of numbers.old) slice).held) }
 {
-    let cursor = flow_cursor(numbers, slice);
     let held = flow_held(numbers, slice);
     if held.is_empty() {
         return Ok(());
     }
-    let slot = if cursor < held.len() { held[cursor] } else { 0 };
+    let slot = held_at(held, flow_cursor(numbers, slice));
     learn(numbers, slot)?;
-    go_round(numbers, slice)
+    go_round(numbers, slice)?;
+    Ok(())
 }
 
 fn end_turn(numbers: &mut Numbers, slice: usize, going: Going) -> Result<(), AllocError>

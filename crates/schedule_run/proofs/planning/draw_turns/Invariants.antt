@@ -1,6 +1,6 @@
 use Rattle.std.proofs.Common.{◌≡◌, ℕ, ◌*◌}
 use Rattle.schedule_run.specs.Worlds.{world_of}
-use Rattle.schedule_run.proofs.Planning.{Drawing}
+use Rattle.schedule_run.proofs.Epochs.{Drawing}
 use Rattle.schedule_run.proofs.planning.draw_turns.Given as goal
 
 abbrev pub invariant-loop : goal.invariant-loop

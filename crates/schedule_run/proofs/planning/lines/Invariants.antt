@@ -1,7 +1,7 @@
 use Rattle.std.proofs.Common.{◌≡◌, ℕ}
 use Rattle.schedule_run.specs.Setups.{bounds_of}
 use Rattle.schedule_run.specs.Worlds.{world_of}
-use Rattle.schedule_run.proofs.Planning.{SoFar}
+use Rattle.schedule_run.proofs.Epochs.{SoFar}
 use Rattle.schedule_run.proofs.planning.lines.Given as goal
 
 abbrev pub invariant-loop-ask : goal.invariant-loop-ask

@@ -7,4 +7,4 @@ use Rattle.schedule_run.proofs.turning.take_orders.Given as goal
 abbrev pub invariant-loop : goal.invariant-loop
 invariant-loop l =
     times (8 - l.counter) (order_step l.slice) (doing (world_of l.numbers) (going_of l.going))
-    ≡ take_orders l.slice (doing (world_of l.fn.numbers) (going_of l.first))
+    ≡ take_orders l.slice (doing (world_of l.fn.numbers) (going_of l.fn.first))

@@ -13,3 +13,11 @@ pub returns : goal.returns
 returns c =
     round_none c.args.setup.now.rooms c.args.slice c.args.count c.loop.counter c.loop.place (world_of c.loop.numbers)
     _ (search rules) c.loop.invariant
+
+pub returns-then-worked : goal.returns-then-worked
+returns-then-worked c =
+    c.in_ok-set_control_cursor.ensures
+    ∙ round_done c.args.setup.now.rooms c.args.slice c.args.count c.loop.counter c.loop.place
+    (world_of c.loop.numbers) _ _ c.slot_held-slot.result _ _ (search rules) c.slot_held-slot.ensures
+    c.in_ok-worked.ensures.world c.in_ok-worked.ensures.worked c.next_place-place.ensures c.loop.invariant
+    c.if-worked.true
