@@ -1,32 +1,33 @@
 //! The public constants of the libraries, each behind its name.
+use crate::kinds::named;
+use crate::line::Words;
+use crate::shown::Line;
 use crate::stop::Stop;
 use gtpv2_ie::{cause_value, element_type, interface};
-use std::alloc::Global;
 
 /// A name and its number.
 type Named = (&'static str, u64);
 
 /// The constants of a group.
-pub fn constants(alloc: Global, group: &[u8]) -> Result<String, Stop> {
-    let named: &[Named] = match group {
-        b"users" => &USERS,
-        b"packets" => &PACKETS,
-        b"tunnels" => &TUNNELS,
-        b"causes" => &CAUSES,
-        b"elements" => &ELEMENTS,
-        b"interfaces" => &INTERFACES,
-        b"messages" => &MESSAGES,
-        b"filters" => &FILTERS,
-        b"charges" => &CHARGES,
-        _ => return Err(Stop::Line),
-    };
-    let mut text = String::new(alloc);
-    for (name, number) in named {
-        let gap = if text.is_empty() { "" } else { " " };
-        text.push_str(format!(in alloc; "{gap}{name} {number}")?.as_str())?;
+pub fn constants(words: &mut Words<'_>, line: &mut Line) -> Result<(), Stop> {
+    for (name, number) in named(&GROUPS, words.word())? {
+        line.word(name);
+        line.shown(number);
     }
-    Ok(text)
+    Ok(())
 }
+
+const GROUPS: [(&str, &[Named]); 9] = [
+    ("users", &USERS),
+    ("packets", &PACKETS),
+    ("tunnels", &TUNNELS),
+    ("causes", &CAUSES),
+    ("elements", &ELEMENTS),
+    ("interfaces", &INTERFACES),
+    ("messages", &MESSAGES),
+    ("filters", &FILTERS),
+    ("charges", &CHARGES),
+];
 
 const USERS: [Named; 6] = [
     ("LAST_SLOT", pc_base::LAST_SLOT as u64),

@@ -1,46 +1,55 @@
 //! Policing, and charging.
+use crate::kinds::Kind;
 use crate::line::Words;
-use crate::shown::Dash;
+use crate::shown::Line;
 use crate::stop::Stop;
 use charging_book::{Book, ChargeRow, Open, Piece, Posting, Why};
 use pc_base::{Kbps, Moment};
 use rate_policer::{Bucket, Cost, conforms};
 use std::alloc::Global;
 
-pub fn answer(alloc: Global, kind: &[u8], words: &mut Words<'_>) -> Result<String, Stop> {
+pub fn answer(
+    alloc: Global,
+    kind: Kind,
+    words: &mut Words<'_>,
+    line: &mut Line,
+) -> Result<(), Stop> {
     match kind {
-        b"police" => policed(alloc, words),
-        b"conforms" => conforming(alloc, words),
-        b"bucket" => bucket(alloc, words),
-        b"book" => book(alloc, words),
-        _ => pieces(alloc, words),
+        Kind::Police => policed(alloc, words, line),
+        Kind::Conforms => conforming(alloc, words, line),
+        Kind::Bucket => bucket(words, line),
+        Kind::Book => book(alloc, words, line),
+        _ => pieces(alloc, words, line),
     }
 }
 
 /// Asks of a new bucket, each as the list of what passed answers it too.
-fn policed(alloc: Global, words: &mut Words<'_>) -> Result<String, Stop> {
-    let rate = words.rate()?;
-    let mut bucket = Bucket::new(rate);
+fn policed(alloc: Global, words: &mut Words<'_>, line: &mut Line) -> Result<(), Stop> {
+    let mut bucket = Bucket::new(words.rate()?);
     let mut passed = Vec::new(alloc);
-    let mut text = String::new(alloc);
     for _ in 0..u64::MAX {
         let Some((at, octets)) = next_ask(words)? else {
             break;
         };
-        if at < bucket.last() {
-            return Err(Stop::Line);
-        }
-        let cost = Cost::of(octets, at);
-        let passes = bucket.ask(at, octets);
-        if passes != conforms(rate, &passed, cost) {
-            return Err(Stop::Differ);
-        }
+        let passes = ask(&mut bucket, &passed, at, octets)?;
         if passes {
-            passed.push(cost)?;
+            passed.push(Cost::of(octets, at))?;
         }
-        text.push(if passes { '1' } else { '0' })?;
+        line.bit(passes);
     }
-    Ok(text)
+    Ok(())
+}
+
+/// An ask of a bucket that let these pass, which is to answer as they do.
+fn ask(bucket: &mut Bucket, passed: &[Cost], at: Moment, octets: u32) -> Result<bool, Stop> {
+    if at < bucket.last() {
+        return Err(Stop::Line);
+    }
+    let passes = bucket.ask(at, octets);
+    if passes != conforms(bucket.rate(), passed, Cost::of(octets, at)) {
+        return Err(Stop::Differ);
+    }
+    Ok(passes)
 }
 
 /// The next moment and octets, where some are left.
@@ -68,7 +77,7 @@ fn next_cost(words: &mut Words<'_>) -> Result<Option<Cost>, Stop> {
     }
 }
 
-fn conforming(alloc: Global, words: &mut Words<'_>) -> Result<String, Stop> {
+fn conforming(alloc: Global, words: &mut Words<'_>, line: &mut Line) -> Result<(), Stop> {
     let rate = words.rate()?;
     let cost = next_cost(words)?.ok_or(Stop::Line)?;
     let mut passed = Vec::new(alloc);
@@ -78,16 +87,23 @@ fn conforming(alloc: Global, words: &mut Words<'_>) -> Result<String, Stop> {
         };
         passed.push(earlier)?;
     }
-    Ok(format!(in alloc; "{}", u8::from(conforms(rate, &passed, cost)))?)
+    line.bit(conforms(rate, &passed, cost));
+    Ok(())
 }
 
 /// A bucket of parts behind asks, by its parts.
-fn bucket(alloc: Global, words: &mut Words<'_>) -> Result<String, Stop> {
+fn bucket(words: &mut Words<'_>, line: &mut Line) -> Result<(), Stop> {
     let (rate, level) = (words.rate()?, words.number(u64::MAX)?);
-    let Some(mut bucket) = Bucket::of(rate, level, words.moment()?) else {
-        return Ok(String::from_str(alloc, "none")?);
-    };
-    let mut text = String::new(alloc);
+    match Bucket::of(rate, level, words.moment()?) {
+        Some(bucket) => asked(bucket, words, line),
+        None => {
+            line.word("none");
+            Ok(())
+        }
+    }
+}
+
+fn asked(mut bucket: Bucket, words: &mut Words<'_>, line: &mut Line) -> Result<(), Stop> {
     for _ in 0..u64::MAX {
         let Some((at, octets)) = next_ask(words)? else {
             break;
@@ -95,39 +111,74 @@ fn bucket(alloc: Global, words: &mut Words<'_>) -> Result<String, Stop> {
         if at < bucket.last() {
             return Err(Stop::Line);
         }
-        text.push_str(if bucket.ask(at, octets) { "1 " } else { "0 " })?;
+        line.word(if bucket.ask(at, octets) { "1" } else { "0" });
     }
-    let (Kbps(rate), level, Moment(last)) = (bucket.rate(), bucket.level(), bucket.last());
-    text.push_str(format!(in alloc; "{rate} {level} {last}")?.as_str())?;
-    Ok(text)
+    let (Kbps(rate), Moment(last)) = (bucket.rate(), bucket.last());
+    line.numbers(' ', &[rate, bucket.level(), last]);
+    Ok(())
 }
 
 /// What steps make of a new book, one by one and all at once.
-fn book(alloc: Global, words: &mut Words<'_>) -> Result<String, Stop> {
-    let mut book = Book::new(alloc);
-    let mut other = Book::new(alloc);
-    let mut postings = Vec::new(alloc);
+fn book(alloc: Global, words: &mut Words<'_>, line: &mut Line) -> Result<(), Stop> {
+    let mut books = Books {
+        one: Book::new(alloc),
+        all: Book::new(alloc),
+        postings: Vec::new(alloc),
+    };
     for _ in 0..u64::MAX {
         let Some(word) = words.next_word() else {
             break;
         };
-        if word == b"t".as_slice() {
-            other.post(&postings)?;
-            postings.clear();
-            if book.take_closed() != other.take_closed() {
-                return Err(Stop::Differ);
-            }
-            continue;
-        }
-        let posting = posting_of(&mut Words::parts(word, b'.'))?;
-        book.post_one(&posting)?;
-        postings.push(posting)?;
+        books.step(word)?;
     }
-    other.post(&postings)?;
-    if book.closed() != other.closed() || book.still_open() != other.still_open() {
+    books.post_all()?;
+    if !books.agree() {
         return Err(Stop::Differ);
     }
-    accounts(alloc, &book)
+    accounts(&books.one, line);
+    Ok(())
+}
+
+/// A book that takes each posting alone, one that takes them together, and those that it still lacks.
+#[derive(Drop)]
+struct Books {
+    one: Book,
+    all: Book,
+    postings: Vec<Posting>,
+}
+
+impl Books {
+    fn step(&mut self, word: &[u8]) -> Result<(), Stop> {
+        if word == b"t".as_slice() {
+            self.take()
+        } else {
+            self.post(posting_of(&mut Words::parts(word, b'.'))?)
+        }
+    }
+
+    fn post(&mut self, posting: Posting) -> Result<(), Stop> {
+        self.one.post_one(&posting)?;
+        self.postings.push(posting)?;
+        Ok(())
+    }
+
+    fn post_all(&mut self) -> Result<(), Stop> {
+        self.all.post(&self.postings)?;
+        self.postings.clear();
+        Ok(())
+    }
+
+    fn take(&mut self) -> Result<(), Stop> {
+        self.post_all()?;
+        if self.one.take_closed() != self.all.take_closed() {
+            return Err(Stop::Differ);
+        }
+        Ok(())
+    }
+
+    fn agree(&self) -> bool {
+        self.one.closed() == self.all.closed() && self.one.still_open() == self.all.still_open()
+    }
 }
 
 fn posting_of(step: &mut Words<'_>) -> Result<Posting, Stop> {
@@ -156,20 +207,17 @@ fn close(life: u64, why: Why) -> Posting {
     Posting::Close { life, why }
 }
 
-fn accounts(alloc: Global, book: &Book) -> Result<String, Stop> {
-    let mut text = String::new(alloc);
+fn accounts(book: &Book, line: &mut Line) {
     for row in book.closed() {
-        text.push_str(row_text(alloc, row)?.as_str())?;
+        push_row(row, line);
     }
-    text.push('=')?;
+    line.word("=");
     for open in book.still_open() {
-        text.push(' ')?;
-        text.push_str(open_text(alloc, open)?.as_str())?;
+        push_open(open, line);
     }
-    Ok(text)
 }
 
-fn row_text(alloc: Global, row: &ChargeRow) -> Result<String, Stop> {
+fn push_row(row: &ChargeRow, line: &mut Line) {
     let open = Open {
         life: row.life,
         ebi: row.ebi,
@@ -180,39 +228,72 @@ fn row_text(alloc: Global, row: &ChargeRow) -> Result<String, Stop> {
         up_packets: row.up_packets,
         down_packets: row.down_packets,
     };
-    let (first, last) = (shown(row.first), shown(row.last));
-    let counts = open_text(alloc, &open)?;
-    Ok(format!(in alloc; "{counts}.{first}.{last}.{:?} ", row.why)?)
+    push_open(&open, line);
+    push_moment(row.first, line);
+    push_moment(row.last, line);
+    line.mark('.');
+    line.debugged(&row.why);
 }
 
-fn open_text(alloc: Global, open: &Open) -> Result<String, Stop> {
-    let (life, ebi, qci, seq) = (open.life, open.ebi, open.qci, open.seq);
-    let (up, down) = (open.up_octets, open.down_octets);
-    let (ups, downs) = (open.up_packets, open.down_packets);
-    Ok(format!(in alloc; "{life}.{ebi}.{qci}.{seq}.{up}.{down}.{ups}.{downs}")?)
+fn push_open(open: &Open, line: &mut Line) {
+    let (ebi, qci) = (u64::from(open.ebi), u64::from(open.qci));
+    line.numbers('.', &[open.life, ebi, qci, open.seq]);
+    line.mark('.');
+    line.numbers(
+        '.',
+        &[
+            open.up_octets,
+            open.down_octets,
+            open.up_packets,
+            open.down_packets,
+        ],
+    );
 }
 
-fn shown(moment: Option<Moment>) -> Dash {
-    Dash(moment.map(|moment| moment.0))
+fn push_moment(moment: Option<Moment>, line: &mut Line) {
+    line.mark('.');
+    match moment {
+        Some(Moment(at)) => line.shown(&at),
+        None => line.word("-"),
+    }
 }
 
-/// The pieces of a book that is made of pieces.
-fn pieces(alloc: Global, words: &mut Words<'_>) -> Result<String, Stop> {
+/// A book that is made of pieces, behind steps.
+fn pieces(alloc: Global, words: &mut Words<'_>, line: &mut Line) -> Result<(), Stop> {
     let mut given = Vec::new(alloc);
+    let mut postings = Vec::new(alloc);
     for _ in 0..u64::MAX {
         let Some(word) = words.next_word() else {
             break;
         };
-        given.push(piece_of(&mut Words::parts(word, b'.'))?)?;
+        let mut parts = Words::parts(word, b'.');
+        if word.first().is_some_and(|first| first.is_ascii_digit()) {
+            given.push(piece_of(&mut parts)?)?;
+        } else {
+            postings.push(posting_of(&mut parts)?)?;
+        }
     }
-    let Some(book) = Book::of(alloc, &given)? else {
-        return Ok(String::from_str(alloc, "none")?);
-    };
-    let kept = book.pieces()?;
-    if kept != given {
+    match Book::of(alloc, &given)? {
+        Some(book) => posted(book, &given, &postings, line),
+        None => {
+            line.word("none");
+            Ok(())
+        }
+    }
+}
+
+fn posted(
+    mut book: Book,
+    given: &Vec<Piece>,
+    postings: &[Posting],
+    line: &mut Line,
+) -> Result<(), Stop> {
+    if book.pieces()? != *given {
         return Err(Stop::Differ);
     }
-    accounts(alloc, &book)
+    book.post(postings)?;
+    accounts(&book, line);
+    Ok(())
 }
 
 fn piece_of(words: &mut Words<'_>) -> Result<Piece, Stop> {

@@ -1,6 +1,7 @@
 //! Traffic flow templates, and what packets fit them.
+use crate::kinds::Kind;
 use crate::line::{Words, number_of, octets_of};
-use crate::shown::Hex;
+use crate::shown::Line;
 use crate::stop::Stop;
 use ipv4_packet::Ip4;
 use std::alloc::Global;
@@ -9,116 +10,140 @@ use tft_codec::{
 };
 use tft_match::{Direction, choose, matches};
 
-pub fn answer(alloc: Global, kind: &[u8], words: &mut Words<'_>) -> Result<String, Stop> {
+pub fn answer(
+    alloc: Global,
+    kind: Kind,
+    words: &mut Words<'_>,
+    line: &mut Line,
+) -> Result<(), Stop> {
     match kind {
-        b"tft" => template(alloc, &words.octets(alloc)?),
-        b"apply" => applied(alloc, words.word()),
-        b"match" => matched(alloc, words),
-        _ => chosen(alloc, words),
+        Kind::Tft => template(alloc, words, line),
+        Kind::Apply => applied(alloc, words, line),
+        Kind::Match => matched(alloc, words, line),
+        _ => chosen(alloc, words, line),
+    }
+}
+
+fn template(alloc: Global, words: &mut Words<'_>, line: &mut Line) -> Result<(), Stop> {
+    let octets = words.octets(alloc)?;
+    match read(alloc, &octets) {
+        Ok(template) => written(alloc, &template, line),
+        Err(TBad::NoMemory) => Err(Stop::NoMemory),
+        Err(bad) => {
+            line.fault(&bad);
+            Ok(())
+        }
     }
 }
 
 /// The template written again, of its copy.
-fn template(alloc: Global, octets: &[u8]) -> Result<String, Stop> {
-    let template = match read(alloc, octets) {
-        Ok(template) => template,
-        Err(TBad::NoMemory) => return Err(Stop::NoMemory),
-        Err(bad) => return Ok(format!(in alloc; "err {bad:?}")?),
-    };
+fn written(alloc: Global, template: &Tft, line: &mut Line) -> Result<(), Stop> {
     let copy = template.try_clone()?;
-    if copy != template {
+    if copy != *template {
         return Err(Stop::Differ);
     }
-    let text = write(alloc, &copy)?;
-    Ok(format!(in alloc; "ok {}", Hex(&text))?)
+    line.word("ok");
+    line.octets(&write(alloc, &copy)?);
+    Ok(())
 }
 
 /// The list that templates make one behind another, and a word for each.
-fn filters_of(alloc: Global, templates: &[u8], words: &mut String) -> Result<Filters, Stop> {
+pub fn filters_of(alloc: Global, templates: &[u8], line: &mut Line) -> Result<Filters, Stop> {
     let mut list = Filters::new(alloc);
     let mut parts = Words::parts(templates, b',');
     for _ in 0..u64::MAX {
         let Some(word) = parts.next_word() else {
             break;
         };
-        let octets = octets_of(alloc, word)?;
-        let one = match read(alloc, &octets) {
-            Ok(template) => applied_one(alloc, &mut list, &template)?,
-            Err(TBad::NoMemory) => return Err(Stop::NoMemory),
-            Err(bad) => format!(in alloc; "{bad:?} ")?,
-        };
-        words.push_str(one.as_str())?;
+        apply_one(alloc, &mut list, word, line)?;
     }
     Ok(list)
 }
 
-fn applied_one(alloc: Global, list: &mut Filters, template: &Tft) -> Result<String, Stop> {
+fn apply_one(alloc: Global, list: &mut Filters, word: &[u8], line: &mut Line) -> Result<(), Stop> {
+    let octets = octets_of(alloc, word)?;
+    match read(alloc, &octets) {
+        Ok(template) => apply_to(alloc, list, &template, line),
+        Err(TBad::NoMemory) => Err(Stop::NoMemory),
+        Err(bad) => {
+            line.debugged(&bad);
+            Ok(())
+        }
+    }
+}
+
+fn apply_to(
+    alloc: Global,
+    list: &mut Filters,
+    template: &Tft,
+    line: &mut Line,
+) -> Result<(), Stop> {
     match apply(alloc, list, template) {
         Ok(filters) => {
             *list = filters;
-            Ok(String::from_str(alloc, "ok ")?)
+            line.word("ok");
+            Ok(())
         }
         Err(TftNo::NoMemory) => Err(Stop::NoMemory),
-        Err(no) => Ok(format!(in alloc; "{no:?} ")?),
+        Err(no) => {
+            line.debugged(&no);
+            Ok(())
+        }
     }
 }
 
-fn applied(alloc: Global, templates: &[u8]) -> Result<String, Stop> {
-    let mut text = String::new(alloc);
-    let list = filters_of(alloc, templates, &mut text)?;
-    text.push('=')?;
+fn applied(alloc: Global, words: &mut Words<'_>, line: &mut Line) -> Result<(), Stop> {
+    let list = filters_of(alloc, words.word(), line)?;
+    line.word("=");
     for filter in list.as_slice() {
-        text.push_str(filter_text(alloc, filter)?.as_str())?;
+        entry(alloc, filter, line)?;
     }
-    Ok(text)
+    Ok(())
 }
 
 /// A filter as it is written in a template that creates it alone.
-fn filter_text(alloc: Global, filter: &Filter) -> Result<String, Stop> {
-    let mut one = Vec::new(alloc);
-    one.push(filter.try_clone()?)?;
+fn entry(alloc: Global, filter: &Filter, line: &mut Line) -> Result<(), Stop> {
+    let one = Vec::from_array(alloc, [filter.try_clone()?])?;
     let filters = PacketFilters::of(one).ok_or(Stop::Differ)?;
     let text = write(alloc, &Tft::Create(filters))?;
-    let entry = text.as_slice().get(1..).unwrap_or(&[]);
-    Ok(format!(in alloc; " {}", Hex(entry))?)
+    line.octets(text.get(1..).unwrap_or(&[]));
+    Ok(())
 }
 
-fn matched(alloc: Global, words: &mut Words<'_>) -> Result<String, Stop> {
-    let direction = match words.word() {
-        b"up" => Direction::Up,
-        b"down" => Direction::Down,
-        _ => return Err(Stop::Line),
-    };
-    let mut told = String::new(alloc);
-    let list = filters_of(alloc, words.word(), &mut told)?;
+fn matched(alloc: Global, words: &mut Words<'_>, line: &mut Line) -> Result<(), Stop> {
+    let direction = direction_of(words.word())?;
+    let list = filters_of(alloc, words.word(), &mut Line::new(alloc))?;
     let octets = words.octets(alloc)?;
-    let packet = match Ip4::read(&octets) {
-        Ok(packet) => packet,
-        Err(bad) => return Ok(format!(in alloc; "err {bad:?}")?),
-    };
-    let mut text = String::from_str(alloc, "fits ")?;
-    for filter in list.as_slice() {
-        let bit = if matches(filter, &packet, direction) {
-            '1'
-        } else {
-            '0'
-        };
-        text.push(bit)?;
+    match Ip4::read(&octets) {
+        Ok(packet) => {
+            line.word("fits ");
+            for filter in list.as_slice() {
+                line.bit(matches(filter, &packet, direction));
+            }
+        }
+        Err(bad) => line.fault(&bad),
     }
-    Ok(text)
+    Ok(())
 }
 
-fn chosen(alloc: Global, words: &mut Words<'_>) -> Result<String, Stop> {
-    let octets = words.octets(alloc)?;
-    let packet = match Ip4::read(&octets) {
-        Ok(packet) => packet,
-        Err(bad) => return Ok(format!(in alloc; "err {bad:?}")?),
-    };
-    let bearers = bearers_of(alloc, words)?;
-    match choose(&bearers, &packet) {
-        Some(index) => Ok(format!(in alloc; "{index}")?),
-        None => Ok(String::from_str(alloc, "none")?),
+fn direction_of(word: &[u8]) -> Result<Direction, Stop> {
+    match word {
+        b"up" => Ok(Direction::Up),
+        b"down" => Ok(Direction::Down),
+        _ => Err(Stop::Line),
     }
+}
+
+fn chosen(alloc: Global, words: &mut Words<'_>, line: &mut Line) -> Result<(), Stop> {
+    let octets = words.octets(alloc)?;
+    match Ip4::read(&octets) {
+        Ok(packet) => {
+            let bearers = bearers_of(alloc, words)?;
+            line.shown_or(&choose(&bearers, &packet), "none");
+        }
+        Err(bad) => line.fault(&bad),
+    }
+    Ok(())
 }
 
 fn bearers_of(alloc: Global, words: &mut Words<'_>) -> Result<Vec<BearerFilters>, Stop> {
@@ -128,35 +153,17 @@ fn bearers_of(alloc: Global, words: &mut Words<'_>) -> Result<Vec<BearerFilters>
             break;
         };
         let index = number_of(word, 0xff)? as u8;
-        let templates = words.word();
-        let filters = if templates == b".".as_slice() {
-            Filters::new(alloc)
-        } else {
-            filters_of(alloc, templates, &mut String::new(alloc))?
-        };
+        let filters = filters_in(alloc, words.word())?;
         bearers.push(BearerFilters { index, filters })?;
     }
     Ok(bearers)
 }
 
-/// Why octets are no template, as a sentence.
-pub fn why_no_template(alloc: Global, octets: &[u8]) -> Result<String, Stop> {
-    match read(alloc, octets) {
-        Ok(_) => Ok(String::from_str(alloc, "none")?),
-        Err(bad) => Ok(format!(in alloc; "{bad}")?),
-    }
-}
-
-/// Why the second of two templates isn't applied to the filters of the first, as a sentence.
-pub fn why_not_applied(alloc: Global, templates: &[u8]) -> Result<String, Stop> {
-    let mut parts = Words::parts(templates, b',');
-    let list = filters_of(alloc, parts.word(), &mut String::new(alloc))?;
-    let octets = octets_of(alloc, parts.word())?;
-    let Ok(template) = read(alloc, &octets) else {
-        return Err(Stop::Line);
-    };
-    match apply(alloc, &list, &template) {
-        Ok(_) => Ok(String::from_str(alloc, "none")?),
-        Err(no) => Ok(format!(in alloc; "{no}")?),
+/// The list that templates make, of which `.` is none.
+fn filters_in(alloc: Global, templates: &[u8]) -> Result<Filters, Stop> {
+    if templates == b".".as_slice() {
+        Ok(Filters::new(alloc))
+    } else {
+        filters_of(alloc, templates, &mut Line::new(alloc))
     }
 }

@@ -52,6 +52,11 @@ impl<'a> Words<'a> {
         Ok(self.number(0xff)? as u8)
     }
 
+    /// A number of 16 bits.
+    pub fn short(&mut self) -> Result<u16, Stop> {
+        Ok(self.number(0xffff)? as u16)
+    }
+
     /// A number of 32 bits.
     pub fn long(&mut self) -> Result<u32, Stop> {
         Ok(self.number(0xffff_ffff)? as u32)

@@ -28,7 +28,7 @@
 //! | `imsi TEXT` | the IMSI as it prints, or `none`; the text is in octets |
 //! | `copies OCTETS` | how many values with these octets equal their copy, and the octets as they print |
 //! | `book STEP..` | rows that weren't taken, `=`, and open counters |
-//! | `pieces ROW..` | the pieces of a book of these, or `none` |
+//! | `pieces ROW.. STEP..` | the same of a book that is made of pieces, behind steps; or `none` |
 //! | `admit STEP..` | for each IMSI its slot or why it has none, and how many have one |
 //! | `number LEAST LAST TEXT`, `dotted TEXT`, `octets_of TEXT`, `lower_octets_of TEXT` | the value, or `none` |
 //! | `cut OCTET TEXT` | the pieces of a text; behind `space` whether a field is empty |
@@ -43,49 +43,77 @@
 mod constants;
 mod counting;
 mod filters;
+mod kinds;
 mod line;
 mod messages;
 mod numbers;
 mod packets;
+mod reasons;
 mod shown;
 mod stop;
 mod texts;
 
+use kinds::{Kind, kind_of};
 use line::Words;
-use std::alloc::Global;
-use std::io::{self, BufRead, BufReader, BufWriter, Write};
+use shown::Line;
+use std::alloc::{AllocError, Global};
+use std::io::{self, Read, Write};
 use stop::Stop;
 
-/// The answer to a line, by its first word: each file has its kinds.
-fn answer(alloc: Global, line: &str) -> Result<String, Stop> {
-    let mut words = Words::of(line.as_bytes());
-    let kind = words.word();
+/// The answer to a call.
+fn answer(alloc: Global, call: &[u8]) -> Result<String, Stop> {
+    let mut words = Words::of(call);
+    let mut line = Line::new(alloc);
+    call_of(alloc, &mut words, &mut line)?;
+    line.end()
+}
+
+/// Answers a call by its first word: each file has its kinds.
+fn call_of(alloc: Global, words: &mut Words<'_>, line: &mut Line) -> Result<(), Stop> {
+    let kind = kind_of(words.word())?;
     match kind {
-        b"gtpv2" | b"first" | b"contexts" | b"ie" | b"value" | b"ies" => {
-            messages::answer(alloc, kind, &mut words)
+        Kind::Gtpv2 | Kind::First | Kind::Contexts | Kind::Ie | Kind::Value | Kind::Ies => {
+            messages::answer(alloc, kind, words, line)
         }
-        b"tft" | b"apply" | b"match" | b"choose" => filters::answer(alloc, kind, &mut words),
-        b"gtpu" | b"send" | b"ip" | b"packet" | b"copies" => {
-            packets::answer(alloc, kind, &mut words)
+        Kind::Tft | Kind::Apply | Kind::Match | Kind::Choose => filters::answer(
+            alloc, kind, words, line,
+        ),
+        Kind::Gtpu | Kind::Send | Kind::Ip | Kind::Packet | Kind::Copies => {
+            packets::answer(alloc, kind, words, line)
         }
-        b"police" | b"conforms" | b"bucket" | b"book" | b"pieces" => {
-            counting::answer(alloc, kind, &mut words)
+        Kind::Police | Kind::Conforms | Kind::Bucket | Kind::Book | Kind::Pieces => {
+            counting::answer(alloc, kind, words, line)
         }
-        b"number" | b"dotted" | b"octets_of" | b"lower_octets_of" | b"cut" | b"fields" => {
-            texts::answer(alloc, kind, &mut words)
-        }
-        _ => numbers::answer(alloc, kind, &mut words),
+        Kind::Number
+        | Kind::Dotted
+        | Kind::OctetsOf
+        | Kind::LowerOctetsOf
+        | Kind::Cut
+        | Kind::Fields => { texts::answer(alloc, kind, words, line) }
+        Kind::Why => reasons::answer(alloc, words, line),
+        Kind::Constants => constants::constants(words, line),
+        _ => numbers::answer(alloc, kind, words, line),
     }
+}
+
+/// The answers to calls, a line each.
+fn answers(alloc: Global, calls: &[u8]) -> Result<Vec<u8>, AllocError> {
+    let mut told = Vec::new(alloc);
+    for call in calls.split(|octet| *octet == b'\n') {
+        match answer(alloc, call) {
+            Ok(text) => told.extend_from_slice(text.as_bytes())?,
+            Err(stop) => told.extend_from_slice(stop.word().as_bytes())?,
+        }
+        told.push(b'\n')?;
+    }
+    Ok(told)
 }
 
 fn main(rt: HostRuntime) -> io::Result<()> {
     let alloc = rt.alloc();
-    let mut out = BufWriter::new(alloc, io::writer(&rt))?;
-    for line in BufReader::new(alloc, rt.reader())?.lines(alloc) {
-        match answer(alloc, line?.as_str()) {
-            Ok(text) => writeln!(out, "{text}")?,
-            Err(stop) => writeln!(out, "{}", stop.word())?,
-        }
-    }
-    out.flush()
+    let mut calls = Vec::new(alloc);
+    rt.reader().read_to_end(&mut calls)?;
+    let lines = calls.as_slice();
+    let told = answers(alloc, lines.strip_suffix(b"\n").unwrap_or(lines))?;
+    io::writer(&rt).write_all(told.as_slice())
 }

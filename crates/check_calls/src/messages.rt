@@ -1,140 +1,164 @@
 //! GTPv2-C: messages and information elements.
+use crate::kinds::Kind;
 use crate::line::Words;
-use crate::shown::{Dash, Hex};
+use crate::shown::Line;
 use crate::stop::Stop;
 use gtpv2_ie::{Ie, IeBad, IeKind, IeValue, read_ies, read_value, write_ie};
 use gtpv2_msg::{CBad, Msg, read, refusal, write};
 use std::alloc::Global;
 
-pub fn answer(alloc: Global, kind: &[u8], words: &mut Words<'_>) -> Result<String, Stop> {
+pub fn answer(
+    alloc: Global,
+    kind: Kind,
+    words: &mut Words<'_>,
+    line: &mut Line,
+) -> Result<(), Stop> {
     match kind {
-        b"gtpv2" => message(alloc, &words.octets(alloc)?),
-        b"first" => first(alloc, words),
-        b"contexts" => contexts(alloc, &words.octets(alloc)?),
-        b"ie" => element(alloc, words),
-        b"value" => value(alloc, words),
-        _ => elements(alloc, &words.octets(alloc)?),
+        Kind::Gtpv2 => message(alloc, words, line),
+        Kind::First => first(alloc, words, line),
+        Kind::Contexts => contexts(alloc, words, line),
+        Kind::Ie => element(alloc, words, line),
+        Kind::Value => value(alloc, words, line),
+        _ => elements(alloc, words, line),
     }
 }
 
-fn message(alloc: Global, octets: &[u8]) -> Result<String, Stop> {
+fn message(alloc: Global, words: &mut Words<'_>, line: &mut Line) -> Result<(), Stop> {
+    told(alloc, &words.octets(alloc)?, line)
+}
+
+fn told(alloc: Global, octets: &[u8], line: &mut Line) -> Result<(), Stop> {
     match read(alloc, octets) {
-        Ok(message) => written(alloc, &message),
+        Ok(message) => written(alloc, &message, line),
         Err(CBad::NoMemory) => Err(Stop::NoMemory),
-        Err(bad) => refused(alloc, &bad, refusal(alloc, octets, &bad)?),
+        Err(bad) => {
+            let reply = refusal(alloc, octets, &bad)?;
+            fault(bad, line);
+            answered(reply, line);
+            Ok(())
+        }
     }
 }
 
 /// The message written again, of its copy.
-fn written(alloc: Global, message: &Msg) -> Result<String, Stop> {
+fn written(alloc: Global, message: &Msg, line: &mut Line) -> Result<(), Stop> {
     let copy = message.try_clone()?;
     if copy != *message {
         return Err(Stop::Differ);
     }
-    let text = write(alloc, &copy)?;
-    Ok(format!(in alloc; "ok {}", Hex(&text))?)
+    line.word("ok");
+    line.octets(&write(alloc, &copy)?);
+    Ok(())
 }
 
-fn refused(alloc: Global, bad: &CBad, reply: Option<Vec<u8>>) -> Result<String, Stop> {
-    let none = Vec::new(alloc);
-    let reply = reply.unwrap_or(none);
-    let text = match bad {
+fn fault(bad: CBad, line: &mut Line) {
+    match bad {
         CBad::Missing { kind, instance } => {
-            format!(in alloc; "err Missing {kind} {instance} {}", Hex(&reply))?
+            line.word("err Missing");
+            line.shown(&kind);
+            line.shown(&instance);
         }
         CBad::Incorrect { kind, instance } => {
-            format!(in alloc; "err Incorrect {kind} {instance} {}", Hex(&reply))?
+            line.word("err Incorrect");
+            line.shown(&kind);
+            line.shown(&instance);
         }
-        _ => format!(in alloc; "err {bad:?} {}", Hex(&reply))?,
-    };
-    Ok(text)
+        _ => line.fault(&bad),
+    }
 }
 
-/// The message that the octets are.
-fn message_of(alloc: Global, octets: &[u8]) -> Result<Msg, Stop> {
-    match read(alloc, octets) {
+fn answered(reply: Option<Vec<u8>>, line: &mut Line) {
+    match reply {
+        Some(reply) => line.octets(&reply),
+        None => line.octets(&[]),
+    }
+}
+
+/// The message that the next word is.
+fn message_of(alloc: Global, words: &mut Words<'_>) -> Result<Msg, Stop> {
+    let octets = words.octets(alloc)?;
+    match read(alloc, &octets) {
         Ok(message) => Ok(message),
         Err(CBad::NoMemory) => Err(Stop::NoMemory),
         Err(_) => Err(Stop::Line),
     }
 }
 
-fn first(alloc: Global, words: &mut Words<'_>) -> Result<String, Stop> {
+fn first(alloc: Global, words: &mut Words<'_>, line: &mut Line) -> Result<(), Stop> {
     let kind = IeKind::from_octet(words.octet()?).ok_or(Stop::Line)?;
     let instance = words.octet()?;
-    let message = message_of(alloc, &words.octets(alloc)?)?;
-    printed(alloc, message.first(kind, instance))
+    let message = message_of(alloc, words)?;
+    printed(message.first(kind, instance), line);
+    Ok(())
 }
 
-fn printed(alloc: Global, value: Option<&IeValue>) -> Result<String, Stop> {
+fn printed(value: Option<&IeValue>, line: &mut Line) {
     match value {
-        Some(value) => Ok(format!(in alloc; "{value:?}")?),
-        None => Ok(String::from_str(alloc, "none")?),
+        Some(value) => line.debugged(value),
+        None => line.word("none"),
     }
 }
 
-fn contexts(alloc: Global, octets: &[u8]) -> Result<String, Stop> {
-    let message = message_of(alloc, octets)?;
-    let mut text = String::from_str(alloc, "ok")?;
+fn contexts(alloc: Global, words: &mut Words<'_>, line: &mut Line) -> Result<(), Stop> {
+    let message = message_of(alloc, words)?;
+    line.word("ok");
     for context in message.contexts() {
-        let ebi = Dash(context.ebi.map(u64::from));
-        text.push_str(format!(in alloc; " {ebi}")?.as_str())?;
+        line.shown_or(&context.ebi, "-");
     }
-    Ok(text)
+    Ok(())
 }
 
-fn element(alloc: Global, words: &mut Words<'_>) -> Result<String, Stop> {
+fn element(alloc: Global, words: &mut Words<'_>, line: &mut Line) -> Result<(), Stop> {
     let kind = words.octet()?;
     let instance = words.number(15)? as u8;
     let octets = words.octets(alloc)?;
     if octets.len() > 0xffff {
         return Err(Stop::Line);
     }
-    let Some(value) = read_value(alloc, kind, &octets)? else {
-        return Ok(String::from_str(alloc, "none")?);
-    };
-    let element = Ie { instance, value };
+    match read_value(alloc, kind, &octets)? {
+        Some(value) => element_written(alloc, kind, &Ie { instance, value }, line),
+        None => {
+            line.word("none");
+            Ok(())
+        }
+    }
+}
+
+/// The element written again, of its copy.
+fn element_written(alloc: Global, kind: u8, element: &Ie, line: &mut Line) -> Result<(), Stop> {
     let copy = element.try_clone()?;
-    if copy != element || copy.value.kind().octet() != kind {
+    if copy != *element || copy.value.kind().octet() != kind {
         return Err(Stop::Differ);
     }
-    let text = write_ie(alloc, &copy)?;
-    Ok(format!(in alloc; "ok {}", Hex(&text))?)
+    line.word("ok");
+    line.octets(&write_ie(alloc, &copy)?);
+    Ok(())
 }
 
-fn value(alloc: Global, words: &mut Words<'_>) -> Result<String, Stop> {
+fn value(alloc: Global, words: &mut Words<'_>, line: &mut Line) -> Result<(), Stop> {
     let kind = words.octet()?;
     let octets = words.octets(alloc)?;
-    printed(alloc, read_value(alloc, kind, &octets)?.as_ref())
+    let value = read_value(alloc, kind, &octets)?;
+    printed(value.as_ref(), line);
+    Ok(())
 }
 
-fn elements(alloc: Global, octets: &[u8]) -> Result<String, Stop> {
-    let places = match read_ies(alloc, octets) {
-        Ok(places) => places,
-        Err(IeBad::NoMemory) => return Err(Stop::NoMemory),
-        Err(bad) => return Ok(format!(in alloc; "err {bad:?}")?),
-    };
-    let mut text = String::from_str(alloc, "ok")?;
-    for ie in &places {
-        let inside = octets.get(ie.from..ie.to).unwrap_or(&[]);
-        let one = format!(in alloc; " {}.{}.{}", ie.kind, ie.instance, Hex(inside))?;
-        text.push_str(one.as_str())?;
-    }
-    Ok(text)
-}
-
-/// Why octets are no message, as a sentence.
-pub fn why_no_message(alloc: Global, octets: &[u8]) -> Result<String, Stop> {
-    match read(alloc, octets) {
-        Ok(_) => Ok(String::from_str(alloc, "none")?),
-        Err(bad) => Ok(format!(in alloc; "{bad}")?),
-    }
-}
-
-/// Why octets are no elements, as a sentence.
-pub fn why_no_elements(alloc: Global, octets: &[u8]) -> Result<String, Stop> {
-    match read_ies(alloc, octets) {
-        Ok(_) => Ok(String::from_str(alloc, "none")?),
-        Err(bad) => Ok(format!(in alloc; "{bad}")?),
+fn elements(alloc: Global, words: &mut Words<'_>, line: &mut Line) -> Result<(), Stop> {
+    let octets = words.octets(alloc)?;
+    match read_ies(alloc, &octets) {
+        Ok(places) => {
+            line.word("ok");
+            for ie in &places {
+                line.numbers('.', &[u64::from(ie.kind), u64::from(ie.instance)]);
+                line.mark('.');
+                line.octets(octets.get(ie.from..ie.to).unwrap_or(&[]));
+            }
+            Ok(())
+        }
+        Err(IeBad::NoMemory) => Err(Stop::NoMemory),
+        Err(bad) => {
+            line.fault(&bad);
+            Ok(())
+        }
     }
 }

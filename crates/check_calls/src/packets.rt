@@ -1,61 +1,72 @@
 //! GTP-U messages, and IPv4 packets.
+use crate::kinds::Kind;
 use crate::line::Words;
-use crate::shown::{Dash, Hex};
+use crate::shown::Line;
 use crate::stop::Stop;
 use gtpu_codec::{GtpU, gpdu_head, read, write, write_gpdu};
 use ipv4_packet::Ip4;
 use pc_base::{Addr4, Effect, Fate, Moment, Octets, Outcome, Packet, Reply, Teid, Verdict, Way};
 use std::alloc::Global;
 
-pub fn answer(alloc: Global, kind: &[u8], words: &mut Words<'_>) -> Result<String, Stop> {
+pub fn answer(
+    alloc: Global,
+    kind: Kind,
+    words: &mut Words<'_>,
+    line: &mut Line,
+) -> Result<(), Stop> {
     match kind {
-        b"gtpu" => message(alloc, &words.octets(alloc)?),
-        b"send" => sent(alloc, words),
-        b"ip" => packet(alloc, &words.octets(alloc)?),
-        b"packet" => printed(alloc, &words.octets(alloc)?),
-        _ => copies(alloc, words.octets(alloc)?),
+        Kind::Gtpu => message(alloc, words, line),
+        Kind::Send => sent(alloc, words, line),
+        Kind::Ip => packet(alloc, words, line),
+        Kind::Packet => printed(alloc, words, line),
+        _ => copies(alloc, words, line),
     }
 }
 
-fn message(alloc: Global, octets: &[u8]) -> Result<String, Stop> {
-    let (head, body) = match read(octets) {
-        Ok(found) => found,
-        Err(bad) => return Ok(format!(in alloc; "err {bad:?}")?),
-    };
-    let seq = Dash(head.seq.map(u64::from));
-    let kind = head.kind.octet();
-    Ok(format!(in alloc; "ok {kind} {} {seq} {}", head.teid.0, Hex(body))?)
+fn message(alloc: Global, words: &mut Words<'_>, line: &mut Line) -> Result<(), Stop> {
+    let octets = words.octets(alloc)?;
+    match read(&octets) {
+        Ok((head, body)) => {
+            line.word("ok");
+            line.shown(&head.kind.octet());
+            line.shown(&head.teid.0);
+            line.shown_or(&head.seq, "-");
+            line.octets(body);
+        }
+        Err(bad) => line.fault(&bad),
+    }
+    Ok(())
 }
 
-fn sent(alloc: Global, words: &mut Words<'_>) -> Result<String, Stop> {
+fn sent(alloc: Global, words: &mut Words<'_>, line: &mut Line) -> Result<(), Stop> {
     let message = match words.word() {
         b"echo" => GtpU::EchoRequest {
-            seq: words.number(0xffff)? as u16,
+            seq: words.short()?,
         },
         b"answer" => GtpU::EchoResponse {
-            seq: words.number(0xffff)? as u16,
+            seq: words.short()?,
         },
         b"error" => GtpU::ErrorIndication {
-            seq: words.number(0xffff)? as u16,
+            seq: words.short()?,
             teid: Teid(words.long()?),
             peer: Addr4(words.long()?),
         },
         b"end" => GtpU::EndMarker {
             teid: Teid(words.long()?),
         },
-        b"gpdu" => return gpdu(alloc, Teid(words.long()?), words.octets(alloc)?),
+        b"gpdu" => return gpdu(alloc, Teid(words.long()?), words.octets(alloc)?, line),
         _ => return Err(Stop::Line),
     };
     let copy = message.try_clone()?;
     if copy != message {
         return Err(Stop::Differ);
     }
-    let text = write(alloc, &copy)?;
-    Ok(format!(in alloc; "{}", Hex(text.as_slice()))?)
+    line.octets(write(alloc, &copy)?.as_slice());
+    Ok(())
 }
 
 /// A G-PDU, as it is written in three ways.
-fn gpdu(alloc: Global, teid: Teid, payload: Vec<u8>) -> Result<String, Stop> {
+fn gpdu(alloc: Global, teid: Teid, payload: Vec<u8>, line: &mut Line) -> Result<(), Stop> {
     if payload.len() > 0xffff {
         return Err(Stop::Line);
     }
@@ -67,94 +78,110 @@ fn gpdu(alloc: Global, teid: Teid, payload: Vec<u8>) -> Result<String, Stop> {
     if alone != whole || parts.as_slice() != whole.as_slice() {
         return Err(Stop::Differ);
     }
-    Ok(format!(in alloc; "{}", Hex(whole.as_slice()))?)
+    line.octets(whole.as_slice());
+    Ok(())
 }
 
-fn packet(alloc: Global, octets: &[u8]) -> Result<String, Stop> {
-    let packet = match Ip4::read(octets) {
-        Ok(packet) => packet,
-        Err(bad) => return Ok(format!(in alloc; "err {bad:?}")?),
-    };
-    let ports = match packet.ports() {
-        Some((source, destination)) => format!(in alloc; "{source},{destination}")?,
-        None => String::from_str(alloc, "-")?,
-    };
-    let (source, destination) = (packet.source(), packet.destination());
-    let spi = Dash(packet.spi().map(u64::from));
-    let fields = format!(in alloc;
-        "{} {} {source} {destination}",
-        packet.tos(),
-        packet.protocol()
-    )?;
-    let offset = packet.fragment_offset();
-    let len = packet.octets().len();
-    Ok(format!(in alloc; "ok {fields} {offset} {ports} {spi} {len}")?)
+fn packet(alloc: Global, words: &mut Words<'_>, line: &mut Line) -> Result<(), Stop> {
+    let octets = words.octets(alloc)?;
+    match Ip4::read(&octets) {
+        Ok(packet) => fields(&packet, line),
+        Err(bad) => line.fault(&bad),
+    }
+    Ok(())
+}
+
+fn fields(packet: &Ip4<'_>, line: &mut Line) {
+    line.word("ok");
+    line.shown(&packet.tos());
+    line.shown(&packet.protocol());
+    line.shown(&packet.source());
+    line.shown(&packet.destination());
+    line.shown(&packet.fragment_offset());
+    match packet.ports() {
+        Some((source, destination)) => {
+            line.numbers(',', &[u64::from(source), u64::from(destination)]);
+        }
+        None => line.word("-"),
+    }
+    line.shown_or(&packet.spi(), "-");
+    line.shown(&packet.octets().len());
 }
 
 /// A packet as its copy prints.
-fn printed(alloc: Global, octets: &[u8]) -> Result<String, Stop> {
-    let packet = match Ip4::read(octets) {
-        Ok(packet) => packet,
-        Err(bad) => return Ok(format!(in alloc; "err {bad:?}")?),
-    };
-    let copy = packet.copied();
-    if copy != packet {
-        return Err(Stop::Differ);
+fn printed(alloc: Global, words: &mut Words<'_>, line: &mut Line) -> Result<(), Stop> {
+    let octets = words.octets(alloc)?;
+    match Ip4::read(&octets) {
+        Ok(packet) => {
+            let copy = packet.copied();
+            if copy != packet {
+                return Err(Stop::Differ);
+            }
+            line.debugged(&copy);
+        }
+        Err(bad) => line.fault(&bad),
     }
-    Ok(format!(in alloc; "{copy:?}")?)
+    Ok(())
 }
 
 /// How many values with these octets equal their copy.
-fn copies(alloc: Global, octets: Vec<u8>) -> Result<String, Stop> {
-    let octets = Octets::of(octets);
+fn copies(alloc: Global, words: &mut Words<'_>, line: &mut Line) -> Result<(), Stop> {
+    let octets = Octets::of(words.octets(alloc)?);
+    let mut equal: u8 = 0;
+    if packet_copies(&octets)? && verdict_copies(&octets)? {
+        equal += 2;
+    }
+    if reply_copies(&octets)? && effect_copies(&octets)? {
+        equal += 2;
+    }
+    if fate_of(&octets)? != (Fate::Gone { life: 3 }) {
+        equal += 1;
+    }
+    line.shown(&equal);
+    line.debugged(&octets);
+    Ok(())
+}
+
+fn packet_copies(octets: &Octets) -> Result<bool, Stop> {
     let packet = Packet {
         number: 1,
         moment: Moment(2),
         way: Way::Up(0),
         octets: octets.try_clone()?,
     };
+    Ok(packet.try_clone()? == packet)
+}
+
+fn verdict_copies(octets: &Octets) -> Result<bool, Stop> {
     let verdict = Verdict::Held {
         life: 3,
         message: Some(octets.try_clone()?),
     };
+    Ok(verdict.try_clone()? == verdict)
+}
+
+fn reply_copies(octets: &Octets) -> Result<bool, Stop> {
     let reply = Reply {
         outcome: Outcome::Again,
         message: Some(octets.try_clone()?),
     };
+    Ok(reply.try_clone()? == reply)
+}
+
+fn effect_copies(octets: &Octets) -> Result<bool, Stop> {
+    let effect = Effect::Fate {
+        packet: 1,
+        fate: fate_of(octets)?,
+    };
+    Ok(effect.try_clone()? == effect)
+}
+
+/// The copy of a packet's fate.
+fn fate_of(octets: &Octets) -> Result<Fate, Stop> {
     let fate = Fate::Down {
         life: 3,
         peer: Addr4(4),
-        octets,
+        octets: octets.try_clone()?,
     };
-    let effect = Effect::Fate {
-        packet: 1,
-        fate: fate.try_clone()?,
-    };
-    let mut equal = 0;
-    if packet.try_clone()? == packet && verdict.try_clone()? == verdict {
-        equal += 2;
-    }
-    if reply.try_clone()? == reply && effect.try_clone()? == effect {
-        equal += 2;
-    }
-    if fate != (Fate::Gone { life: 3 }) {
-        equal += 1;
-    }
-    Ok(format!(in alloc; "{equal} {:?}", packet.octets)?)
-}
-
-/// Why octets are no message of GTP-U, as a sentence.
-pub fn why_no_message(alloc: Global, octets: &[u8]) -> Result<String, Stop> {
-    match read(octets) {
-        Ok(_) => Ok(String::from_str(alloc, "none")?),
-        Err(bad) => Ok(format!(in alloc; "{bad}")?),
-    }
-}
-
-/// Why octets are no packet, as a sentence.
-pub fn why_no_packet(alloc: Global, octets: &[u8]) -> Result<String, Stop> {
-    match Ip4::read(octets) {
-        Ok(_) => Ok(String::from_str(alloc, "none")?),
-        Err(bad) => Ok(format!(in alloc; "{bad}")?),
-    }
+    Ok(fate.try_clone()?)
 }

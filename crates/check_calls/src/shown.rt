@@ -1,44 +1,121 @@
 //! How values print in an answer.
-use std::fmt;
+use crate::stop::Stop;
+use std::alloc::Global;
+use std::fmt::{Debug, Display, Write};
 
-/// Octets in hexadecimal, `-` where there are none.
+/// An answer as it is written, its fields parted by a space. Where memory is refused, `end` says so: what writes a
+/// field needs no `?`.
 #[derive(Drop)]
-pub struct Hex<'a>(pub &'a [u8]);
-
-impl fmt::Display for Hex<'_> {
-    fn fmt<W: fmt::Write>(&self, f: &mut fmt::Formatter<W>) -> fmt::Result {
-        if self.0.is_empty() {
-            return write!(f, "-");
-        }
-        for octet in self.0 {
-            write!(f, "{octet:02x}")?;
-        }
-        Ok(())
-    }
+pub struct Line {
+    text: String,
+    /// Whether a space comes before the next field.
+    apart: bool,
+    refused: bool,
 }
 
-/// A number, `-` where there is none.
-#[derive(Drop)]
-pub struct Dash(pub Option<u64>);
-
-impl fmt::Display for Dash {
-    fn fmt<W: fmt::Write>(&self, f: &mut fmt::Formatter<W>) -> fmt::Result {
-        match self.0 {
-            Some(number) => write!(f, "{number}"),
-            None => write!(f, "-"),
+impl Line {
+    pub fn new(alloc: Global) -> Line {
+        Line {
+            text: String::new(alloc),
+            apart: false,
+            refused: false,
         }
     }
-}
 
-/// Text of octets, each as the character of its number.
-#[derive(Drop)]
-pub struct Chars<'a>(pub &'a [u8]);
-
-impl fmt::Display for Chars<'_> {
-    fn fmt<W: fmt::Write>(&self, f: &mut fmt::Formatter<W>) -> fmt::Result {
-        for octet in self.0 {
-            write!(f, "{}", char::from(*octet))?;
+    pub fn end(self) -> Result<String, Stop> {
+        if self.refused {
+            Err(Stop::NoMemory)
+        } else {
+            Ok(self.text)
         }
-        Ok(())
+    }
+
+    fn push(&mut self, text: &str) {
+        if self.text.push_str(text).is_err() {
+            self.refused = true;
+        }
+    }
+
+    fn begin(&mut self) {
+        if self.apart {
+            self.push(" ");
+        }
+        self.apart = true;
+    }
+
+    /// A mark within a field: no space before it or behind it.
+    pub fn mark(&mut self, mark: char) {
+        if self.text.push(mark).is_err() {
+            self.refused = true;
+        }
+        self.apart = false;
+    }
+
+    pub fn bit(&mut self, is: bool) {
+        self.mark(if is { '1' } else { '0' });
+    }
+
+    pub fn word(&mut self, word: &str) {
+        self.begin();
+        self.push(word);
+    }
+
+    /// A value as it prints.
+    pub fn shown<T: Display>(&mut self, value: &T) {
+        self.begin();
+        if write!(self.text, "{value}").is_err() {
+            self.refused = true;
+        }
+    }
+
+    /// A value as it prints, or a word where there is none.
+    pub fn shown_or<T: Display>(&mut self, value: &Option<T>, none: &str) {
+        match value {
+            Some(value) => self.shown(value),
+            None => self.word(none),
+        }
+    }
+
+    /// A value as it is debugged.
+    pub fn debugged<T: Debug>(&mut self, value: &T) {
+        self.begin();
+        if write!(self.text, "{value:?}").is_err() {
+            self.refused = true;
+        }
+    }
+
+    /// A fault by its name, behind `err`.
+    pub fn fault<T: Debug>(&mut self, fault: &T) {
+        self.word("err");
+        self.debugged(fault);
+    }
+
+    /// Numbers as one field, with a mark between them.
+    pub fn numbers(&mut self, between: char, numbers: &[u64]) {
+        let mut is_first = true;
+        for number in numbers {
+            if !is_first {
+                self.mark(between);
+            }
+            self.shown(number);
+            is_first = false;
+        }
+    }
+
+    /// Octets in hexadecimal, `-` where there are none.
+    pub fn octets(&mut self, octets: &[u8]) {
+        self.word(if octets.is_empty() { "-" } else { "" });
+        for octet in octets {
+            if write!(self.text, "{octet:02x}").is_err() {
+                self.refused = true;
+            }
+        }
+    }
+
+    /// Text of octets, each as the character of its number.
+    pub fn chars(&mut self, octets: &[u8]) {
+        for octet in octets {
+            self.mark(char::from(*octet));
+        }
     }
 }

@@ -1,6 +1,7 @@
 //! Fields of a text.
+use crate::kinds::Kind;
 use crate::line::Words;
-use crate::shown::{Chars, Hex};
+use crate::shown::Line;
 use crate::stop::Stop;
 use std::alloc::Global;
 use text_fields::{
@@ -8,64 +9,76 @@ use text_fields::{
     read_lower_octets, read_number, read_octets,
 };
 
-pub fn answer(alloc: Global, kind: &[u8], words: &mut Words<'_>) -> Result<String, Stop> {
+pub fn answer(
+    alloc: Global,
+    kind: Kind,
+    words: &mut Words<'_>,
+    line: &mut Line,
+) -> Result<(), Stop> {
     match kind {
-        b"number" => number(alloc, words),
-        b"dotted" => dotted(alloc, &words.octets(alloc)?),
-        b"octets_of" => shown(alloc, read_octets(alloc, &words.octets(alloc)?)?),
-        b"lower_octets_of" => shown(alloc, read_lower_octets(alloc, &words.octets(alloc)?)?),
-        b"cut" => pieces(alloc, words),
-        _ => fields(alloc, words),
+        Kind::Number => number(alloc, words, line),
+        Kind::Dotted => dotted(alloc, words, line),
+        Kind::OctetsOf => octets(alloc, words, line),
+        Kind::LowerOctetsOf => lower_octets(alloc, words, line),
+        Kind::Cut => pieces(alloc, words, line),
+        _ => fields(alloc, words, line),
     }
 }
 
-fn number(alloc: Global, words: &mut Words<'_>) -> Result<String, Stop> {
+fn number(alloc: Global, words: &mut Words<'_>, line: &mut Line) -> Result<(), Stop> {
     let (least, last) = (words.number(u64::MAX)?, words.number(u64::MAX)?);
-    match read_number(&words.octets(alloc)?, least, last) {
-        Some(number) => Ok(format!(in alloc; "{number}")?),
-        None => Ok(String::from_str(alloc, "none")?),
-    }
+    let text = words.octets(alloc)?;
+    line.shown_or(&read_number(&text, least, last), "none");
+    Ok(())
 }
 
-fn dotted(alloc: Global, text: &[u8]) -> Result<String, Stop> {
-    match read_address(text) {
-        Some(address) => Ok(format!(in alloc; "{address}")?),
-        None => Ok(String::from_str(alloc, "none")?),
-    }
+fn dotted(alloc: Global, words: &mut Words<'_>, line: &mut Line) -> Result<(), Stop> {
+    let text = words.octets(alloc)?;
+    line.shown_or(&read_address(&text), "none");
+    Ok(())
 }
 
-fn shown(alloc: Global, octets: Option<Vec<u8>>) -> Result<String, Stop> {
+fn octets(alloc: Global, words: &mut Words<'_>, line: &mut Line) -> Result<(), Stop> {
+    let text = words.octets(alloc)?;
+    shown(read_octets(alloc, &text)?, line);
+    Ok(())
+}
+
+fn lower_octets(alloc: Global, words: &mut Words<'_>, line: &mut Line) -> Result<(), Stop> {
+    let text = words.octets(alloc)?;
+    shown(read_lower_octets(alloc, &text)?, line);
+    Ok(())
+}
+
+fn shown(octets: Option<Vec<u8>>, line: &mut Line) {
     match octets {
-        Some(octets) => Ok(format!(in alloc; "{}", Hex(&octets))?),
-        None => Ok(String::from_str(alloc, "none")?),
+        Some(octets) => line.octets(&octets),
+        None => line.word("none"),
     }
 }
 
-fn pieces(alloc: Global, words: &mut Words<'_>) -> Result<String, Stop> {
+fn pieces(alloc: Global, words: &mut Words<'_>, line: &mut Line) -> Result<(), Stop> {
     let at = words.octet()?;
     let octets = words.octets(alloc)?;
-    let mut text = String::new(alloc);
     let mut left = Some(octets.as_slice());
     for _ in 0..u64::MAX {
         let Some((piece, behind)) = next_piece(at, left) else {
             break;
         };
-        text.push_str(format!(in alloc; "{} ", Hex(piece))?.as_str())?;
+        line.octets(piece);
         left = behind;
     }
-    text.push_str(if has_empty_field(&octets) {
-        "space true"
-    } else {
-        "space false"
-    })?;
-    Ok(text)
+    line.word("space");
+    line.shown(&has_empty_field(&octets));
+    Ok(())
 }
 
-fn fields(alloc: Global, words: &mut Words<'_>) -> Result<String, Stop> {
+fn fields(alloc: Global, words: &mut Words<'_>, line: &mut Line) -> Result<(), Stop> {
     let mut text = Vec::new(alloc);
     push_field(&mut text, words.word())?;
     push_number(&mut text, words.number(u64::MAX)?)?;
     push_address(&mut text, words.long()?)?;
     push_octets(&mut text, &words.octets(alloc)?)?;
-    Ok(format!(in alloc; "{}", Chars(&text))?)
+    line.chars(&text);
+    Ok(())
 }
