@@ -8,3 +8,4 @@ pub mod Owing
 pub mod RunsLawful
 pub mod Forms
 pub mod There
+pub mod NotedEpoch

@@ -1,5 +1,6 @@
 //! Laws of driven epochs and runs.
 ghost use Rattle.driven_run.specs.Driven.{OneIsDriven, EachScheduleIsDriven, DrivenEpochsAreLawful};
+ghost use Rattle.driven_run.specs.Noted.{NoteIsDriven};
 ghost use Rattle.driven_run.specs.Runs.{OneRunIsDriven, EachRunIsDriven, DrivenRunsAreLawful};
 
 /// A schedule leaves no choice: two epochs of the same lines under the same turns are equal, and so are two runs.
@@ -24,4 +25,10 @@ pub fn driven_epochs_are_lawful()
 /// So is a run, in which each slot begins an epoch bound for where its last move sent it.
 pub fn driven_runs_are_lawful()
     ensures { DrivenRunsAreLawful }
+{}
+
+/// Where a line can't be read, its note stands behind the lines of its epoch, and no turns behind it. It changes nothing
+/// that is told of them.
+pub fn a_note_is_driven()
+    ensures { NoteIsDriven }
 {}

@@ -4,5 +4,6 @@
 mod laws;
 
 pub use laws::{
-    driven_epochs_are_lawful, driven_runs_are_lawful, each_schedule_is_driven, one_is_driven,
+    a_note_is_driven, driven_epochs_are_lawful, driven_runs_are_lawful, each_schedule_is_driven,
+    one_is_driven,
 };

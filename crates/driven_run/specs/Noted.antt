@@ -1,0 +1,19 @@
+-- A note behind the lines of an epoch, with no turns behind it.
+use Rattle.std.specs.Prelude.{◌≡◌, ℕ, ◌+◌, List, [], ◌∷◌, ◌++◌, length}
+use Rattle.demux.specs.Trace.{Meaning, note}
+use Rattle.report_lines.specs.declared.entry.LineEntry.TheVariants as line
+use Rattle.lawful_run.specs.Order.{Histories}
+use Rattle.lawful_run.specs.Report.{EpochReport}
+use Rattle.slice_schedule.specs.World.{Rooms}
+use Rattle.driven_run.specs.Driven.{IsDriven}
+
+-- its entry is the last of the lines' entries
+abbrev pub with_note : EpochReport → (n : ℕ) → (text : List ℕ) → EpochReport
+with_note told n text = record told { lines = told.lines ++ line.N (record { line = n; note = text }) ∷ [] }
+
+-- It changes nothing else that is told: each line has its turns, and the note has none.
+abbrev pub NoteIsDriven : Type 0
+NoteIsDriven = (rooms : Rooms) (bounds : ℕ → ℕ) (turns : List (List ℕ)) (slots first : ℕ) (before : Histories)
+    (made : List Meaning) (told : EpochReport) (text : List ℕ) → length turns ≡ length made
+    → IsDriven rooms bounds turns slots first before made told
+    → IsDriven rooms bounds turns slots first before (made ++ note text ∷ []) (with_note told (first + length made) text)
