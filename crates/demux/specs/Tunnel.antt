@@ -14,7 +14,7 @@ use Rattle.ipv4_packet.specs.Packet.{packet_of}
 use Rattle.ipv4_packet.specs.Refusal.{first_fault as ip_fault}
 use Rattle.pc_base.specs.declared.packet.Way.{Way}
 use Rattle.pc_base.specs.declared.packet.Way.TheVariants.{Up, Down}
-use Rattle.control_steps.specs.Messages.{gateway_addr}
+use Rattle.pc_base.specs.Addresses.{gateway_addr}
 use Rattle.demux.specs.declared.packet.LentPacket.{LentPacket}
 use Rattle.demux.specs.Ends.{bearer_end, addressee}
 use Rattle.demux.specs.Texts.{told, tunnel_note, carried_note, packet_note}
