@@ -5,7 +5,7 @@ pub mod Table
 pub mod Steps
 pub mod Answer
 pub mod Creation
-pub mod Order
+pub mod Terms
 pub mod Granting
 pub mod Kinds
 pub mod ReadBack

@@ -3,7 +3,7 @@ use Rattle.std.specs.Prelude.{ℕ, List, [], ◌∷◌, Option, Some, None, ◌=
 use Rattle.std.specs.List.{filter_map}
 use Rattle.std.specs.Option.{option_map}
 use Rattle.pc_base.specs.declared.packet.TeidUse.TheVariants.{Control, Bearer as User}
-use Rattle.pc_base.specs.Addresses.{addr_of}
+use Rattle.pc_base.specs.Addresses.{addr_of, gateway_addr}
 use Rattle.pc_base.specs.Teids.{teid_of}
 use Rattle.gtpv2_ie.specs.declared.cause.CauseIe.{CauseIe}
 use Rattle.gtpv2_ie.specs.declared.context.Context.{Context}
@@ -22,10 +22,6 @@ use Rattle.bearer_state.specs.declared.bearer.Bearer.{Bearer}
 use Rattle.bearer_state.specs.declared.qos.Qos.{Qos}
 use Rattle.bearer_state.specs.Lookup.{active_index}
 use Rattle.control_steps.specs.declared.cause.TheConstants.{REQUEST_ACCEPTED, NEW_PDN_TYPE}
-
--- 192.0.2.1, the gateway's end of every tunnel
-abbrev pub gateway_addr : ℕ
-gateway_addr = 0xc000_0201
 
 -- interface types (8.22)
 abbrev pub s1u_sgw : ℕ

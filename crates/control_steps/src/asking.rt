@@ -4,7 +4,7 @@ ghost use Rattle.bearer_state.specs.Bearer.{IsEbi, IsSeq};
 ghost use Rattle.bearer_state.specs.Lookup.{default_of, least_free};
 ghost use Rattle.bearer_state.specs.Qos.{IsQos};
 ghost use Rattle.bearer_state.specs.Session.{HasRoom};
-ghost use Rattle.control_steps.specs.Order.{order};
+ghost use Rattle.control_steps.specs.Terms.{added_by};
 ghost use Rattle.control_steps.specs.Row as rows;
 ghost use Rattle.control_steps.specs.Row.{first_row, filters_given};
 ghost use Rattle.control_steps.specs.Steps.{Does};
@@ -19,7 +19,7 @@ use tft_codec::{Filters, Tft, TftNo, apply};
 
 /// What a bearer is asked for with, but for its filters.
 #[derive(Clone, Copy, Debug)]
-pub struct Order {
+pub struct BearerTerms {
     pub seq: u32,
     pub qci: u8,
     pub mbr_up: Kbps,
@@ -61,7 +61,7 @@ fn known(rate: Kbps) -> Kbps
 }
 
 /// The quality of service that is asked for: its ARP is that of the default bearer.
-fn qos_of(default: &ActiveBearer, asked: &Order) -> Qos
+fn qos_of(default: &ActiveBearer, asked: &BearerTerms) -> Qos
     requires { IsQos default.now.qos }
     ensures value { result ≡ record {
       arp = default.now.qos.arp;
@@ -88,7 +88,7 @@ fn qos_of(default: &ActiveBearer, asked: &Order) -> Qos
 fn ask(
     alloc: Global,
     session: &mut Session,
-    asked: &Order,
+    asked: &BearerTerms,
     tft: &Tft,
     found: Found,
 ) -> Result<Reply, NoMemory>
@@ -102,7 +102,7 @@ fn ask(
     requires index { least_free session.old.bearers ≡ Some found.index }
     requires index_range { found.index ≤ 10 }
     requires filters { filters_given tft.now ≡ Some found.filters }
-    ensures { Does rows.asked (order asked.now tft.now) session.old session.new result }
+    ensures { Does rows.asked (added_by asked.now tft.now) session.old session.new result }
 {
     let qos = qos_of(&found.default, asked);
     let bearer = BearerAsked {
@@ -130,13 +130,13 @@ fn ask(
 pub fn add_bearer(
     alloc: Global,
     session: &mut Session,
-    asked: &Order,
+    asked: &BearerTerms,
     tft: &Tft,
 ) -> Result<Reply, NoMemory>
     requires seq { IsSeq asked.now.seq }
     requires room { HasRoom session.old }
-    ensures { Does (first_row session.old (order asked.now tft.now))
-        (order asked.now tft.now) session.old session.new result }
+    ensures { Does (first_row session.old (added_by asked.now tft.now))
+        (added_by asked.now tft.now) session.old session.new result }
 {
     let Some(default) = session.default_bearer() else {
         return Ok(silent(Outcome::No));

@@ -3,6 +3,7 @@ ghost use Rattle.std.specs.Prelude.{◌≡◌, ◌↔◌, IsTrue};
 ghost use Rattle.bearer_state.specs.Bearer.{IsEbi, IsSeq};
 ghost use Rattle.control_steps.specs.Command.{AreRates, IsCreate, IsCommand};
 
+use crate::NoMemory;
 use bearer_state::{Asks, Qos};
 use pc_base::{Kbps, Peer};
 use std::marker::Model;
@@ -10,7 +11,7 @@ use tft_codec::Tft;
 
 /// A request or an answer of the MME, or an order of the operator. Sequence numbers are below 2^24,
 /// EBIs 5 to 15, rates up and down below 2^32 kbps.
-#[derive(Debug, Drop)]
+#[derive(Clone, Debug, Drop)]
 pub enum CommandKind {
     /// Order: attach the subscriber at this eNodeB.
     Attach {
@@ -108,7 +109,7 @@ impl Model for Command {
 }
 
 impl Command {
-    ghost use Rattle.std.specs.Prelude.{◌≡◌, IfSome, IfNone};
+    ghost use Rattle.std.specs.Prelude.{◌≡◌, IfOk, IfSome, IfNone};
     ghost use Rattle.control_steps.specs.Command.{IsCommand};
 
     /// The command of a kind; None where a number is out of its range.
@@ -121,6 +122,15 @@ impl Command {
         } else {
             None
         }
+    }
+
+    /// A copy of the command.
+    pub fn try_clone(&self) -> Result<Command, NoMemory>
+        ensures { IfOk result (λ copy. copy ≡ self.now) }
+    {
+        Ok(Command {
+            kind: self.kind.clone()?,
+        })
     }
 }
 

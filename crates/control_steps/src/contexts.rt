@@ -9,12 +9,9 @@ ghost use Rattle.control_steps.specs.Messages.{control_end, user_end, qos_ie};
 
 use crate::{NoMemory, REQUEST_ACCEPTED};
 use bearer_state::Qos;
-use gtpv2_ie::{CauseIe, Context, Fteid, Fteids, Ie, Octets, IeValue, QosIe};
-use pc_base::{Slot, TeidUse, addr_of, teid_of};
+use gtpv2_ie::{CauseIe, Context, Fteid, Fteids, Ie, IeValue, QosIe};
+use pc_base::{GATEWAY_ADDR, Octets, Slot, TeidUse, addr_of, teid_of};
 use std::alloc::Global;
-
-/// 192.0.2.1, the gateway's end of every tunnel.
-const GATEWAY_ADDR: u32 = 0xc000_0201;
 
 /// The interface types of the gateway's ends (TS 29.274, 8.22).
 const S1U_SGW: u8 = 1;
@@ -52,7 +49,7 @@ pub fn control_end(slot: Slot) -> Fteid
     Fteid {
         interface: S11_SGW,
         teid: teid_of(slot, TeidUse::Control).0,
-        addr: GATEWAY_ADDR,
+        addr: GATEWAY_ADDR.0,
     }
 }
 
@@ -65,7 +62,7 @@ fn user_end(slot: Slot, index: u8) -> Fteid
     Fteid {
         interface: S1U_SGW,
         teid: teid_of(slot, TeidUse::Bearer(index)).0,
-        addr: GATEWAY_ADDR,
+        addr: GATEWAY_ADDR.0,
     }
 }
 

@@ -4,23 +4,44 @@ ghost use Rattle.control_steps.specs.Granting.{response};
 ghost use Rattle.control_steps.specs.Row.{first_row};
 ghost use Rattle.control_steps.specs.Steps.{IsDone};
 
-use crate::REQUEST_ACCEPTED;
 use crate::answer::silent;
+use crate::{CommandKind, REQUEST_ACCEPTED};
 use bearer_state::Session;
 use pc_base::{Outcome, Peer, Reply};
 
 /// What a Create Bearer Response says: its cause, and the EBI, cause and eNodeB of its Bearer Context.
 #[derive(Clone, Copy, Debug)]
-pub struct Response {
-    pub seq: u32,
-    pub cause: u8,
-    pub ebi: u8,
-    pub row_cause: u8,
-    pub enb: Option<Peer>,
+struct Response {
+    seq: u32,
+    cause: u8,
+    ebi: u8,
+    row_cause: u8,
+    enb: Option<Peer>,
 }
 
-/// A Create Bearer Response. Takes no memory.
-pub fn settle(session: &mut Session, said: &Response) -> Reply
+/// A Create Bearer Response of these fields. Takes no memory.
+pub fn settle(
+    session: &mut Session,
+    seq: u32,
+    cause: u8,
+    ebi: u8,
+    row_cause: u8,
+    enb: Option<Peer>,
+) -> Reply
+    ensures { IsDone (first_row session.old (CommandKind.CreateAns seq cause ebi row_cause enb))
+        (CommandKind.CreateAns seq cause ebi row_cause enb) session.old session.new result }
+{
+    let said = Response {
+        seq,
+        cause,
+        ebi,
+        row_cause,
+        enb,
+    };
+    settle_by(session, &said)
+}
+
+fn settle_by(session: &mut Session, said: &Response) -> Reply
     ensures { IsDone (first_row session.old (response said.now)) (response said.now) session.old session.new result }
 {
     if !session.bearers.has_asked(said.seq) {

@@ -18,12 +18,12 @@ use crate::contexts::{
 };
 use crate::{NEW_PDN_TYPE, NoMemory, REQUEST_ACCEPTED};
 use bearer_state::{Ask, Bearers, Qos};
-use gtpv2_ie::{Ie, Octets, IeValue};
+use gtpv2_ie::{Ie, IeValue};
 use gtpv2_msg::{
     CREATE_BEARER_REQUEST, CREATE_SESSION_RESPONSE, DELETE_BEARER_REQUEST, Ies,
     MODIFY_BEARER_RESPONSE, Msg, UPDATE_BEARER_REQUEST,
 };
-use pc_base::{Kbps, Slot};
+use pc_base::{Kbps, Octets, Slot};
 use std::alloc::Global;
 use tft_codec::Tft;
 

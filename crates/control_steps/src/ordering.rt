@@ -18,7 +18,6 @@ ghost use Rattle.control_steps.specs.Steps.{Does};
 use crate::answer::{octets_of, silent};
 use crate::{NoMemory, messages};
 use bearer_state::{Bearers, Session};
-use gtpv2_ie::Octets;
 use pc_base::{Kbps, Octets, Outcome, Peer, Reply};
 use std::alloc::Global;
 use tft_codec::{Filters, Tft, TftNo, apply};

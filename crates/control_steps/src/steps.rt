@@ -7,10 +7,10 @@ ghost use Rattle.control_steps.specs.Steps.{Does};
 ghost use Rattle.control_steps.specs.Table.{controlled, kept_reply};
 
 use crate::answer::silent;
-use crate::asking::{Order, add_bearer};
+use crate::asking::{BearerTerms, add_bearer};
 use crate::creating::{Creation, attach, create};
 use crate::ending::{delete, release};
-use crate::granting::{Response, settle};
+use crate::granting::settle;
 use crate::modifying::modify;
 use crate::ordering::{drop_bearer, refilter, rerate};
 use crate::{Command, CommandKind, NoMemory};
@@ -100,7 +100,7 @@ fn first_step(
             gbr_down,
             tft,
         } => {
-            let asked = Order {
+            let asked = BearerTerms {
                 seq: *seq,
                 qci: *qci,
                 mbr_up: *mbr_up,
@@ -119,16 +119,7 @@ fn first_step(
             ebi,
             row_cause,
             enb,
-        } => {
-            let said = Response {
-                seq: *seq,
-                cause: *cause,
-                ebi: *ebi,
-                row_cause: *row_cause,
-                enb: *enb,
-            };
-            Ok(settle(session, &said))
-        }
+        } => Ok(settle(session, *seq, *cause, *ebi, *row_cause, *enb)),
         CommandKind::UpdateAns { .. } | CommandKind::DeleteAns { .. } => {
             Ok(silent(Outcome::Done))
         }

@@ -72,6 +72,14 @@ impl Tft {
     }
 }
 
+impl Clone for Tft {
+    ghost is_clone = { λ it copy. copy ≡ it };
+
+    fn clone(&self) -> Result<Self, NoMemory> {
+        self.try_clone()
+    }
+}
+
 /// The filters of the bearer of that index.
 #[derive(Debug, Drop, PartialEq, Eq)]
 pub struct BearerFilters {
