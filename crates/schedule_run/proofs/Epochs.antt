@@ -95,7 +95,8 @@ so_far_more rooms bounds slices asks from behind new first turns after told more
     let ahead = rest_more turns slices asks i d below in
     let one : length asks - i ≡ suc (length asks - (i + 1)) = omega (arith, below) in
     rw (after_is, new_is, more_is) (record {
-      outcomes_are = append_assoc told (outcome ∷ []) (outcomes rooms bounds (behind_line rooms bounds behind line) left)
+      outcomes_are = append_assoc told (outcome ∷ [])
+          (outcomes rooms bounds (behind_line rooms bounds behind line) left)
           ∙ ap (λ o. told ++ o ∷ outcomes rooms bounds (behind_line rooms bounds behind line) left) outcome_is
           ∙ sym (ap (λ ls. told ++ outcomes rooms bounds behind ls) ahead) ∙ so_far.outcomes_are;
       world = sym (ap (behind_lines rooms bounds behind) ahead) ∙ so_far.world;
@@ -126,7 +127,8 @@ so_far_all rooms bounds slices asks from behind first turns told i past so_far =
 
 -- draws
 pub record Drawing (rooms : Rooms) (limit count : ℕ) (from now : World) (first state i : ℕ) : Type 0 where
-  pub world : fold (turned rooms) now (draws limit state (count - i)) ≡ fold (turned rooms) from (draws limit first count)
+  pub world : fold (turned rooms) now (draws limit state (count - i))
+      ≡ fold (turned rooms) from (draws limit first count)
   pub behind : state_behind state (count - i) ≡ state_behind first count
 
 pub drawing_none : (rooms : Rooms) (limit count : ℕ) (from : World) (first : ℕ)

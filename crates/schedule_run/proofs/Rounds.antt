@@ -20,7 +20,8 @@ module _ (rooms : Rooms) (slice count i place : ℕ) (world after all : World) (
   test_is : worked ≡ has_worked rooms world own
   test_is = worked_is ∙ ap (has_worked rooms world) slot_is
 
-  step : cond (has_worked rooms world own) (cursor_at (half_turned rooms world own) slice (next_place world slice place))
+  step : cond (has_worked rooms world own)
+      (cursor_at (half_turned rooms world own) slice (next_place world slice place))
       (work_round rooms slice (next_place world slice place) (count - (i + 1)) (half_turned rooms world own)) ≡ all
   step =
       let one : count - i ≡ suc (count - (i + 1)) = omega (arith, below) in

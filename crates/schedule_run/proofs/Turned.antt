@@ -16,7 +16,8 @@ next_learns slice world (first ∷ others) some = refl
 -- a taken order is done
 pub order_told : (rooms : Rooms) (slice : ℕ) (world : World) (order : ControlOrder)
     → (control_at world slice).orders ≡ order ∷ drop 1 (control_at world slice).orders
-    → on_control (on_control world slice (λ (worker : ControlNow). record worker { orders = drop 1 worker.orders })) slice
+    → on_control
+    (on_control world slice (λ (worker : ControlNow). record worker { orders = drop 1 worker.orders })) slice
     (λ (worker : ControlNow). told worker order)
     ≡ control_turn rooms slice world
 order_told rooms slice world order is =

@@ -1,5 +1,5 @@
 -- Steps of a slot, by the parts that they change.
-use Rattle.std.specs.Prelude.{ℕ, zero, suc, ◌+◌, Bool, if◌then◌else◌, nat_lt, nat_le, Option, Some, None, List, [], ◌∷◌, ◌++◌}
+use Rattle.std.specs.Prelude.{ℕ, zero, suc, ◌+◌, if◌then◌else◌, nat_lt, nat_le, Option, Some, List, [], ◌∷◌, ◌++◌}
 use Rattle.std.specs.Prelude.{length, drop}
 use Rattle.std.specs.List.{prefix_len}
 use Rattle.pc_base.specs.declared.packet.Place.TheVariants.{Closing}

@@ -10,13 +10,13 @@ ghost use Rattle.schedule_run.specs.Worlds.{world_of};
 
 use crate::setup::Setup;
 use crate::sides::{
-    clear_control_home, clear_flow_home, control_sent, flow_sent, lane_of, order_control, order_flow, order_items,
-    orders_of,
+    clear_control_home, clear_flow_home, control_sent, flow_sent, lane_of, order_control,
+    order_flow, order_items, orders_of,
 };
 use crate::standing::{ControlOrder, FlowOrder, Standing};
 use crate::world::{
-    Numbers, add_command, add_packet, bound_for, call_control, call_flow, control_of, flow_of, has_room, move_on,
-    park, parks_at, queued_of, set_control, set_flow, set_queued, tell_moves,
+    Numbers, add_command, add_packet, bound_for, call_control, call_flow, control_of, flow_of,
+    has_room, move_on, park, parks_at, queued_of, set_control, set_flow, set_queued, tell_moves,
 };
 use crate::{Ask, Outcome};
 use std::alloc::AllocError;
@@ -94,18 +94,31 @@ fn control_ordered(
 
 /// Offers what the control half of a slot owes.
 fn control_offer(numbers: &mut Numbers, setup: &Setup<'_>, slot: usize) -> Result<(), AllocError>
-    ensures { OnOk result (world_of numbers.new ≡ front.control_offer (bounds_of setup.now) (world_of numbers.old) slot) }
+    ensures { OnOk result (world_of numbers.new
+        ≡ front.control_offer (bounds_of setup.now) (world_of numbers.old) slot) }
 {
     match control_of(numbers, slot) {
         Standing::Absent => Ok(()),
         Standing::Front => {
             let slice = bound_for(numbers, setup, slot);
             tell_moves(numbers, slot)?;
-            control_ordered(numbers, slice, slot, ControlOrder::Come(slot), Standing::Placed(slice))
+            control_ordered(
+                numbers,
+                slice,
+                slot,
+                ControlOrder::Come(slot),
+                Standing::Placed(slice),
+            )
         }
         Standing::Placed(_) => Ok(()),
         Standing::Recalled(slice, until) => {
-            control_ordered(numbers, slice, slot, ControlOrder::Go(slot, until), Standing::Leaving)
+            control_ordered(
+                numbers,
+                slice,
+                slot,
+                ControlOrder::Go(slot, until),
+                Standing::Leaving,
+            )
         }
         Standing::Leaving => Ok(()),
     }
@@ -139,18 +152,37 @@ fn flow_offer(numbers: &mut Numbers, setup: &Setup<'_>, slot: usize) -> Result<(
         Standing::Absent => Ok(()),
         Standing::Front => {
             let slice = bound_for(numbers, setup, slot);
-            flow_ordered(numbers, setup, slice, slot, FlowOrder::Arrive(slot), Standing::Placed(slice))
+            flow_ordered(
+                numbers,
+                setup,
+                slice,
+                slot,
+                FlowOrder::Arrive(slot),
+                Standing::Placed(slice),
+            )
         }
         Standing::Placed(_) => Ok(()),
         Standing::Recalled(slice, _) => {
-            flow_ordered(numbers, setup, slice, slot, FlowOrder::Leave(slot), Standing::Leaving)
+            flow_ordered(
+                numbers,
+                setup,
+                slice,
+                slot,
+                FlowOrder::Leave(slot),
+                Standing::Leaving,
+            )
         }
         Standing::Leaving => Ok(()),
     }
 }
 
 /// Packets that wait go into the lane of this slice, as many as there is room for.
-fn drain_on(numbers: &mut Numbers, setup: &Setup<'_>, slot: usize, slice: usize) -> Result<(), AllocError>
+fn drain_on(
+    numbers: &mut Numbers,
+    setup: &Setup<'_>,
+    slot: usize,
+    slice: usize,
+) -> Result<(), AllocError>
     ensures { OnOk result (world_of numbers.new ≡ front.drained setup.now.rooms (world_of numbers.old) slice slot
         (min (world.slot_at (world_of numbers.old) slot).queued
         (setup.now.rooms.lane - length (world.flow_at (world_of numbers.old) slice).orders))) }
@@ -291,7 +323,11 @@ const REFUSED: Outcome = Outcome {
     parked: false,
 };
 
-fn offer_command(numbers: &mut Numbers, setup: &Setup<'_>, slot: usize) -> Result<Outcome, AllocError>
+fn offer_command(
+    numbers: &mut Numbers,
+    setup: &Setup<'_>,
+    slot: usize,
+) -> Result<Outcome, AllocError>
     ensures { IfOk result (λ outcome. record { world = world_of numbers.new; outcome = outcome }
         ≡ front.offer_command setup.now.rooms (world_of numbers.old) slot) }
 {
@@ -316,7 +352,12 @@ fn park_packet(numbers: &mut Numbers, setup: &Setup<'_>, slot: usize) -> Result<
 }
 
 /// A packet goes into the lane of this slice.
-fn send_on(numbers: &mut Numbers, setup: &Setup<'_>, slot: usize, slice: usize) -> Result<Outcome, AllocError>
+fn send_on(
+    numbers: &mut Numbers,
+    setup: &Setup<'_>,
+    slot: usize,
+    slice: usize,
+) -> Result<Outcome, AllocError>
     ensures { IfOk result (λ outcome. record { world = world_of numbers.new; outcome = outcome }
         ≡ front.send_packet_at setup.now.rooms (world_of numbers.old) slot (slots.placed slice)) }
 {
@@ -353,7 +394,11 @@ fn arrive_first(numbers: &mut Numbers, setup: &Setup<'_>, slot: usize) -> Result
     Ok(())
 }
 
-fn offer_packet(numbers: &mut Numbers, setup: &Setup<'_>, slot: usize) -> Result<Outcome, AllocError>
+fn offer_packet(
+    numbers: &mut Numbers,
+    setup: &Setup<'_>,
+    slot: usize,
+) -> Result<Outcome, AllocError>
     ensures { IfOk result (λ outcome. record { world = world_of numbers.new; outcome = outcome }
         ≡ front.offer_packet setup.now.rooms (bounds_of setup.now) (world_of numbers.old) slot) }
 {
@@ -387,7 +432,12 @@ fn recall_flow(numbers: &mut Numbers, setup: &Setup<'_>, slot: usize) -> Result<
     Ok(())
 }
 
-fn move_slot(numbers: &mut Numbers, setup: &Setup<'_>, slot: usize, slice: u8) -> Result<(), AllocError>
+fn move_slot(
+    numbers: &mut Numbers,
+    setup: &Setup<'_>,
+    slot: usize,
+    slice: u8,
+) -> Result<(), AllocError>
     ensures { OnOk result (world_of numbers.new
         ≡ front.move_slot setup.now.rooms (bounds_of setup.now) (world_of numbers.old) slot slice) }
 {

@@ -9,7 +9,11 @@ use crate::workers::{ControlNumbers, FlowNumbers};
 use std::alloc::{AllocError, Global};
 
 /// Makes the list long enough for this slot.
-pub fn reach_slot(slots: &mut Vec<SlotNumbers>, alloc: Global, slot: usize) -> Result<(), AllocError>
+pub fn reach_slot(
+    slots: &mut Vec<SlotNumbers>,
+    alloc: Global,
+    slot: usize,
+) -> Result<(), AllocError>
     ensures { OnOk result (Reached fresh_slot slots.old.items slots.new.items slot) }
 {
     while slots.len() <= slot {
@@ -19,7 +23,11 @@ pub fn reach_slot(slots: &mut Vec<SlotNumbers>, alloc: Global, slot: usize) -> R
 }
 
 /// Makes the list long enough for this slice.
-pub fn reach_control(controls: &mut Vec<ControlNumbers>, alloc: Global, slice: usize) -> Result<(), AllocError>
+pub fn reach_control(
+    controls: &mut Vec<ControlNumbers>,
+    alloc: Global,
+    slice: usize,
+) -> Result<(), AllocError>
     ensures { OnOk result (Reached fresh_control controls.old.items controls.new.items slice) }
 {
     while controls.len() <= slice {
@@ -29,7 +37,11 @@ pub fn reach_control(controls: &mut Vec<ControlNumbers>, alloc: Global, slice: u
 }
 
 /// Makes the list long enough for this slice.
-pub fn reach_flow(flows: &mut Vec<FlowNumbers>, alloc: Global, slice: usize) -> Result<(), AllocError>
+pub fn reach_flow(
+    flows: &mut Vec<FlowNumbers>,
+    alloc: Global,
+    slice: usize,
+) -> Result<(), AllocError>
     ensures { OnOk result (Reached fresh_flow flows.old.items flows.new.items slice) }
 {
     while flows.len() <= slice {

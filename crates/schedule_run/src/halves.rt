@@ -5,10 +5,10 @@ ghost use Rattle.slice_schedule.specs.Slots.{SlotNow};
 ghost use Rattle.slice_schedule.specs.Halves as halves;
 ghost use Rattle.schedule_run.specs.Parts.{sent_behind, unsent_behind, all_learnt, met_behind};
 
+use crate::Met;
 use crate::met::SlotMets;
 use crate::slot::SlotNumbers;
 use crate::standing::CommandTags;
-use crate::Met;
 use pc_base::Place;
 use std::alloc::AllocError;
 use std::collections::VecDeque;

@@ -1,5 +1,5 @@
 //! What is read and changed of the workers of one slice.
-ghost use Rattle.std.specs.Prelude.{◌≡◌, ℕ, ◌<◌, ◌≤◌, ◌++◌, ◌∷◌, [], None, OnOk, IfNone, IfSome, length, get_or, drop, replicate};
+ghost use Rattle.std.specs.Prelude.{◌≡◌, ℕ, ◌<◌, ◌++◌, ◌∷◌, [], None, OnOk, IfNone, IfSome, length, drop, replicate};
 ghost use Rattle.slice_schedule.specs.World as world;
 ghost use Rattle.slice_schedule.specs.ControlTurns as control;
 ghost use Rattle.slice_schedule.specs.FlowTurns as flow;
@@ -133,7 +133,11 @@ pub fn flow_kept(numbers: &Numbers, slice: usize) -> Option<usize>
     }
 }
 
-pub fn order_control(numbers: &mut Numbers, slice: usize, order: ControlOrder) -> Result<(), AllocError>
+pub fn order_control(
+    numbers: &mut Numbers,
+    slice: usize,
+    order: ControlOrder,
+) -> Result<(), AllocError>
     ensures { OnOk result (world_of numbers.new ≡ world.on_control (world_of numbers.old) slice
         (λ worker. record worker { orders = worker.orders ++ control_order order ∷ [] })) }
 {
@@ -151,7 +155,12 @@ pub fn order_flow(numbers: &mut Numbers, slice: usize, order: FlowOrder) -> Resu
     worker.order(order)
 }
 
-pub fn order_items(numbers: &mut Numbers, slice: usize, slot: usize, count: usize) -> Result<(), AllocError>
+pub fn order_items(
+    numbers: &mut Numbers,
+    slice: usize,
+    slot: usize,
+    count: usize,
+) -> Result<(), AllocError>
     ensures { OnOk result (world_of numbers.new ≡ world.on_flow (world_of numbers.old) slice
         (λ worker. record worker { orders = worker.orders ++ replicate count (world.item slot) })) }
 {
@@ -191,7 +200,12 @@ pub fn hold_control(numbers: &mut Numbers, slice: usize, slot: usize) -> Result<
 }
 
 /// A control half is marked.
-pub fn mark_control(numbers: &mut Numbers, slice: usize, slot: usize, until: usize) -> Result<(), AllocError>
+pub fn mark_control(
+    numbers: &mut Numbers,
+    slice: usize,
+    slot: usize,
+    until: usize,
+) -> Result<(), AllocError>
     ensures { OnOk result (world_of numbers.new ≡ world.on_control (world_of numbers.old) slice
         (λ worker. control.told worker (world.go slot until))) }
 {
@@ -212,7 +226,11 @@ pub fn send_control(numbers: &mut Numbers, slice: usize, place: usize) -> Result
     worker.send_home(place)
 }
 
-pub fn set_control_cursor(numbers: &mut Numbers, slice: usize, cursor: usize) -> Result<(), AllocError>
+pub fn set_control_cursor(
+    numbers: &mut Numbers,
+    slice: usize,
+    cursor: usize,
+) -> Result<(), AllocError>
     ensures { OnOk result (world_of numbers.new ≡ control.cursor_at (world_of numbers.old) slice cursor) }
 {
     reach_control(&mut numbers.controls, numbers.alloc, slice)?;

@@ -9,9 +9,9 @@ ghost use Rattle.schedule_run.specs.Worlds.{world_of, going_of};
 
 use crate::setup::Setup;
 use crate::sides::{
-    control_cursor, control_held, control_sent, flow_cursor, flow_held, flow_kept, flow_sent, flow_waiting, go_round,
-    hold_control, hold_flow, keep, let_go, mark_control, send_control, send_flow, set_control_cursor, take_control,
-    take_flow,
+    control_cursor, control_held, control_sent, flow_cursor, flow_held, flow_kept, flow_sent,
+    flow_waiting, go_round, hold_control, hold_flow, keep, let_go, mark_control, send_control,
+    send_flow, set_control_cursor, take_control, take_flow,
 };
 use crate::slot::SlotNumbers;
 use crate::standing::{ControlOrder, FlowOrder, Going, HeldControl};
@@ -121,7 +121,11 @@ fn tell(numbers: &mut Numbers, slice: usize, order: ControlOrder) -> Result<(), 
 }
 
 /// A turn of the control worker of a slice.
-pub fn control_turn(numbers: &mut Numbers, setup: &Setup<'_>, slice: usize) -> Result<(), AllocError>
+pub fn control_turn(
+    numbers: &mut Numbers,
+    setup: &Setup<'_>,
+    slice: usize,
+) -> Result<(), AllocError>
     ensures { OnOk result (world_of numbers.new ≡ control.control_turn setup.now.rooms slice (world_of numbers.old)) }
 {
     match take_control(numbers, slice) {
@@ -244,11 +248,7 @@ fn take_orders(numbers: &mut Numbers, slice: usize, first: Going) -> Result<Goin
 fn held_at(held: &[usize], place: usize) -> usize
     ensures { result ≡ get_or held.now place 0 }
 {
-    if place < held.len() {
-        held[place]
-    } else {
-        0
-    }
+    if place < held.len() { held[place] } else { 0 }
 }
 
 /// The half whose turn is next learns.

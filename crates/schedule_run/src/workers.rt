@@ -1,5 +1,5 @@
 //! The numbers of the workers of a slice.
-ghost use Rattle.std.specs.Prelude.{◌≡◌, ℕ, ◌<◌, ◌++◌, ◌∷◌, [], List, Option, Some, None, OnOk, IfOk, IfNone, IfSome, length, drop, get_or, map};
+ghost use Rattle.std.specs.Prelude.{◌≡◌, ℕ, ◌<◌, ◌++◌, ◌∷◌, [], None, OnOk, IfNone, IfSome, length, drop};
 ghost use Rattle.std.specs.Prelude.{replicate};
 ghost use Rattle.slice_schedule.specs.World as world;
 ghost use Rattle.slice_schedule.specs.ControlTurns as control;
@@ -26,12 +26,12 @@ pub fn cursor_next(place: usize, count: usize) -> usize
 fn cursor_behind(place: usize, cursor: usize, count: usize) -> usize
     ensures { result ≡ world.cursor_behind place cursor count }
 {
-    let cursor = if place < cursor { cursor.saturating_sub(1) } else { cursor };
-    if cursor < count {
-        cursor
+    let cursor = if place < cursor {
+        cursor.saturating_sub(1)
     } else {
-        0
-    }
+        cursor
+    };
+    if cursor < count { cursor } else { 0 }
 }
 
 /// The place of a slot in a list, or its length.

@@ -7,10 +7,12 @@ use Rattle.schedule_run.proofs.front.flows_offered.Goals as goal
 
 pub loop-slot-preserved : goal.loop-slot-preserved
 loop-slot-preserved c =
-    each_more (flow_offer c.args.setup.now.rooms (bounds_of c.args.setup.now)) (length c.args.numbers.now.slots.items) c.loop-slot.slot
+    each_more (flow_offer c.args.setup.now.rooms (bounds_of c.args.setup.now))
+    (length c.args.numbers.now.slots.items) c.loop-slot.slot
     (world_of c.loop-slot.numbers) _ _ (search rules) c.in_ok-flow_offer.ensures c.loop-slot.invariant
 
 pub returns : goal.returns
 returns c =
-    each_done (flow_offer c.args.setup.now.rooms (bounds_of c.args.setup.now)) (length c.args.numbers.now.slots.items) c.loop-slot.slot
+    each_done (flow_offer c.args.setup.now.rooms (bounds_of c.args.setup.now))
+    (length c.args.numbers.now.slots.items) c.loop-slot.slot
     (world_of c.loop-slot.numbers) _ (search rules) c.loop-slot.invariant

@@ -7,5 +7,7 @@ use Rattle.schedule_run.proofs.front.flows_offered.Given as goal
 
 abbrev pub invariant-loop-slot : goal.invariant-loop-slot
 invariant-loop-slot l =
-    for_each (flow_offer l.setup.rooms (bounds_of l.setup)) (world_of l.numbers) l.slot (length l.fn.numbers.slots.items - l.slot)
-    ≡ for_each (flow_offer l.setup.rooms (bounds_of l.setup)) (world_of l.fn.numbers) 0 (length l.fn.numbers.slots.items)
+    for_each (flow_offer l.setup.rooms (bounds_of l.setup)) (world_of l.numbers) l.slot
+    (length l.fn.numbers.slots.items - l.slot)
+    ≡ for_each (flow_offer l.setup.rooms (bounds_of l.setup)) (world_of l.fn.numbers) 0
+    (length l.fn.numbers.slots.items)

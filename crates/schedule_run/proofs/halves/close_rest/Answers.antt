@@ -14,7 +14,8 @@ loop-preserved c =
     record {
       known = c.learn_all-known.ensures.few;
       ahead = ap (λ met. met_behind commands c.learn_all-known.result met left) c.in_ok-push.ensures.items
-          ∙ ap (λ k. met_behind commands k (c.loop.met.items ++ record { commands = k; place = Closing } ∷ []) left) learnt
+          ∙ ap
+          (λ k. met_behind commands k (c.loop.met.items ++ record { commands = k; place = Closing } ∷ []) left) learnt
           ∙ sym (met_less commands c.loop.known c.loop.met.items c.args.rest c.loop.counter below)
           ∙ c.loop.invariant.ahead;
     }

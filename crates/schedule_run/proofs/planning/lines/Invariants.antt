@@ -5,4 +5,6 @@ use Rattle.schedule_run.proofs.Epochs.{SoFar}
 use Rattle.schedule_run.proofs.planning.lines.Given as goal
 
 abbrev pub invariant-loop-ask : goal.invariant-loop-ask
-invariant-loop-ask l = SoFar l.setup.rooms (bounds_of l.setup) l.slices l.asks (world_of l.fn.numbers) (world_of l.numbers) l.fn.turns l.turns l.outcomes.items l.ask-index
+invariant-loop-ask l =
+    SoFar l.setup.rooms (bounds_of l.setup) l.slices l.asks (world_of l.fn.numbers) (world_of l.numbers) l.fn.turns
+    l.turns l.outcomes.items l.ask-index

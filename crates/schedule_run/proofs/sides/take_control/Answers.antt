@@ -5,7 +5,12 @@ use Rattle.schedule_run.proofs.sides.take_control.Goals as goal
 
 pub returns-in-Some-clause-rest : goal.returns-in-Some-clause-rest
 returns-in-Some-clause-rest c =
-    let worlds : List ControlNow → World = λ xs. record { slots = c.args.numbers.now.slots.items; controls = xs; flows = c.args.numbers.now.flows.items } in
+    let worlds : List ControlNow → World = λ xs.
+    record {
+      slots = c.args.numbers.now.slots.items;
+      controls = xs;
+      flows = c.args.numbers.now.flows.items;
+    } in
     ap worlds
     (changed_within fresh_control c.args.numbers.now.controls.items c.args.slice
     (λ (worker : ControlNow). record worker { orders = drop 1 worker.orders }) c.index_mut-worker.result.now

@@ -5,7 +5,12 @@ use Rattle.schedule_run.proofs.sides.take_flow.Goals as goal
 
 pub returns-in-Some-clause-rest : goal.returns-in-Some-clause-rest
 returns-in-Some-clause-rest c =
-    let worlds : List FlowNow → World = λ xs. record { slots = c.args.numbers.now.slots.items; controls = c.args.numbers.now.controls.items; flows = xs } in
+    let worlds : List FlowNow → World = λ xs.
+    record {
+      slots = c.args.numbers.now.slots.items;
+      controls = c.args.numbers.now.controls.items;
+      flows = xs;
+    } in
     ap worlds
     (changed_within fresh_flow c.args.numbers.now.flows.items c.args.slice
     (λ (worker : FlowNow). record worker { orders = drop 1 worker.orders }) c.index_mut-worker.result.now

@@ -9,7 +9,9 @@ use Rattle.schedule_run.proofs.turning.control_turn.Goals as goal
 pub returns-in_ok-tell-in-Some : goal.returns-in_ok-tell-in-Some
 returns-in_ok-tell-in-Some c =
     c.in_ok-tell-in-Some.ensures
-    ∙ ap (λ (w : World). on_control w c.args.slice (λ (worker : ControlNow). told worker (control_order c.in-Some.order)))
+    ∙ ap
+    (λ (w : World).
+    on_control w c.args.slice (λ (worker : ControlNow). told worker (control_order c.in-Some.order)))
     c.in-Some.ensures.rest
     ∙ order_told c.args.setup.now.rooms c.args.slice (world_of c.args.numbers.now) (control_order c.in-Some.order)
     c.in-Some.ensures.order
