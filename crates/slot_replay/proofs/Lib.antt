@@ -1,0 +1,3 @@
+mod Octets
+mod Steps
+mod Loops

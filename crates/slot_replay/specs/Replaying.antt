@@ -1,0 +1,127 @@
+-- A subscriber that replays events of its slot.
+use Rattle.std.specs.Prelude.{◌≡◌, ℕ, ◌+◌, ◌≤◌, ◌<◌, ◌^◌, List, [], ◌∷◌, ◌++◌, length, map, flat_map, unwrap_or}
+use Rattle.std.specs.Borrow.{Bor}
+use Rattle.pc_base.specs.declared.packet.Place.{Place}
+use Rattle.pc_base.specs.declared.packet.Verdict.{Verdict}
+use Rattle.pc_base.specs.declared.reply.Reply.{Reply}
+use Rattle.report_lines.specs.Records.{Effected}
+use Rattle.control_steps.specs.declared.command.CommandKind.{CommandKind}
+use Rattle.packet_steps.specs.Lent.{verdict_of}
+use Rattle.gate_model.specs.Events.{commands_of, packets_of}
+use Rattle.gate_model.specs.SlotPast.{records_after}
+use Rattle.gate_model.specs.declared.event.Event.{Event}
+use Rattle.subscriber.specs.Standing.{SubscriberState, StandsFor, last_of}
+use Rattle.lawful_run.specs.Accepted as accepted
+use Rattle.lawful_run.specs.Order.{ordered}
+use Rattle.lawful_run.specs.Outcomes as made_of
+use Rattle.lawful_run.specs.Telling.{counted}
+use Rattle.at_rest.specs.Rest.{Represents}
+use Rattle.slot_replay.specs.declared.placed.Placed.{Placed}
+use Rattle.slot_replay.specs.declared.replayed.Caused.{Caused}
+use Rattle.slot_replay.specs.declared.replayed.Judged.{Judged}
+use Rattle.slot_replay.specs.declared.replayed.Replayed.{Replayed}
+use Rattle.slot_replay.specs.declared.replayed.Replied.{Replied}
+
+-- the commands that are lent, and the packets, each with the count of commands before it
+abbrev pub commands_lent : List (Bor CommandKind) → List CommandKind
+commands_lent commands = map (λ (command : Bor CommandKind). command.now) commands
+
+abbrev pub placed_so : Placed → accepted.Placed
+placed_so placed = record { commands = placed.commands; packet = placed.packet.now }
+
+abbrev pub placed_lent : List Placed → List accepted.Placed
+placed_lent packets = map placed_so packets
+
+abbrev pub counts_of : List Placed → List ℕ
+counts_of packets = map (λ (placed : Placed). placed.commands) packets
+
+abbrev pub places_of : List Placed → List Place
+places_of packets = map (λ (placed : Placed). placed.place) packets
+
+-- the events of accepted commands and packets behind those before
+abbrev pub events_of : List Event → List CommandKind → List accepted.Placed → List Event
+events_of before commands packets = ordered (length (commands_of before)) (length (packets_of before)) commands packets
+
+-- packets come one after another, and none before this moment
+abbrev pub AreLate : ℕ → List Placed → Type 0
+AreLate least [] = Unit {0}
+AreLate least (first ∷ packets) =
+    (least ≤ first.packet.now.moment) × AreLate first.packet.now.moment packets
+
+-- the moment of the last of them, or this one
+abbrev pub latest_of : ℕ → List Placed → ℕ
+latest_of latest [] = latest
+latest_of latest (first ∷ packets) = latest_of first.packet.now.moment packets
+
+-- the moment of a subscriber's last packet, or 0
+abbrev pub moment_of : SubscriberState → ℕ
+moment_of subscriber = unwrap_or (last_of subscriber) 0
+
+-- effects, as entries tell them
+abbrev pub effects_caused : Caused → List Effected
+effects_caused caused = map (made_of.effect_entry caused.slot caused.command) caused.effects
+
+abbrev pub effects_told : List Caused → List Effected
+effects_told effects = flat_map effects_caused effects
+
+-- what is told of commands, and of packets
+abbrev pub replies_in : List Replied → List Reply
+replies_in replies = map (λ (r : Replied). r.reply) replies
+
+abbrev pub numbers_in : List Replied → List ℕ
+numbers_in replies = map (λ (r : Replied). r.number) replies
+
+abbrev pub verdicts_in : List Judged → List Verdict
+verdicts_in packets = map (λ (j : Judged). verdict_of j.verdict) packets
+
+abbrev pub packet_numbers_in : List Judged → List ℕ
+packet_numbers_in packets = map (λ (j : Judged). j.number) packets
+
+abbrev pub counts_in : List Judged → List ℕ
+counts_in packets = map (λ (j : Judged). j.commands) packets
+
+abbrev pub places_in : List Judged → List Place
+places_in packets = map (λ (j : Judged). j.place) packets
+
+-- What was replayed is what these events lead to behind those before.
+pub record IsLedTo (replayed : Replayed) (slot : ℕ) (before now : List Event) : Type 0 where
+  -- the reply to each command, the verdict on each packet, and the effects, as of the one-thread gateway
+  pub replies : replies_in replayed.replies.items ≡ made_of.replies slot before now
+  pub verdicts : verdicts_in replayed.packets.items ≡ made_of.verdicts slot before now
+  pub effects : effects_told replayed.effects.items ≡ made_of.effects slot before now
+  -- commands and packets are numbered on
+  pub numbers : numbers_in replayed.replies.items
+      ≡ counted (length (commands_of before)) (length (commands_of now))
+  pub packet_numbers : packet_numbers_in replayed.packets.items
+      ≡ counted (length (packets_of before)) (length (packets_of now))
+
+-- within an epoch: the subscriber has done these of its events, and no records were taken since the epoch began
+pub record Plays (subscriber : SubscriberState) (replayed : Replayed) (slot : ℕ) (before now : List Event) :
+    Type 0 where
+  pub stands : StandsFor subscriber slot (before ++ now) (length (records_after slot before))
+  pub led : IsLedTo replayed slot before now
+
+-- so few events, with so many more, that every count may rise
+pub record CanPlay (subscriber : SubscriberState) (replayed : Replayed) (more : ℕ) : Type 0 where
+  pub slot : ℕ
+  pub before : List Event
+  pub now : List Event
+  pub plays : Plays subscriber replayed slot before now
+  pub few : length (before ++ now) + more < 2 ^ 40
+
+pub record CanReplay (subscriber : SubscriberState) (more : ℕ) : Type 0 where
+  pub slot : ℕ
+  pub before : List Event
+  pub represents : Represents subscriber slot before
+  pub few : length before + more < 2 ^ 40
+
+-- a loop over the packets: what was replayed so far, and the events that are left
+pub record Goes (subscriber : SubscriberState) (replayed : Replayed) (slot : ℕ) (before all : List Event) (done : ℕ)
+    (left : List CommandKind) (packets : List accepted.Placed) : Type 0 where
+  pub now : List Event
+  pub plays : Plays subscriber replayed slot before now
+  pub rest : now ++ ordered done (length (packets_of (before ++ now))) left packets ≡ all
+
+-- only what is told of packets is more, or all else but that
+abbrev pub KeepsPackets : Replayed → Replayed → Type 0
+KeepsPackets old new = new.packets.items ≡ old.packets.items

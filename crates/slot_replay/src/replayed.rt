@@ -1,0 +1,59 @@
+//! What the events of a slot lead to.
+use charging_book::ChargeRow;
+use packet_steps::{Effects, LentVerdict};
+use pc_base::{Place, Reply, Slot};
+use std::alloc::Global;
+use std::collections::VecDeque;
+
+/// The reply to the slot's command of this number.
+#[derive(Drop)]
+pub struct Replied {
+    pub number: u64,
+    pub reply: Reply,
+}
+
+/// The verdict on the slot's packet of this number, behind so many of its commands, and where it was
+/// handled. Its octets lie in its line.
+#[derive(Drop)]
+pub struct Judged<'a> {
+    pub number: u64,
+    pub commands: u64,
+    pub place: Place,
+    pub verdict: LentVerdict<'a>,
+}
+
+/// The effects of the slot's command of this number, one or more.
+#[derive(Drop)]
+pub struct Caused {
+    pub slot: Slot,
+    pub command: u64,
+    pub effects: Effects,
+}
+
+/// What the events of a slot in an epoch lead to, each kind in the order of the events: replies and
+/// verdicts, to be taken from the front, effects and charging records.
+#[derive(Drop)]
+pub struct Replayed<'a> {
+    pub replies: VecDeque<Replied>,
+    pub packets: VecDeque<Judged<'a>>,
+    pub effects: Vec<Caused>,
+    pub rows: Vec<ChargeRow>,
+}
+
+impl Replayed<'_> {
+    ghost use Rattle.std.specs.Prelude.{◌≡◌, []};
+
+    /// Nothing yet. It takes no memory.
+    pub(crate) fn new<'a>(alloc: Global) -> Replayed<'a>
+        ensures replies { result.replies.items ≡ [] }
+        ensures packets { result.packets.items ≡ [] }
+        ensures effects { result.effects.items ≡ [] }
+    {
+        Replayed {
+            replies: VecDeque::new(alloc),
+            packets: VecDeque::new(alloc),
+            effects: Vec::new(alloc),
+            rows: Vec::new(alloc),
+        }
+    }
+}
