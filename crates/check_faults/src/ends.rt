@@ -1,5 +1,5 @@
 //! Lines out of pieces, and octets into pieces.
-use crate::row::Row;
+use crate::call::Call;
 use pc_outside::{
     LineBuf, LineRead, MemSink, MemSource, Source, StdSink, StdSource, SureSink, SureSource,
     read_line, write_whole,
@@ -44,21 +44,21 @@ fn push_octets(octets: &[u8], text: &mut String) -> Result<(), AllocError> {
 }
 
 /// `lines PIECE FAILS OCTETS`: what lines are read of octets that come in pieces, where these calls fail.
-pub fn lines(alloc: Global, row: &Row, text: &mut String) -> Result<(), AllocError> {
+pub fn lines(alloc: Global, row: &Call, text: &mut String) -> Result<(), AllocError> {
     let piece = row.number(1) as usize;
     let mut source = MemSource::new(row.octets(alloc, 3)?, piece.max(1), row.numbers(alloc, 2)?)?;
     answers(alloc, &mut source, text)
 }
 
 /// `std OCTETS`: the same of a reader of the system.
-pub fn std_lines(alloc: Global, row: &Row, text: &mut String) -> Result<(), AllocError> {
+pub fn std_lines(alloc: Global, row: &Call, text: &mut String) -> Result<(), AllocError> {
     let octets = row.octets(alloc, 1)?;
     let mut source = StdSource::new(octets.as_slice());
     answers(alloc, &mut source, text)
 }
 
 /// `long OCTETS`: the answer to one line of so many octets, and how many of them were read.
-pub fn long(alloc: Global, row: &Row, text: &mut String) -> Result<(), AllocError> {
+pub fn long(alloc: Global, row: &Call, text: &mut String) -> Result<(), AllocError> {
     let mut octets = Vec::new(alloc);
     octets.resize((row.number(1) % 0x10_0000) as usize, b'1')?;
     let mut source = MemSource::new(octets, 100_000, Vec::new(alloc))?;
@@ -74,7 +74,7 @@ pub fn long(alloc: Global, row: &Row, text: &mut String) -> Result<(), AllocErro
 }
 
 /// `pieces ROOM PIECE FAILS OCTETS`: what is written of octets into a sink with so much room, where these calls fail.
-pub fn pieces(alloc: Global, row: &Row, text: &mut String) -> Result<(), AllocError> {
+pub fn pieces(alloc: Global, row: &Call, text: &mut String) -> Result<(), AllocError> {
     let octets = row.octets(alloc, 4)?;
     let room = (row.number(1) % 0x10_0000) as usize;
     let piece = row.number(2) as usize;
@@ -86,7 +86,7 @@ pub fn pieces(alloc: Global, row: &Row, text: &mut String) -> Result<(), AllocEr
 
 /// `sure ROOM OCTETS OCTETS`: what a sink that never fails keeps of both octets, one behind the other, whether a writer
 /// of the system with so much room takes them, and the lines of the first ones from a source that never fails.
-pub fn sure(alloc: Global, row: &Row, text: &mut String) -> Result<(), AllocError> {
+pub fn sure(alloc: Global, row: &Call, text: &mut String) -> Result<(), AllocError> {
     let first = row.octets(alloc, 2)?;
     let second = row.octets(alloc, 3)?;
     let room = (row.number(1) % 0x10_0000) as usize;

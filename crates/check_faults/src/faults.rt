@@ -6,7 +6,7 @@ ghost use Rattle.pepc.specs.Report.{IsDone};
 ghost use Rattle.command_words.specs.Job.{job_of};
 ghost use Rattle.command_words.specs.declared.jobs.Job.TheVariants.{Solo};
 
-use crate::row::Row;
+use crate::call::Call;
 use pc_outside::{MemSink, MemSource, SureSink, SureSource};
 use pepc::{Status, run_plain};
 use std::alloc::{AllocError, Global};
@@ -60,7 +60,7 @@ fn whole_lines(octets: &[u8]) -> &[u8] {
 // all octets, of an audit nothing.
 fn due(
     alloc: Global,
-    row: &Row,
+    row: &Call,
     words: &[String],
     input: &[u8],
     octets: usize,
@@ -75,7 +75,7 @@ fn due(
 }
 
 // The command that a row names.
-fn command(alloc: Global, row: &Row) -> Result<String, AllocError> {
+fn command(alloc: Global, row: &Call) -> Result<String, AllocError> {
     let mut text = String::new(alloc);
     for octet in row.word(3) {
         text.push(char::from(*octet))?;
@@ -85,7 +85,7 @@ fn command(alloc: Global, row: &Row) -> Result<String, AllocError> {
 
 /// `reads PIECE INPUT WORD..`: how the run ends where each read fails, and whether it wrote what is due, until no read
 /// fails.
-pub fn reads(alloc: Global, row: &Row, input: &[u8], text: &mut String) -> Result<(), AllocError> {
+pub fn reads(alloc: Global, row: &Call, input: &[u8], text: &mut String) -> Result<(), AllocError> {
     let words = row.texts(alloc, 3)?;
     let name = command(alloc, row)?;
     let piece = row.number(1) as usize;
@@ -121,7 +121,12 @@ pub fn reads(alloc: Global, row: &Row, input: &[u8], text: &mut String) -> Resul
 
 /// `writes PIECE INPUT WORD..`: how the run ends where each write fails, and whether what it wrote is a prefix of what
 /// it writes where none does, until no write fails.
-pub fn writes(alloc: Global, row: &Row, input: &[u8], text: &mut String) -> Result<(), AllocError> {
+pub fn writes(
+    alloc: Global,
+    row: &Call,
+    input: &[u8],
+    text: &mut String,
+) -> Result<(), AllocError> {
     let words = row.texts(alloc, 3)?;
     let name = command(alloc, row)?;
     let piece = row.number(1) as usize;
@@ -150,7 +155,7 @@ pub fn writes(alloc: Global, row: &Row, input: &[u8], text: &mut String) -> Resu
 }
 
 /// `runs PIECE READS WRITES INPUT WORD..`: the status and the text where these reads and writes fail.
-pub fn runs(alloc: Global, row: &Row, input: &[u8], text: &mut String) -> Result<(), AllocError> {
+pub fn runs(alloc: Global, row: &Call, input: &[u8], text: &mut String) -> Result<(), AllocError> {
     let words = row.texts(alloc, 5)?;
     let reads = row.numbers(alloc, 2)?;
     let writes = row.numbers(alloc, 3)?;
@@ -194,7 +199,7 @@ pub fn surely(alloc: Global, words: &[String], octets: Vec<u8>) -> Result<Status
 /// `surely INPUT WORD..`: the status of such a run.
 pub fn sure_status(
     alloc: Global,
-    row: &Row,
+    row: &Call,
     input: &[u8],
     text: &mut String,
 ) -> Result<(), AllocError> {

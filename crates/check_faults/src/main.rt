@@ -3,12 +3,12 @@
 //! line of standard input is a row, and has one line or some as its answer. What a row's fields are stands at its kind.
 #![tactic(auto)]
 
+mod call;
 mod ends;
 mod faults;
-mod row;
 mod values;
 
-use row::Row;
+use call::Call;
 use std::alloc::{AllocError, Global};
 use std::fs;
 use std::io::{self, BufRead, BufReader, BufWriter, Write};
@@ -40,7 +40,7 @@ impl Inputs {
     }
 }
 
-fn answer(alloc: Global, inputs: &Inputs, row: &Row, text: &mut String) -> Result<(), AllocError> {
+fn answer(alloc: Global, inputs: &Inputs, row: &Call, text: &mut String) -> Result<(), AllocError> {
     match row.word(0) {
         b"reads" => faults::reads(alloc, row, inputs.of(row.word(2)), text),
         b"writes" => faults::writes(alloc, row, inputs.of(row.word(2)), text),
@@ -71,7 +71,7 @@ fn main(rt: HostRuntime) -> io::Result<()> {
     let mut out = BufWriter::new(alloc, io::writer(&rt))?;
     for line in BufReader::new(alloc, rt.reader())?.lines(alloc) {
         let line = line?;
-        let row = Row::read(alloc, line.as_bytes())?;
+        let row = Call::read(alloc, line.as_bytes())?;
         let mut text = String::new(alloc);
         answer(alloc, &inputs, &row, &mut text)?;
         out.write_all(text.as_bytes())?;

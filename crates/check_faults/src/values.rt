@@ -1,5 +1,5 @@
 //! Command lines, draws, generated lines, counts and statuses.
-use crate::row::Row;
+use crate::call::Call;
 use command_words::{Job, job};
 use entry_counts::{EntryCounts, push_summary};
 use pepc::{Status, fault_text};
@@ -7,7 +7,7 @@ use std::alloc::{AllocError, Global};
 use trace_maker::{Draws, Maker, made_line};
 
 /// `words WORD..`: the job that the words ask for.
-pub fn words(alloc: Global, row: &Row, text: &mut String) -> Result<(), AllocError> {
+pub fn words(alloc: Global, row: &Call, text: &mut String) -> Result<(), AllocError> {
     let words = row.texts(alloc, 1)?;
     let line = match job(alloc, words.as_slice())? {
         None => String::from_str(alloc, "none\n")?,
@@ -41,7 +41,7 @@ pub fn words(alloc: Global, row: &Row, text: &mut String) -> Result<(), AllocErr
 }
 
 /// `draws SEED`: the first three draws below 2^31 − 1.
-pub fn draws(alloc: Global, row: &Row, text: &mut String) -> Result<(), AllocError> {
+pub fn draws(alloc: Global, row: &Call, text: &mut String) -> Result<(), AllocError> {
     let mut draws = Draws::new(row.number(1));
     for _ in 0..3 {
         let number = draws.draw(0x7fff_ffff);
@@ -52,7 +52,7 @@ pub fn draws(alloc: Global, row: &Row, text: &mut String) -> Result<(), AllocErr
 }
 
 /// `made SEED SUBS LINES`: the lines that are made one by one, until none is and none is again.
-pub fn made(alloc: Global, row: &Row, text: &mut String) -> Result<(), AllocError> {
+pub fn made(alloc: Global, row: &Call, text: &mut String) -> Result<(), AllocError> {
     let subs = (row.number(2) % 65_533) as u32;
     let lines = (row.number(3) % 100_001) as u32;
     let mut maker = Maker::new(row.number(1), subs.max(1), lines);
@@ -80,7 +80,7 @@ pub fn made(alloc: Global, row: &Row, text: &mut String) -> Result<(), AllocErro
 /// `counts LINES ENTRIES`: the summary of a trace of so many lines whose report is these entries and two empty lines.
 pub fn counts(
     alloc: Global,
-    row: &Row,
+    row: &Call,
     entries: &[u8],
     text: &mut String,
 ) -> Result<(), AllocError> {

@@ -13,7 +13,7 @@ use trace_lines::{LineBad, TraceLine, ends_epoch, read_line, text};
 /// What a row asks: what a text says (`5 TEXT`), or whether an epoch that has so many lines and octets ends
 /// behind it (`E LINES OCTETS TEXT`).
 #[derive(Drop)]
-enum Row<'a> {
+enum Case<'a> {
     Line {
         least: Moment,
         text: &'a [u8],
@@ -31,21 +31,21 @@ fn number_and_rest(row: &[u8]) -> Option<(u64, &[u8])> {
     Some((number, rest?))
 }
 
-fn read_row(row: &[u8]) -> Option<Row<'_>> {
+fn read_row(row: &[u8]) -> Option<Case<'_>> {
     if let [b'E', b' ', rest @ ..] = row {
         let (lines, rest) = number_and_rest(rest)?;
         let (octets, text) = number_and_rest(rest)?;
-        return Some(Row::End {
+        return Some(Case::End {
             lines,
             octets,
             text,
         });
     }
     let (least, text) = number_and_rest(row)?;
-    if least >= 1 << 50 {
+    if least > LAST_MOMENT {
         return None;
     }
-    Some(Row::Line {
+    Some(Case::Line {
         least: Moment(least),
         text,
     })
@@ -60,13 +60,13 @@ fn show_line(rt: &HostRuntime, line: &TraceLine) -> io::Result<()> {
     )
 }
 
-fn show_row(rt: &HostRuntime, row: &Row<'_>) -> io::Result<()> {
+fn show_row(rt: &HostRuntime, row: &Case<'_>) -> io::Result<()> {
     match row {
-        Row::Line { least, text } => match read_line(rt.alloc(), text, 1, *least) {
+        Case::Line { least, text } => match read_line(rt.alloc(), text, 1, *least) {
             Ok(line) => show_line(rt, &line),
             Err(why) => println!(rt; "{why}"),
         },
-        Row::End {
+        Case::End {
             lines,
             octets,
             text,

@@ -4,13 +4,11 @@ use crate::stop::Stop;
 use gate_model::{Command, Effects, Event, Gateway, Happened, Packet, Reply, Slot, Verdict};
 use ipv4_packet::Ip4;
 use packet_steps::{LentVerdict, gpdu};
-use pc_base::{Moment, Octets, SliceNo};
+use pc_base::{LAST_MOMENT, Moment, Octets, SliceNo};
 use report_lines::{push_answer, push_row};
 use std::alloc::Global;
 use subscriber::Subscriber;
 use text_fields::Text;
-
-const LAST_MOMENT: u64 = 0x3_ffff_ffff_ffff;
 
 /// The two gateways of a slot.
 #[derive(Drop)]

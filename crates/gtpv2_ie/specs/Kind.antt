@@ -12,16 +12,16 @@ use Rattle.gtpv2_ie.specs.Imsi.{imsi_of}
 use Rattle.gtpv2_ie.specs.Fields.{ebi_of, pdn_of, paa_of, octets_of, cause_of, fteid_of, qos_of}
 
 -- the type octet, the fewest octets of a value, and the value that so many octets or more spell
-pub record Row : Type 0 where
+pub record KindRow : Type 0 where
   pub type_octet : ℕ
   pub least_len : ℕ
   pub value : List ℕ → Option IeValue
 
-abbrev pub row_of : ℕ → ℕ → (List ℕ → Option IeValue) → Row
+abbrev pub row_of : ℕ → ℕ → (List ℕ → Option IeValue) → KindRow
 row_of type_octet least_len value = record { type_octet = type_octet; least_len = least_len; value = value }
 
 -- The table (TS 29.274, table 8.1-1), where `context` says which Bearer Context octets spell.
-abbrev pub row : (List ℕ → Option Context) → IeKind → Row
+abbrev pub row : (List ℕ → Option Context) → IeKind → KindRow
 row context kinds.Imsi = row_of 1 3 (λ octets. option_map values.Imsi (imsi_of octets))
 row context kinds.Cause = row_of 2 2 (λ octets. option_map values.Cause (cause_of octets))
 row context kinds.Recovery = row_of 3 1 (λ octets. Some (values.Recovery (slice_index octets 0)))

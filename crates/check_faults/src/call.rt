@@ -4,18 +4,18 @@ use text_fields::read_number;
 
 /// A line's words, with one space between each two. `-` is a word of no octets.
 #[derive(Drop)]
-pub struct Row {
+pub struct Call {
     words: Vec<Vec<u8>>,
 }
 
-impl Row {
-    pub fn read(alloc: Global, line: &[u8]) -> Result<Row, AllocError> {
+impl Call {
+    pub fn read(alloc: Global, line: &[u8]) -> Result<Call, AllocError> {
         let mut words = Vec::new(alloc);
         for word in line.split(|octet| *octet == b' ') {
             let word = if word == b"-".as_slice() { &[] } else { word };
             words.push(Vec::from_slice(alloc, word)?)?;
         }
-        Ok(Row { words })
+        Ok(Call { words })
     }
 
     /// The word of this number; one that isn't there has no octets.
