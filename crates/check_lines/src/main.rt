@@ -4,7 +4,7 @@
 
 ghost use Rattle.std.specs.Prelude.{ℕ, List};
 
-use pc_base::{Moment, NoMemory};
+use pc_base::{LAST_MOMENT, Moment, NoMemory};
 use std::alloc::Global;
 use std::io;
 use text_fields::{cut, read_number};
