@@ -8,8 +8,8 @@ ghost use Rattle.packet_replay.specs.Metering.{IsHistory, Represents, counted_by
 
 use crate::NoMemory;
 use crate::forwarded::Policed;
-use packet_steps::Forwarded;
 use crate::meter::{Meter, costs_of};
+use packet_steps::Forwarded;
 use pc_base::{Kbps, Moment};
 use rate_policer::{Cost, conforms};
 use std::alloc::Global;
