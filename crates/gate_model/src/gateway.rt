@@ -1,4 +1,4 @@
-//! The plain gateway of a slot.
+//! The reference gateway of a slot.
 use crate::copying::session_of;
 use crate::memory::Memory;
 use crate::{Command, Event, Happened, NoMemory, Packet, Slot};

@@ -20,7 +20,7 @@ pub fn sessions_keep_their_slot()
 {}
 
 /// The version that a command leaves may follow on the past before it, so that running counters that
-/// stand for the past before an event stand for the past behind it.
+/// represent the past before an event represent the past behind it.
 pub fn each_version_follows()
     ensures follows { EachVersionFollows }
     ensures opened { OpenLivesAreActive }

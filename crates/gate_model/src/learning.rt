@@ -6,7 +6,7 @@ ghost use Rattle.packet_steps.specs.Change.{learnt, released, released_to};
 ghost use Rattle.gate_model.specs.Memory.{past_at};
 
 use crate::NoMemory;
-use crate::memory::{Memory, row_of};
+use crate::memory::Memory;
 use bearer_state::{ActiveBearer, Version};
 use packet_steps::{Effects, HeldPacket, bearer_of, gpdu, markers, marks};
 use pc_base::{Effect, Fate, Peer};
@@ -58,7 +58,7 @@ impl Memory {
         };
         match bearer.enb {
             Some(peer) => self.release_to(version, row, effects, bearer, peer),
-            None => self.hold(row_of(row)?),
+            None => self.hold(row.try_clone()?),
         }
     }
 

@@ -25,7 +25,7 @@ pub(crate) fn known_pasts()
     sessions_keep_their_slot();
 }
 
-/// Where a subscriber stands for fewer than 2^40 events, its counts may rise.
+/// Where a subscriber represents fewer than 2^40 events, its counts may rise.
 pub fn few_events_leave_room()
     ensures { FewEventsLeaveRoom }
 {

@@ -14,7 +14,7 @@ use std::marker::Model;
 const MOST_EVENTS: u64 = 0x100_0000_0000;
 
 /// A subscriber between two events. A contract speaks of it by the events of its slot, and by how many
-/// of their charging records were taken out: it stands for these.
+/// of their charging records were taken out: it represents these.
 #[derive(Drop)]
 pub struct Subscriber {
     pub session: Session,
@@ -136,8 +136,7 @@ impl Subscriber {
         Ok(verdict)
     }
 
-    /// The same of a packet whose octets lie elsewhere, and are lent again: it takes the next number. No
-    /// memory is taken for a packet from the subscriber but for its charging.
+    /// The same of a packet whose octets lie elsewhere, and are lent again: it takes the next number.
     pub fn judge<'a>(
         &mut self,
         moment: Moment,
