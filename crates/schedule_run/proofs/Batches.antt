@@ -1,11 +1,9 @@
 -- Batches of commands, and what is learnt of them.
-use Rattle.std.proofs.Common.{◌≡◌, ℕ, zero, suc, ◌+◌, ◌-◌, ◌<◌, ◌≤◌, List, [], ◌∷◌, ◌++◌, length, drop, refl, sym, ap, ◌∙◌, arith, length-drop}
-use Rattle.std.specs.List.{prefix_len}
-use Rattle.std.proofs.lemmas.List.Sums.{prefix_len-le-length}
+use Rattle.std.proofs.Common.{◌≡◌, ℕ, zero, suc, ◌+◌, ◌-◌, ◌<◌, List, [], ◌∷◌, ◌++◌, length, refl, sym, ap, ◌∙◌, arith}
 use Rattle.pc_base.specs.declared.packet.Place.TheVariants.{Closing}
 use Rattle.slice_schedule.specs.Numbers.{times}
 use Rattle.slice_schedule.specs.Slots.{CommandTags, SlotNow, Met}
-use Rattle.slice_schedule.specs.Halves.{fits, batch_of, close_one, closed}
+use Rattle.slice_schedule.specs.Halves.{close_one, closed}
 use Rattle.schedule_run.specs.Parts.{all_learnt, met_behind}
 
 closing_met : (slot : SlotNow) (n : ℕ)

@@ -1,5 +1,5 @@
 -- Lists that grow with the numbers that are used.
-use Rattle.std.proofs.Common.{◌≡◌, ℕ, zero, suc, ◌+◌, ◌<◌, ◌≤◌, List, [], ◌∷◌, ◌++◌, length, get_or, set, refl, sym, ap, ◌∙◌, arith}
+use Rattle.std.proofs.Common.{◌≡◌, ℕ, zero, suc, ◌<◌, ◌≤◌, List, [], ◌∷◌, ◌++◌, length, get_or, set, refl, ap, ◌∙◌, arith}
 use Rattle.slice_schedule.specs.Numbers.{value_at, put_at}
 use Rattle.schedule_run.specs.Growing.{Reached}
 

@@ -1,5 +1,5 @@
 -- Control halves are turned round their list.
-use Rattle.std.proofs.Common.{◌≡◌, ℕ, zero, suc, ◌+◌, ◌-◌, ◌<◌, ◌≤◌, Bool, true, false, cond, refl, sym, ap, ◌∙◌, arith}
+use Rattle.std.proofs.Common.{◌≡◌, ℕ, suc, ◌+◌, ◌-◌, ◌<◌, ◌≤◌, Bool, true, false, cond, sym, ap, ◌∙◌, arith}
 use Rattle.slice_schedule.specs.World.{World, Rooms}
 use Rattle.slice_schedule.specs.ControlTurns.{slot_held, half_turned, has_worked, next_place, cursor_at, work_round}
 

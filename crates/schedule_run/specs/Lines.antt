@@ -1,5 +1,5 @@
 -- The lines of an epoch as its schedule takes them.
-use Rattle.std.specs.Prelude.{ℕ, ◌%◌, List, [], ◌∷◌, get_or, map, length}
+use Rattle.std.specs.Prelude.{ℕ, ◌%◌, List, [], ◌∷◌, get_or}
 use Rattle.slice_schedule.specs.Front.{Asks, nothing, command, packet, move}
 use Rattle.slice_schedule.specs.Schedule.{Driven}
 use Rattle.schedule_run.specs.declared.ask.Ask.{Ask}

@@ -1,5 +1,5 @@
 -- What stands in the code's numbers for standings and orders.
-use Rattle.std.specs.Prelude.{ℕ, ◌-◌, Option, List, length, slice_get, map}
+use Rattle.std.specs.Prelude.{ℕ, ◌-◌, Option, List, length, slice_get}
 use Rattle.slice_schedule.specs.Slots.{absent, front, placed, recalled, leaving}
 use Rattle.slice_schedule.specs.Slots as slots
 use Rattle.slice_schedule.specs.World as world

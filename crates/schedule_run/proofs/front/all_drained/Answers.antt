@@ -1,6 +1,5 @@
-use Rattle.std.proofs.Common.{rules, ◌≡◌, ◌∙◌, ap, length}
+use Rattle.std.proofs.Common.{rules, length}
 use Rattle.slice_schedule.specs.Front.{drain}
-use Rattle.schedule_run.specs.Setups.{bounds_of}
 use Rattle.schedule_run.specs.Worlds.{world_of}
 use Rattle.schedule_run.proofs.Loops.{each_more, each_done}
 use Rattle.schedule_run.proofs.front.all_drained.Goals as goal

@@ -1,7 +1,6 @@
-use Rattle.std.proofs.Common.{◌≡◌, ℕ, ◌-◌, length}
+use Rattle.std.proofs.Common.{◌≡◌, ◌-◌, length}
 use Rattle.slice_schedule.specs.Numbers.{for_each}
-use Rattle.slice_schedule.specs.Front.{drain, all_drained}
-use Rattle.schedule_run.specs.Setups.{bounds_of}
+use Rattle.slice_schedule.specs.Front.{drain}
 use Rattle.schedule_run.specs.Worlds.{world_of}
 use Rattle.schedule_run.proofs.front.all_drained.Given as goal
 

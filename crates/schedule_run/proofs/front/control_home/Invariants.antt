@@ -1,4 +1,4 @@
-use Rattle.std.proofs.Common.{◌≡◌, ℕ, drop, fold}
+use Rattle.std.proofs.Common.{◌≡◌, drop, fold}
 use Rattle.slice_schedule.specs.World.{control_at}
 use Rattle.slice_schedule.specs.Front.{control_back}
 use Rattle.schedule_run.specs.Worlds.{world_of}

@@ -1,7 +1,6 @@
-use Rattle.std.proofs.Common.{◌≡◌, ℕ, ◌-◌, length}
+use Rattle.std.proofs.Common.{◌≡◌, ◌-◌, length}
 use Rattle.slice_schedule.specs.Numbers.{for_each}
-use Rattle.slice_schedule.specs.Front.{control_home, controls_home}
-use Rattle.schedule_run.specs.Setups.{bounds_of}
+use Rattle.slice_schedule.specs.Front.{control_home}
 use Rattle.schedule_run.specs.Worlds.{world_of}
 use Rattle.schedule_run.proofs.front.controls_home.Given as goal
 

@@ -1,6 +1,5 @@
-use Rattle.std.proofs.Common.{rules, ◌≡◌, ◌∙◌, ap, length}
+use Rattle.std.proofs.Common.{rules, length}
 use Rattle.slice_schedule.specs.Front.{flow_home}
-use Rattle.schedule_run.specs.Setups.{bounds_of}
 use Rattle.schedule_run.specs.Worlds.{world_of}
 use Rattle.schedule_run.proofs.Loops.{each_more, each_done}
 use Rattle.schedule_run.proofs.front.flows_home.Goals as goal

@@ -1,4 +1,4 @@
-use Rattle.std.proofs.Common.{rules, ◌≡◌, ◌∙◌, ap, length}
+use Rattle.std.proofs.Common.{rules, length}
 use Rattle.slice_schedule.specs.Front.{flow_offer}
 use Rattle.schedule_run.specs.Setups.{bounds_of}
 use Rattle.schedule_run.specs.Worlds.{world_of}

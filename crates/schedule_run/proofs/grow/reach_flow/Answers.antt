@@ -1,4 +1,4 @@
-use Rattle.std.proofs.Common.{rules, ◌≡◌, List, [], ◌∷◌, ◌++◌, ap, ◌∙◌}
+use Rattle.std.proofs.Common.{rules, [], ◌∷◌, ◌++◌, ap, ◌∙◌}
 use Rattle.schedule_run.proofs.Grown.{grows_more, reached}
 use Rattle.schedule_run.proofs.grow.reach_flow.Goals as goal
 

@@ -1,6 +1,5 @@
-use Rattle.std.proofs.Common.{ℕ, ◌+◌, ◌-◌, length}
-use Rattle.slice_schedule.specs.Slots.{fresh_slot}
-use Rattle.slice_schedule.specs.World.{fresh_control, fresh_flow}
+use Rattle.std.proofs.Common.{◌+◌, ◌-◌, length}
+use Rattle.slice_schedule.specs.World.{fresh_flow}
 use Rattle.schedule_run.proofs.Grown.{Grows}
 use Rattle.schedule_run.proofs.grow.reach_flow.Given as goal
 

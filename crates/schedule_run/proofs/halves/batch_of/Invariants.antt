@@ -1,4 +1,4 @@
-use Rattle.std.proofs.Common.{◌≡◌, ℕ, ◌≤◌}
+use Rattle.std.proofs.Common.{◌≡◌, ◌≤◌}
 use Rattle.slice_schedule.specs.Halves.{fits}
 use Rattle.schedule_run.proofs.Prefix.{Passed}
 use Rattle.schedule_run.proofs.halves.batch_of.Given as goal

@@ -1,4 +1,4 @@
-use Rattle.std.proofs.Common.{rules, ◌≡◌, ap, ◌∙◌}
+use Rattle.std.proofs.Common.{rules, ap, ◌∙◌}
 use Rattle.schedule_run.specs.Parts.{met_behind}
 use Rattle.schedule_run.specs.contracts.slot.SlotNumbers.{the_view}
 use Rattle.schedule_run.proofs.Batches.{closed_met}

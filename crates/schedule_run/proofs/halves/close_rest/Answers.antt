@@ -1,6 +1,5 @@
-use Rattle.std.proofs.Common.{rules, ◌≡◌, ℕ, ◌+◌, ◌-◌, ◌<◌, List, [], ◌∷◌, ◌++◌, length, sym, ap, ◌∙◌, arith}
+use Rattle.std.proofs.Common.{rules, ◌≡◌, ◌+◌, ◌-◌, ◌<◌, [], ◌∷◌, ◌++◌, length, sym, ap, ◌∙◌}
 use Rattle.pc_base.specs.declared.packet.Place.TheVariants.{Closing}
-use Rattle.slice_schedule.specs.Slots.{Met}
 use Rattle.schedule_run.specs.Parts.{all_learnt, met_behind}
 use Rattle.schedule_run.proofs.Batches.{met_less}
 use Rattle.schedule_run.proofs.halves.close_rest.Goals as goal

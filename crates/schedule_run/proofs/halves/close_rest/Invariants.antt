@@ -1,4 +1,4 @@
-use Rattle.std.proofs.Common.{◌≡◌, ℕ, ◌-◌, ◌≤◌, length}
+use Rattle.std.proofs.Common.{◌≡◌, ◌-◌, ◌≤◌, length}
 use Rattle.schedule_run.specs.Parts.{met_behind}
 use Rattle.schedule_run.proofs.halves.close_rest.Given as goal
 

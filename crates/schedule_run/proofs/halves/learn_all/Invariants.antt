@@ -1,4 +1,4 @@
-use Rattle.std.proofs.Common.{◌≡◌, ℕ, ◌+◌, nat_le, drop}
+use Rattle.std.proofs.Common.{◌≡◌, ◌+◌, nat_le, drop}
 use Rattle.slice_schedule.specs.Slots.{CommandTags}
 use Rattle.schedule_run.proofs.Prefix.{Passed}
 use Rattle.schedule_run.proofs.halves.learn_all.Given as goal

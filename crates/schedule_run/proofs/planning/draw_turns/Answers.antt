@@ -1,4 +1,4 @@
-use Rattle.std.proofs.Common.{rules, ◌≡◌, ℕ, ◌*◌}
+use Rattle.std.proofs.Common.{rules, ◌≡◌, ◌*◌}
 use Rattle.slice_schedule.specs.Turns.{drawn_of}
 use Rattle.schedule_run.specs.Worlds.{world_of}
 use Rattle.schedule_run.proofs.Epochs.{drawing_more}

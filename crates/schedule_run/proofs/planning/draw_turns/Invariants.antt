@@ -1,4 +1,4 @@
-use Rattle.std.proofs.Common.{◌≡◌, ℕ, ◌*◌}
+use Rattle.std.proofs.Common.{◌*◌}
 use Rattle.schedule_run.specs.Worlds.{world_of}
 use Rattle.schedule_run.proofs.Epochs.{Drawing}
 use Rattle.schedule_run.proofs.planning.draw_turns.Given as goal

@@ -1,4 +1,4 @@
-use Rattle.std.proofs.Common.{◌≡◌, ap, ◌∙◌}
+use Rattle.std.proofs.Common.{ap, ◌∙◌}
 use Rattle.slice_schedule.specs.World.{World}
 use Rattle.slice_schedule.specs.Front.{Done, line_done}
 use Rattle.slice_schedule.specs.Schedule.{turned_all}

@@ -1,4 +1,4 @@
-use Rattle.std.proofs.Common.{rules, ◌≡◌, List, drop, ap}
+use Rattle.std.proofs.Common.{rules, List, drop, ap}
 use Rattle.slice_schedule.specs.World.{World, FlowNow, fresh_flow}
 use Rattle.schedule_run.proofs.Grown.{changed_within}
 use Rattle.schedule_run.proofs.sides.take_flow.Goals as goal

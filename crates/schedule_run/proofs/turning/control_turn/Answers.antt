@@ -1,4 +1,4 @@
-use Rattle.std.proofs.Common.{◌≡◌, ℕ, ap, ◌∙◌}
+use Rattle.std.proofs.Common.{ap, ◌∙◌}
 use Rattle.slice_schedule.specs.World.{World, ControlNow, on_control}
 use Rattle.slice_schedule.specs.ControlTurns.{told}
 use Rattle.schedule_run.specs.Numbers.{control_order}

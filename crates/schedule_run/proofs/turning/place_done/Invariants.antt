@@ -1,4 +1,4 @@
-use Rattle.std.proofs.Common.{◌≡◌, ℕ, [], ◌==◌, not}
+use Rattle.std.proofs.Common.{◌≡◌, []}
 use Rattle.slice_schedule.specs.ControlTurns.{stays}
 use Rattle.schedule_run.proofs.Prefix.{Passed}
 use Rattle.schedule_run.proofs.turning.place_done.Given as goal

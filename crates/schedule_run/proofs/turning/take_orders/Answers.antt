@@ -1,4 +1,4 @@
-use Rattle.std.proofs.Common.{rules, ◌≡◌, refl}
+use Rattle.std.proofs.Common.{rules, refl}
 use Rattle.slice_schedule.specs.FlowTurns.{doing, order_step, take_orders}
 use Rattle.schedule_run.specs.Worlds.{world_of, going_of}
 use Rattle.schedule_run.proofs.Loops.{times_more, times_done}

@@ -1,4 +1,4 @@
-use Rattle.std.proofs.Common.{◌≡◌, ℕ, ◌-◌}
+use Rattle.std.proofs.Common.{◌≡◌, ◌-◌}
 use Rattle.slice_schedule.specs.Numbers.{times}
 use Rattle.slice_schedule.specs.FlowTurns.{doing, order_step, take_orders}
 use Rattle.schedule_run.specs.Worlds.{world_of, going_of}

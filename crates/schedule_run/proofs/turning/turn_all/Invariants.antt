@@ -1,4 +1,4 @@
-use Rattle.std.proofs.Common.{◌≡◌, ℕ, drop, fold}
+use Rattle.std.proofs.Common.{◌≡◌, drop, fold}
 use Rattle.slice_schedule.specs.Schedule.{turned}
 use Rattle.schedule_run.specs.Worlds.{world_of}
 use Rattle.schedule_run.proofs.turning.turn_all.Given as goal

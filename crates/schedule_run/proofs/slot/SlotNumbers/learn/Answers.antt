@@ -1,4 +1,4 @@
-use Rattle.std.proofs.Common.{◌≡◌, ℕ, ◌+◌, ◌-◌, refl, sym, ap, ◌∙◌, arith}
+use Rattle.std.proofs.Common.{◌≡◌, ◌+◌, ◌-◌, refl, sym, ap, ◌∙◌, arith}
 use Rattle.slice_schedule.specs.Numbers.{times}
 use Rattle.slice_schedule.specs.Halves.{learn_one, learn}
 use Rattle.schedule_run.proofs.Loops.{times_less}

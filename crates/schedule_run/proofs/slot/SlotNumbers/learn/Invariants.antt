@@ -1,4 +1,4 @@
-use Rattle.std.proofs.Common.{◌≡◌, ℕ, ◌-◌}
+use Rattle.std.proofs.Common.{◌≡◌, ◌-◌}
 use Rattle.slice_schedule.specs.Numbers.{times}
 use Rattle.slice_schedule.specs.Halves.{learn_one, learn}
 use Rattle.schedule_run.proofs.slot.SlotNumbers.learn.Given as goal

@@ -1,4 +1,4 @@
-use Rattle.std.proofs.Common.{rules, ◌≡◌, length, set, ap, ◌∙◌, arith}
+use Rattle.std.proofs.Common.{length, set, ap, ◌∙◌, arith}
 use Rattle.slice_schedule.specs.World.{ControlNow}
 use Rattle.slice_schedule.specs.ControlTurns.{marked}
 use Rattle.schedule_run.proofs.Edited.{mapped_more}

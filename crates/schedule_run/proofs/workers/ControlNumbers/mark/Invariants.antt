@@ -1,4 +1,4 @@
-use Rattle.std.proofs.Common.{◌≡◌, ℕ, ◌++◌, map, take, drop}
+use Rattle.std.proofs.Common.{◌≡◌, ◌++◌, map, take, drop}
 use Rattle.slice_schedule.specs.ControlTurns.{marked}
 use Rattle.schedule_run.proofs.workers.ControlNumbers.mark.Given as goal
 

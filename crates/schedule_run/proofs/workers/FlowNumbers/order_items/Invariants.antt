@@ -1,4 +1,4 @@
-use Rattle.std.proofs.Common.{◌≡◌, ℕ, ◌++◌, replicate}
+use Rattle.std.proofs.Common.{◌≡◌, ◌++◌, replicate}
 use Rattle.slice_schedule.specs.World as world
 use Rattle.schedule_run.proofs.workers.FlowNumbers.order_items.Given as goal
 
