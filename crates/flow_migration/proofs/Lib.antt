@@ -1,9 +1,12 @@
 pub mod Desks
 pub mod Keeps
+pub mod Listings
+pub mod Marks
 pub mod Passes
 pub mod Pumps
 pub mod Queues
 pub mod Returns
+pub mod Rising
 pub mod Shortened
 pub mod Sides
 pub mod Slots

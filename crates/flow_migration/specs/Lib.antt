@@ -1,4 +1,5 @@
 pub mod Desks
+pub mod Due
 pub mod Keeps
 pub mod Places
 pub mod Pumps

@@ -100,6 +100,11 @@ module _ {H I : Type 0} where
   parks_at None = false
   parks_at (Some place) = place.moved && (not (is_placed place.state) || not (nat_eq (length place.queue.items) 0))
 
+  -- something is still to be done for a slot: its half isn't placed, or items wait for it
+  abbrev pub is_busy : Option (FlowPlace H I) → Bool
+  is_busy None = false
+  is_busy (Some place) = not (is_placed place.state) || not (nat_eq (length place.queue.items) 0)
+
   abbrev pub waits_at : Option (FlowPlace H I) → Option ℕ
   waits_at None = None
   waits_at (Some place) = waits_for place.state

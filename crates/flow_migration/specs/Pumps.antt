@@ -1,5 +1,5 @@
 -- What pumping makes of the state of each slot, and which halves it keeps aside.
-use Rattle.std.specs.Prelude.{◌≡◌, ℕ, ◌⊎◌, true, List, [], ◌∷◌, ◌++◌, Option, Some, None}
+use Rattle.std.specs.Prelude.{◌≡◌, ◌≢◌, ℕ, ◌⊎◌, true, List, [], ◌∷◌, ◌++◌, Option, Some, None}
 use Rattle.flow_migration.specs.declared.place.FlowPlace.{FlowPlace}
 use Rattle.flow_migration.specs.declared.place.FlowState.{FlowState}
 use Rattle.flow_migration.specs.declared.place.FlowState.TheVariants.{Front, Placed, Recall, Leaving}
@@ -40,6 +40,10 @@ module _ {H I : Type 0} where
   abbrev pub EachState : (FlowState H → FlowState H → Type 0) → List (Option (FlowPlace H I))
       → List (Option (FlowPlace H I)) → Type 0
   EachState Step places new = (slot : ℕ) → AtState Step (state_at (place_at places slot)) (state_at (place_at new slot))
+
+-- no slot is leaving a slice
+abbrev pub NoneLeaves : {H I : Type 0} → ℕ → List (Option (FlowPlace H I)) → Type 0
+NoneLeaves slice places = (slot : ℕ) → leaves (state_at (place_at places slot)) ≢ Some slice
 
 module _ {H I : Type 0} (slot_of : H → ℕ) (places new_places : List (Option (FlowPlace H I))) where
   -- a half that is kept aside behind others: where its slot was leaving the slice that it came from, one came home

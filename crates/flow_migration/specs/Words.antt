@@ -43,6 +43,10 @@ module _ {H N I : Type 0} {g : Ghosts H N I} where
   abbrev pub aside_of : FlowSide H N I g → List (HalfAside H)
   aside_of side = side.aside.items
 
+  -- the slots for which something is still to be done
+  abbrev pub due_of : FlowSide H N I g → List ℕ
+  due_of side = side.due.items
+
   -- how many items wait in a queue, at most
   abbrev pub queue_room_of : FlowSide H N I g → ℕ
   queue_room_of side = side.room

@@ -4,6 +4,7 @@
 //! move, and what a half does with an item, is left to others.
 #![tactic(auto)]
 
+mod due;
 mod place;
 mod side;
 mod steps;

@@ -3,12 +3,13 @@ ghost use Rattle.std.specs.Prelude.{◌≡◌, ◌≤◌, ◌<◌, ◌+◌, ◌*
 ghost use Rattle.std.specs.Prelude.{false, [], length, vec_len, vec_capacity, count_by, OnOk, OnErr, IfErr};
 ghost use Rattle.std.specs.List.{sum_by};
 ghost use Rattle.worker_core.specs.Workers.{IsNewDesk};
+ghost use Rattle.flow_migration.specs.Due.{is_among, Lists};
 ghost use Rattle.flow_migration.specs.Places.{names_of, Fits};
 ghost use Rattle.flow_migration.specs.Sides.{AllKnown, Balanced, BySlot, IsFlowSide};
 ghost use Rattle.flow_migration.specs.Steps.{asked_after, refused_after};
 
 use crate::place::{FlowNo, FlowPlace, FlowState, HalfAside};
-use crate::steps;
+use crate::{due, steps};
 use flow_core::{Flow, FlowDesk};
 use lane_core::NoMemory;
 use pc_base::{SliceNo, Slot};
@@ -30,6 +31,8 @@ pub struct FlowSide<H: Flow> {
     places: Vec<Option<FlowPlace<H>>>,
     /// Halves that came home though nobody had told them to.
     aside: Vec<HalfAside<H>>,
+    /// The slots for which something is still to be done, by slot: their half isn't placed, or items wait for it.
+    due: Vec<Slot>,
     /// How many items wait in a queue, at most.
     room: usize,
     admitted: usize,
@@ -38,6 +41,8 @@ pub struct FlowSide<H: Flow> {
     ghost laid: { IsFlowSide H.name H.slot_at H.item_slot H.handled places.items aside.items desks.items
         room admitted asked },
     ghost aside_room: { admitted ≤ vec_capacity aside },
+    ghost listed: { Lists places.items due.items },
+    ghost due_room: { length places.items ≤ vec_capacity due },
 }
 
 /// What is left of a side that stopped.
@@ -60,11 +65,11 @@ impl<H: Flow> FlowSide<H> {
     ghost use Rattle.flow_migration.specs.Places.{place_at, is_admitted, parks_at, waits_at, state_at, accepted_count};
     ghost use Rattle.flow_migration.specs.Steps.{Served, Drained, Moved, Gave, AtSlot};
     ghost use Rattle.worker_core.specs.BySlot.{Grown};
-    ghost use Rattle.flow_migration.specs.Pumps.{EachState, Pumps, IsOffered, KeepsAside, TakesHome};
+    ghost use Rattle.flow_migration.specs.Pumps.{EachState, Pumps, IsOffered, KeepsAside, TakesHome, NoneLeaves};
     ghost use Rattle.flow_migration.specs.Queues.{EachShortens, QueuesStay};
     ghost use Rattle.flow_migration.specs.Sides.{AllMetFull, QueuesMetFull};
     ghost use Rattle.worker_core.specs.Homes.{HomeEnded};
-    ghost use Rattle.flow_migration.specs.Words.{desks_of, places_of, aside_of, queue_room_of, admitted_of, asked_of};
+    ghost use Rattle.flow_migration.specs.Words.{desks_of, places_of, aside_of, due_of, queue_room_of, admitted_of, asked_of};
     ghost use Rattle.flow_migration.specs.Words.{refused_of, roll_of, accepts_of};
     ghost use Rattle.flow_migration.specs.Words.{MetFull, Enters, Admits};
     ghost use Rattle.worker_core.specs.Homes.{TookOne};
@@ -85,6 +90,7 @@ impl<H: Flow> FlowSide<H> {
             desks,
             places: Vec::new(alloc),
             aside: Vec::new(alloc),
+            due: Vec::new(alloc),
             room: room as usize,
             admitted: 0,
             asked: 0,
@@ -139,10 +145,13 @@ impl<H: Flow> FlowSide<H> {
     {
         self.asked += 1;
         steps::go_at(rt, &mut self.desks, &mut self.places, slot, slice);
+        let busy = due::is_busy(&self.places, slot);
+        due::list(&mut self.due, slot, busy);
     }
 
-    /// Takes home what came, at most 64 halves of each slice; then gives each order that waits, by slot;
-    /// and then sends what waits in the queues of placed slots, by slot.
+    /// Takes home what came, at most 64 halves of each slice that a slot is leaving; then gives each order
+    /// that waits, by slot; and then sends what waits in the queues of placed slots, by slot. It looks at those
+    /// slots alone for which something is still to be done.
     pub fn pump<R: Wait>(&mut self, rt: &R)
         ensures roll { roll_of H.name self.new ≡ roll_of H.name self.old }
         ensures room { queue_room_of self.new ≡ queue_room_of self.old }
@@ -157,12 +166,12 @@ impl<H: Flow> FlowSide<H> {
         ensures aside { KeepsAside (λ half. H.slot_at (H.name half)) (places_of self.old) (places_of self.new)
             (aside_of self.old) (aside_of self.new) }
 
-        // What waits on met a full lane, and no more came home than may at once.
+        // What waits on met a full lane, and no more came home than may at once, or none was on its way.
         ensures full { AllMetFull (places_of self.new) (desks_of self.old) (desks_of self.new) }
         ensures queues { QueuesMetFull (places_of self.new) (desks_of self.old) (desks_of self.new) }
         ensures home { (slice : ℕ) → slice < length (desks_of self.old)
             → HomeEnded (length (aside_of self.new)) (admitted_of self.new) slice (desks_of self.old)
-            (desks_of self.new) }
+            (desks_of self.new) ⊎ NoneLeaves slice (places_of self.old) }
     {
         self.take_all(rt);
         self.serve_all(rt);
@@ -249,15 +258,17 @@ impl<H: Flow> FlowSide<H> {
         }
     }
 
-    // Room for the place of a slot, and for one more half aside.
+    // Room for the place of a slot, in the list of those that are due too, and for one more half aside.
     fn make_room(&mut self, slot: Slot) -> Result<(), NoMemory>
         ensures grown { Grown (places_of self.old) (places_of self.new) }
         ensures desks { desks_of self.new ≡ desks_of self.old }
+        ensures due { due_of self.new ≡ due_of self.old }
         ensures counts { (admitted_of self.new ≡ admitted_of self.old) × (asked_of self.new ≡ asked_of self.old)
             × (refused_of self.new ≡ refused_of self.old) × (queue_room_of self.new ≡ queue_room_of self.old) }
         ensures enough { OnOk result ((slot < vec_len self.new.places)
             × (admitted_of self.new < vec_capacity self.new.aside)) }
     {
+        widen(&mut self.due, slot.0 as usize + 1)?;
         grow(&mut self.places, slot.0 as usize + 1)?;
         widen(&mut self.aside, self.admitted + 1)
     }
@@ -275,6 +286,7 @@ impl<H: Flow> FlowSide<H> {
         ensures desks { desks_of self.new ≡ desks_of self.old }
         ensures counts { (asked_of self.new ≡ asked_of self.old + 1) × (refused_of self.new ≡ refused_of self.old)
             × (queue_room_of self.new ≡ queue_room_of self.old) }
+        ensures due { is_among slot (due_of self.new) ≡ true }
     {
         self.asked += 1;
         self.admitted += 1;
@@ -286,11 +298,13 @@ impl<H: Flow> FlowSide<H> {
             accepted: Log::new(),
         };
         steps::put(&mut self.places, slot, place);
+        due::list(&mut self.due, slot, true);
     }
 
     // Offers the order that a slot waits to give.
     fn serve<R: Wait>(&mut self, rt: &R, slot: Slot)
-        requires { slot < vec_len self.old.places }
+        requires { is_among slot (due_of self.old) ≡ true }
+        ensures due { due_of self.new ≡ due_of self.old }
         ensures served { AtSlot (Served (λ half. H.slot_at (H.name half)) H.item_slot H.handled slot) slot
             (places_of self.old) (places_of self.new) (desks_of self.old) (desks_of self.new) }
         ensures roll { roll_of H.name self.new ≡ roll_of H.name self.old }
@@ -302,7 +316,8 @@ impl<H: Flow> FlowSide<H> {
 
     // Sends what waits in the queue of a slot.
     fn drain<R: Wait>(&mut self, rt: &R, slot: Slot)
-        requires { slot < vec_len self.old.places }
+        requires { is_among slot (due_of self.old) ≡ true }
+        ensures due { due_of self.new ≡ due_of self.old }
         ensures drained { AtSlot (Drained (λ half. H.slot_at (H.name half)) H.item_slot H.handled slot) slot
             (places_of self.old) (places_of self.new) (desks_of self.old) (desks_of self.new) }
         ensures roll { roll_of H.name self.new ≡ roll_of H.name self.old }
@@ -322,12 +337,13 @@ impl<H: Flow> FlowSide<H> {
         ensures full { AllMetFull (places_of self.new) (desks_of self.old) (desks_of self.new) }
         ensures lasts { (slice : ℕ) → Lasts (fulls_at (desks_of self.old) slice) (fulls_at (desks_of self.new) slice) }
     {
-        for slot in 0..self.places.len() {
-            self.serve(rt, Slot(slot as u32));
+        for at in 0..self.due.len() {
+            let slot = self.due[at];
+            self.serve(rt, slot);
         }
     }
 
-    // Sends what waits in the queues, by slot.
+    // Sends what waits in the queues, by slot, and drops from the list those slots that are due no more.
     fn drain_all<R: Wait>(&mut self, rt: &R)
         ensures roll { roll_of H.name self.new ≡ roll_of H.name self.old }
         ensures aside { aside_of self.new ≡ aside_of self.old }
@@ -340,22 +356,43 @@ impl<H: Flow> FlowSide<H> {
         ensures queues { QueuesMetFull (places_of self.new) (desks_of self.old) (desks_of self.new) }
         ensures lasts { (slice : ℕ) → Lasts (fulls_at (desks_of self.old) slice) (fulls_at (desks_of self.new) slice) }
     {
-        for slot in 0..self.places.len() {
-            self.drain(rt, Slot(slot as u32));
+        for at in 0..self.due.len() {
+            let slot = self.due[at];
+            self.drain(rt, slot);
         }
+        due::keep_busy(&mut self.due, &self.places);
     }
 
-    // Takes home what came, from each slice.
+    // Takes home what came, from each slice that a slot is leaving.
     fn take_all<R: Wait>(&mut self, rt: &R)
         ensures roll { roll_of H.name self.new ≡ roll_of H.name self.old }
         ensures takes { TakesHome (λ half. H.slot_at (H.name half)) (places_of self.old)
             (places_of self.new) (aside_of self.old) (aside_of self.new) }
         ensures home { (slice : ℕ) → slice < length (desks_of self.old)
             → HomeEnded (length (aside_of self.new)) (admitted_of self.new) slice (desks_of self.old)
-            (desks_of self.new) }
+            (desks_of self.new) ⊎ NoneLeaves slice (places_of self.old) }
         ensures fulls { (slice : ℕ) → fulls_at (desks_of self.new) slice ≡ fulls_at (desks_of self.old) slice }
     {
+        let marks = due::leaving(&self.places, &self.due);
         for slice in 0..self.desks.len() {
+            let marked = due::is_marked(&marks, slice);
+            self.take_marked(rt, slice, marked);
+        }
+    }
+
+    // Takes home what came from a slice, if it is marked.
+    fn take_marked<R: Wait>(&mut self, rt: &R, slice: usize, marked: bool)
+        requires { slice < vec_len self.old.desks }
+        ensures roll { roll_of H.name self.new ≡ roll_of H.name self.old }
+        ensures takes { TakesHome (λ half. H.slot_at (H.name half)) (places_of self.old)
+            (places_of self.new) (aside_of self.old) (aside_of self.new) }
+        ensures len { vec_len self.new.desks ≡ vec_len self.old.desks }
+        ensures took { marked ≡ true → TookFrom slice (admitted_of self.new) (aside_of self.old) (aside_of self.new)
+            (desks_of self.old) (desks_of self.new) }
+        ensures none { marked ≡ false → (aside_of self.new ≡ aside_of self.old)
+            × (desks_of self.new ≡ desks_of self.old) }
+    {
+        if marked {
             self.take_from(rt, slice);
         }
     }

@@ -8,7 +8,7 @@ ghost use Rattle.flow_core.specs.Orders.{MayFollow, stands};
 ghost use Rattle.flow_migration.specs.declared.place.FlowState.TheVariants.{Placed};
 ghost use Rattle.worker_core.specs.Desks.{Given, Refused, order_count, sent_at};
 ghost use Rattle.flow_migration.specs.Places.{at_end, to_end, is_placed, is_settled};
-ghost use Rattle.flow_migration.specs.Places.{parks_at, place_at, is_admitted, Fits};
+ghost use Rattle.flow_migration.specs.Places.{parks_at, is_busy, place_at, is_admitted, Fits};
 ghost use Rattle.flow_migration.specs.Places.{accepted_by};
 ghost use Rattle.flow_migration.specs.Keeps.{MayGive, IsReady};
 ghost use Rattle.flow_migration.specs.Sides.{is_lost};
@@ -242,11 +242,18 @@ fn placed<H>(state: &FlowState<H>) -> bool
     }
 }
 
+// Whether something is still to be done for a place.
+pub fn busy<H: Flow>(place: &FlowPlace<H>) -> bool
+    ensures { result ≡ is_busy (Some place.now) }
+{
+    !placed(&place.state) || !place.queue.is_empty()
+}
+
 // Whether an item of a place goes to its queue.
 pub fn parks<H: Flow>(place: &FlowPlace<H>) -> bool
     ensures { result ≡ parks_at (Some place.now) }
 {
-    place.moved && (!placed(&place.state) || !place.queue.is_empty())
+    place.moved && busy(place)
 }
 
 // Puts an item last into a queue of at most so many.

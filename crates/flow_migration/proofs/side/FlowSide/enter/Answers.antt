@@ -1,5 +1,8 @@
-use Rattle.std.proofs.Common.{rules, refl, arith}
+use Rattle.std.proofs.Common.{rules, ◌∙◌, ◌<◌, true, Some, length, refl, ap, arith}
+use Rattle.std.proofs.lemmas.List.{length-set}
 use Rattle.flow_migration.proofs.Sides.{entered_side, stands_at_front}
+use Rattle.flow_migration.proofs.Rising.{room_more}
+use Rattle.flow_migration.proofs.Listings.{lists_joined}
 use Rattle.flow_migration.proofs.side.FlowSide.enter.Goals as goal
 
 pub returns-clause-enters : goal.returns-clause-enters
@@ -16,4 +19,26 @@ invariant_of-self g c = record {
       (stands_at_front c.args.slot c.args.slice c.args.moved c.args.half c.args.self.now.places.items _ _
       c.put.ensures (search rules) refl refl (search rules) (search rules));
   aside_room = search rules;
+  listed =
+      let within : c.args.slot < length c.args.self.now.places.items =
+      (let a = c.args.self.now.places.ok in let b = c.requires.within in omega arith) in
+      lists_joined c.args.self.now.places.items c.put.new.places.items _ c.args.slot true
+      c.args.self.now.due.items c.list.new.due.items within c.put.ensures c.args.self.now.listed (λ is. refl)
+      (c.list.ensures.joins (length c.args.self.now.places.items) within c.args.self.now.listed.rising);
+  due_room =
+      let n = ap length c.put.ensures ∙ length-set c.args.self.now.places.items c.args.slot _ in
+      let room = c.args.self.now.due_room in let more = c.list.ensures.room in omega arith;
 }
+
+pub returns-clause-due : goal.returns-clause-due
+returns-clause-due g c =
+    (c.list.ensures.joins (length c.args.self.now.places.items)
+    (let a = c.args.self.now.places.ok in let b = c.requires.within in omega arith)
+    c.args.self.now.listed.rising).here refl
+
+pub list-requires : goal.list-requires
+list-requires g c = λ none.
+    let more = room_more c.args.slot (length c.args.self.now.places.items) c.args.self.now.due.items
+    c.args.self.now.listed.rising (let a = c.args.self.now.places.ok in let b = c.requires.within in omega arith)
+    none in
+    let room = c.args.self.now.due_room in let long = c.args.self.now.due.ok in omega arith

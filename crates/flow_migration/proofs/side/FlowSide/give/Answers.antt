@@ -1,9 +1,11 @@
-use Rattle.std.proofs.Common.{rules, ◌≡◌, ◌∙◌, true, sym, subst}
+use Rattle.std.proofs.Common.{rules, ◌≡◌, ◌∙◌, true, length, sym, ap, subst, arith}
+use Rattle.std.proofs.lemmas.List.{length-set}
 use Rattle.flow_migration.specs.Places.{place_at, is_admitted}
 use Rattle.flow_migration.specs.Steps.{AtSlot, Gave}
 use Rattle.flow_migration.specs.Sides.{IsFlowSide}
 use Rattle.flow_migration.proofs.Sides.{ready, admitted_within, fits_here}
 use Rattle.flow_migration.proofs.Passes.{gave_still, gave_full}
+use Rattle.flow_migration.proofs.Listings.{lists_quiet, gave_busy}
 use Rattle.flow_migration.proofs.side.FlowSide.give.Goals as goal
 
 pub give_at-answer-requires-clause-within : goal.give_at-answer-requires-clause-within
@@ -70,6 +72,14 @@ invariant_of-self g c = record {
       c.give_at-answer.result _ _ c.slot_of-slot.result _ _ _ _ _ _ c.args.self.now.laid c.requires.asked
       c.give_at-answer.ensures).side;
   aside_room = search rules;
+  listed = let at = c.give_at-answer.ensures in lists_quiet _ _ at.0 c.slot_of-slot.result c.args.self.now.due.items
+      at.1 at.2 c.args.self.now.listed
+      (gave_busy (λ half. g.H.Flow.slot_at (g.H.Flow.name half)) g.H.Flow.item_slot g.H.Flow.handled
+      c.slot_of-slot.result c.args.self.now.room c.args.item c.give_at-answer.result _ at.0 _ _ at.3);
+  due_room =
+      let at = c.give_at-answer.ensures in
+      let n = ap length at.2 ∙ length-set c.args.self.now.places.items c.slot_of-slot.result at.0 in
+      let room = c.args.self.now.due_room in omega arith;
 }
 
 pub returns-clause-gives : goal.returns-clause-gives

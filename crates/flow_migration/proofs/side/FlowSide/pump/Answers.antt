@@ -1,4 +1,4 @@
-use Rattle.std.proofs.Common.{◌∙◌, ap, sym, subst}
+use Rattle.std.proofs.Common.{◌∙◌, inl, inr, ap, sym, subst}
 use Rattle.flow_migration.specs.Pumps.{KeepsAside}
 use Rattle.flow_migration.specs.Places.{place_at}
 use Rattle.flow_migration.specs.Words.{Roll}
@@ -32,7 +32,10 @@ returns-clause-home g c = λ slice within.
     let homes = c.drain_all.ensures.homes ∙ c.serve_all.ensures.homes in
     let aside = c.drain_all.ensures.aside ∙ c.serve_all.ensures.aside in
     let admitted = ap (λ (r : Roll _ _). r.admitted) (c.drain_all.ensures.roll ∙ c.serve_all.ensures.roll) in
-    ended_since _ _ _ _ slice _ _ _ homes aside admitted (c.take_all.ensures.home slice within)
+    elim (c.take_all.ensures.home slice within) [
+      | inl ended ↦ inl (ended_since _ _ _ _ slice _ _ _ homes aside admitted ended)
+      | inr none ↦ inr none
+    ]
 
 pub returns-clause-drains : goal.returns-clause-drains
 returns-clause-drains g c = pump_shortens c.args.self.now.places.items c.take_all.new.self.places.items

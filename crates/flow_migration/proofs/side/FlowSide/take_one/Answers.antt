@@ -1,12 +1,15 @@
-use Rattle.std.proofs.Common.{rules, ◌≡◌, ◌∙◌, inl, inr, List, Option, Some, refl, sym, ap, subst, map, arith}
+use Rattle.std.proofs.Common.{rules, ◌≡◌, ◌∙◌, inl, inr, List, Option, Some, length, refl, sym, ap, subst, map, arith}
+use Rattle.std.proofs.lemmas.List.{length-set}
 use Rattle.flow_migration.specs.declared.place.FlowPlace.{FlowPlace}
 use Rattle.flow_migration.specs.Places.{place_at, state_at, leaves, accepted_at, moved_at, names_of}
+use Rattle.flow_migration.specs.Due.{Lists}
 use Rattle.flow_migration.specs.Pumps.{TakesHome}
 use Rattle.flow_migration.specs.Sides.{is_lost, IsFlowSide}
 use Rattle.worker_core.proofs.AtDesks.{changed_lanes}
 use Rattle.worker_core.proofs.Homes.{took_half, took_none, took_full}
 use Rattle.flow_migration.proofs.Returns.{came_home, kept_aside, none_home, welcomed_lists}
 use Rattle.flow_migration.proofs.Passes.{roll_same}
+use Rattle.flow_migration.proofs.Listings.{lists_quiet, welcomed_busy}
 use Rattle.flow_migration.proofs.Pumps.{takes_none, takes_welcome, takes_aside}
 use Rattle.flow_migration.proofs.side.FlowSide.take_one.Goals as goal
 
@@ -15,6 +18,8 @@ invariant_of-self-in_default g c = record {
   laid = none_home g.H.Flow.name g.H.Flow.slot_at g.H.Flow.item_slot g.H.Flow.handled _ c.args.slice _ _ _ _ _ _
       c.args.self.now.laid c.in_default.ensures.taken;
   aside_room = search rules;
+  listed = c.args.self.now.listed;
+  due_room = c.args.self.now.due_room;
 }
 
 pub returns-in_default-clause-roll : goal.returns-in_default-clause-roll
@@ -36,6 +41,9 @@ invariant_of-self-in-Some-welcome_at g c = record {
       c.in-Some-welcome_at.ensures.0 refl c.push_reserved.ensures.items
       (let a = c.args.self.now.aside.ok in omega arith));
   aside_room = search rules;
+  listed = subst (λ (l : List (Option (FlowPlace _ _))). Lists l c.args.self.now.due.items)
+      (sym c.in-Some-welcome_at.ensures.1) c.args.self.now.listed;
+  due_room = let n = ap length c.in-Some-welcome_at.ensures.1 in let room = c.args.self.now.due_room in omega arith;
 }
 
 pub invariant_of-self-in-None : goal.invariant_of-self-in-None
@@ -51,6 +59,13 @@ invariant_of-self-in-None g c =
           (ap (λ f. is_lost f c.slot-slot.result c.args.self.now.aside.items) (λ i x. laws.half_slots x i)
           ∙ ap (is_lost g.H.FlowKind.slot_of_half c.slot-slot.result) (sym same) ∙ w.2) w.3 w.4;
       aside_room = search rules;
+      listed = lists_quiet c.args.self.now.places.items _ w.0 c.slot-slot.result c.args.self.now.due.items w.1 w.3
+          c.args.self.now.listed
+          (λ busy. welcomed_busy (λ half. g.H.Flow.slot_at (g.H.Flow.name half)) g.H.Flow.item_slot g.H.Flow.handled
+          c.slot-slot.result c.in-Some.half c.args.slice _ w.0 w.4);
+      due_room =
+          let n = ap length w.3 ∙ length-set c.args.self.now.places.items c.slot-slot.result w.0 in
+          let room = c.args.self.now.due_room in omega arith;
     }
 
 pub returns-in-Some-welcome_at-clause-roll : goal.returns-in-Some-welcome_at-clause-roll
