@@ -295,7 +295,7 @@ module _ (commands : List (Bor CommandKind)) (packets : List Placed) (slot : ℕ
       → to ≡ from + min (p.commands - done) (length commands - from) → index < length packets
       → p ≡ get_or packets index p → GoesAt subscriber replayed done from index → PlaysPart subscriber replayed mid between from to
       → ((now : List Event) → Plays mid between slot before now
-      → Plays new after slot before (now ++ event.Packet (numbered mid.packets p.packet.now) ∷ []))
+      → Plays new after slot before (now ++ event.Packet (numbered mid.packets p.packet) ∷ []))
       → GoesAt new after p.commands to (index + 1)
   goes_step subscriber mid new replayed between after done from to index p is within item goes part packet =
       let here = at_packet subscriber replayed done from index p within item goes in

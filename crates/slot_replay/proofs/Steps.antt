@@ -190,17 +190,17 @@ on_ok (Err e) then is = is
 
 -- the packets behind one more
 pub late_next : (packets : List Placed) (k : ℕ) (p : Placed) (least now : ℕ) → k < length packets
-    → p ≡ get_or packets k p → now ≡ p.packet.now.moment → AreLate least (drop k packets)
+    → p ≡ get_or packets k p → now ≡ p.packet.moment → AreLate least (drop k packets)
     → AreLate now (drop (k + 1) packets)
 late_next packets k p least now low is at late =
-    subst (λ m. AreLate m (drop (k + 1) packets)) (sym (at ∙ ap (λ (x : Placed). x.packet.now.moment) is))
+    subst (λ m. AreLate m (drop (k + 1) packets)) (sym (at ∙ ap (λ (x : Placed). x.packet.moment) is))
     ((subst (AreLate least) (drop_more packets k p low) late).1)
 
 pub latest_next : (packets : List Placed) (k : ℕ) (p : Placed) (least now : ℕ) → k < length packets
-    → p ≡ get_or packets k p → now ≡ p.packet.now.moment
+    → p ≡ get_or packets k p → now ≡ p.packet.moment
     → latest_of now (drop (k + 1) packets) ≡ latest_of least (drop k packets)
 latest_next packets k p least now low is at =
-    ap (λ m. latest_of m (drop (k + 1) packets)) (at ∙ ap (λ (x : Placed). x.packet.now.moment) is)
+    ap (λ m. latest_of m (drop (k + 1) packets)) (at ∙ ap (λ (x : Placed). x.packet.moment) is)
     ∙ sym (ap (latest_of least) (drop_more packets k p low))
 
 pub latest_over : (packets : List Placed) (k latest whole : ℕ) → length packets ≤ k

@@ -27,7 +27,7 @@ abbrev pub commands_lent : List (Bor CommandKind) → List CommandKind
 commands_lent commands = map (λ (command : Bor CommandKind). command.now) commands
 
 abbrev pub placed_so : Placed → accepted.Placed
-placed_so placed = record { commands = placed.commands; packet = placed.packet.now }
+placed_so placed = record { commands = placed.commands; packet = placed.packet }
 
 abbrev pub placed_lent : List Placed → List accepted.Placed
 placed_lent packets = map placed_so packets
@@ -46,12 +46,12 @@ events_of before commands packets = ordered (length (commands_of before)) (lengt
 abbrev pub AreLate : ℕ → List Placed → Type 0
 AreLate least [] = Unit {0}
 AreLate least (first ∷ packets) =
-    (least ≤ first.packet.now.moment) × AreLate first.packet.now.moment packets
+    (least ≤ first.packet.moment) × AreLate first.packet.moment packets
 
 -- the moment of the last of them, or this one
 abbrev pub latest_of : ℕ → List Placed → ℕ
 latest_of latest [] = latest
-latest_of latest (first ∷ packets) = latest_of first.packet.now.moment packets
+latest_of latest (first ∷ packets) = latest_of first.packet.moment packets
 
 -- the moment of a subscriber's last packet, or 0
 abbrev pub moment_of : SubscriberState → ℕ

@@ -4,9 +4,9 @@ use pc_base::Place;
 
 /// An accepted packet: how many commands of its slot stand before it, from the first one ever on, and
 /// where it is handled.
-#[derive(Clone, Copy)]
-pub struct Placed<'p, 'a> {
+#[derive(Drop)]
+pub struct Placed<'a> {
     pub commands: u64,
     pub place: Place,
-    pub packet: &'p LentPacket<'a>,
+    pub packet: LentPacket<'a>,
 }

@@ -41,7 +41,7 @@ pub fn replay<'a>(
     alloc: Global,
     subscriber: &mut Subscriber,
     commands: &[&Command],
-    packets: &[Placed<'_, 'a>],
+    packets: &[Placed<'a>],
 ) -> Result<Replayed<'a>, NoMemory>
     requires room { ∥ CanReplay subscriber.old (length commands.now + length packets.now) ∥₁ }
     requires late { AreLate (moment_of subscriber.old) packets.now }
@@ -146,24 +146,24 @@ fn note_effects(
 
 fn do_packet<'a>(
     subscriber: &mut Subscriber,
-    placed: &Placed<'_, 'a>,
+    placed: &Placed<'a>,
     replayed: &mut Replayed<'a>,
 ) -> Result<(), NoMemory>
     requires room { ∥ CanPlay subscriber.old replayed.old 1 ∥₁ }
-    requires late { moment_of subscriber.old ≤ placed.now.packet.now.moment }
+    requires late { moment_of subscriber.old ≤ placed.now.packet.moment }
 
     ensures plays { (slot : ℕ) (before now : List Event) → Plays subscriber.old replayed.old slot before now
         → OnOk result (Plays subscriber.new replayed.new slot before
-        (now ++ Event.Packet (numbered subscriber.old.packets placed.now.packet.now) ∷ [])) }
+        (now ++ Event.Packet (numbered subscriber.old.packets placed.now.packet) ∷ [])) }
     ensures counts { OnOk result (counts_in replayed.new.packets.items
         ≡ counts_in replayed.old.packets.items ++ placed.now.commands ∷ []) }
     ensures places { OnOk result (places_in replayed.new.packets.items
         ≡ places_in replayed.old.packets.items ++ placed.now.place ∷ []) }
-    ensures last { OnOk result (moment_of subscriber.new ≡ placed.now.packet.now.moment) }
+    ensures last { OnOk result (moment_of subscriber.new ≡ placed.now.packet.moment) }
     ensures destination { OnOk result (subscriber.new.destination ≡ subscriber.old.destination) }
 {
     few_events_leave_room();
-    let packet = placed.packet;
+    let packet = &placed.packet;
     let handled = subscriber.judge(packet.moment, packet.way, &packet.ip)?;
     let judged = Judged {
         number: handled.number,

@@ -14,7 +14,7 @@ judge-requires-clause-room c =
 pub returns-clause-plays : goal.returns-clause-plays
 returns-clause-plays c = λ slot before now plays.
     let subscriber = c.args.subscriber.now in
-    let packet = numbered subscriber.packets c.args.placed.now.packet.now in
+    let packet = numbered subscriber.packets c.args.placed.now.packet in
     let events = before ++ now in
     let taken = length (records_after slot before) in
     let judged = c.in_ok-handled.handled.judged in
