@@ -10,9 +10,9 @@ use Rattle.audit_run.specs.declared.auditing.Audited.{Audited}
 use Rattle.audit_run.specs.declared.auditing.Audited.TheVariants as audited
 use Rattle.audit_run.proofs.OneFinding.{one_finding}
 use Rattle.pepc.specs.Audit.{AuditReports, Audits, Settles, status_of}
-use Rattle.pepc.specs.declared.status.Status.{Status}
-use Rattle.pepc.specs.declared.status.Status.TheVariants as status
-use Rattle.pepc.specs.Told.{WhereTold}
+use Rattle.trace_run.specs.declared.status.Status.{Status}
+use Rattle.trace_run.specs.declared.status.Status.TheVariants as status
+use Rattle.trace_run.specs.Told.{WhereTold}
 
 reports_are : (one : Audited) (setup : Setup) (octets left text : List ℕ) → Reports one setup octets left text
     → AuditReports (status_of one) setup octets left text

@@ -15,25 +15,27 @@ use Rattle.report_lines.specs.declared.entry.LineEntry.TheVariants as line_entry
 use Rattle.lawful_run.specs.AnsweredRun.{behind_lines, entries_from}
 use Rattle.lawful_run.specs.Run.{no_events}
 use Rattle.lawful_run.specs.Trace.{stop_noted}
-use Rattle.pepc.specs.declared.epoch.Size.{Size}
-use Rattle.pepc.specs.declared.reading.Next.{Next}
-use Rattle.pepc.specs.declared.reading.Next.TheVariants as next
-use Rattle.pepc.specs.declared.run.Ending.{Ending}
-use Rattle.pepc.specs.declared.run.Ending.TheVariants.{Ended, ReadFault, BadLine, LineLong, TooLong}
-use Rattle.pepc.specs.declared.run.Unwritten.{Unwritten}
-use Rattle.pepc.specs.declared.run.Unwritten.TheVariants as unwritten
+use Rattle.trace_run.specs.declared.epoch.Size.{Size}
+use Rattle.trace_run.specs.declared.reading.Next.{Next}
+use Rattle.trace_run.specs.declared.reading.Next.TheVariants as next
+use Rattle.trace_run.specs.declared.ending.Ending.{Ending}
+use Rattle.trace_run.specs.declared.ending.Ending.TheVariants.{Ended, ReadFault, BadLine, LineLong, TooLong}
+use Rattle.trace_run.specs.declared.ending.Unwritten.{Unwritten}
+use Rattle.trace_run.specs.declared.ending.Unwritten.TheVariants as unwritten
 use Rattle.pepc.specs.declared.solo.Solo.{Solo}
 use Rattle.lawful_run.specs.Cut.{IsCut, lines_in}
-use Rattle.pepc.specs.Cut.{Counts}
+use Rattle.trace_run.specs.Cut.{Counts}
 use Rattle.pepc.specs.Entries.{text_line}
-use Rattle.pepc.specs.Next.{Tells}
-use Rattle.pepc.specs.Progress.{Begins, Cuts, Ends, Fails, GoesOn, HasRead, IsClosed, Progress, Reached, SaysClosed, Stops, Takes, closed_events, end_text, entries_text, next_story, next_text, open_entries, open_meant, stop_of}
+use Rattle.trace_run.specs.Next.{Tells}
+use Rattle.pepc.specs.Progress.{Cuts, Ends, GoesOn, IsClosed, Progress, SaysClosed, Takes, closed_events, end_text, entries_text, next_story, next_text, open_entries, open_meant}
+use Rattle.trace_run.specs.Lines.{Begins, Fails, HasRead, Reached, Stops, stop_of}
 use Rattle.pepc.specs.Standing.{Stands, meant_next, story_of}
-use Rattle.pepc.specs.Told.{WhereTold}
+use Rattle.trace_run.specs.Told.{WhereTold}
 use Rattle.pepc.specs.Report.{slices}
 use Rattle.lawful_run.proofs.CutLines.{cut_closed, cut_nothing, cut_open, cut_whole, length-meant_from}
-use Rattle.pepc.proofs.CutLemmas.{short_open}
-use Rattle.pepc.proofs.ReadLemmas.{begins_so, stops_so, begins_more, none_left, told_next, fails_so, GivesLine}
+use Rattle.trace_run.proofs.CutLemmas.{short_open}
+use Rattle.trace_run.proofs.EndingLemmas.{begins_front, reached_bad, reached_big, reached_end, reached_fault, reached_last, reached_long, read_nothing}
+use Rattle.trace_run.proofs.ReadLemmas.{begins_so, begins_more, told_next, GivesLine}
 use Rattle.pepc.proofs.RunLemmas.{ended_story, ended_text, open_meant-push, waits_more}
 use Rattle.pepc.proofs.TextLemmas.{entries_text-push}
 
@@ -50,17 +52,12 @@ begins start old gateway size ahead room waiting stands sized same full none = r
   sized = sized;
   counted = refl;
   roomy = omega (arith, full);
-  read = subst (λ a. WhereTold start a (λ octets rest. HasRead octets rest 1 0 room [])) (sym same)
-      (subst (λ r. WhereTold start start (λ octets rest. HasRead octets rest 1 0 r [])) (sym full) (first start));
+  read = read_nothing start ahead room same full;
   sent = [];
   written = Appends-nil old;
   said = λ slots known. refl;
   waits = none;
 }
-  where
-    first : (start : Option (List ℕ)) → WhereTold start start (λ octets rest. HasRead octets rest 1 0 (2 ^ 40) [])
-    first None = tt
-    first (Some octets) = record { gone = []; parts = refl; lines = inl refl; taken = refl; says = λ behind. refl }
 
 -- no more lines come
 ends_so : (ending : Ending) (start a left old new : Option (List ℕ)) (gateway : Solo) (size : Size)
@@ -89,11 +86,7 @@ pub ends_ended : (start a left old new : Option (List ℕ)) (gateway : Solo) (si
     → Tells next.End number least room after a (prepend_known held left) → Ends Ended start left old new waiting gateway
 ends_ended start a left old new gateway size number least room after held waiting done so_far tells =
     ends_so Ended start a left old new gateway size number least room waiting waiting done so_far
-    (told_next start a left held number least room after done next.End (λ octets rest. Reached Ended octets rest done)
-    (λ octets ahead rest read says. (
-      stops_so number least room done ended octets ahead read says.0,
-      none_left held rest says.1,
-    )) so_far.read tells) so_far.waits
+    (reached_end start a left number least room after held done so_far.read tells) so_far.waits
 
 pub ends_long : (start a left old new : Option (List ℕ)) (gateway : Solo) (size : Size)
     (number least room after : ℕ) (held waiting : List ℕ) (done : List Line)
@@ -102,11 +95,7 @@ pub ends_long : (start a left old new : Option (List ℕ)) (gateway : Solo) (siz
     → Ends LineLong start left old new waiting gateway
 ends_long start a left old new gateway size number least room after held waiting done so_far tells =
     ends_so LineLong start a left old new gateway size number least room waiting waiting done so_far
-    (subst (λ n. WhereTold start left (λ octets rest. Stops octets done (long n))) so_far.counted
-    (told_next start a left held number least room after done next.LineLong
-    (λ octets rest. Stops octets done (long number))
-    (λ octets ahead rest read says. stops_so number least room done (long number) octets ahead read says)
-    so_far.read tells)) so_far.waits
+    (reached_long start a left number least room after held done so_far.counted so_far.read tells) so_far.waits
 
 pub ends_big : (start a left old new : Option (List ℕ)) (gateway : Solo) (size : Size)
     (number least room after : ℕ) (held waiting : List ℕ) (done : List Line)
@@ -115,9 +104,7 @@ pub ends_big : (start a left old new : Option (List ℕ)) (gateway : Solo) (size
     → Ends TooLong start left old new waiting gateway
 ends_big start a left old new gateway size number least room after held waiting done so_far tells =
     ends_so TooLong start a left old new gateway size number least room waiting waiting done so_far
-    (told_next start a left held number least room after done next.TooLong (λ octets rest. Stops octets done big)
-    (λ octets ahead rest read says. stops_so number least room done big octets ahead read says) so_far.read tells)
-    so_far.waits
+    (reached_big start a left number least room after held done so_far.read tells) so_far.waits
 
 pub ends_fault : (start a left old new : Option (List ℕ)) (gateway : Solo) (size : Size) (number least room : ℕ)
     (now : Held) (waiting : List ℕ) (done : List Line)
@@ -126,10 +113,7 @@ pub ends_fault : (start a left old new : Option (List ℕ)) (gateway : Solo) (si
     → IsUnfinished now → Ends ReadFault start left old new waiting gateway
 ends_fault start a left old new gateway size number least room now waiting done so_far tells unfinished =
     ends_so ReadFault start a left old new gateway size number least room waiting waiting done so_far
-    (told_next start a left now.front number least room now.room done next.ReadFault
-    (λ octets rest. Fails octets rest done)
-    (λ octets ahead rest read says. fails_so number least room done now octets ahead rest unfinished read says.0
-    says.1) so_far.read tells) so_far.waits
+    (reached_fault start a left number least room now done so_far.read tells unfinished) so_far.waits
 
 -- a bad line has its entry
 bad_waits : (done : List Line) (closed : List (List Line)) (open_ : List Line) (why : LineBad) (number : ℕ)
@@ -168,28 +152,10 @@ pub ends_bad : (start a left old new : Option (List ℕ)) (gateway : Solo) (size
     → Ends (BadLine why) start left old new more gateway
 ends_bad start a left old new gateway size number least room after held waiting more done why so_far tells is =
     ends_so (BadLine why) start a left old new gateway size number least room waiting more done so_far
-    (subst (λ n. WhereTold start left (λ octets rest. Stops octets done (bad n why))) so_far.counted
-    (told_next start a left held number least room after done (next.Bad why)
-    (λ octets rest. Stops octets done (bad number why))
-    (λ octets ahead rest read says. stops_so number least room done (bad number why) octets ahead read says)
-    so_far.read tells))
+    (reached_bad start a left number least room after held done why so_far.counted so_far.read tells)
     (is ∙ bad_waits done so_far.closed so_far.open_ why number waiting so_far.cut so_far.counted so_far.waits)
 
 -- the last line was read and answered
-reached_last : (start a left : Option (List ℕ)) (number least room after : ℕ) (held : List ℕ) (done : List Line)
-    (line : Line) (len : ℕ)
-    → WhereTold start a (λ octets rest. HasRead octets rest number least room done)
-    → Tells (next.Last line len) number least room after a (prepend_known held left)
-    → WhereTold start left (λ octets rest. Reached Ended octets rest (done ++ line ∷ []))
-reached_last start a left number least room after held done line len read tells =
-    told_next start a left held number least room after done (next.Last line len)
-    (λ octets rest. Reached Ended octets rest (done ++ line ∷ []))
-    (λ octets ahead rest has says. (
-      begins_more number least room done line (stopped ended) octets ahead has says.0
-          ∙ ap (λ lines. record { lines = lines; stop = ended }) (append-nil (done ++ line ∷ [])),
-      none_left held rest says.1,
-    )) read tells
-
 ends_open : (start a left old mid new : Option (List ℕ)) (gateway after_it : Solo) (size next_size : Size)
     (number least room after : ℕ) (held waiting later : List ℕ)
     (done : List Line) (line : Line) (len : ℕ) (so_far : Progress start a old mid gateway size number least room
@@ -271,15 +237,6 @@ ends_last start a left old mid new gateway after_it size next_size number least 
         after held waiting later done line len so_far tells is it
     by_test true is it = ends_closed start a left old mid new gateway after_it size next_size number least room
         after held waiting later done line len so_far tells is it
-
--- some first lines of those that octets begin with
-pub begins_front : (octets : List ℕ) (done front back : List Line) → done ≡ front ++ back → Begins octets done
-    → Begins octets front
-begins_front octets done front back parts begins = (
-  after_lines back begins.0,
-  begins.1 ∙ ap (λ lines. after_lines lines begins.0) parts
-      ∙ ap (λ lines. record { lines = lines; stop = begins.0.stop }) (append_assoc front back begins.0.lines),
-)
 
 -- no more is written than was, whatever is next
 pub cut_here : (why : Unwritten) (start a left old new : Option (List ℕ)) (gateway : Solo) (size : Size)

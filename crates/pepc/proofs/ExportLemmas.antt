@@ -9,17 +9,17 @@ use Rattle.trace_lines.specs.Input.{after_lines, bad, long, big, ended, input_of
 use Rattle.trace_lines.specs.Line.{Line}
 use Rattle.trace_lines.specs.declared.bad.LineBad.{LineBad}
 use Rattle.pcap_form.specs.Export.{export_of, header, record_of}
-use Rattle.pepc.specs.declared.reading.Next.{Next}
-use Rattle.pepc.specs.declared.reading.Next.TheVariants as next
-use Rattle.pepc.specs.declared.run.Ending.{Ending}
-use Rattle.pepc.specs.declared.run.Ending.TheVariants.{Ended, ReadFault, BadLine, LineLong, TooLong}
-use Rattle.pepc.specs.declared.run.Unwritten.{Unwritten}
-use Rattle.pepc.specs.declared.run.Unwritten.TheVariants as unwritten
+use Rattle.trace_run.specs.declared.reading.Next.{Next}
+use Rattle.trace_run.specs.declared.reading.Next.TheVariants as next
+use Rattle.trace_run.specs.declared.ending.Ending.{Ending}
+use Rattle.trace_run.specs.declared.ending.Ending.TheVariants.{Ended, ReadFault, BadLine, LineLong, TooLong}
+use Rattle.trace_run.specs.declared.ending.Unwritten.{Unwritten}
+use Rattle.trace_run.specs.declared.ending.Unwritten.TheVariants as unwritten
 use Rattle.pepc.specs.ExportProgress.{ExportCuts, ExportEnds, ExportProgress, IsFirst, Passes}
-use Rattle.pepc.specs.Next.{Tells}
-use Rattle.pepc.specs.Progress.{Begins, Fails, HasRead, Reached, Stops}
-use Rattle.pepc.specs.Told.{WhereTold}
-use Rattle.pepc.proofs.ReadLemmas.{begins_so, begins_more, fails_so, GivesLine, none_left, stops_so, told_more, told_next}
+use Rattle.trace_run.specs.Next.{Tells}
+use Rattle.trace_run.specs.Lines.{Begins, Fails, HasRead, Reached, Stops}
+use Rattle.trace_run.specs.Told.{WhereTold}
+use Rattle.trace_run.proofs.ReadLemmas.{begins_so, begins_more, fails_so, GivesLine, none_left, stops_so, told_more, told_next}
 
 -- the capture of one line more
 pub export-push : (done : List Line) (line : Line) → export_of (done ++ line ∷ []) ≡ export_of done ++ record_of line

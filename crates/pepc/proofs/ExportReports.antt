@@ -7,18 +7,19 @@ use Rattle.pc_outside.specs.Fronts.{AppendsFront}
 use Rattle.trace_lines.specs.Input.{Input, Stop, bad, big, ended, input_of, long, stopped}
 use Rattle.trace_lines.specs.Line.{Line}
 use Rattle.pcap_form.specs.Export.{export_of, header, record_of}
-use Rattle.pepc.specs.declared.run.Ending.{Ending}
-use Rattle.pepc.specs.declared.run.Ending.TheVariants.{Ended, ReadFault, BadLine, LineLong, TooLong}
-use Rattle.pepc.specs.declared.run.Unwritten.{Unwritten}
-use Rattle.pepc.specs.declared.run.Unwritten.TheVariants as unwritten
-use Rattle.pepc.specs.declared.status.Status.{Status}
-use Rattle.pepc.specs.declared.status.Status.TheVariants as status
+use Rattle.trace_run.specs.declared.ending.Ending.{Ending}
+use Rattle.trace_run.specs.declared.ending.Ending.TheVariants.{Ended, ReadFault, BadLine, LineLong, TooLong}
+use Rattle.trace_run.specs.declared.ending.Unwritten.{Unwritten}
+use Rattle.trace_run.specs.declared.ending.Unwritten.TheVariants as unwritten
+use Rattle.trace_run.specs.declared.status.Status.{Status}
+use Rattle.trace_run.specs.declared.status.Status.TheVariants as status
 use Rattle.pepc.specs.Export.{ExportReports, Exports, IsCutExport, input_export}
 use Rattle.pepc.specs.ExportProgress.{CutAt, ExportCuts, ExportEnds}
-use Rattle.pepc.specs.Progress.{Begins, Reached, Stops, status_at, status_without}
-use Rattle.pepc.specs.Report.{IsBad, IsDone, IsLong}
-use Rattle.pepc.specs.Told.{WhereTold}
-use Rattle.pepc.proofs.ToldLemmas.{told_map}
+use Rattle.trace_run.specs.Lines.{Begins, Reached, Stops}
+use Rattle.trace_run.specs.Status.{status_at, status_without}
+use Rattle.trace_run.specs.Report.{IsBad, IsDone, IsLong}
+use Rattle.trace_run.specs.Told.{WhereTold}
+use Rattle.trace_run.proofs.ToldLemmas.{told_map}
 
 -- the capture of first lines is a front of that of all
 export-front : (done more : List Line) → export_of (done ++ more) ≡ export_of done ++ flat_map record_of more

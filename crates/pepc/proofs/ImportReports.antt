@@ -6,11 +6,11 @@ use Rattle.pcap_form.specs.Report.{WhereTold as WhereToldThere}
 use Rattle.pcap_form.specs.declared.importing.Imported.{Imported}
 use Rattle.pcap_form.specs.declared.importing.Imported.TheVariants as imported
 use Rattle.pcap_form.specs.Capture.{bad, big, ended, input_capture, stop_of}
-use Rattle.pepc.specs.declared.status.Status.{Status}
-use Rattle.pepc.specs.declared.status.Status.TheVariants as status
+use Rattle.trace_run.specs.declared.status.Status.{Status}
+use Rattle.trace_run.specs.declared.status.Status.TheVariants as status
 use Rattle.pepc.specs.Import.{ImportReports, Imports, status_of}
-use Rattle.pepc.specs.Report.{IsDone}
-use Rattle.pepc.specs.Told.{WhereTold}
+use Rattle.trace_run.specs.Report.{IsDone}
+use Rattle.trace_run.specs.Told.{WhereTold}
 
 reports_are : (one : Imported) (octets left text : List ℕ) → Reports one octets left text
     → ImportReports (status_of one) octets left text

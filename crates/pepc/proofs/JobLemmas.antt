@@ -5,16 +5,18 @@ use Rattle.command_words.specs.declared.jobs.Job.{Job}
 use Rattle.command_words.specs.declared.jobs.Job.TheVariants as job
 use Rattle.trace_lines.specs.Line.{Line}
 use Rattle.trace_maker.specs.Generated.{made}
-use Rattle.pepc.specs.declared.status.Status.{Status}
-use Rattle.pepc.specs.declared.status.Status.TheVariants as status
+use Rattle.trace_run.specs.declared.status.Status.{Status}
+use Rattle.trace_run.specs.declared.status.Status.TheVariants as status
 use Rattle.pepc.specs.Audit.{audit_setup}
 use Rattle.pepc.specs.Jobs.{Completes, Does}
 use Rattle.pepc.specs.Make.{IsMakeFront, Made, Makes}
-use Rattle.pepc.specs.Report.{IsDone}
+use Rattle.trace_run.specs.Report.{IsDone}
 use Rattle.pepc.proofs.AuditReports.{audit_complete, nothing_audited, nothing_settles}
 use Rattle.pepc.proofs.ExportReports.{export_complete, nothing_exported}
 use Rattle.pepc.proofs.ImportReports.{import_complete, nothing_imported}
-use Rattle.pepc.proofs.ReportLemmas.{complete, nothing_runs}
+use Rattle.pepc.proofs.ReportLemmas.{nothing_runs}
+use Rattle.trace_run.proofs.EndingLemmas.{complete}
+use Rattle.pepc.specs.Report.{IsSoloReport}
 
 no_front : (summary : Bool) (lines : List Line) → IsMakeFront summary lines []
 no_front false lines = record { front = []; rest = lines; parts = refl; written = refl }
@@ -67,7 +69,7 @@ pub job_completes : (asked : Job) (ending : Status) (source_failed sink_failed :
     → Completes (Some asked) ending start
 job_completes job.Solo ending source_failed sink_failed start left old new no_source no_sink read write usage does =
     λ octets is stop.
-    complete ending source_failed sink_failed octets start left old new is stop no_source no_sink read write usage does
+    complete IsSoloReport false ending source_failed sink_failed octets start left old new is stop no_source no_sink read write usage does
 job_completes (job.Make seed subs lines summary) ending source_failed sink_failed start left old new no_source no_sink
     read write usage does =
     make_complete ending sink_failed summary (made seed subs lines) does.1.text no_sink write does.1.is

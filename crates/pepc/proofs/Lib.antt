@@ -1,4 +1,3 @@
-pub mod ToldLemmas
 pub mod Answered
 pub mod InSlots
 pub mod GatherLemmas
@@ -7,9 +6,6 @@ pub mod OpenLemmas
 pub mod StoryLemmas
 pub mod ShortLemmas
 pub mod LineLemmas
-pub mod NextLemmas
-pub mod ReadLemmas
-pub mod CutLemmas
 pub mod TextLemmas
 pub mod RunLemmas
 pub mod EndLemmas

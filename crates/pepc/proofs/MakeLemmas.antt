@@ -8,7 +8,7 @@ use Rattle.pc_outside.specs.Fronts.{AppendsFront}
 use Rattle.trace_maker.specs.Generated.{made, text_of}
 use Rattle.trace_maker.specs.Written.{AppendsLines}
 use Rattle.trace_maker.proofs.ReadLemmas.{length-made}
-use Rattle.pepc.specs.declared.status.Status.TheVariants as status
+use Rattle.trace_run.specs.declared.status.Status.TheVariants as status
 use Rattle.pepc.specs.Make.{IsCounted, IsSummary, Makes}
 
 pub trace_whole : (seed subs lines : ℕ) (old new : Option (List ℕ))

@@ -11,18 +11,18 @@ use Rattle.lawful_run.specs.Run.{no_events}
 use Rattle.lawful_run.specs.Trace.{meant_epochs}
 use Rattle.lawful_run.proofs.CutEpochs.{meant_from-append}
 use Rattle.lawful_run.proofs.Growing.{behind_epochs-push}
-use Rattle.pepc.specs.declared.epoch.Size.{Size}
-use Rattle.pepc.specs.declared.reading.Next.TheVariants as next
+use Rattle.trace_run.specs.declared.epoch.Size.{Size}
+use Rattle.trace_run.specs.declared.reading.Next.TheVariants as next
 use Rattle.pepc.specs.declared.solo.Solo.{Solo}
 use Rattle.lawful_run.specs.Cut.{IsCut, lines_in}
 use Rattle.pepc.specs.Entries.{text_line}
 use Rattle.pepc.specs.Gathering.{closing_text}
-use Rattle.pepc.specs.Next.{Tells}
+use Rattle.trace_run.specs.Next.{Tells}
 use Rattle.pepc.specs.Progress.{GoesOn, IsClosed, Progress, SaysClosed, Takes, closed_events, closed_text, end_text, entries_text, next_story, next_text, open_entries, open_meant}
 use Rattle.pepc.specs.Report.{slices}
 use Rattle.pepc.specs.Standing.{Stands, Story, entry_line, events_of, meant_next, story_of, with_end}
 use Rattle.lawful_run.proofs.CutLines.{cut_open, cut_whole, length-meant_from, lines_in-push, meant_epochs-push}
-use Rattle.pepc.proofs.ReadLemmas.{told_more}
+use Rattle.trace_run.proofs.ReadLemmas.{told_more}
 use Rattle.pepc.proofs.TextLemmas.{book_grows_all, closed_text-push, closing_wider, entries_text-push}
 
 -- the open epoch's lines mean one thing more

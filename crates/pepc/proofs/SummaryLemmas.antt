@@ -13,16 +13,16 @@ use Rattle.demux.specs.Trace.{book_of}
 use Rattle.lawful_run.specs.Report.{texts_of}
 use Rattle.lawful_run.specs.Run.{no_events}
 use Rattle.report_lines.specs.declared.entry.Entry.{Entry}
-use Rattle.pepc.specs.declared.epoch.Size.{Size}
-use Rattle.pepc.specs.declared.run.Ending.TheVariants.{Ended}
+use Rattle.trace_run.specs.declared.epoch.Size.{Size}
+use Rattle.trace_run.specs.declared.ending.Ending.TheVariants.{Ended}
 use Rattle.pepc.specs.declared.solo.Solo.{Solo}
 use Rattle.pepc.specs.Counting.{Counting, CountsLine, CountsMore}
 use Rattle.lawful_run.specs.Cut.{lines_in}
-use Rattle.pepc.specs.Cut.{Counts}
+use Rattle.trace_run.specs.Cut.{Counts}
 use Rattle.pepc.specs.Entries.{text_line}
 use Rattle.pepc.specs.Make.{IsCounted}
 use Rattle.pepc.specs.Progress.{Ends, Progress, SaysClosed, Takes, closed_events, end_text, next_story, next_text, open_meant, rest_text}
-use Rattle.pepc.specs.Report.{IsWholeLines}
+use Rattle.trace_run.specs.Report.{IsWholeLines}
 use Rattle.pepc.specs.Standing.{Stands, Story, story_of}
 use Rattle.pepc.proofs.EndLemmas.{begins}
 use Rattle.pepc.proofs.ReportLemmas.{ends_whole}

@@ -6,10 +6,10 @@ use Rattle.audit_run.specs.Report.{IsReadWhole, IsTaken, SaysPart, SaysWhole}
 use Rattle.audit_run.specs.Texts.{big, long, texts_of}
 use Rattle.audit_run.specs.declared.auditing.Audited.{Audited}
 use Rattle.audit_run.specs.declared.auditing.Audited.TheVariants as audited
-use Rattle.pepc.specs.declared.status.Status.{Status}
-use Rattle.pepc.specs.declared.status.Status.TheVariants as status
-use Rattle.pepc.specs.Report.{IsDone}
-use Rattle.pepc.specs.Told.{WhereTold}
+use Rattle.trace_run.specs.declared.status.Status.{Status}
+use Rattle.trace_run.specs.declared.status.Status.TheVariants as status
+use Rattle.trace_run.specs.Report.{IsDone}
+use Rattle.trace_run.specs.Told.{WhereTold}
 
 -- the gateway whose report it should be
 abbrev pub audit_setup : Bool → ℕ → ℕ → ℕ → Setup

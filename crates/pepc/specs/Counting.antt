@@ -4,9 +4,9 @@ use Rattle.std.specs.Prelude.{length, None, Some}
 use Rattle.entry_counts.specs.Counts.{Counts as EntryCounts, all_held, counts_of, plus}
 use Rattle.trace_lines.specs.Line.{Line}
 use Rattle.trace_maker.specs.Order.{AreInOrder}
-use Rattle.pepc.specs.declared.epoch.Size.{Size}
+use Rattle.trace_run.specs.declared.epoch.Size.{Size}
 use Rattle.pepc.specs.declared.solo.Solo.{Solo}
-use Rattle.pepc.specs.Cut.{Counts}
+use Rattle.trace_run.specs.Cut.{Counts}
 use Rattle.pepc.specs.Progress.{Progress, end_text}
 use Rattle.pepc.specs.Standing.{Stands, Story, with_end}
 

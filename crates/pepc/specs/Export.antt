@@ -4,10 +4,10 @@ use Rattle.std.specs.Io.KnownBytes.{Appends}
 use Rattle.trace_lines.specs.Input.{big, ended, input_of}
 use Rattle.trace_lines.specs.Line.{Line}
 use Rattle.pcap_form.specs.Export.{export_of}
-use Rattle.pepc.specs.declared.status.Status.{Status}
-use Rattle.pepc.specs.declared.status.Status.TheVariants as status
-use Rattle.pepc.specs.Report.{IsBad, IsLong, Taken}
-use Rattle.pepc.specs.Told.{WhereTold}
+use Rattle.trace_run.specs.declared.status.Status.{Status}
+use Rattle.trace_run.specs.declared.status.Status.TheVariants as status
+use Rattle.trace_run.specs.Report.{IsBad, IsLong, Taken}
+use Rattle.trace_run.specs.Told.{WhereTold}
 
 -- the capture of an input's lines
 abbrev pub input_export : List ℕ → List ℕ

@@ -3,11 +3,11 @@ use Rattle.std.specs.Prelude.{◌≡◌, ℕ, ◌+◌, ◌≤◌, ◌^◌, ◌�
 use Rattle.std.specs.Io.KnownBytes.{Appends}
 use Rattle.trace_lines.specs.Line.{Line}
 use Rattle.pcap_form.specs.Export.{export_of}
-use Rattle.pepc.specs.declared.run.Ending.{Ending}
-use Rattle.pepc.specs.declared.run.Unwritten.{Unwritten}
-use Rattle.pepc.specs.declared.run.Unwritten.TheVariants as unwritten
-use Rattle.pepc.specs.Progress.{Begins, HasRead, Reached}
-use Rattle.pepc.specs.Told.{WhereTold}
+use Rattle.trace_run.specs.declared.ending.Ending.{Ending}
+use Rattle.trace_run.specs.declared.ending.Unwritten.{Unwritten}
+use Rattle.trace_run.specs.declared.ending.Unwritten.TheVariants as unwritten
+use Rattle.trace_run.specs.Lines.{Begins, HasRead, Reached}
+use Rattle.trace_run.specs.Told.{WhereTold}
 
 -- nothing, or the capture of some first ones of these lines
 pub record IsFirst (sent : List ℕ) (done : List Line) : Type 0 where

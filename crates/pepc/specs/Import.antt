@@ -5,9 +5,9 @@ use Rattle.pcap_form.specs.Report.{IsCutText, IsFaultText, IsFirstText, input_te
 use Rattle.pcap_form.specs.declared.importing.Imported.{Imported}
 use Rattle.pcap_form.specs.declared.importing.Imported.TheVariants as imported
 use Rattle.pcap_form.specs.Capture.{bad, big, ended, stop_of}
-use Rattle.pepc.specs.declared.status.Status.{Status}
-use Rattle.pepc.specs.declared.status.Status.TheVariants as status
-use Rattle.pepc.specs.Told.{WhereTold}
+use Rattle.trace_run.specs.declared.status.Status.{Status}
+use Rattle.trace_run.specs.declared.status.Status.TheVariants as status
+use Rattle.trace_run.specs.Told.{WhereTold}
 
 abbrev pub status_of : Imported → Status
 status_of imported.Ended = status.Ok

@@ -1,24 +1,26 @@
 -- What a run left, by the job that was asked for.
-use Rattle.std.specs.Prelude.{◌≡◌, ℕ, List, Option, None, Some}
+use Rattle.std.specs.Prelude.{◌≡◌, ℕ, false, List, Option, None, Some}
 use Rattle.command_words.specs.declared.jobs.Job.{Job}
 use Rattle.command_words.specs.declared.jobs.Job.TheVariants as job
 use Rattle.pcap_form.specs.Capture as capture
 use Rattle.trace_lines.specs.Input.{ended, input_of}
-use Rattle.pepc.specs.declared.status.Status.{Status}
+use Rattle.trace_run.specs.declared.status.Status.{Status}
 use Rattle.audit_run.specs.Findings.{Finds}
 use Rattle.audit_run.specs.Texts as texts
 use Rattle.pepc.specs.Audit.{Audits, Settles, audit_setup}
 use Rattle.pepc.specs.Export.{Exports}
 use Rattle.pepc.specs.Import.{Imports}
 use Rattle.pepc.specs.Make.{Makes}
-use Rattle.pepc.specs.Report.{IsDone, Runs}
+use Rattle.pepc.specs.Report.{IsSoloReport}
+use Rattle.trace_run.specs.Report.{IsDone, Runs}
 
 -- What a run with this status did. The source told these octets before and after it, and so did the sink. Without a job
 -- nothing is done.
 abbrev pub Does : Option Job → Status → Type 0 → Option (List ℕ) → Option (List ℕ) → Option (List ℕ)
     → Option (List ℕ) → Type 0
 Does None ending source_failed start left old new = (left ≡ start) × (new ≡ old)
-Does (Some job.Solo) ending source_failed start left old new = Runs ending source_failed start left old new
+Does (Some job.Solo) ending source_failed start left old new =
+    Runs IsSoloReport false ending source_failed start left old new
 Does (Some (job.Make seed subs lines summary)) ending source_failed start left old new =
     (left ≡ start) × Makes seed subs lines summary ending old new
 Does (Some job.Import) ending source_failed start left old new = Imports ending source_failed start left old new

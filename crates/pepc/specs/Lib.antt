@@ -1,14 +1,10 @@
-pub mod Told
-pub mod Status
 pub mod Places
 pub mod Report
 pub mod Entries
 pub mod Gathering
 pub mod Standing
 pub mod Counting
-pub mod Cut
 pub mod Make
-pub mod Next
 pub mod Progress
 pub mod Audit
 pub mod Jobs

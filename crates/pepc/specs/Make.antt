@@ -6,14 +6,15 @@ use Rattle.entry_counts.specs.Summary.{summary_text}
 use Rattle.trace_lines.specs.Input.{input_of}
 use Rattle.trace_lines.specs.Line.{Line}
 use Rattle.trace_maker.specs.Generated.{made, text_of}
-use Rattle.pepc.specs.declared.status.Status.{Status}
-use Rattle.pepc.specs.declared.status.Status.TheVariants as status
-use Rattle.pepc.specs.Report.{IsText}
+use Rattle.trace_run.specs.declared.status.Status.{Status}
+use Rattle.trace_run.specs.declared.status.Status.TheVariants as status
+use Rattle.pepc.specs.Report.{IsSoloReport}
+use Rattle.trace_run.specs.Report.{IsText}
 
 -- the counts are those of the report that one thread gives of these lines
 pub record IsCounted (lines : List Line) (counts : Counts) : Type 0 where
   pub report : List ℕ
-  pub of_trace : IsText (input_of (text_of lines)) report
+  pub of_trace : IsText IsSoloReport false (input_of (text_of lines)) report
   pub counted : counts ≡ all_held (counts_of report)
 
 -- the text tells how many lines there are, and these counts

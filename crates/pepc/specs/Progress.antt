@@ -2,7 +2,6 @@
 use Rattle.std.specs.Prelude.{◌≡◌, ℕ, ◌+◌, ◌≤◌, ◌^◌, Bool, true, false, List, [], ◌∷◌, ◌++◌}
 use Rattle.std.specs.Prelude.{length, map, Option, flat_map}
 use Rattle.std.specs.Io.KnownBytes.{Appends}
-use Rattle.trace_lines.specs.Input.{Input, Stop, bad, long, big, ended, after_lines, input_of, input_within}
 use Rattle.trace_lines.specs.Line.{Line}
 use Rattle.demux.specs.Trace.{Meaning, book_of}
 use Rattle.report_lines.specs.declared.entry.Entry.TheVariants as entry
@@ -13,28 +12,18 @@ use Rattle.lawful_run.specs.Report.{epoch_entries, texts_of}
 use Rattle.lawful_run.specs.Outcomes.{opens}
 use Rattle.lawful_run.specs.Run.{by_slot, no_events}
 use Rattle.lawful_run.specs.Trace.{meant_epochs, meant_from, stop_noted}
-use Rattle.pepc.specs.declared.epoch.Size.{Size}
-use Rattle.pepc.specs.declared.run.Ending.{Ending}
-use Rattle.pepc.specs.declared.run.Ending.TheVariants.{Ended, ReadFault, BadLine, LineLong, TooLong}
-use Rattle.pepc.specs.declared.run.Unwritten.{Unwritten}
-use Rattle.pepc.specs.declared.run.Unwritten.TheVariants as unwritten
-use Rattle.pepc.specs.declared.status.Status.{Status}
-use Rattle.pepc.specs.declared.status.Status.TheVariants as status
+use Rattle.trace_run.specs.declared.epoch.Size.{Size}
+use Rattle.trace_run.specs.declared.ending.Ending.{Ending}
+use Rattle.trace_run.specs.declared.ending.Unwritten.{Unwritten}
+use Rattle.trace_run.specs.declared.ending.Unwritten.TheVariants as unwritten
 use Rattle.pepc.specs.declared.solo.Solo.{Solo}
 use Rattle.pepc.specs.Gathering.{charges_text, closing_text}
 use Rattle.lawful_run.specs.Cut.{IsCut, lines_in}
-use Rattle.pepc.specs.Cut.{Counts}
-use Rattle.pepc.specs.Report.{IsWholeLines, Taken, slices}
+use Rattle.trace_run.specs.Cut.{Counts}
+use Rattle.pepc.specs.Report.{slices}
+use Rattle.trace_run.specs.Lines.{Begins, HasRead, Reached, stop_of}
 use Rattle.pepc.specs.Standing.{Stands, Story, entry_line, events_of, meant_next, story_of, with_end}
-use Rattle.pepc.specs.Told.{WhereTold}
-
--- whole lines were read before the octets ahead: they say these lines, and then what stands behind them says the rest
-pub record HasRead (octets ahead : List ℕ) (number least room : ℕ) (done : List Line) : Type 0 where
-  pub gone : List ℕ
-  pub parts : octets ≡ gone ++ ahead
-  pub lines : IsWholeLines gone
-  pub taken : length gone + room ≡ 2 ^ 40
-  pub says : (behind : List ℕ) → input_of (gone ++ behind) ≡ after_lines done (input_within room number least behind)
+use Rattle.trace_run.specs.Told.{WhereTold}
 
 -- the events of each slot in whole epochs
 abbrev pub closed_events : List (List Line) → Histories
@@ -116,36 +105,6 @@ pub record Progress (start ahead old new : Option (List ℕ)) (gateway : Solo) (
   pub said : SaysClosed sent closed
   pub waits : waiting ≡ entries_text (open_entries closed open_ [])
 
--- why the lines stop at an ending, the next line having this number
-abbrev pub stop_of : Ending → ℕ → Stop
-stop_of Ended number = ended
-stop_of ReadFault number = ended
-stop_of (BadLine why) number = bad number why
-stop_of LineLong number = long number
-stop_of TooLong number = big
-
--- octets begin with these lines
-abbrev pub Begins : List ℕ → List Line → Type 0
-Begins octets done = (behind : Input) × (input_of octets ≡ after_lines done behind)
-
--- and stop behind them
-abbrev pub Stops : List ℕ → List Line → Stop → Type 0
-Stops octets done stop = input_of octets ≡ record { lines = done; stop = stop }
-
--- the whole lines that were taken are these
-pub record Fails (octets left : List ℕ) (done : List Line) : Type 0 where
-  pub taken : Taken octets left
-  pub stops : Stops taken.whole done ended
-  pub begins : Begins octets done
-
--- where the lines ended so: the octets that a source had, and those that it has left
-abbrev pub Reached : Ending → List ℕ → List ℕ → List Line → Type 0
-Reached Ended octets left done = Stops octets done ended × (left ≡ [])
-Reached ReadFault octets left done = Fails octets left done
-Reached (BadLine why) octets left done = Stops octets done (bad (length done + 1) why)
-Reached LineLong octets left done = Stops octets done (long (length done + 1))
-Reached TooLong octets left done = Stops octets done big
-
 -- no more lines come; the texts of the whole epochs are written, and the entries of what stands in the open one wait
 pub record Ends (ending : Ending) (start left old new : Option (List ℕ)) (waiting : List ℕ)
     (gateway : Solo) : Type 0 where
@@ -173,15 +132,3 @@ pub record Cuts (why : Unwritten) (start left old new : Option (List ℕ)) : Typ
   pub written : Appends old new sent
   pub said : SaysClosed (sent ++ more) closed
   pub all : why ≡ unwritten.NoMemory → more ≡ []
-
--- the status of an ending, and of a report that is cut
-abbrev pub status_at : Ending → Status
-status_at Ended = status.Ok
-status_at ReadFault = status.ReadFault
-status_at (BadLine why) = status.BadLine
-status_at LineLong = status.LineLong
-status_at TooLong = status.TooLong
-
-abbrev pub status_without : Unwritten → Status
-status_without unwritten.WriteFault = status.WriteFault
-status_without unwritten.NoMemory = status.NoMemory

@@ -4,11 +4,11 @@ ghost use Rattle.pc_outside.specs.Faults.{Rises};
 ghost use Rattle.audit_reading.specs.Setups.{IsSetup, setup_of};
 ghost use Rattle.pepc.specs.Audit.{Audits, status_of};
 
-use crate::status::Status;
 use audit_reading::Setup;
 use audit_run::Audited;
 use pc_outside::{Sink, Source};
 use std::alloc::Global;
+use trace_run::Status;
 
 /// Does the command `audit`: reads a trace and its report from the source, and writes to the sink whether
 /// the report is a lawful one.

@@ -7,14 +7,14 @@ ghost use Rattle.pcap_form.specs.Export.{header, record_of};
 ghost use Rattle.pepc.specs.Export.{Exports};
 ghost use Rattle.pepc.specs.ExportProgress.{ExportCuts, ExportEnds, Passes};
 
-use crate::reading::{Next, next_line};
-use crate::run::{Ending, Unwritten, status_at, status_without, write_octets};
-use crate::status::Status;
 use pc_base::Moment;
 use pc_outside::{LineBuf, Sink, Source};
 use pcap_form::{HEADER, push_record};
 use std::alloc::{AllocError, Global};
 use trace_lines::TraceLine;
+use trace_run::{
+    Ending, Next, Status, Unwritten, next_line, status_at, status_without, write_octets,
+};
 
 // How many octets of a capture are gathered before they are written.
 const PIECE_LEN: usize = 0x1_0000;

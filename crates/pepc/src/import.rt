@@ -3,10 +3,10 @@ ghost use Rattle.std.specs.Prelude.{◌≡◌, ◌≤◌};
 ghost use Rattle.pc_outside.specs.Faults.{Rises};
 ghost use Rattle.pepc.specs.Import.{Imports, status_of};
 
-use crate::status::Status;
 use pc_outside::{Sink, Source};
 use pcap_form::Imported;
 use std::alloc::Global;
+use trace_run::Status;
 
 /// Does the command `import`: reads a capture from the source, and writes its trace to the sink.
 pub fn import<S: Source, K: Sink>(alloc: Global, source: &mut S, sink: &mut K) -> Status

@@ -1,14 +1,16 @@
 //! Laws of the definitions, each the contract of a function that does nothing.
-ghost use Rattle.std.specs.Prelude.{◌≡◌, ◌<◌, ℕ, List};
+ghost use Rattle.std.specs.Prelude.{◌≡◌, ◌<◌, ℕ, List, false};
 ghost use Rattle.trace_lines.specs.Input.{Input};
 ghost use Rattle.lawful_run.specs.Ledger.{IsPartition};
 ghost use Rattle.lawful_run.specs.Trace.{slots_of};
-ghost use Rattle.pepc.specs.Report.{IsText};
+ghost use Rattle.pepc.specs.Report.{IsSoloReport};
+ghost use Rattle.trace_run.specs.Report.{IsText};
 
 /// The report is one function of the lines and of why they stop: no two texts are reports of the
 /// same.
 pub fn one_report()
-    ensures { (input : Input) (text other : List ℕ) → IsText input text → IsText input other
+    ensures { (input : Input) (text other : List ℕ) → IsText IsSoloReport false input text
+        → IsText IsSoloReport false input other
         → text ≡ other }
 {}
 
@@ -16,7 +18,7 @@ pub fn one_report()
 /// counter tell pieces that have just the packets that entries tell as forwarded for it, each in one
 /// piece, once.
 pub fn each_packet_is_charged()
-    ensures { (input : Input) (text : List ℕ) (written : IsText input text) (slot life : ℕ)
+    ensures { (input : Input) (text : List ℕ) (written : IsText IsSoloReport false input text) (slot life : ℕ)
         → slot < slots_of input
         → IsPartition slot life written.report }
 {}

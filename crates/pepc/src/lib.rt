@@ -4,19 +4,16 @@
 
 mod audit;
 mod entry_text;
-mod epoch;
 mod export;
 mod gathered;
 mod import;
 mod laws;
 mod make;
 mod plain;
-mod reading;
 mod run;
 mod solo;
-mod status;
 mod summary;
 
 pub use crate::laws::{each_packet_is_charged, one_report};
 pub use crate::plain::run_plain;
-pub use crate::status::{Status, fault_text};
+pub use trace_run::{Status, fault_text};

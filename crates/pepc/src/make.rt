@@ -3,12 +3,12 @@ ghost use Rattle.std.specs.Prelude.{◌≡◌, ◌≤◌, true, false};
 ghost use Rattle.pc_outside.specs.Faults.{Rises};
 ghost use Rattle.pepc.specs.Make.{Makes};
 
-use crate::status::Status;
 use crate::summary::counted;
 use entry_counts::push_summary;
 use pc_outside::{Sink, WriteFault, write_whole};
 use std::alloc::{AllocError, Global};
 use trace_maker::MakeNo;
+use trace_run::Status;
 
 /// Writes the trace of this seed, so many subscribers and so many lines to the sink, or the summary of
 /// its report.

@@ -10,11 +10,11 @@ use crate::export::export;
 use crate::import::import;
 use crate::make::make;
 use crate::run::solo;
-use crate::status::Status;
 use audit_reading::Setup;
 use command_words::{Job, job};
 use pc_outside::{Sink, Source};
 use std::alloc::{AllocError, Global};
+use trace_run::Status;
 
 // Does a job.
 fn do_job<S: Source, K: Sink>(alloc: Global, asked: Job, source: &mut S, sink: &mut K) -> Status

@@ -11,80 +11,22 @@ ghost use Rattle.trace_lines.specs.Text.{line_text};
 ghost use Rattle.demux.specs.Trace.{Meaning};
 ghost use Rattle.lawful_run.specs.Order.{Histories};
 ghost use Rattle.lawful_run.specs.Run.{no_events};
-ghost use Rattle.pepc.specs.Cut.{Counts};
-ghost use Rattle.pepc.specs.Progress.{Ends, Cuts, Takes, end_text, next_story, next_text, rest_text, status_at};
-ghost use Rattle.pepc.specs.Progress.{status_without};
-ghost use Rattle.pepc.specs.Report.{IsDone, Reports, Runs};
+ghost use Rattle.trace_run.specs.Cut.{Counts};
+ghost use Rattle.pepc.specs.Progress.{Ends, Cuts, Takes, end_text, next_story, next_text, rest_text};
+ghost use Rattle.pepc.specs.Report.{IsSoloReport};
+ghost use Rattle.trace_run.specs.Report.{Runs};
 ghost use Rattle.pepc.specs.Standing.{HasRoom, IsLate, NoneBeyond, Stands, Story, story_of, with_end};
 
 use crate::entry_text::push_refusal;
-use crate::epoch::Size;
-use crate::reading::{Next, next_line};
 use crate::solo::Solo;
-use crate::status::Status;
 use pc_base::Moment;
-use pc_outside::{LineBuf, Sink, Source, write_whole};
+use pc_outside::{LineBuf, Sink, Source};
 use std::alloc::{AllocError, Global};
 use text_fields::Text;
-use trace_lines::{LineBad, TraceLine};
-
-/// Why no more lines are read.
-#[derive(Clone, Copy)]
-pub enum Ending {
-    Ended,
-    ReadFault,
-    BadLine(LineBad),
-    LineLong,
-    TooLong,
-}
-
-/// Why a report can't go on.
-#[derive(Clone, Copy)]
-pub enum Unwritten {
-    WriteFault,
-    NoMemory,
-}
-
-impl From<AllocError> for Unwritten {
-    ghost use Rattle.std.specs.Prelude.{◌≡◌};
-    ghost use Rattle.pepc.specs.declared.run.Unwritten.TheVariants.{NoMemory};
-
-    ghost from_gives = { λ _ why. why ≡ NoMemory };
-
-    fn from(_error: AllocError) -> Unwritten {
-        Unwritten::NoMemory
-    }
-}
-
-// Writes what is there of the report, and empties it.
-fn write_report<K: Sink>(sink: &mut K, report: &mut Text) -> Result<(), Unwritten>
-    ensures moved { OnOk result (Appends (K.written sink.old) (K.written sink.new) report.old) }
-    ensures emptied { OnOk result (report.new ≡ []) }
-    ensures cut { OnErr result (AppendsFront (K.written sink.old) (K.written sink.new) report.old) }
-    ensures no_other { OnErr result (result ≡ Err Unwritten.WriteFault) }
-
-    ensures later { K.faults sink.old ≤ K.faults sink.new }
-    ensures fault { OnErr result (Rises (K.faults sink.old) (K.faults sink.new)) }
-{
-    write_octets(sink, report.as_slice())?;
-    report.clear();
-    Ok(())
-}
-
-// Writes these octets.
-pub(crate) fn write_octets<K: Sink>(sink: &mut K, octets: &[u8]) -> Result<(), Unwritten>
-    ensures moved { OnOk result (Appends (K.written sink.old) (K.written sink.new) octets.now) }
-    ensures cut { OnErr result (AppendsFront (K.written sink.old) (K.written sink.new) octets.now) }
-    ensures no_other { OnErr result (result ≡ Err Unwritten.WriteFault) }
-
-    ensures later { K.faults sink.old ≤ K.faults sink.new }
-    ensures fault { OnErr result (Rises (K.faults sink.old) (K.faults sink.new)) }
-{
-    if write_whole(sink, octets).is_err() {
-        return Err(Unwritten::WriteFault);
-    }
-    Ok(())
-}
+use trace_lines::TraceLine;
+use trace_run::{
+    Ending, Next, Size, Status, Unwritten, next_line, status_at, status_without, write_report,
+};
 
 // Ends the epoch, whose text is written when it is whole.
 fn end_epoch<K: Sink>(gateway: &mut Solo, sink: &mut K, report: &mut Text) -> Result<(), Unwritten>
@@ -250,27 +192,6 @@ fn run_lines<S: Source, K: Sink>(
     }
 }
 
-pub(crate) fn status_at(ending: Ending) -> Status
-    ensures { result ≡ status_at ending }
-{
-    match ending {
-        Ending::Ended => Status::Ok,
-        Ending::ReadFault => Status::ReadFault,
-        Ending::BadLine(_) => Status::BadLine,
-        Ending::LineLong => Status::LineLong,
-        Ending::TooLong => Status::TooLong,
-    }
-}
-
-pub(crate) fn status_without(why: Unwritten) -> Status
-    ensures { result ≡ status_without why }
-{
-    match why {
-        Unwritten::WriteFault => Status::WriteFault,
-        Unwritten::NoMemory => Status::NoMemory,
-    }
-}
-
 // Appends what stands behind the lines of the last epoch, and the open counters.
 pub(crate) fn push_rest(solo: &mut Solo, report: &mut Text) -> Result<(), AllocError>
     ensures { (story : Story) → Stands solo.old story
@@ -285,7 +206,7 @@ fn end_run<K: Sink>(ending: Ending, gateway: &mut Solo, sink: &mut K, report: &m
     ensures whole { (before now : ℕ) (start left old : Option (List ℕ))
         → (ending ≡ Ending.ReadFault → Rises before now)
         → Ends ending start left old (K.written sink.old) report.old gateway.old
-        → Runs result (Rises before now) start left old (K.written sink.new) }
+        → Runs IsSoloReport false result (Rises before now) start left old (K.written sink.new) }
     ensures read_fault { result ≡ Status.ReadFault → ending ≡ Ending.ReadFault }
     ensures no_usage { result ≡ Status.Usage → ⊥ }
 
@@ -305,7 +226,7 @@ fn end_run<K: Sink>(ending: Ending, gateway: &mut Solo, sink: &mut K, report: &m
 
 /// Does the command `solo`: reads a trace and writes its report, epoch by epoch.
 pub fn solo<S: Source, K: Sink>(alloc: Global, source: &mut S, sink: &mut K) -> Status
-    ensures runs { Runs result (Rises (S.faults source.old) (S.faults source.new))
+    ensures runs { Runs IsSoloReport false result (Rises (S.faults source.old) (S.faults source.new))
         (S.left source.old) (S.left source.new)
         (K.written sink.old) (K.written sink.new) }
     ensures no_usage { result ≡ Status.Usage → ⊥ }

@@ -8,12 +8,11 @@ ghost use Rattle.trace_maker.specs.Generated.{made};
 ghost use Rattle.demux.specs.Trace.{Meaning};
 ghost use Rattle.lawful_run.specs.Order.{Histories};
 ghost use Rattle.pepc.specs.Counting.{CountsLine, CountsMore};
-ghost use Rattle.pepc.specs.Cut.{Counts};
+ghost use Rattle.trace_run.specs.Cut.{Counts};
 ghost use Rattle.pepc.specs.Make.{IsCounted};
 ghost use Rattle.pepc.specs.Progress.{end_text, next_story, next_text};
 ghost use Rattle.pepc.specs.Standing.{HasRoom, IsLate, Stands, Story, story_of, with_end};
 
-use crate::epoch::Size;
 use crate::run::push_rest;
 use crate::solo::Solo;
 use entry_counts::EntryCounts;
@@ -21,6 +20,7 @@ use std::alloc::{AllocError, Global};
 use text_fields::Text;
 use trace_lines::{TraceLine, push_text};
 use trace_maker::{Maker, made_line};
+use trace_run::Size;
 
 /// Counts the report of the trace of this seed, so many subscribers and so many lines.
 pub fn counted(alloc: Global, seed: u64, subs: u32, lines: u32) -> Result<EntryCounts, AllocError>

@@ -1,6 +1,6 @@
 use Rattle.std.proofs.Common.{◌≡◌}
 use Rattle.pc_outside.specs.Faults.{Rises}
-use Rattle.pepc.specs.declared.run.Unwritten.TheVariants.{WriteFault}
+use Rattle.trace_run.specs.declared.ending.Unwritten.TheVariants.{WriteFault}
 use Rattle.pepc.proofs.ExportReports.{ends_cut, ends_whole}
 use Rattle.pepc.proofs.export.end_export.Goals as goal
 

@@ -1,11 +1,11 @@
 use Rattle.std.proofs.Common.{◌≡◌, [], ◌∷◌, ◌++◌, Err, refl, sym, ap, ◌∙◌, arith}
 use Rattle.pc_outside.specs.Held.{Held}
 use Rattle.pcap_form.specs.Export.{header}
-use Rattle.pepc.specs.declared.reading.Next.TheVariants as next
-use Rattle.pepc.specs.declared.run.Unwritten.TheVariants as unwritten
+use Rattle.trace_run.specs.declared.reading.Next.TheVariants as next
+use Rattle.trace_run.specs.declared.ending.Unwritten.TheVariants as unwritten
 use Rattle.pepc.proofs.EndLemmas.{if_err, none_held}
 use Rattle.pepc.proofs.ExportLemmas.{cut_at, cut_first, cut_here, ends_bad, ends_big, ends_ended, ends_fault, ends_last, ends_long, goes_on, starts}
-use Rattle.pepc.proofs.ReadLemmas.{gives_last, gives_line}
+use Rattle.trace_run.proofs.ReadLemmas.{gives_last, gives_line}
 use Rattle.pepc.proofs.export.export_lines.Goals as goal
 
 pub loop-line-init : goal.loop-line-init
@@ -68,7 +68,7 @@ loop-line-preserved g c =
         p.0 ++ c.in-Line.line ∷ [],
         rw c.in_ok-least-in-Line.ensures.moment
             (goes_on _ _ _ _ _ _ _ _ _ c.next_line.new.buf.room _ _ p.0 c.in-Line.line c.in-Line._len p.1
-            c.in-Line.ensures.tells c.in-Line.ensures.room c.in_ok-least-in-Line.ensures.passed),
+            c.in-Line.ensures.tells (omega (arith, c.in-Line.ensures.room)) c.in_ok-least-in-Line.ensures.passed),
       );
       source_later = omega (arith, c.loop-line.invariant.source_later, c.in-Line.ensures.later);
       sink_later = omega (arith, c.loop-line.invariant.sink_later, c.in_ok-least-in-Line.ensures.later);

@@ -1,5 +1,5 @@
 use Rattle.std.proofs.Common.{◌≡◌, Err, ap, ◌∙◌}
-use Rattle.pepc.specs.declared.run.Unwritten.TheVariants.{NoMemory, WriteFault}
+use Rattle.trace_run.specs.declared.ending.Unwritten.TheVariants.{NoMemory, WriteFault}
 use Rattle.pepc.proofs.export.spend_line.Goals as goal
 
 pub returns-in-Err-clause-cut : goal.returns-in-Err-clause-cut

@@ -7,4 +7,4 @@ use Rattle.pepc.proofs.laws.each_packet_is_charged.Goals as goal
 pub returns : goal.returns
 returns c = λ input text written slot life within.
     reports_are_partitions solo (slots_of input) (epochs_told slices input) written.report slot life
-    written.solo.lawful within
+    written.allowed.lawful within

@@ -1,6 +1,6 @@
 use Rattle.std.proofs.Common.{◌≡◌}
 use Rattle.pc_outside.specs.Faults.{Rises}
-use Rattle.pepc.specs.declared.run.Unwritten.TheVariants.{WriteFault}
+use Rattle.trace_run.specs.declared.ending.Unwritten.TheVariants.{WriteFault}
 use Rattle.pepc.proofs.ReportLemmas.{ends_whole, ends_cut, ends_unwritten}
 use Rattle.pepc.proofs.run.end_run.Goals as goal
 

@@ -1,8 +1,8 @@
 use Rattle.std.proofs.Common.{◌≡◌, [], ◌∷◌, ◌++◌, Err, refl, sym, ap, ◌∙◌, arith}
 use Rattle.pc_outside.specs.Held.{Held}
-use Rattle.pepc.specs.declared.reading.Next.TheVariants as next
+use Rattle.trace_run.specs.declared.reading.Next.TheVariants as next
 use Rattle.pepc.proofs.EndLemmas.{begins, cut_by, cut_here, ends_bad, ends_fault, ends_last, if_err, none_held, sized_so}
-use Rattle.pepc.proofs.ReadLemmas.{gives_last, gives_line}
+use Rattle.trace_run.proofs.ReadLemmas.{gives_last, gives_line}
 use Rattle.pepc.proofs.RunLemmas.{goes_on}
 use Rattle.pepc.proofs.run.run_lines.Goals as goal
 
@@ -54,7 +54,7 @@ loop-line-preserved g c =
         p.0 ++ c.in-Line.line ∷ [],
         rw c.in_ok-least-in-Line.ensures.moment
             (goes_on _ _ _ _ _ _ _ _ _ _ _ _ _ c.next_line.new.buf.room _ _ p.0 c.in-Line.line c.in-Line.len p.1
-            c.in-Line.ensures.tells c.in-Line.ensures.room
+            c.in-Line.ensures.tells (omega (arith, c.in-Line.ensures.room))
             (c.in_ok-least-in-Line.ensures.taken p.0 p.1.open_ _ _ _ p.1.stands c.in-Line.ensures.given.2 p.1.sized)),
       );
       source_later = omega (arith, c.loop-line.invariant.source_later, c.in-Line.ensures.later);

@@ -1,6 +1,6 @@
 use Rattle.std.proofs.Common.{Err, sym, ap, ◌∙◌}
 use Rattle.std.proofs.lemmas.Result.{err_from_is_err_and}
-use Rattle.pepc.specs.declared.run.Unwritten.TheVariants.{WriteFault}
+use Rattle.trace_run.specs.declared.ending.Unwritten.TheVariants.{WriteFault}
 use Rattle.pepc.proofs.Answered.{one_error}
 use Rattle.pepc.proofs.run.spend_line.Goals as goal
 

@@ -2,7 +2,7 @@ use Rattle.std.proofs.Common.{◌≡◌, ◌++◌, ◌∷◌, [], if◌then◌el
 use Rattle.std.specs.Io.KnownBytes.{Appends}
 use Rattle.pc_outside.specs.Fronts.{AppendsFront}
 use Rattle.trace_lines.specs.Epochs.{ends_epoch}
-use Rattle.pepc.specs.Cut.{Counts}
+use Rattle.trace_run.specs.Cut.{Counts}
 use Rattle.pepc.specs.Progress.{end_text, next_story, next_text}
 use Rattle.pepc.proofs.Answered.{on_ok_all}
 use Rattle.pepc.proofs.RunLemmas.{takes_closed, takes_open}

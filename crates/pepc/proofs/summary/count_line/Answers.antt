@@ -1,7 +1,7 @@
 use Rattle.std.proofs.Common.{◌≡◌, ◌∷◌, ◌++◌, [], if◌then◌else◌, true, false, refl, sym, subst, ◌∙◌}
 use Rattle.trace_lines.specs.Epochs.{ends_epoch}
 use Rattle.pepc.specs.Counting.{CountsLine, CountsMore}
-use Rattle.pepc.specs.Cut.{Counts}
+use Rattle.trace_run.specs.Cut.{Counts}
 use Rattle.pepc.specs.Progress.{end_text, next_story, next_text}
 use Rattle.pepc.proofs.Answered.{on_ok_all}
 use Rattle.pepc.proofs.summary.count_line.Goals as goal

@@ -1,17 +1,19 @@
 -- What is next in an input, by what reading a line found and what the line means.
-use Rattle.std.proofs.Common.{◌≡◌, ℕ, ◌+◌, Bool, true, false, List, [], ◌∷◌, ◌++◌, Option, None, Some, Ok, Err, ◌⊎◌, inl, inr, ap, ◌∙◌, arith}
+use Rattle.std.proofs.Common.{◌≡◌, ℕ, ◌+◌, ◌<◌, ◌≤◌, Bool, decimal, length, length-append, true, false, List, [], ◌∷◌, ◌++◌, Option, None, Some, Ok, Err, ◌⊎◌, inl, inr, ap, ◌∙◌, arith}
 use Rattle.pc_outside.specs.Line.{HoldsLine}
 use Rattle.pc_outside.specs.LineReads.{Reads}
 use Rattle.pc_outside.specs.declared.reading.LineRead.TheVariants as read
 use Rattle.pc_outside.specs.Limits.{newline}
 use Rattle.trace_lines.specs.Input.{bad, ended, stopped, after_lines, line_then, input_within}
 use Rattle.trace_lines.specs.Line.{Line}
+use Rattle.text_fields.specs.Fields.{joined}
+use Rattle.trace_lines.specs.Text.{arguments, kind_word, line_text}
 use Rattle.trace_lines.specs.Meaning.{line_meaning}
 use Rattle.trace_lines.specs.declared.bad.LineBad.{LineBad}
 use Rattle.trace_lines.specs.declared.bad.LineBad.TheVariants as why
 use Rattle.trace_lines.proofs.InputLemmas.{whole_line, last_line, at_end, line_long, input_big}
-use Rattle.pepc.specs.Next.{Gives, IsNext, SaysLine, Says, Tells, TakesRoom, given_as, refused_as}
-use Rattle.pepc.specs.declared.reading.Next.TheVariants as next
+use Rattle.trace_run.specs.Next.{Gives, IsNext, SaysLine, Says, Tells, TakesRoom, given_as, refused_as}
+use Rattle.trace_run.specs.declared.reading.Next.TheVariants as next
 
 -- a line and its newline say what the line means, and then what stands behind them says
 says_whole : (number least room after : ℕ) (octets rest line : List ℕ) → HoldsLine room after octets rest line false
@@ -70,12 +72,22 @@ tells_given number least room after (Some octets) None text last line len reads 
 tells_given number least room after (Some octets) (Some rest) text last line len reads means =
     says_given number least room after octets rest text last line len reads means
 
+-- the text of a line isn't empty
+text_some : (line : Line) → 0 < length (line_text line)
+text_some line = behind_space (decimal line.moment) (joined (kind_word line.kind ∷ arguments line.kind))
+  where
+    behind_space : (front rest : List ℕ) → 0 < length (front ++ 32 ∷ rest)
+    behind_space front rest = omega (arith, length-append front (32 ∷ rest))
+
 -- and takes room
 pub takes_given : (room after : ℕ) (octets rest text : List ℕ) (last : Bool) (line : Line) (len : ℕ)
-    → HoldsLine room after octets rest text last
+    → HoldsLine room after octets rest text last → length (line_text line) ≡ length text
     → TakesRoom (given_as line len last) room after
-takes_given room after octets rest text true line len holds = omega (arith, holds.form.given, holds.form.some)
-takes_given room after octets rest text false line len holds = omega (arith, holds.form.given)
+takes_given room after octets rest text true line len holds as_long =
+    let some = text_some line in
+    (omega (arith, holds.form.given, holds.form.some), omega (arith, holds.form.given, holds.form.more))
+takes_given room after octets rest text false line len holds as_long =
+    let some = text_some line in omega (arith, holds.form.given)
 
 -- and comes with its length, in its order
 pub gives_given : (line : Line) (len least : ℕ) (last : Bool) → IsNext line len least

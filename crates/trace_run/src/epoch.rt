@@ -3,7 +3,7 @@ ghost use Rattle.std.specs.Prelude.{◌≡◌, ◌<◌, ◌^◌, ◌∷◌, ◌+
 ghost use Rattle.trace_lines.specs.Epochs.{ends_epoch};
 ghost use Rattle.trace_lines.specs.Line.{Line};
 ghost use Rattle.trace_lines.specs.Text.{line_text};
-ghost use Rattle.pepc.specs.Cut.{Counts};
+ghost use Rattle.trace_run.specs.Cut.{Counts};
 
 use trace_lines::{TraceLine, ends_epoch};
 

@@ -1,7 +1,11 @@
--- The exit status and the line on standard error.
+-- The status of a run, its number, and the line on standard error.
 use Rattle.std.specs.Prelude.{ℕ, List, [], codes}
-use Rattle.pepc.specs.declared.status.Status.{Status}
-use Rattle.pepc.specs.declared.status.Status.TheVariants as status
+use Rattle.trace_run.specs.declared.status.Status.{Status}
+use Rattle.trace_run.specs.declared.status.Status.TheVariants as status
+use Rattle.trace_run.specs.declared.ending.Ending.{Ending}
+use Rattle.trace_run.specs.declared.ending.Ending.TheVariants as ending
+use Rattle.trace_run.specs.declared.ending.Unwritten.{Unwritten}
+use Rattle.trace_run.specs.declared.ending.Unwritten.TheVariants as unwritten
 
 abbrev pub code_of : Status → ℕ
 code_of status.Ok = 0
@@ -26,3 +30,15 @@ fault_text_of status.LineLong = codes "pepc: line too long"
 fault_text_of status.TooLong = codes "pepc: input too long"
 fault_text_of status.Refuted = codes "pepc: report refuted"
 fault_text_of status.BadCapture = codes "pepc: bad capture"
+
+-- the status of an ending, and of a report that is cut
+abbrev pub status_at : Ending → Status
+status_at ending.Ended = status.Ok
+status_at ending.ReadFault = status.ReadFault
+status_at (ending.BadLine why) = status.BadLine
+status_at ending.LineLong = status.LineLong
+status_at ending.TooLong = status.TooLong
+
+abbrev pub status_without : Unwritten → Status
+status_without unwritten.WriteFault = status.WriteFault
+status_without unwritten.NoMemory = status.NoMemory

@@ -7,9 +7,9 @@ use Rattle.trace_lines.specs.Line.{Line}
 use Rattle.trace_lines.specs.Text.{line_text}
 use Rattle.trace_lines.specs.declared.bad.LineBad.{LineBad}
 use Rattle.trace_lines.specs.declared.bad.LineBad.TheVariants as why
-use Rattle.pepc.specs.Told.{WhereTold}
-use Rattle.pepc.specs.declared.reading.Next.{Next}
-use Rattle.pepc.specs.declared.reading.Next.TheVariants as next
+use Rattle.trace_run.specs.Told.{WhereTold}
+use Rattle.trace_run.specs.declared.reading.Next.{Next}
+use Rattle.trace_run.specs.declared.reading.Next.TheVariants as next
 
 -- the octets begin with a text and its newline, which say this line and then what stands behind them
 pub record SaysLine (line : Line) (number least room after : ℕ) (octets rest : List ℕ) : Type 0 where
@@ -38,10 +38,10 @@ abbrev pub Tells : Next → ℕ → ℕ → ℕ → ℕ → Option (List ℕ) �
 Tells what number least room after start now =
     WhereTold start now (λ octets rest. Says what number least room after octets rest)
 
--- a line takes room
+-- a line takes room: for an octet at least and the newline, which may be wanting behind the last one
 abbrev pub TakesRoom : Next → ℕ → ℕ → Type 0
-TakesRoom (next.Line line len) room after = after < room
-TakesRoom (next.Last line len) room after = after < room
+TakesRoom (next.Line line len) room after = after + 2 ≤ room
+TakesRoom (next.Last line len) room after = (after < room) × (2 ≤ room)
 TakesRoom (next.Bad why) room after = Unit {0}
 TakesRoom next.End room after = Unit {0}
 TakesRoom next.LineLong room after = Unit {0}

@@ -1,6 +1,6 @@
 //! How a run ends.
 ghost use Rattle.std.specs.Prelude.{◌≡◌};
-ghost use Rattle.pepc.specs.Status.{code_of, fault_text_of};
+ghost use Rattle.trace_run.specs.Status.{code_of, fault_text_of};
 
 /// How a run ended.
 #[derive(Clone, Copy, Debug, PartialEq, Eq)]

@@ -1,6 +1,6 @@
 use Rattle.std.proofs.Common.{sym, ap, ◌∙◌, length, arith}
-use Rattle.pepc.proofs.NextLemmas.{gives_given, gives_refused, tells_given, takes_given, given-no_fault, tells_refused, tells_end, tells_long, tells_big, tells_fault}
-use Rattle.pepc.proofs.reading.next_line.Goals as goal
+use Rattle.trace_run.proofs.NextLemmas.{gives_given, gives_refused, tells_given, takes_given, given-no_fault, tells_refused, tells_end, tells_long, tells_big, tells_fault}
+use Rattle.trace_run.proofs.reading.next_line.Goals as goal
 
 pub returns-in-End-clause-tells : goal.returns-in-End-clause-tells
 returns-in-End-clause-tells g c = tells_end c.args.number c.args.least _ _ _ _ _ _ c.in-End.ensures.octets
@@ -23,7 +23,8 @@ returns-in-Ok-clause-tells g c =
 
 pub returns-in-Ok-clause-room : goal.returns-in-Ok-clause-room
 returns-in-Ok-clause-room g c =
-    rw (c.given.ensures, c.is_last.ensures) (takes_given _ _ _ _ _ _ c.in-Ok.line _ c.in-Line.ensures.held.1)
+    rw (c.given.ensures, c.is_last.ensures) (takes_given _ _ _ _ _ _ c.in-Ok.line _ c.in-Line.ensures.held.1
+    (c.in-Ok.ensures.as_long ∙ ap length c.line-text.ensures))
 
 pub returns-in-Ok-clause-given : goal.returns-in-Ok-clause-given
 returns-in-Ok-clause-given g c =

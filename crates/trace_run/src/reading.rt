@@ -3,7 +3,7 @@ ghost use Rattle.std.specs.Prelude.{◌≡◌, ◌≤◌};
 ghost use Rattle.std.specs.Io.KnownBytes.{prepend_known};
 ghost use Rattle.pc_outside.specs.Faults.{Rises};
 ghost use Rattle.pc_outside.specs.Held.{IsUnfinished};
-ghost use Rattle.pepc.specs.Next.{Gives, Tells, TakesRoom, given_as, refused_as};
+ghost use Rattle.trace_run.specs.Next.{Gives, Tells, TakesRoom, given_as, refused_as};
 
 use pc_base::Moment;
 use pc_outside::{LineBuf, LineRead, Source, read_line};

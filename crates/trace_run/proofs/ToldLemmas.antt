@@ -1,6 +1,6 @@
 -- What is said where a source tells its octets, step after step.
 use Rattle.std.proofs.Common.{ℕ, List, Option, None, Some}
-use Rattle.pepc.specs.Told.{WhereTold}
+use Rattle.trace_run.specs.Told.{WhereTold}
 
 -- what follows from what is said
 pub told_map : (start left : Option (List ℕ)) (P Q : List ℕ → List ℕ → Type 0)

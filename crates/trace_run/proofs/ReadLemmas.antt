@@ -6,12 +6,12 @@ use Rattle.pc_outside.specs.Limits.{newline}
 use Rattle.trace_lines.specs.Input.{Input, Stop, ended, stopped, after_lines, input_of, input_within}
 use Rattle.trace_lines.specs.Line.{Line}
 use Rattle.trace_lines.proofs.InputLemmas.{at_end}
-use Rattle.pepc.specs.declared.reading.Next.{Next}
-use Rattle.pepc.specs.declared.reading.Next.TheVariants as next
-use Rattle.pepc.specs.Next.{SaysLine, Says, Tells}
-use Rattle.pepc.specs.Progress.{HasRead, Stops, Fails}
-use Rattle.pepc.specs.Told.{WhereTold}
-use Rattle.pepc.proofs.ToldLemmas.{told_then}
+use Rattle.trace_run.specs.declared.reading.Next.{Next}
+use Rattle.trace_run.specs.declared.reading.Next.TheVariants as next
+use Rattle.trace_run.specs.Next.{SaysLine, Says, Tells}
+use Rattle.trace_run.specs.Lines.{HasRead, Stops, Fails}
+use Rattle.trace_run.specs.Told.{WhereTold}
+use Rattle.trace_run.proofs.ToldLemmas.{told_then}
 
 after_lines-push : (done : List Line) (line : Line) (input : Input)
     → after_lines done (after_lines (line ∷ []) input) ≡ after_lines (done ++ line ∷ []) input

@@ -1,0 +1,349 @@
+-- How the lines of an input end, and what a run that ends, or is cut, wrote.
+use Rattle.std.proofs.Common.{◌≡◌, ℕ, ◌+◌, ◌^◌, Bool, List, [], ◌∷◌, ◌++◌, length, All, true, flat_map, Option, None, Some, ◌⊎◌, inl, inr, refl, sym, ap, subst, ◌∙◌, append_assoc, append-nil}
+use Rattle.std.specs.Io.KnownBytes.{Appends, prepend_known}
+use Rattle.std.proofs.KnownBytes.{Appends-nil}
+use Rattle.pc_outside.specs.Held.{Held, IsUnfinished}
+use Rattle.trace_lines.specs.Epochs.{epochs_behind, epochs_of}
+use Rattle.trace_lines.specs.Input.{Input, Stop, bad, long, big, ended, stopped, after_lines, input_of}
+use Rattle.trace_lines.specs.Line.{Line}
+use Rattle.trace_lines.specs.declared.bad.LineBad.{LineBad}
+use Rattle.lawful_run.specs.Cut.{IsCut, lines_in}
+use Rattle.lawful_run.specs.Report.{Report, epoch_entries, texts_of}
+use Rattle.lawful_run.specs.Trace.{is_whole}
+use Rattle.lawful_run.proofs.CutLines.{cut_closed, cut_nothing}
+use Rattle.trace_run.specs.declared.ending.Ending.{Ending}
+use Rattle.trace_run.specs.declared.ending.Ending.TheVariants.{Ended, ReadFault, BadLine, LineLong, TooLong}
+use Rattle.trace_run.specs.declared.reading.Next.TheVariants as next
+use Rattle.trace_run.specs.declared.status.Status.{Status}
+use Rattle.trace_run.specs.declared.status.Status.TheVariants as status
+use Rattle.trace_run.specs.Lines.{Begins, Fails, HasRead, Reached, Stops, stop_of}
+use Rattle.trace_run.specs.Next.{Tells}
+use Rattle.trace_run.specs.Report.{IsBad, IsCutText, IsDone, IsEpochsText, IsFaultText, IsLong, IsText, Reports, Runs, input_with}
+use Rattle.trace_run.specs.Status.{status_at}
+use Rattle.trace_run.specs.Told.{WhereTold}
+use Rattle.trace_run.proofs.ReadLemmas.{begins_more, fails_so, none_left, stops_so, told_next}
+use Rattle.trace_run.proofs.ToldLemmas.{told_map}
+
+-- ---- where the lines end
+
+-- nothing was read yet
+pub read_nothing : (start ahead : Option (List ℕ)) (room : ℕ) → ahead ≡ start → room ≡ 2 ^ 40
+    → WhereTold start ahead (λ octets rest. HasRead octets rest 1 0 room [])
+read_nothing start ahead room same full =
+    subst (λ a. WhereTold start a (λ octets rest. HasRead octets rest 1 0 room [])) (sym same)
+    (subst (λ r. WhereTold start start (λ octets rest. HasRead octets rest 1 0 r [])) (sym full) (first start))
+  where
+    first : (start : Option (List ℕ)) → WhereTold start start (λ octets rest. HasRead octets rest 1 0 (2 ^ 40) [])
+    first None = tt
+    first (Some octets) = record { gone = []; parts = refl; lines = inl refl; taken = refl; says = λ behind. refl }
+
+pub reached_end : (start a left : Option (List ℕ)) (number least room after : ℕ) (held : List ℕ) (done : List Line)
+    → WhereTold start a (λ octets rest. HasRead octets rest number least room done)
+    → Tells next.End number least room after a (prepend_known held left)
+    → WhereTold start left (λ octets rest. Reached Ended octets rest done)
+reached_end start a left number least room after held done read tells =
+    told_next start a left held number least room after done next.End (λ octets rest. Reached Ended octets rest done)
+    (λ octets ahead rest has says. (
+      stops_so number least room done ended octets ahead has says.0,
+      none_left held rest says.1,
+    )) read tells
+
+pub reached_long : (start a left : Option (List ℕ)) (number least room after : ℕ) (held : List ℕ) (done : List Line)
+    → number ≡ length done + 1
+    → WhereTold start a (λ octets rest. HasRead octets rest number least room done)
+    → Tells next.LineLong number least room after a (prepend_known held left)
+    → WhereTold start left (λ octets rest. Reached LineLong octets rest done)
+reached_long start a left number least room after held done counted read tells =
+    subst (λ n. WhereTold start left (λ octets rest. Stops octets done (long n))) counted
+    (told_next start a left held number least room after done next.LineLong
+    (λ octets rest. Stops octets done (long number))
+    (λ octets ahead rest has says. stops_so number least room done (long number) octets ahead has says) read tells)
+
+pub reached_big : (start a left : Option (List ℕ)) (number least room after : ℕ) (held : List ℕ) (done : List Line)
+    → WhereTold start a (λ octets rest. HasRead octets rest number least room done)
+    → Tells next.TooLong number least room after a (prepend_known held left)
+    → WhereTold start left (λ octets rest. Reached TooLong octets rest done)
+reached_big start a left number least room after held done read tells =
+    told_next start a left held number least room after done next.TooLong (λ octets rest. Stops octets done big)
+    (λ octets ahead rest has says. stops_so number least room done big octets ahead has says) read tells
+
+pub reached_fault : (start a left : Option (List ℕ)) (number least room : ℕ) (now : Held) (done : List Line)
+    → WhereTold start a (λ octets rest. HasRead octets rest number least room done)
+    → Tells next.ReadFault number least room now.room a (prepend_known now.front left) → IsUnfinished now
+    → WhereTold start left (λ octets rest. Reached ReadFault octets rest done)
+reached_fault start a left number least room now done read tells unfinished =
+    told_next start a left now.front number least room now.room done next.ReadFault
+    (λ octets rest. Fails octets rest done)
+    (λ octets ahead rest has says. fails_so number least room done now octets ahead rest unfinished has says.0 says.1)
+    read tells
+
+pub reached_bad : (start a left : Option (List ℕ)) (number least room after : ℕ) (held : List ℕ) (done : List Line)
+    (why : LineBad) → number ≡ length done + 1
+    → WhereTold start a (λ octets rest. HasRead octets rest number least room done)
+    → Tells (next.Bad why) number least room after a (prepend_known held left)
+    → WhereTold start left (λ octets rest. Reached (BadLine why) octets rest done)
+reached_bad start a left number least room after held done why counted read tells =
+    subst (λ n. WhereTold start left (λ octets rest. Stops octets done (bad n why))) counted
+    (told_next start a left held number least room after done (next.Bad why)
+    (λ octets rest. Stops octets done (bad number why))
+    (λ octets ahead rest has says. stops_so number least room done (bad number why) octets ahead has says) read tells)
+
+-- the last line was read
+pub reached_last : (start a left : Option (List ℕ)) (number least room after : ℕ) (held : List ℕ) (done : List Line)
+    (line : Line) (len : ℕ)
+    → WhereTold start a (λ octets rest. HasRead octets rest number least room done)
+    → Tells (next.Last line len) number least room after a (prepend_known held left)
+    → WhereTold start left (λ octets rest. Reached Ended octets rest (done ++ line ∷ []))
+reached_last start a left number least room after held done line len read tells =
+    told_next start a left held number least room after done (next.Last line len)
+    (λ octets rest. Reached Ended octets rest (done ++ line ∷ []))
+    (λ octets ahead rest has says. (
+      begins_more number least room done line (stopped ended) octets ahead has says.0
+          ∙ ap (λ lines. record { lines = lines; stop = ended }) (append-nil (done ++ line ∷ [])),
+      none_left held rest says.1,
+    )) read tells
+
+-- octets that stop behind lines begin with them
+begins_stop : (octets : List ℕ) (done : List Line) (stop : Stop) → Stops octets done stop → Begins octets done
+begins_stop octets done stop stops = (
+  stopped stop,
+  stops ∙ ap (λ lines. record { lines = lines; stop = stop }) (sym (append-nil done)),
+)
+
+pub begins_of : (ending : Ending) (octets left : List ℕ) (done : List Line) → Reached ending octets left done
+    → Begins octets done
+begins_of Ended octets left done reached = begins_stop octets done ended reached.0
+begins_of ReadFault octets left done reached = reached.begins
+begins_of (BadLine why) octets left done reached = begins_stop octets done (bad (length done + 1) why) reached
+begins_of LineLong octets left done reached = begins_stop octets done (long (length done + 1)) reached
+begins_of TooLong octets left done reached = begins_stop octets done big reached
+
+-- ---- the report of an ending
+
+pub stop_is : (octets : List ℕ) (done : List Line) (stop : Stop) → Stops octets done stop
+    → (input_of octets).stop ≡ stop
+stop_is octets done stop stops = ap (λ (i : Input). i.stop) stops
+
+-- the whole report, where the octets say these lines and stop so
+whole_of : (may_have : Input → Report → Type 0) (places : Bool) (octets : List ℕ) (done : List Line) (stop : Stop)
+    (text : List ℕ) → Stops octets done stop
+    → IsText may_have places (record { lines = done; stop = stop }) text → IsText may_have places (input_of octets) text
+whole_of may_have places octets done stop text stops said =
+    subst (λ input. IsText may_have places input text) (sym stops) said
+
+fault_of : (may_have : Input → Report → Type 0) (places : Bool) (octets left text : List ℕ) (done : List Line)
+    → Fails octets left done → IsText may_have places (input_with done) text → IsFaultText may_have places octets left text
+fault_of may_have places octets left text done reached said = record {
+  taken = reached.taken;
+  stop = stop_is reached.taken.whole done ended reached.stops;
+  report = whole_of may_have places reached.taken.whole done ended text reached.stops said;
+}
+
+-- the text is that of the report that is due at an ending
+abbrev pub IsDue : (Input → Report → Type 0) → Bool → Ending → List Line → List ℕ → Type 0
+IsDue may_have places ending done text =
+    IsText may_have places (record { lines = done; stop = stop_of ending (length done + 1) }) text
+
+reports_ending : (may_have : Input → Report → Type 0) (places : Bool) (ending : Ending) (source_failed : Type 0)
+    (octets left text : List ℕ) (done : List Line)
+    → Reached ending octets left done → IsDue may_have places ending done text
+    → Reports may_have places (status_at ending) source_failed octets left text
+reports_ending may_have places Ended source_failed octets left text done reached said =
+    (stop_is octets done ended reached.0, reached.1, whole_of may_have places octets done ended text reached.0 said)
+reports_ending may_have places ReadFault source_failed octets left text done reached said =
+    fault_of may_have places octets left text done reached said
+reports_ending may_have places (BadLine why) source_failed octets left text done reached said = (
+  subst IsBad (sym (stop_is octets done (bad (length done + 1) why) reached)) tt,
+  whole_of may_have places octets done (bad (length done + 1) why) text reached said,
+)
+reports_ending may_have places LineLong source_failed octets left text done reached said = (
+  subst IsLong (sym (stop_is octets done (long (length done + 1)) reached)) tt,
+  whole_of may_have places octets done (long (length done + 1)) text reached said,
+)
+reports_ending may_have places TooLong source_failed octets left text done reached said =
+    (stop_is octets done big reached, whole_of may_have places octets done big text reached said)
+
+-- the report is written
+pub runs_whole : (may_have : Input → Report → Type 0) (places : Bool) (ending : Ending) (source_failed : Type 0)
+    (start left old new : Option (List ℕ)) (done : List Line) (text : List ℕ)
+    → WhereTold start left (λ octets rest. Reached ending octets rest done)
+    → IsDue may_have places ending done text → Appends old new text
+    → Runs may_have places (status_at ending) source_failed start left old new
+runs_whole may_have places ending source_failed start left old new done text reached due written = record {
+  text = text;
+  written = written;
+  report = told_map start left (λ octets over. Reached ending octets over done)
+      (λ octets over. Reports may_have places (status_at ending) source_failed octets over text)
+      (λ octets over is. reports_ending may_have places ending source_failed octets over text done is due) reached;
+}
+
+-- a front of the report of this ending
+cut_ending : (may_have : Input → Report → Type 0) (places : Bool) (ending : Ending) (source_failed : Type 0)
+    (octets left text more : List ℕ) (done : List Line)
+    → (ending ≡ ReadFault → source_failed)
+    → Reached ending octets left done → IsDue may_have places ending done (text ++ more)
+    → IsCutText may_have places source_failed octets left text
+cut_ending may_have places Ended source_failed octets left text more done failed reached said =
+    record { more = more; whole = inl (whole_of may_have places octets done ended (text ++ more) reached.0 said) }
+cut_ending may_have places ReadFault source_failed octets left text more done failed reached said = record {
+  more = more;
+  whole = inr (inl (failed refl, fault_of may_have places octets left (text ++ more) done reached said));
+}
+cut_ending may_have places (BadLine why) source_failed octets left text more done failed reached said = record {
+  more = more;
+  whole = inl (whole_of may_have places octets done (bad (length done + 1) why) (text ++ more) reached said);
+}
+cut_ending may_have places LineLong source_failed octets left text more done failed reached said = record {
+  more = more;
+  whole = inl (whole_of may_have places octets done (long (length done + 1)) (text ++ more) reached said);
+}
+cut_ending may_have places TooLong source_failed octets left text more done failed reached said =
+    record { more = more; whole = inl (whole_of may_have places octets done big (text ++ more) reached said) }
+
+-- the sink failed within it
+pub runs_cut : (may_have : Input → Report → Type 0) (places : Bool) (ending : Ending) (source_failed : Type 0)
+    (start left old new : Option (List ℕ)) (done : List Line) (text more : List ℕ) → (ending ≡ ReadFault → source_failed)
+    → WhereTold start left (λ octets rest. Reached ending octets rest done)
+    → IsDue may_have places ending done (text ++ more) → Appends old new text
+    → Runs may_have places status.WriteFault source_failed start left old new
+runs_cut may_have places ending source_failed start left old new done text more failed reached due written = record {
+  text = text;
+  written = written;
+  report = told_map start left (λ octets over. Reached ending octets over done)
+      (λ octets over. IsCutText may_have places source_failed octets over text)
+      (λ octets over is. cut_ending may_have places ending source_failed octets over text more done failed is due)
+      reached;
+}
+
+-- ---- whole epochs alone
+
+-- octets that begin with lines begin with the first of them
+pub begins_front : (octets : List ℕ) (done front back : List Line) → done ≡ front ++ back → Begins octets done
+    → Begins octets front
+begins_front octets done front back parts begins = (
+  after_lines back begins.0,
+  begins.1 ∙ ap (λ lines. after_lines lines begins.0) parts
+      ∙ ap (λ lines. record { lines = lines; stop = begins.0.stop }) (append_assoc front back begins.0.lines),
+)
+
+-- the text of these epochs, which are whole
+pub record SaysEpochs (may_have : Input → Report → Type 0) (places : Bool) (closed : List (List Line))
+    (text : List ℕ) : Type 0 where
+  pub report : Report
+  pub allowed : may_have (input_with (lines_in closed)) report
+  pub written : text ≡ texts_of places (flat_map epoch_entries report.epochs)
+
+epochs_of_cut : (may_have : Input → Report → Type 0) (places : Bool) (octets : List ℕ) (closed : List (List Line))
+    (text : List ℕ) → IsCut (lines_in closed) closed [] → Begins octets (lines_in closed)
+    → SaysEpochs may_have places closed text → IsEpochsText may_have places (input_of octets) text
+epochs_of_cut may_have places octets closed text cut begins said = record {
+  first = closed;
+  rest = epochs_behind [] begins.0.lines;
+  parts = ap (λ (i : Input). epochs_of i.lines) begins.1 ∙ cut.closes begins.0.lines;
+  whole = cut.whole;
+  report = said.report;
+  allowed = said.allowed;
+  written = said.written;
+}
+
+-- the text of some first whole epochs of lines that octets begin with
+pub cut_text : (may_have : Input → Report → Type 0) (places : Bool) (octets : List ℕ) (done : List Line)
+    (closed : List (List Line)) (open_ : List Line) (text : List ℕ) → IsCut done closed open_ → Begins octets done
+    → SaysEpochs may_have places closed text → IsEpochsText may_have places (input_of octets) text
+cut_text may_have places octets done closed open_ text cut begins said =
+    epochs_of_cut may_have places octets closed text (cut_closed done closed open_ cut)
+    (begins_front octets done (lines_in closed) open_ cut.parts begins) said
+
+-- no memory is left for what stands behind them
+pub runs_unwritten : (may_have : Input → Report → Type 0) (places : Bool) (source_failed : Type 0)
+    (start left old new : Option (List ℕ)) (done : List Line) (closed : List (List Line)) (open_ : List Line)
+    (text : List ℕ) → IsCut done closed open_ → WhereTold start left (λ octets rest. Begins octets done)
+    → SaysEpochs may_have places closed text → Appends old new text
+    → Runs may_have places status.NoMemory source_failed start left old new
+runs_unwritten may_have places source_failed start left old new done closed open_ text cut reached said written =
+    record {
+      text = text;
+      written = written;
+      report = told_map start left (λ octets over. Begins octets done)
+          (λ octets over. IsEpochsText may_have places (input_of octets) text)
+          (λ octets over begins. cut_text may_have places octets done closed open_ text cut begins said) reached;
+    }
+
+-- the sink failed within them
+pub runs_epochs_cut : (may_have : Input → Report → Type 0) (places : Bool) (source_failed : Type 0)
+    (start left old new : Option (List ℕ)) (done : List Line) (closed : List (List Line)) (open_ : List Line)
+    (text more : List ℕ) → IsCut done closed open_ → WhereTold start left (λ octets rest. Begins octets done)
+    → SaysEpochs may_have places closed (text ++ more) → Appends old new text
+    → Runs may_have places status.WriteFault source_failed start left old new
+runs_epochs_cut may_have places source_failed start left old new done closed open_ text more cut reached said written =
+    record {
+      text = text;
+      written = written;
+      report = told_map start left (λ octets over. Begins octets done)
+          (λ octets over. IsCutText may_have places source_failed octets over text)
+          (λ octets over begins. record {
+            more = more;
+            whole = inr (inr (cut_text may_have places octets done closed open_ (text ++ more) cut begins said));
+          }) reached;
+    }
+
+-- nothing was read and nothing written
+pub nothing_runs : (may_have : Input → Report → Type 0) (places : Bool) (source_failed : Type 0)
+    (start old : Option (List ℕ)) → SaysEpochs may_have places [] []
+    → Runs may_have places status.NoMemory source_failed start start old old
+nothing_runs may_have places source_failed start old said =
+    runs_unwritten may_have places source_failed start start old old [] [] [] [] cut_nothing (by_start start) said
+    (Appends-nil old)
+  where
+    by_start : (begin : Option (List ℕ)) → WhereTold begin begin (λ octets over. Begins octets [])
+    by_start None = tt
+    by_start (Some octets) = (input_of octets, refl)
+
+-- other words do nothing
+pub nothing_told : (may_have : Input → Report → Type 0) (places : Bool) (source_failed : Type 0)
+    (start : Option (List ℕ))
+    → WhereTold start start (λ octets left. Reports may_have places status.Usage source_failed octets left [])
+nothing_told may_have places source_failed None = tt
+nothing_told may_have places source_failed (Some octets) = refl
+
+-- ---- a run at an input that ends
+
+no_bad : (stop : Stop) → stop ≡ ended → IsBad stop → ⊥
+no_bad stop is wrong = subst IsBad is wrong
+
+not_big : ended ≡ big → ⊥
+not_big same = cc
+
+no_long : (stop : Stop) → stop ≡ ended → IsLong stop → ⊥
+no_long stop is wrong = subst IsLong is wrong
+
+pub complete : (may_have : Input → Report → Type 0) (places : Bool) (ending : Status)
+    (source_failed sink_failed : Type 0) (octets : List ℕ) (start left old new : Option (List ℕ)) → start ≡ Some octets
+    → (input_of octets).stop ≡ ended → (source_failed → ⊥) → (sink_failed → ⊥)
+    → (ending ≡ status.ReadFault → source_failed)
+    → (ending ≡ status.WriteFault → sink_failed) → (ending ≡ status.Usage → ⊥)
+    → Runs may_have places ending source_failed start left old new → IsDone ending
+complete may_have places ending source_failed sink_failed octets start left old new is stop no_fault no_sink read_fault
+    write_fault no_usage runs =
+    by_left left
+    (subst (λ s. WhereTold s left (λ o l. Reports may_have places ending source_failed o l runs.text)) is runs.report)
+  where
+    by_status : (s : Status) (l text : List ℕ) → Reports may_have places s source_failed octets l text
+        → (s ≡ status.ReadFault → source_failed)
+        → (s ≡ status.WriteFault → sink_failed) → (s ≡ status.Usage → ⊥) → IsDone s
+    by_status status.Ok l text reports read write usage = inl refl
+    by_status status.Usage l text reports read write usage = absurd (usage refl)
+    by_status status.ReadFault l text reports read write usage = absurd (no_fault (read refl))
+    by_status status.WriteFault l text reports read write usage = absurd (no_sink (write refl))
+    by_status status.NoMemory l text reports read write usage = inr refl
+    by_status status.BadLine l text reports read write usage = absurd (no_bad (input_of octets).stop stop reports.0)
+    by_status status.LineLong l text reports read write usage = absurd (no_long (input_of octets).stop stop reports.0)
+    by_status status.TooLong l text reports read write usage =
+        absurd (not_big (sym stop ∙ reports.0))
+    by_status status.Refuted l text reports read write usage = absurd reports
+    by_status status.BadCapture l text reports read write usage = absurd reports
+
+    by_left : (l : Option (List ℕ)) → WhereTold (Some octets) l
+        (λ o rest. Reports may_have places ending source_failed o rest runs.text) → IsDone ending
+    by_left None told = absurd told
+    by_left (Some rest) told = by_status ending rest runs.text told read_fault write_fault no_usage

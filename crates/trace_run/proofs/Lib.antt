@@ -1,0 +1,5 @@
+pub mod ToldLemmas
+pub mod NextLemmas
+pub mod ReadLemmas
+pub mod CutLemmas
+pub mod EndingLemmas

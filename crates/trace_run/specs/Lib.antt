@@ -1,0 +1,6 @@
+pub mod Told
+pub mod Next
+pub mod Cut
+pub mod Status
+pub mod Report
+pub mod Lines

@@ -1,0 +1,100 @@
+//! How reading a trace and writing its report end.
+ghost use Rattle.std.specs.Prelude.{◌≡◌, ◌≤◌, [], Err, OnOk, OnErr};
+ghost use Rattle.std.specs.Io.KnownBytes.{Appends};
+ghost use Rattle.pc_outside.specs.Faults.{Rises};
+ghost use Rattle.pc_outside.specs.Fronts.{AppendsFront};
+ghost use Rattle.trace_run.specs.Status.{status_at, status_without};
+
+use crate::status::Status;
+use pc_outside::{Sink, write_whole};
+use std::alloc::AllocError;
+use text_fields::Text;
+use trace_lines::LineBad;
+
+/// Why no more lines are read.
+#[derive(Clone, Copy)]
+pub enum Ending {
+    /// The source is at its end.
+    Ended,
+    /// The source failed.
+    ReadFault,
+    /// The next line can't be read.
+    BadLine(LineBad),
+    /// It has more than 132,000 octets.
+    LineLong,
+    /// The input has 2^40 octets or more.
+    TooLong,
+}
+
+/// Why a report can't go on.
+#[derive(Clone, Copy)]
+pub enum Unwritten {
+    /// The sink failed.
+    WriteFault,
+    /// Memory ran out.
+    NoMemory,
+}
+
+impl From<AllocError> for Unwritten {
+    ghost use Rattle.std.specs.Prelude.{◌≡◌};
+    ghost use Rattle.trace_run.specs.declared.ending.Unwritten.TheVariants.{NoMemory};
+
+    ghost from_gives = { λ _ why. why ≡ NoMemory };
+
+    fn from(_error: AllocError) -> Unwritten {
+        Unwritten::NoMemory
+    }
+}
+
+/// Writes these octets.
+pub fn write_octets<K: Sink>(sink: &mut K, octets: &[u8]) -> Result<(), Unwritten>
+    ensures moved { OnOk result (Appends (K.written sink.old) (K.written sink.new) octets.now) }
+    ensures cut { OnErr result (AppendsFront (K.written sink.old) (K.written sink.new) octets.now) }
+    ensures no_other { OnErr result (result ≡ Err Unwritten.WriteFault) }
+
+    ensures later { K.faults sink.old ≤ K.faults sink.new }
+    ensures fault { OnErr result (Rises (K.faults sink.old) (K.faults sink.new)) }
+{
+    if write_whole(sink, octets).is_err() {
+        return Err(Unwritten::WriteFault);
+    }
+    Ok(())
+}
+
+/// Writes what is there of the report, and empties it.
+pub fn write_report<K: Sink>(sink: &mut K, report: &mut Text) -> Result<(), Unwritten>
+    ensures moved { OnOk result (Appends (K.written sink.old) (K.written sink.new) report.old) }
+    ensures emptied { OnOk result (report.new ≡ []) }
+    ensures cut { OnErr result (AppendsFront (K.written sink.old) (K.written sink.new) report.old) }
+    ensures no_other { OnErr result (result ≡ Err Unwritten.WriteFault) }
+
+    ensures later { K.faults sink.old ≤ K.faults sink.new }
+    ensures fault { OnErr result (Rises (K.faults sink.old) (K.faults sink.new)) }
+{
+    write_octets(sink, report.as_slice())?;
+    report.clear();
+    Ok(())
+}
+
+/// The status of a run whose lines ended so.
+pub fn status_at(ending: Ending) -> Status
+    ensures { result ≡ status_at ending }
+{
+    match ending {
+        Ending::Ended => Status::Ok,
+        Ending::ReadFault => Status::ReadFault,
+        Ending::BadLine(_) => Status::BadLine,
+        Ending::LineLong => Status::LineLong,
+        Ending::TooLong => Status::TooLong,
+    }
+}
+
+/// The status of a run whose report is cut.
+pub fn status_without(why: Unwritten) -> Status
+    ensures { result ≡ status_without why }
+{
+    match why {
+        Unwritten::WriteFault => Status::WriteFault,
+        Unwritten::NoMemory => Status::NoMemory,
+    }
+}

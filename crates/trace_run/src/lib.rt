@@ -1,0 +1,14 @@
+//! What a run over a trace is, whatever answers its lines: the next line of an input, how large the open epoch is, how
+//! reading and writing end, the status of a run, and what a status says of the report. Which reports an input may have,
+//! and who makes them, is left to the crates above.
+#![tactic(auto)]
+
+mod ending;
+mod epoch;
+mod reading;
+mod status;
+
+pub use ending::{Ending, Unwritten, status_at, status_without, write_octets, write_report};
+pub use epoch::Size;
+pub use reading::{Next, next_line};
+pub use status::{Status, fault_text};
