@@ -17,6 +17,7 @@ use trace_lines::{LineKind, TraceLine};
 
 /// What a line means by the book of the subscribers before it, where the gateway has so many slices.
 /// A packet is lent from the line; what else a decision holds is made here.
+#[inline(always)]
 pub fn decide<'a>(
     alloc: Global,
     book: &AddressBook,
@@ -36,6 +37,7 @@ pub fn decide<'a>(
 }
 
 // The same, by the kind of the line.
+#[inline(never)]
 #[tactic(auto, unfolding(crate::specs::Line::asked))]
 fn decide_kind<'a>(
     alloc: Global,

@@ -95,6 +95,7 @@ fn take_line<K: Sink>(
 }
 
 // The same of a line that is let go, and leaves its room: its moment.
+#[inline(always)]
 fn spend_line<K: Sink>(
     gateway: &mut Solo,
     size: &mut Size,

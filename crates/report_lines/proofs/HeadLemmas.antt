@@ -58,3 +58,10 @@ all_in_head (Ok done) word fields out head new is appended =
     ∙ ap (λ text. out ++ text) (is ∙ ap (λ text. word ∷ text) (led-behind fields [] ∙ append-nil (behind fields))
     ∙ sym (joined-behind (word ∷ []) fields))
 all_in_head (Err why) word fields out head new is appended = tt
+
+-- fields alone, behind what stands there
+pub fields_in_head : (answer : Result (Unit {0}) AllocError) (fields : List (List ℕ)) (out head new : List ℕ)
+    → head ≡ led fields [] → OnOk answer (new ≡ out ++ head) → OnOk answer (new ≡ out ++ behind fields)
+fields_in_head (Ok done) fields out head new is appended =
+    appended ∙ ap (λ text. out ++ text) (is ∙ led-behind fields [] ∙ append-nil (behind fields))
+fields_in_head (Err why) fields out head new is appended = tt

@@ -7,10 +7,11 @@ ghost use Rattle.report_lines.specs.Words.{moment_word};
 
 use crate::NoMemory;
 use crate::fields::{next_count, next_moment, next_number, next_octet};
+use crate::heads::put_four;
 use crate::words::{read_why, why_word};
 use charging_book::{ChargeRow, Open, Why};
 use pc_base::Moment;
-use text_fields::{Text, next_piece};
+use text_fields::{Head, Text, next_piece};
 
 fn next_counters(left: Option<&[u8]>) -> Option<(Open, Option<&[u8]>)>
     ensures { Gives result (counters_at (pieces_left space left.entry)) }
@@ -104,10 +105,9 @@ fn push_piece(out: &mut Text, life: u64, ebi: u8, qci: u8, seq: u64) -> Result<(
     ensures { OnOk result (out.new
         ≡ out.old ++ behind (decimal life ∷ decimal ebi ∷ decimal qci ∷ decimal seq ∷ [])) }
 {
-    out.push_number(life)?;
-    out.push_number(u64::from(ebi))?;
-    out.push_number(u64::from(qci))?;
-    out.push_number(seq)
+    let mut head = Head::new();
+    put_four(&mut head, life, u64::from(ebi), u64::from(qci), seq);
+    out.extend_from_slice(head.as_slice())
 }
 
 // How many octets and packets it has, each up and down.
@@ -121,10 +121,9 @@ fn push_counts(
     ensures { OnOk result (out.new ≡ out.old
         ++ behind (decimal up_octets ∷ decimal down_octets ∷ decimal up_packets ∷ decimal down_packets ∷ [])) }
 {
-    out.push_number(up_octets)?;
-    out.push_number(down_octets)?;
-    out.push_number(up_packets)?;
-    out.push_number(down_packets)
+    let mut head = Head::new();
+    put_four(&mut head, up_octets, down_octets, up_packets, down_packets);
+    out.extend_from_slice(head.as_slice())
 }
 
 pub(crate) fn push_row_fields(out: &mut Text, row: &ChargeRow) -> Result<(), NoMemory>

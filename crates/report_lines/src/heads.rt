@@ -113,9 +113,26 @@ fn put_counts(head: &mut Head, packet: Which)
     ensures { head.new ≡ 80 ∷ 32 ∷ decimal packet.line ++ (32 ∷ decimal packet.slot ++ (32 ∷ decimal packet.number
         ++ (32 ∷ decimal packet.commands ++ head.old))) }
 {
-    head.put_number(packet.commands);
-    head.put_number(packet.number);
-    head.put_number(u64::from(packet.slot.0));
-    head.put_number(packet.line);
+    put_four(
+        head,
+        packet.line,
+        u64::from(packet.slot.0),
+        packet.number,
+        packet.commands,
+    );
     head.put(b'P');
+}
+
+/// Four numbers in front of what stands there.
+#[inline(always)]
+pub(crate) fn put_four(head: &mut Head, first: u64, second: u64, third: u64, fourth: u64)
+    requires { length head.old ≤ 75 }
+    ensures value { head.new ≡ 32 ∷ decimal first ++ (32 ∷ decimal second ++ (32 ∷ decimal third
+        ++ (32 ∷ decimal fourth ++ head.old))) }
+    ensures len { length head.new ≤ length head.old + 84 }
+{
+    head.put_number(fourth);
+    head.put_number(third);
+    head.put_number(second);
+    head.put_number(first);
 }

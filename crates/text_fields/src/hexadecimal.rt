@@ -20,6 +20,7 @@ pub fn read_octets(alloc: Global, text: &[u8]) -> Result<Option<Vec<u8>>, AllocE
 }
 
 /// The same, in the memory of a list that isn't wanted any more.
+#[inline(always)]
 pub fn read_octets_into(room: Vec<u8>, text: &[u8]) -> Result<Option<Vec<u8>>, AllocError>
     ensures value { IfOk result (λ octets. option_map (λ v. v.items) octets ≡ octets_of text.now) }
     ensures memory { OnErr result ((length text.now % 2 ≡ 0) × (0 < length text.now)) }

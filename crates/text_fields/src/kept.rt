@@ -4,6 +4,7 @@ ghost use Rattle.std.specs.Vec.{vec_len};
 ghost use Rattle.hex.specs.Hex.{encode_lower};
 ghost use Rattle.text_fields.specs.Address.{dotted};
 
+use crate::head::Head;
 use crate::hexadecimal::encode;
 use std::alloc::{AllocError, Global};
 use std::marker::Model;
@@ -110,8 +111,9 @@ impl Text {
     pub fn push_number(&mut self, number: u64) -> Result<(), AllocError>
         ensures { OnOk result (self.new ≡ self.old ++ 32 ∷ decimal number) }
     {
-        let mut buffer = itoa::Buffer::new();
-        self.push_field(buffer.format(number).as_bytes())
+        let mut head = Head::new();
+        head.put_number(number);
+        self.extend_from_slice(head.as_slice())
     }
 
     /// Appends an address, dotted.
