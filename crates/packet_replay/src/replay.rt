@@ -8,7 +8,7 @@ use crate::forwarded::policed_by;
 use crate::history::History;
 use bearer_state::{ActiveBearer, Version, is_guaranteed};
 use charging_book::Posting;
-use packet_steps::HeldPacket;
+use packet_steps::{Forwarded, HeldPacket};
 use pc_base::{Kbps, Moment};
 use std::alloc::Global;
 use std::marker::Model;
