@@ -67,23 +67,28 @@ impl Player {
     ) -> Result<u32, Stop> {
         let mut passed = 0u32;
         for late in 0..count {
-            let event = Event::Packet(Packet {
-                number: self.subscriber.packets(),
-                moment: Moment(
-                    first
-                        .moment
-                        .0
-                        .saturating_add(u64::from(late))
-                        .min(LAST_MOMENT),
-                ),
-                way: first.way,
-                octets: sized(alloc, first.octets.as_slice(), len)?,
-            });
-            if self.passes(&event)? {
+            let moment = first.moment.0.saturating_add(u64::from(late));
+            if self.late_passes(alloc, first, moment.min(LAST_MOMENT), len)? {
                 passed = passed.saturating_add(1);
             }
         }
         Ok(passed)
+    }
+
+    fn late_passes(
+        &mut self,
+        alloc: Global,
+        first: &Packet,
+        moment: u64,
+        len: u16,
+    ) -> Result<bool, Stop> {
+        let event = Event::Packet(Packet {
+            number: self.subscriber.packets(),
+            moment: Moment(moment),
+            way: first.way,
+            octets: sized(alloc, first.octets.as_slice(), len)?,
+        });
+        self.passes(&event)
     }
 
     fn passes(&mut self, event: &Event) -> Result<bool, Stop> {

@@ -1,9 +1,11 @@
 //! Entries, each with a newline.
+use crate::stop::Stop;
 use charging_book::Open;
 use gate_model::{Slot, Verdict};
 use pc_base::{Effect, Octets};
 use report_lines::{LentVerdict, push_effect, push_open, push_packet};
 use std::alloc::{AllocError as NoMemory, Global};
+use text_fields::{push_field, push_number};
 
 pub fn end_line(text: &mut Vec<u8>) -> Result<(), NoMemory> {
     text.push(b'\n')?;
@@ -11,9 +13,18 @@ pub fn end_line(text: &mut Vec<u8>) -> Result<(), NoMemory> {
 }
 
 /// How many packets passed.
-pub fn push_passed(alloc: Global, text: &mut Vec<u8>, passed: u32) -> Result<(), NoMemory> {
-    let line = format!(in alloc; "passed {passed}\n")?;
-    text.extend_from_slice(line.as_bytes())
+pub fn push_passed(text: &mut Vec<u8>, passed: u32) -> Result<(), NoMemory> {
+    text.extend_from_slice(b"passed")?;
+    push_number(text, u64::from(passed))?;
+    end_line(text)
+}
+
+/// Why a line has no answer.
+pub fn push_stop(text: &mut Vec<u8>, stop: Stop, line: &[u8]) -> Result<(), NoMemory> {
+    text.extend_from_slice(stop.word().as_bytes())?;
+    text.extend_from_slice(b" at ")?;
+    text.extend_from_slice(line)?;
+    end_line(text)
 }
 
 /// The answer of a question.
@@ -24,19 +35,25 @@ pub fn push_yes(text: &mut Vec<u8>, yes: bool) -> Result<(), NoMemory> {
 
 /// What a subscriber says of itself.
 pub fn push_told(
-    alloc: Global,
     text: &mut Vec<u8>,
     told: (u32, u8, u64, u64, Option<u64>),
 ) -> Result<(), NoMemory> {
     let (slot, slice, commands, packets, last) = told;
-    let counts = format!(in alloc;
-        "slot {slot} slice {slice} commands {commands} packets {packets}"
-    )?;
-    let line = match last {
-        Some(last) => format!(in alloc; "{counts} last {last}\n")?,
-        None => format!(in alloc; "{counts} last -\n")?,
-    };
-    text.extend_from_slice(line.as_bytes())
+    text.extend_from_slice(b"slot")?;
+    push_number(text, u64::from(slot))?;
+    push_named(text, b"slice", u64::from(slice))?;
+    push_named(text, b"commands", commands)?;
+    push_named(text, b"packets", packets)?;
+    match last {
+        Some(last) => push_named(text, b"last", last)?,
+        None => text.extend_from_slice(b" last -")?,
+    }
+    end_line(text)
+}
+
+fn push_named(text: &mut Vec<u8>, name: &[u8], number: u64) -> Result<(), NoMemory> {
+    push_field(text, name)?;
+    push_number(text, number)
 }
 
 pub fn push_effects(
