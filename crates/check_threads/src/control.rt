@@ -8,12 +8,12 @@ use crate::stop::Stop;
 use control_half::ControlHalf;
 use gather_home::gather;
 use migration::{Side, SideEnd};
-use pc_base::SliceNo;
+use pc_base::{SliceNo, Slot};
 use std::alloc::Global;
 use std::snapshot::Snapshot;
 use std::sync::Wait;
 use std::thread::{self, Promise, Scope, Threads};
-use worker_core::{Traveller, Worker, WorkerEnd, pair};
+use worker_core::{Worker, WorkerEnd, pair};
 
 const SLICE: SliceNo = SliceNo(0);
 
@@ -85,26 +85,22 @@ struct Path {
 }
 
 impl Path {
-    fn new(alloc: Global) -> Result<Path, Stop> {
+    // Sends the half to the slice.
+    fn sent<R: Wait>(rt: &R, alloc: Global, half: ControlHalf) -> Result<Path, Stop> {
         let (desk, worker) = pair(alloc, SLICE)?;
         let desks = Vec::from_array(alloc, [desk])?;
-        Ok(Path {
-            side: Side::new(alloc, desks),
-            worker,
-        })
+        let mut side = Side::new(alloc, desks);
+        match side.admit(rt, half, SLICE, 0) {
+            Ok(()) => Ok(Path { side, worker }),
+            Err(_) => Err(Stop::Back),
+        }
     }
 
-    // Sends the half to the slice, and calls it back to the slice; whether it went.
-    fn send<R: Wait>(&mut self, rt: &R, half: ControlHalf) -> bool {
-        let slot = half.slot();
-        if self.side.is_admitted(slot) || self.side.slices() == 0 || self.side.asked() > 8 {
-            return false;
+    // Calls it back to the slice.
+    fn call_back<R: Wait>(&mut self, rt: &R) {
+        if self.side.is_admitted(Slot(0)) && self.side.slices() == 1 && self.side.asked() < 8 {
+            self.side.go(rt, Slot(0), SLICE, 1);
         }
-        if self.side.admit(rt, half, SLICE, 0).is_err() || !self.side.is_admitted(slot) {
-            return false;
-        }
-        self.side.go(rt, slot, SLICE, 1);
-        true
     }
 
     // Turns the half at the slice, and gathers it: how many came home.
@@ -137,10 +133,7 @@ pub fn control_home<R: Threads + Wait + Sync>(
     alloc: Global,
     half: ControlHalf,
 ) -> Result<usize, Stop> {
-    let mut path = Path::new(alloc)?;
-    if path.send(rt, half) {
-        path.home(rt, alloc)
-    } else {
-        Err(Stop::Back)
-    }
+    let mut path = Path::sent(rt, alloc, half)?;
+    path.call_back(rt);
+    path.home(rt, alloc)
 }

@@ -7,7 +7,7 @@ ghost use Rattle.counter_half.specs.Half.{handled_by};
 
 use crate::stop::Stop;
 use counter_half::{FlowHalf, FlowItem};
-use flow_core::{FlowEnd, FlowKind, FlowWorker, flow_pair};
+use flow_core::{FlowEnd, FlowWorker, flow_pair};
 use flow_home::{Home, gather_flow};
 use flow_migration::{FlowEnded, FlowSide};
 use pc_base::SliceNo;
@@ -85,23 +85,17 @@ struct Path {
 }
 
 impl Path {
-    fn new(alloc: Global) -> Result<Path, Stop> {
-        let (desk, worker) = flow_pair(alloc, SLICE, 16)?;
-        let desks = Vec::from_array(alloc, [desk])?;
-        Ok(Path {
-            side: FlowSide::new(alloc, desks, 4),
-            worker,
-        })
-    }
-
-    // Sends the half to the slice; whether it went.
-    fn send<R: Wait>(&mut self, rt: &R, half: FlowHalf) -> bool
+    // Sends the half to the slice.
+    fn sent<R: Wait>(rt: &R, alloc: Global, half: FlowHalf) -> Result<Path, Stop>
         requires { handled_by half ≡ [] }
     {
-        if self.side.is_admitted(half.slot()) || self.side.slices() == 0 || self.side.asked() > 8 {
-            return false;
+        let (desk, worker) = flow_pair(alloc, SLICE, 16)?;
+        let desks = Vec::from_array(alloc, [desk])?;
+        let mut side = FlowSide::new(alloc, desks, 4);
+        match side.admit(rt, half, SLICE, false) {
+            Ok(()) => Ok(Path { side, worker }),
+            Err(_) => Err(Stop::Back),
         }
-        self.side.admit(rt, half, SLICE, false).is_ok()
     }
 
     // Sends an item behind it; whether it went.
@@ -156,8 +150,8 @@ pub fn flow_home<R: Threads + Wait + Sync>(
 ) -> Result<Came, Stop>
     requires { handled_by half ≡ [] }
 {
-    let mut path = Path::new(alloc)?;
-    if path.send(rt, half) && path.give(rt, item) {
+    let mut path = Path::sent(rt, alloc, half)?;
+    if path.give(rt, item) {
         path.home(rt, alloc)
     } else {
         Err(Stop::Back)
