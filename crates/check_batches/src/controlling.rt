@@ -112,14 +112,18 @@ impl Desk {
     /// The replies: line, number and outcome of each.
     pub fn end(self, text: &mut Vec<u8>) -> Result<(), NoMemory> {
         let end = self.half.into_end();
-        let mut between: &[u8] = b"";
-        for note in end.control.notes.as_slice() {
-            text.extend_from_slice(between)?;
-            push_note(text, note)?;
-            between = b";";
-        }
-        Ok(())
+        push_notes(text, end.control.notes.as_slice())
     }
+}
+
+fn push_notes(text: &mut Vec<u8>, notes: &[CommandDone]) -> Result<(), NoMemory> {
+    let mut between: &[u8] = b"";
+    for note in notes {
+        text.extend_from_slice(between)?;
+        push_note(text, note)?;
+        between = b";";
+    }
+    Ok(())
 }
 
 fn push_batch(text: &mut Vec<u8>, batch: &Batch<Version>) -> Result<(), NoMemory> {

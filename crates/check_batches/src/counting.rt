@@ -4,7 +4,7 @@ use crate::step::Step;
 use bearer_state::{Ask, Asks, Qos, Session, Version};
 use control_half::Batch;
 use control_steps::{Command, CommandKind, step};
-use counter_half::{FlowHalf, FlowItem, FlowState, PacketDone};
+use counter_half::{FlowHalf, FlowItem, FlowRest, FlowState, PacketDone};
 use lane_core::{NoMemory, Sender, lane};
 use packet_steps::Counters;
 use pc_base::{
@@ -204,19 +204,30 @@ impl Bench {
     /// packet; then each packet's verdict, and each effect with its command.
     pub fn end(self, text: &mut Vec<u8>) -> Result<(), NoMemory> {
         let rest = self.half.into_rest();
-        let state = &rest.state;
-        push_number(text, state.met)?;
-        push_number(text, state.done)?;
-        push_or_dash(text, rest.batch.as_ref().map(|batch| batch.floor()))?;
-        push_or_dash(text, state.counters.last().map(|moment| moment.0))?;
-        push_notes(text, state)?;
-        push_effects(text, state)
+        push_rest(text, &rest)
     }
 }
 
-fn push_or_dash(text: &mut Vec<u8>, number: Option<u64>) -> Result<(), NoMemory> {
-    match number {
-        Some(number) => push_number(text, number),
+fn push_rest(text: &mut Vec<u8>, rest: &FlowRest) -> Result<(), NoMemory> {
+    let state = &rest.state;
+    push_number(text, state.met)?;
+    push_number(text, state.done)?;
+    push_floor(text, &rest.batch)?;
+    push_last(text, state)?;
+    push_notes(text, state)?;
+    push_effects(text, state)
+}
+
+fn push_floor(text: &mut Vec<u8>, batch: &Option<Batch<Version>>) -> Result<(), NoMemory> {
+    match batch {
+        Some(batch) => push_number(text, batch.floor()),
+        None => push_field(text, b"-"),
+    }
+}
+
+fn push_last(text: &mut Vec<u8>, state: &FlowState) -> Result<(), NoMemory> {
+    match state.counters.last() {
+        Some(moment) => push_number(text, moment.0),
         None => push_field(text, b"-"),
     }
 }
