@@ -1,5 +1,6 @@
 //! Lines out of pieces, and octets into pieces.
 use crate::call::Call;
+use crate::telling::push_told;
 use pc_outside::{
     LineBuf, LineRead, MemSink, MemSource, Source, StdSink, StdSource, SureSink, SureSource,
     read_line, write_whole,
@@ -36,7 +37,7 @@ fn answers<S: Source>(alloc: Global, source: &mut S, text: &mut String) -> Resul
     text.push('\n')
 }
 
-fn push_octets(octets: &[u8], text: &mut String) -> Result<(), AllocError> {
+pub fn push_octets(octets: &[u8], text: &mut String) -> Result<(), AllocError> {
     for octet in octets {
         text.push(char::from(*octet))?;
     }
@@ -68,9 +69,9 @@ pub fn long(alloc: Global, row: &Call, text: &mut String) -> Result<(), AllocErr
         LineRead::LineLong => "too long",
         _ => "another answer",
     };
-    let taken = buf.taken();
-    let line = format!(in alloc; "{read}, {taken} octets read\n")?;
-    text.push_str(line.as_str())
+    text.push_str(read)?;
+    push_told(text, ", ", &buf.taken())?;
+    text.push_str(" octets read\n")
 }
 
 /// `pieces ROOM PIECE FAILS OCTETS`: what is written of octets into a sink with so much room, where these calls fail.
@@ -133,8 +134,8 @@ pub fn failing_streams(alloc: Global, text: &mut String) -> Result<(), AllocErro
     let mut sink = StdSink::new(Broken);
     let one = write_whole(&mut sink, b"a").is_ok();
     let none = write_whole(&mut sink, b"").is_ok();
-    let line = format!(in alloc;
-        "the read fails: {fails}, an octet is written: {one}, none is: {none}\n"
-    )?;
-    text.push_str(line.as_str())
+    push_told(text, "the read fails: ", &fails)?;
+    push_told(text, ", an octet is written: ", &one)?;
+    push_told(text, ", none is: ", &none)?;
+    text.push('\n')
 }

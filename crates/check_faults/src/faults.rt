@@ -7,6 +7,8 @@ ghost use Rattle.command_words.specs.Job.{job_of};
 ghost use Rattle.command_words.specs.declared.jobs.Job.TheVariants.{Solo};
 
 use crate::call::Call;
+use crate::ends::push_octets;
+use crate::telling::push_told;
 use pc_outside::{MemSink, MemSource, SureSink, SureSource};
 use pepc::{Status, run_plain};
 use std::alloc::{AllocError, Global};
@@ -75,48 +77,62 @@ fn due(
 }
 
 // The command that a row names.
-fn command(alloc: Global, row: &Call) -> Result<String, AllocError> {
-    let mut text = String::new(alloc);
-    for octet in row.word(3) {
-        text.push(char::from(*octet))?;
-    }
-    Ok(text)
+fn push_command(text: &mut String, row: &Call) -> Result<(), AllocError> {
+    push_octets(row.word(3), text)
+}
+
+fn push_ended(text: &mut String, ended: &Ended) -> Result<(), AllocError> {
+    push_told(text, ": status ", &ended.status.code())?;
+    push_told(text, ", ", &ended.written.len())?;
+    text.push_str(" octets")
 }
 
 /// `reads PIECE INPUT WORD..`: how the run ends where each read fails, and whether it wrote what is due, until no read
 /// fails.
 pub fn reads(alloc: Global, row: &Call, input: &[u8], text: &mut String) -> Result<(), AllocError> {
-    let words = row.texts(alloc, 3)?;
-    let name = command(alloc, row)?;
-    let piece = row.number(1) as usize;
     for failing in 0..MOST_CALLS {
-        let ended = run(alloc, words.as_slice(), input, piece, &[failing], &[])?;
-        let code = ended.status.code();
-        let octets = ended.written.len();
-        if ended.status != Status::ReadFault {
-            let line = format!(in alloc;
-                "{name}: no read {failing}: status {code}, {octets} octets\n"
-            )?;
-            return text.push_str(line.as_str());
+        if !read_fails(alloc, row, input, failing, text)? {
+            return Ok(());
         }
-        let due = due(
-            alloc,
-            row,
-            words.as_slice(),
-            input,
-            piece.saturating_mul(failing as usize),
-        )?;
-        let not = if due.as_slice() == ended.written.as_slice() {
-            ""
-        } else {
-            "not "
-        };
-        let line = format!(in alloc;
-            "{name}, read {failing} fails: status {code}, {octets} octets, {not}as is due\n"
-        )?;
-        text.push_str(line.as_str())?;
     }
     text.push_str("each read fails\n")
+}
+
+// The same of one read; whether it fails.
+fn read_fails(
+    alloc: Global,
+    row: &Call,
+    input: &[u8],
+    failing: u64,
+    text: &mut String,
+) -> Result<bool, AllocError> {
+    let words = row.texts(alloc, 3)?;
+    let piece = row.number(1) as usize;
+    let ended = run(alloc, &words, input, piece, &[failing], &[])?;
+    push_command(text, row)?;
+    if ended.status != Status::ReadFault {
+        push_told(text, ": no read ", &failing)?;
+        push_ended(text, &ended)?;
+        text.push('\n')?;
+        return Ok(false);
+    }
+    let due = due(
+        alloc,
+        row,
+        &words,
+        input,
+        piece.saturating_mul(failing as usize),
+    )?;
+    push_told(text, ", read ", &failing)?;
+    text.push_str(" fails")?;
+    push_ended(text, &ended)?;
+    let is_due = due.as_slice() == ended.written.as_slice();
+    text.push_str(if is_due {
+        ", as is due\n"
+    } else {
+        ", not as is due\n"
+    })?;
+    Ok(true)
 }
 
 /// `writes PIECE INPUT WORD..`: how the run ends where each write fails, and whether what it wrote is a prefix of what
@@ -128,30 +144,50 @@ pub fn writes(
     text: &mut String,
 ) -> Result<(), AllocError> {
     let words = row.texts(alloc, 3)?;
-    let name = command(alloc, row)?;
-    let piece = row.number(1) as usize;
-    let whole = run(alloc, words.as_slice(), input, piece, &[], &[])?;
+    let whole = run(alloc, &words, input, row.number(1) as usize, &[], &[])?;
     for failing in 0..MOST_CALLS {
-        let ended = run(alloc, words.as_slice(), input, piece, &[], &[failing])?;
-        let code = ended.status.code();
-        let octets = ended.written.len();
-        if ended.status != Status::WriteFault {
-            let line = format!(in alloc;
-                "{name}: no write {failing}: status {code}, {octets} octets\n"
-            )?;
-            return text.push_str(line.as_str());
+        if !write_fails(alloc, row, input, &whole.written, failing, text)? {
+            return Ok(());
         }
-        let kept = if whole.written.starts_with(ended.written.as_slice()) {
-            "a"
-        } else {
-            "no"
-        };
-        let line = format!(in alloc;
-            "{name}, write {failing} fails: status {code}, {octets} octets, {kept} prefix\n"
-        )?;
-        text.push_str(line.as_str())?;
     }
     text.push_str("each write fails\n")
+}
+
+// The same of one write, against what is written where none fails; whether it fails.
+fn write_fails(
+    alloc: Global,
+    row: &Call,
+    input: &[u8],
+    whole: &[u8],
+    failing: u64,
+    text: &mut String,
+) -> Result<bool, AllocError> {
+    let words = row.texts(alloc, 3)?;
+    let ended = run(
+        alloc,
+        &words,
+        input,
+        row.number(1) as usize,
+        &[],
+        &[failing],
+    )?;
+    push_command(text, row)?;
+    if ended.status != Status::WriteFault {
+        push_told(text, ": no write ", &failing)?;
+        push_ended(text, &ended)?;
+        text.push('\n')?;
+        return Ok(false);
+    }
+    push_told(text, ", write ", &failing)?;
+    text.push_str(" fails")?;
+    push_ended(text, &ended)?;
+    let is_prefix = whole.starts_with(&ended.written);
+    text.push_str(if is_prefix {
+        ", a prefix\n"
+    } else {
+        ", no prefix\n"
+    })?;
+    Ok(true)
 }
 
 /// `runs PIECE READS WRITES INPUT WORD..`: the status and the text where these reads and writes fail.
@@ -165,24 +201,18 @@ pub fn runs(alloc: Global, row: &Call, input: &[u8], text: &mut String) -> Resul
         Vec::from_slice(alloc, input)?
     };
     let piece = row.number(1) as usize;
-    let ended = run(
-        alloc,
-        words.as_slice(),
-        given.as_slice(),
-        piece,
-        reads.as_slice(),
-        writes.as_slice(),
-    )?;
-    let code = ended.status.code();
-    let line = format!(in alloc; "status {code}\n")?;
-    text.push_str(line.as_str())?;
-    for octet in &ended.written {
-        text.push(char::from(*octet))?;
-    }
+    let ended = run(alloc, &words, &given, piece, &reads, &writes)?;
+    push_status(text, ended.status)?;
+    push_octets(&ended.written, text)?;
     match ended.written.last() {
         None | Some(b'\n') => Ok(()),
         Some(_) => text.push('\n'),
     }
+}
+
+fn push_status(text: &mut String, status: Status) -> Result<(), AllocError> {
+    push_told(text, "status ", &status.code())?;
+    text.push('\n')
 }
 
 /// A run over a source and a sink whose counts of faults never rise. By the contract of `run_plain` alone a trace that
@@ -205,7 +235,5 @@ pub fn sure_status(
 ) -> Result<(), AllocError> {
     let words = row.texts(alloc, 2)?;
     let status = surely(alloc, words.as_slice(), Vec::from_slice(alloc, input)?)?;
-    let code = status.code();
-    let line = format!(in alloc; "status {code}\n")?;
-    text.push_str(line.as_str())
+    push_status(text, status)
 }

@@ -6,12 +6,13 @@
 mod call;
 mod ends;
 mod faults;
+mod telling;
 mod values;
 
 use call::Call;
 use std::alloc::{AllocError, Global};
 use std::fs;
-use std::io::{self, BufRead, BufReader, BufWriter, Write};
+use std::io::{self, Read, Write};
 
 // The inputs that rows name.
 const NAMES: [&str; 5] = [
@@ -53,28 +54,42 @@ fn answer(alloc: Global, inputs: &Inputs, row: &Call, text: &mut String) -> Resu
         b"broken" => ends::failing_streams(alloc, text),
         b"pieces" => ends::pieces(alloc, row, text),
         b"words" => values::words(alloc, row, text),
-        b"draws" => values::draws(alloc, row, text),
+        b"draws" => values::draws(row, text),
         b"made" => values::made(alloc, row, text),
         b"counts" => values::counts(alloc, row, inputs.of(row.word(2)), text),
-        b"statuses" => values::statuses(alloc, text),
+        b"statuses" => values::statuses(text),
         _ => text.push_str("no row\n"),
     }
 }
 
+fn tell(alloc: Global, inputs: &Inputs, line: &[u8], text: &mut String) -> Result<(), AllocError> {
+    let row = Call::read(alloc, line)?;
+    answer(alloc, inputs, &row, text)
+}
+
+/// The answers to rows, a line each.
+fn told(alloc: Global, inputs: &Inputs, rows: &[u8]) -> Result<String, AllocError> {
+    let mut text = String::new(alloc);
+    for line in rows.split(|octet| *octet == b'\n') {
+        tell(alloc, inputs, line, &mut text)?;
+    }
+    Ok(text)
+}
+
+fn inputs_of(rt: &HostRuntime) -> io::Result<Inputs> {
+    let mut octets = Vec::new(rt.alloc());
+    for name in NAMES {
+        octets.push(fs::read(rt, name)?)?;
+    }
+    Ok(Inputs { octets })
+}
+
 fn main(rt: HostRuntime) -> io::Result<()> {
     let alloc = rt.alloc();
-    let mut octets = Vec::new(alloc);
-    for name in NAMES {
-        octets.push(fs::read(&rt, name)?)?;
-    }
-    let inputs = Inputs { octets };
-    let mut out = BufWriter::new(alloc, io::writer(&rt))?;
-    for line in BufReader::new(alloc, rt.reader())?.lines(alloc) {
-        let line = line?;
-        let row = Call::read(alloc, line.as_bytes())?;
-        let mut text = String::new(alloc);
-        answer(alloc, &inputs, &row, &mut text)?;
-        out.write_all(text.as_bytes())?;
-    }
-    out.flush()
+    let inputs = inputs_of(&rt)?;
+    let mut rows = Vec::new(alloc);
+    rt.reader().read_to_end(&mut rows)?;
+    let lines = rows.as_slice();
+    let text = told(alloc, &inputs, lines.strip_suffix(b"\n").unwrap_or(lines))?;
+    io::writer(&rt).write_all(text.as_bytes())
 }

@@ -1,19 +1,22 @@
 //! Command lines, draws, generated lines, counts and statuses.
 use crate::call::Call;
+use crate::ends::push_octets;
+use crate::telling::push_told;
 use command_words::{Job, job};
 use entry_counts::{EntryCounts, push_summary};
 use pepc::{Status, fault_text};
 use std::alloc::{AllocError, Global};
+use trace_lines::TraceLine;
 use trace_maker::{Draws, Maker, made_line};
 
 /// `words WORD..`: the job that the words ask for.
 pub fn words(alloc: Global, row: &Call, text: &mut String) -> Result<(), AllocError> {
     let words = row.texts(alloc, 1)?;
-    let line = match job(alloc, words.as_slice())? {
-        None => String::from_str(alloc, "none\n")?,
-        Some(Job::Solo) => String::from_str(alloc, "solo\n")?,
-        Some(Job::Import) => String::from_str(alloc, "import\n")?,
-        Some(Job::Export) => String::from_str(alloc, "export\n")?,
+    match job(alloc, words.as_slice())? {
+        None => text.push_str("none\n"),
+        Some(Job::Solo) => text.push_str("solo\n"),
+        Some(Job::Import) => text.push_str("import\n"),
+        Some(Job::Export) => text.push_str("export\n"),
         Some(
             Job::Make {
                 seed,
@@ -22,9 +25,11 @@ pub fn words(alloc: Global, row: &Call, text: &mut String) -> Result<(), AllocEr
                 summary,
             },
         ) => {
-            format!(in alloc;
-                "make: seed {seed}, {subs} subscribers, {lines} lines, summary {summary}\n"
-            )?
+            push_told(text, "make: seed ", &seed)?;
+            push_told(text, ", ", &subs)?;
+            push_told(text, " subscribers, ", &lines)?;
+            push_told(text, " lines, summary ", &summary)?;
+            text.push('\n')
         }
         Some(
             Job::Audit {
@@ -34,19 +39,22 @@ pub fn words(alloc: Global, row: &Call, text: &mut String) -> Result<(), AllocEr
                 lane,
             },
         ) => {
-            format!(in alloc; "audit: solo {solo}, {slices} slices, room {room}, lane {lane}\n")?
+            push_told(text, "audit: solo ", &solo)?;
+            push_told(text, ", ", &slices)?;
+            push_told(text, " slices, room ", &room)?;
+            push_told(text, ", lane ", &lane)?;
+            text.push('\n')
         }
-    };
-    text.push_str(line.as_str())
+    }
 }
 
 /// `draws SEED`: the first three draws below 2^31 − 1.
-pub fn draws(alloc: Global, row: &Call, text: &mut String) -> Result<(), AllocError> {
+pub fn draws(row: &Call, text: &mut String) -> Result<(), AllocError> {
     let mut draws = Draws::new(row.number(1));
     for _ in 0..3 {
         let number = draws.draw(0x7fff_ffff);
-        let line = format!(in alloc; "{number}\n")?;
-        text.push_str(line.as_str())?;
+        push_told(text, "", &number)?;
+        text.push('\n')?;
     }
     Ok(())
 }
@@ -65,16 +73,17 @@ pub fn made(alloc: Global, row: &Call, text: &mut String) -> Result<(), AllocErr
                 "none, and one again\n"
             });
         };
-        let octets = trace_lines::text(alloc, &line)?;
-        let number = line.number;
-        let line = format!(in alloc; "{number}: ")?;
-        text.push_str(line.as_str())?;
-        for octet in octets.as_slice() {
-            text.push(char::from(*octet))?;
-        }
-        text.push('\n')?;
+        push_made(alloc, &line, text)?;
     }
     text.push_str("and more\n")
+}
+
+fn push_made(alloc: Global, line: &TraceLine, text: &mut String) -> Result<(), AllocError> {
+    push_told(text, "", &line.number)?;
+    text.push_str(": ")?;
+    let octets = trace_lines::text(alloc, line)?;
+    push_octets(octets.as_slice(), text)?;
+    text.push('\n')
 }
 
 /// `counts LINES ENTRIES`: the summary of a trace of so many lines whose report is these entries and two empty lines.
@@ -91,14 +100,11 @@ pub fn counts(
     counts.add(b"\n");
     let mut summary = Vec::new(alloc);
     push_summary(&mut summary, row.number(1), &counts)?;
-    for octet in summary.as_slice() {
-        text.push(char::from(*octet))?;
-    }
-    Ok(())
+    push_octets(&summary, text)
 }
 
 /// `statuses`: the number of each, and its line on standard error.
-pub fn statuses(alloc: Global, text: &mut String) -> Result<(), AllocError> {
+pub fn statuses(text: &mut String) -> Result<(), AllocError> {
     let all = [
         Status::Ok,
         Status::Usage,
@@ -112,10 +118,9 @@ pub fn statuses(alloc: Global, text: &mut String) -> Result<(), AllocError> {
         Status::BadCapture,
     ];
     for status in all {
-        let code = status.code();
-        let said = fault_text(status);
-        let line = format!(in alloc; "{code} {said}\n")?;
-        text.push_str(line.as_str())?;
+        push_told(text, "", &status.code())?;
+        push_told(text, " ", &fault_text(status))?;
+        text.push('\n')?;
     }
     Ok(())
 }

@@ -103,6 +103,50 @@ impl Bench {
         })
     }
 
+    // What the lines of all epochs mean, and then the steps of an order.
+    fn play<R: Wait>(
+        &mut self,
+        rt: &R,
+        alloc: Global,
+        epochs: Vec<Vec<Meant<'_>>>,
+        order: &str,
+    ) -> Result<(), Stop> {
+        self.give_all(rt, alloc, epochs)?;
+        for step in order.chars() {
+            self.step(rt, step)?;
+        }
+        Ok(())
+    }
+
+    fn give_all<R: Wait>(
+        &mut self,
+        rt: &R,
+        alloc: Global,
+        epochs: Vec<Vec<Meant<'_>>>,
+    ) -> Result<(), Stop> {
+        let mut line = 0u64;
+        for epoch in epochs {
+            line = self.give_epoch(rt, alloc, line, epoch)?;
+        }
+        Ok(())
+    }
+
+    // The lines of an epoch behind so many; how many there are then.
+    fn give_epoch<R: Wait>(
+        &mut self,
+        rt: &R,
+        alloc: Global,
+        before: u64,
+        epoch: Vec<Meant<'_>>,
+    ) -> Result<u64, Stop> {
+        let mut line = before;
+        for meant in epoch {
+            line = line.saturating_add(1);
+            self.give(rt, alloc, line, meant)?;
+        }
+        Ok(line)
+    }
+
     fn give<R: Wait>(
         &mut self,
         rt: &R,
@@ -234,15 +278,8 @@ pub fn ended<R: Wait>(
 ) -> Result<Finished, Stop> {
     let trace = again(|| trace_of(alloc, SLICES, lines, None))?;
     let mut bench = Bench::new(alloc)?;
-    let mut line = 0u64;
-    for epoch in trace.epochs {
-        for meant in epoch {
-            line = line.saturating_add(1);
-            bench.give(rt, alloc, line, meant)?;
-        }
+    match bench.play(rt, alloc, trace.epochs, order) {
+        Ok(()) => bench.finish(rt, alloc),
+        Err(stop) => Err(stop),
     }
-    for step in order.chars() {
-        bench.step(rt, step)?;
-    }
-    bench.finish(rt, alloc)
 }

@@ -65,9 +65,18 @@ fn push_lines(
     finished: &Finished,
 ) -> Result<(), NoMemory> {
     let trace = trace_of(alloc, SLICES, lines, None)?;
+    push_epochs(alloc, text, &trace.epochs, finished)
+}
+
+fn push_epochs(
+    alloc: Global,
+    text: &mut Vec<u8>,
+    epochs: &[Vec<Meant<'_>>],
+    finished: &Finished,
+) -> Result<(), NoMemory> {
     let mut line = 0u64;
-    for epoch in trace.epochs.as_slice() {
-        for meant in epoch.as_slice() {
+    for epoch in epochs {
+        for meant in epoch {
             line = line.saturating_add(1);
             push_line(alloc, text, line, meant, finished)?;
         }

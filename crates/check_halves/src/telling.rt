@@ -9,6 +9,7 @@ use audit_run::{Finding, finding_of};
 use report_lines::{Entry, LineEntry};
 use split_record::{Finished, NoMemory};
 use std::alloc::Global;
+use text_fields::push_number;
 use trace_lines::TraceLine;
 
 // A gateway of slices.
@@ -23,12 +24,21 @@ fn setup() -> Setup
     }
 }
 
-fn found(alloc: Global, lines: &[TraceLine], entries: &[Entry]) -> Result<String, NoMemory>
+// What an audit finds of entries.
+fn push_finding(
+    alloc: Global,
+    text: &mut Vec<u8>,
+    lines: &[TraceLine],
+    entries: &[Entry],
+) -> Result<(), NoMemory>
     requires { length lines.now + 1 < 2 ^ 40 }
 {
     match finding_of(alloc, &setup(), lines, None, entries)? {
-        Finding::Yes => format!(in alloc; "yes"),
-        Finding::No(k) => format!(in alloc; "no {k}"),
+        Finding::Yes => text.extend_from_slice(b" yes"),
+        Finding::No(k) => {
+            text.extend_from_slice(b" no")?;
+            push_number(text, u64::from(k))
+        }
     }
 }
 
@@ -42,13 +52,57 @@ fn raise_first(entries: &mut Vec<Entry>) {
     }
 }
 
-// How many commands each packet has before it.
-fn counts_text(alloc: Global, finished: &Finished) -> Result<String, NoMemory> {
-    let mut text = String::new(alloc);
+// What an audit finds of a report, and of one whose first packet tells a command more.
+fn push_own(
+    alloc: Global,
+    text: &mut Vec<u8>,
+    lines: &[TraceLine],
+    report: &[u8],
+) -> Result<(), NoMemory>
+    requires { length lines.now + 1 < 2 ^ 40 }
+{
+    let mut entries = entries_of(alloc, report)?;
+    push_finding(alloc, text, lines, &entries)?;
+    raise_first(&mut entries);
+    text.extend_from_slice(b"; raised:")?;
+    push_finding(alloc, text, lines, &entries)
+}
+
+// And of one without its last entry.
+fn push_cut(
+    alloc: Global,
+    text: &mut Vec<u8>,
+    lines: &[TraceLine],
+    report: &[u8],
+) -> Result<(), NoMemory>
+    requires { length lines.now + 1 < 2 ^ 40 }
+{
+    let mut entries = entries_of(alloc, report)?;
+    let _ = entries.pop();
+    text.extend_from_slice(b"; cut:")?;
+    push_finding(alloc, text, lines, &entries)?;
+    text.push(b'\n')?;
+    Ok(())
+}
+
+fn push_counts(alloc: Global, text: &mut Vec<u8>, finished: &Finished) -> Result<(), NoMemory> {
+    let commands = format!(in alloc; "{}", finished.record.commands())?;
+    text.extend_from_slice(commands.as_bytes())?;
+    text.extend_from_slice(b" commands,")?;
+    push_number(text, finished.record.packets)?;
+    text.extend_from_slice(b" packets, behind")?;
     for done in finished.packets.as_slice() {
-        text.push_str(format!(in alloc; " {}", done.commands)?.as_str())?;
+        push_number(text, done.commands)?;
     }
-    Ok(text)
+    text.extend_from_slice(b":")
+}
+
+fn push_head(text: &mut Vec<u8>, name: &str, order: &str) -> Result<(), NoMemory> {
+    text.extend_from_slice(name.as_bytes())?;
+    text.push(b' ')?;
+    text.extend_from_slice(order.as_bytes())?;
+    text.push(b'\n')?;
+    Ok(())
 }
 
 /// An order's report; how many commands and packets the record has behind it, and how many commands each packet has
@@ -63,24 +117,12 @@ pub fn told(
 ) -> Result<Vec<u8>, NoMemory>
     requires { length lines.now + 1 < 2 ^ 40 }
 {
-    let mut text = Vec::new(alloc);
-    let head = format!(in alloc; "{name} {order}\n")?;
-    text.extend_from_slice(head.as_str().as_bytes())?;
     let report = report_of(alloc, lines, finished)?;
-    text.extend_from_slice(report.as_slice())?;
-    let mut entries = entries_of(alloc, report.as_slice())?;
-    let own = found(alloc, lines, entries.as_slice())?;
-    raise_first(&mut entries);
-    let raised = found(alloc, lines, entries.as_slice())?;
-    let mut cut = entries_of(alloc, report.as_slice())?;
-    let _ = cut.pop();
-    let short = found(alloc, lines, cut.as_slice())?;
-    let counts = counts_text(alloc, finished)?;
-    let commands = finished.record.commands();
-    let packets = finished.record.packets;
-    let end = format!(in alloc;
-        "{commands} commands, {packets} packets, behind{counts}: {own}; raised: {raised}; cut: {short}\n"
-    )?;
-    text.extend_from_slice(end.as_str().as_bytes())?;
+    let mut text = Vec::new(alloc);
+    push_head(&mut text, name, order)?;
+    text.extend_from_slice(&report)?;
+    push_counts(alloc, &mut text, finished)?;
+    push_own(alloc, &mut text, lines, &report)?;
+    push_cut(alloc, &mut text, lines, &report)?;
     Ok(text)
 }

@@ -1,11 +1,13 @@
 //! The control half goes to a slice and comes home.
-ghost use Rattle.std.specs.Prelude.{◌≡◌, IfOk};
+ghost use Rattle.std.specs.Prelude.{◌≡◌, [], ◌∷◌};
 ghost use Rattle.worker_core.specs.Workers.{worker_lanes, end_lanes, place_of};
+ghost use Rattle.worker_core.specs.Desks.{lanes_of};
+ghost use Rattle.migration.specs.Words.{desks_of};
 
 use crate::stop::Stop;
 use control_half::ControlHalf;
 use gather_home::gather;
-use migration::Side;
+use migration::{Side, SideEnd};
 use pc_base::{SliceNo, Slot};
 use std::alloc::Global;
 use std::snapshot::Snapshot;
@@ -74,32 +76,64 @@ fn serve_there<R: Threads + Wait + Sync>(
     )
 }
 
+/// A side with one slice, and the worker there.
+#[derive(Drop)]
+struct Path {
+    side: Side<ControlHalf>,
+    worker: Worker<ControlHalf>,
+    ghost lanes: { lanes_of (desks_of side) ≡ worker_lanes worker ∷ [] },
+}
+
+impl Path {
+    // Sends the half to the slice.
+    fn sent<R: Wait>(rt: &R, alloc: Global, half: ControlHalf) -> Result<Path, Stop> {
+        let (desk, worker) = pair(alloc, SLICE)?;
+        let desks = Vec::from_array(alloc, [desk])?;
+        let mut side = Side::new(alloc, desks);
+        match side.admit(rt, half, SLICE, 0) {
+            Ok(()) => Ok(Path { side, worker }),
+            Err(_) => Err(Stop::Back),
+        }
+    }
+
+    // Calls it back to the slice.
+    fn call_back<R: Wait>(&mut self, rt: &R) {
+        if self.side.is_admitted(Slot(0)) && self.side.slices() == 1 && self.side.asked() < 8 {
+            self.side.go(rt, Slot(0), SLICE, 1);
+        }
+    }
+
+    // Turns the half at the slice, and gathers it: how many came home.
+    fn home<R: Threads + Wait + Sync>(mut self, rt: &R, alloc: Global) -> Result<usize, Stop> {
+        self.side.pump(rt);
+        let end = serve_there(rt, self.worker);
+        self.side.pump(rt);
+        gathered(rt, alloc, self.side.into_end(), end)
+    }
+}
+
+fn gathered<R: Wait>(
+    rt: &R,
+    alloc: Global,
+    side: SideEnd<ControlHalf>,
+    end: WorkerEnd<ControlHalf>,
+) -> Result<usize, Stop>
+    requires { lanes_of side.desks.items ≡ end_lanes end ∷ [] }
+{
+    let ends = Vec::from_array(alloc, [end])?;
+    match gather(rt, alloc, side, ends) {
+        Ok(halves) => Ok(halves.len()),
+        Err(_) => Err(Stop::Back),
+    }
+}
+
 /// Sends the half to a slice, turns it there, calls it back to the slice, and gathers it: how many came home.
 pub fn control_home<R: Threads + Wait + Sync>(
     rt: &R,
     alloc: Global,
     half: ControlHalf,
 ) -> Result<usize, Stop> {
-    let (desk, worker) = pair(alloc, SLICE)?;
-    let mut desks = Vec::with_capacity(alloc, 1)?;
-    desks.push_reserved(desk);
-    let mut side = Side::new(alloc, desks);
-    let Ok(()) = side.admit(rt, half, SLICE, 0) else {
-        return Err(Stop::Back);
-    };
-    if side.is_admitted(Slot(0)) && side.slices() == 1 {
-        side.go(rt, Slot(0), SLICE, 1);
-    }
-    side.pump(rt);
-    let end = serve_there(rt, worker);
-    side.pump(rt);
-    let mut ends = Vec::with_capacity(alloc, 1)?;
-    ends.push_reserved(end);
-    match gather(rt, alloc, side.into_end(), ends) {
-        Ok(halves) => Ok(halves.len()),
-        Err(parts) => match parts.again(rt) {
-            Ok(halves) => Ok(halves.len()),
-            Err(_) => Err(Stop::Back),
-        },
-    }
+    let mut path = Path::sent(rt, alloc, half)?;
+    path.call_back(rt);
+    path.home(rt, alloc)
 }

@@ -1,13 +1,15 @@
 //! The counter half goes to a slice, an item follows it, and both come home.
-ghost use Rattle.std.specs.Prelude.{◌≡◌, [], IfOk};
+ghost use Rattle.std.specs.Prelude.{◌≡◌, [], ◌∷◌};
 ghost use Rattle.flow_core.specs.Workers.{worker_lanes, end_lanes};
+ghost use Rattle.worker_core.specs.Desks.{lanes_of};
+ghost use Rattle.flow_migration.specs.Words.{desks_of};
 ghost use Rattle.counter_half.specs.Half.{handled_by};
 
 use crate::stop::Stop;
 use counter_half::{FlowHalf, FlowItem};
 use flow_core::{FlowEnd, FlowWorker, flow_pair};
-use flow_home::gather_flow;
-use flow_migration::FlowSide;
+use flow_home::{Home, gather_flow};
+use flow_migration::{FlowEnded, FlowSide};
 use pc_base::SliceNo;
 use std::alloc::Global;
 use std::snapshot::Snapshot;
@@ -74,6 +76,71 @@ fn serve_there<R: Threads + Wait + Sync>(rt: &R, worker: FlowWorker<FlowHalf>) -
     )
 }
 
+/// A side with one slice, and the worker there.
+#[derive(Drop)]
+struct Path {
+    side: FlowSide<FlowHalf>,
+    worker: FlowWorker<FlowHalf>,
+    ghost lanes: { lanes_of (desks_of side) ≡ worker_lanes worker ∷ [] },
+}
+
+impl Path {
+    // Sends the half to the slice.
+    fn sent<R: Wait>(rt: &R, alloc: Global, half: FlowHalf) -> Result<Path, Stop>
+        requires { handled_by half ≡ [] }
+    {
+        let (desk, worker) = flow_pair(alloc, SLICE, 16)?;
+        let desks = Vec::from_array(alloc, [desk])?;
+        let mut side = FlowSide::new(alloc, desks, 4);
+        match side.admit(rt, half, SLICE, false) {
+            Ok(()) => Ok(Path { side, worker }),
+            Err(_) => Err(Stop::Back),
+        }
+    }
+
+    // Sends an item behind it; whether it went.
+    fn give<R: Wait>(&mut self, rt: &R, item: FlowItem) -> bool {
+        if !self.side.is_admitted(item.slot) || self.side.asked() > 8 {
+            return false;
+        }
+        self.side.give(rt, item).is_ok()
+    }
+
+    // Turns the half at the slice, and gathers it.
+    fn home<R: Threads + Wait + Sync>(mut self, rt: &R, alloc: Global) -> Result<Came, Stop> {
+        self.side.pump(rt);
+        let end = serve_there(rt, self.worker);
+        self.side.pump(rt);
+        gathered(rt, alloc, self.side.into_end(), end)
+    }
+}
+
+fn gathered<R: Wait>(
+    rt: &R,
+    alloc: Global,
+    side: FlowEnded<FlowHalf>,
+    end: FlowEnd<FlowHalf>,
+) -> Result<Came, Stop>
+    requires { lanes_of side.desks.items ≡ end_lanes end ∷ [] }
+{
+    let ends = Vec::from_array(alloc, [end])?;
+    match gather_flow(rt, alloc, side, ends) {
+        Ok(homes) => Ok(came(&homes)),
+        Err(_) => Err(Stop::Back),
+    }
+}
+
+fn came(homes: &[Home<FlowHalf>]) -> Came {
+    let left = match homes.first() {
+        Some(home) => home.left.len(),
+        None => 0,
+    };
+    Came {
+        homes: homes.len(),
+        left,
+    }
+}
+
 /// Sends the half to a slice and an item behind it, turns it there, and gathers it.
 pub fn flow_home<R: Threads + Wait + Sync>(
     rt: &R,
@@ -83,37 +150,10 @@ pub fn flow_home<R: Threads + Wait + Sync>(
 ) -> Result<Came, Stop>
     requires { handled_by half ≡ [] }
 {
-    let slot = item.slot;
-    let (desk, worker) = flow_pair(alloc, SLICE, 16)?;
-    let mut desks = Vec::with_capacity(alloc, 1)?;
-    desks.push_reserved(desk);
-    let mut side = FlowSide::new(alloc, desks, 4);
-    let Ok(()) = side.admit(rt, half, SLICE, false) else {
-        return Err(Stop::Back);
-    };
-    if side.is_admitted(slot) && !side.parks(slot) && side.asked() < 8 {
-        if side.give(rt, item).is_err() {
-            return Err(Stop::Back);
-        }
+    let mut path = Path::sent(rt, alloc, half)?;
+    if path.give(rt, item) {
+        path.home(rt, alloc)
+    } else {
+        Err(Stop::Back)
     }
-    side.pump(rt);
-    let end = serve_there(rt, worker);
-    side.pump(rt);
-    let mut ends = Vec::with_capacity(alloc, 1)?;
-    ends.push_reserved(end);
-    let homes = match gather_flow(rt, alloc, side.into_end(), ends) {
-        Ok(homes) => homes,
-        Err(parts) => match parts.again(rt) {
-            Ok(homes) => homes,
-            Err(_) => return Err(Stop::Back),
-        },
-    };
-    let left = match homes.first() {
-        Some(home) => home.left.len(),
-        None => 0,
-    };
-    Ok(Came {
-        homes: homes.len(),
-        left,
-    })
 }

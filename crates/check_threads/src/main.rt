@@ -10,8 +10,9 @@ mod subject;
 use control::control_home;
 use control_half::ControlHalf;
 use counter_half::FlowHalf;
-use flow::flow_home;
+use flow::{Came, flow_home};
 use flow_core::FlowOrder;
+use std::alloc::{AllocError as NoMemory, Global};
 use std::io::{self, Write};
 use std::mem::size_of;
 use std::process::ExitCode;
@@ -19,29 +20,68 @@ use std::sync::Wait;
 use std::thread::Threads;
 use stop::Stop;
 use subject::new_subject;
+use text_fields::{push_field, push_number};
 use worker_core::Order;
 
 /// How many octets an order has at most: a half is a slot and a pointer, and an item the largest of all.
 const MOST: usize = 96;
 
-fn play<R: Threads + Wait + Sync + AllocGlobal, W: Write>(rt: &R, out: &mut W) -> Result<(), Stop> {
-    let alloc = rt.alloc();
-    let control_small = size_of::<Order<ControlHalf>>() <= MOST;
-    let flow_small = size_of::<FlowOrder<FlowHalf>>() <= MOST;
-    writeln!(
-        out,
-        "orders of at most {MOST} octets: {control_small}, {flow_small}"
-    )?;
+/// How many halves of each kind came home, and how many items weren't handled.
+#[derive(Clone, Copy)]
+struct Told {
+    control: usize,
+    flow: Came,
+}
+
+// What comes of the two halves of a subscriber.
+fn take_through<R: Threads + Wait + Sync>(rt: &R, alloc: Global) -> Result<Told, Stop> {
     let subject = new_subject(rt, alloc)?;
-    let control = control_home(rt, alloc, subject.control)?;
-    writeln!(out, "control: {control} home")?;
-    let flow = flow_home(rt, alloc, subject.flow, subject.item)?;
-    writeln!(out, "packets: {} home, {} left", flow.homes, flow.left)?;
+    let control = control_home(rt, alloc, subject.control);
+    let flow = flow_home(rt, alloc, subject.flow, subject.item);
+    Ok(Told {
+        control: control?,
+        flow: flow?,
+    })
+}
+
+fn push_small(text: &mut Vec<u8>, is_small: bool) -> Result<(), NoMemory> {
+    push_field(text, if is_small { b"true" } else { b"false" })
+}
+
+fn push_sizes(text: &mut Vec<u8>) -> Result<(), NoMemory> {
+    text.extend_from_slice(b"orders of at most")?;
+    push_number(text, MOST as u64)?;
+    text.extend_from_slice(b" octets:")?;
+    push_small(text, size_of::<Order<ControlHalf>>() <= MOST)?;
+    text.push(b',')?;
+    push_small(text, size_of::<FlowOrder<FlowHalf>>() <= MOST)?;
+    text.push(b'\n')?;
     Ok(())
 }
 
+fn push_told(text: &mut Vec<u8>, told: Told) -> Result<(), NoMemory> {
+    text.extend_from_slice(b"control:")?;
+    push_number(text, told.control as u64)?;
+    text.extend_from_slice(b" home\npackets:")?;
+    push_number(text, told.flow.homes as u64)?;
+    text.extend_from_slice(b" home,")?;
+    push_number(text, told.flow.left as u64)?;
+    text.extend_from_slice(b" left\n")
+}
+
+fn play<R: Threads + Wait + Sync>(rt: &R, alloc: Global) -> Result<Vec<u8>, Stop> {
+    let told = take_through(rt, alloc)?;
+    let mut text = Vec::new(alloc);
+    push_sizes(&mut text)?;
+    push_told(&mut text, told)?;
+    Ok(text)
+}
+
 fn main(rt: HostRuntime) -> ExitCode {
-    match play(&rt, &mut io::writer(&rt)) {
+    let Ok(text) = play(&rt, rt.alloc()) else {
+        return ExitCode::FAILURE;
+    };
+    match io::writer(&rt).write_all(text.as_slice()) {
         Ok(()) => ExitCode::SUCCESS,
         Err(_) => ExitCode::FAILURE,
     }

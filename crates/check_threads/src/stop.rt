@@ -1,6 +1,5 @@
 //! Why nothing more is printed.
-use std::alloc::AllocError as NoMemory;
-use std::io;
+use std::alloc::{AllocError as NoMemory, AllocFailed};
 
 /// Why the halves don't come home.
 #[derive(Clone, Copy)]
@@ -8,8 +7,6 @@ pub enum Stop {
     NoMemory,
     /// What was given came back.
     Back,
-    /// Nothing can be written.
-    Output,
 }
 
 impl From<NoMemory> for Stop {
@@ -18,8 +15,8 @@ impl From<NoMemory> for Stop {
     }
 }
 
-impl From<io::Error> for Stop {
-    fn from(_: io::Error) -> Stop {
-        Stop::Output
+impl<T: Drop> From<AllocFailed<T>> for Stop {
+    fn from(_refused: AllocFailed<T>) -> Stop {
+        Stop::NoMemory
     }
 }

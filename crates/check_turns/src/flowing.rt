@@ -14,6 +14,7 @@ use lane_core::{Did, NoMemory};
 use pc_base::{Place, SliceNo};
 use std::alloc::Global;
 use std::sync::Wait;
+use text_fields::push_number;
 
 #[derive(Drop)]
 pub struct Stream {
@@ -152,14 +153,11 @@ impl Stream {
                 self.third.into_end(),
             ],
         )?;
+        let Ok(homes) = gather_flow(rt, alloc, self.side.into_end(), ends) else {
+            return Err(Stop::NoMemory);
+        };
         let mut text = Vec::new(alloc);
-        match gather_flow(rt, alloc, self.side.into_end(), ends) {
-            Ok(homes) => push_homes(&mut text, &homes)?,
-            Err(parts) => match parts.again(rt) {
-                Ok(homes) => push_homes(&mut text, &homes)?,
-                Err(_) => return Err(Stop::NoMemory),
-            },
-        }
+        push_homes(&mut text, &homes)?;
         Ok(text)
     }
 }
@@ -174,17 +172,32 @@ fn push_homes(text: &mut Vec<u8>, homes: &[Home<Pupil>]) -> Result<(), NoMemory>
 fn push_home(text: &mut Vec<u8>, home: &Home<Pupil>) -> Result<(), NoMemory> {
     let half = &home.half;
     push_numbers(text, &[u64::from(half.slot.0), half.asks, half.known])?;
+    push_handled(text, half)?;
+    push_left(text, &home.left)
+}
+
+fn push_handled(text: &mut Vec<u8>, half: &Pupil) -> Result<(), NoMemory> {
     text.extend_from_slice(b" handled")?;
     for (task, place) in half.handled.iter().zip(half.places.iter()) {
-        push_numbers(text, &[u64::from(task.number)])?;
-        text.push(b'@')?;
-        if let Place::At(slice) = place {
-            text.push(b'0' + slice.0 % 3)?;
-        }
+        push_number(text, u64::from(task.number))?;
+        push_place(text, *place)?;
     }
+    Ok(())
+}
+
+fn push_place(text: &mut Vec<u8>, place: Place) -> Result<(), NoMemory> {
+    match place {
+        Place::At(SliceNo(0)) => text.extend_from_slice(b"@0"),
+        Place::At(SliceNo(1)) => text.extend_from_slice(b"@1"),
+        Place::At(_) => text.extend_from_slice(b"@2"),
+        Place::Closing => text.extend_from_slice(b"@"),
+    }
+}
+
+fn push_left(text: &mut Vec<u8>, left: &[Task]) -> Result<(), NoMemory> {
     text.extend_from_slice(b" left")?;
-    for task in home.left.iter() {
-        push_numbers(text, &[u64::from(task.number)])?;
+    for task in left {
+        push_number(text, u64::from(task.number))?;
     }
     text.push(b';')?;
     Ok(())

@@ -4,7 +4,7 @@ ghost use Rattle.lane_core.specs.Ends.{sender_lane, receiver_lane, sent};
 
 use crate::answers::{Stop, numbers, push_numbers, word_of, yes_or_no};
 use crate::step::Step;
-use lane_core::{Carried, Full, Receiver, Sender, close, lane};
+use lane_core::{Carried, Full, NoMemory, Receiver, Sender, close, lane};
 use std::alloc::Global;
 use std::sync::Wait;
 
@@ -81,11 +81,14 @@ impl Lane {
             return Err(Stop::NoMemory);
         };
         let mut text = numbers(alloc, &[rest.len() as u64])?;
-        for parcel in [rest.first(), rest.last()] {
-            if let Some(parcel) = parcel {
-                push_numbers(&mut text, &[u64::from(parcel.0)])?;
-            }
-        }
+        push_ends(&mut text, &rest)?;
         Ok(text)
+    }
+}
+
+fn push_ends(text: &mut Vec<u8>, rest: &[Parcel]) -> Result<(), NoMemory> {
+    match (rest.first(), rest.last()) {
+        (Some(first), Some(last)) => push_numbers(text, &[u64::from(first.0), u64::from(last.0)]),
+        _ => Ok(()),
     }
 }

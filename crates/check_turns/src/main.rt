@@ -29,14 +29,18 @@ enum Stage {
     Stream(Stream),
 }
 
-/// A new stage, if a step asks for one.
-fn opened(alloc: Global, step: Step) -> Result<Option<Stage>, Stop> {
+/// The stage that a step asks for.
+fn opened(alloc: Global, step: Step) -> Result<Stage, Stop> {
     match step.letter {
-        b'L' => Ok(Some(Stage::Lane(Lane::new(alloc, step.one)?))),
-        b'W' => Ok(Some(Stage::Walk(Walk::new(alloc)?))),
-        b'F' => Ok(Some(Stage::Stream(Stream::new(alloc, step.one, step.two)?))),
-        _ => Ok(None),
+        b'L' => Ok(Stage::Lane(Lane::new(alloc, step.one)?)),
+        b'W' => Ok(Stage::Walk(Walk::new(alloc)?)),
+        _ => Ok(Stage::Stream(Stream::new(alloc, step.one, step.two)?)),
     }
+}
+
+fn begin(alloc: Global, stage: &mut Stage, step: Step) -> Result<Vec<u8>, Stop> {
+    *stage = opened(alloc, step)?;
+    word_of(alloc, b"opened")
 }
 
 fn go_on<R: Wait>(rt: &R, alloc: Global, stage: &mut Stage, step: Step) -> Result<Vec<u8>, Stop> {
@@ -59,17 +63,12 @@ fn close<R: Wait>(rt: &R, alloc: Global, stage: Stage) -> Result<Vec<u8>, Stop> 
 
 fn answer<R: Wait>(rt: &R, alloc: Global, stage: &mut Stage, line: &[u8]) -> Result<Vec<u8>, Stop> {
     let step = Step::read(line);
-    if step.letter == b'#' {
-        return word_of(alloc, line);
+    match step.letter {
+        b'#' => word_of(alloc, line),
+        b'L' | b'W' | b'F' => begin(alloc, stage, step),
+        b'x' => close(rt, alloc, std::mem::replace(stage, Stage::Nothing)),
+        _ => go_on(rt, alloc, stage, step),
     }
-    if let Some(new) = opened(alloc, step)? {
-        *stage = new;
-        return word_of(alloc, b"opened");
-    }
-    if step.letter == b'x' {
-        return close(rt, alloc, std::mem::replace(stage, Stage::Nothing));
-    }
-    go_on(rt, alloc, stage, step)
 }
 
 // The line that answers a step, without the blank before its first number.
@@ -84,25 +83,29 @@ fn push_line(told: &mut Vec<u8>, answered: &Result<Vec<u8>, Stop>) -> Result<(),
     Ok(())
 }
 
-fn tell<R: Wait>(
+// Answers each line of a script.
+fn play<R: Wait>(
     rt: &R,
     alloc: Global,
     stage: &mut Stage,
-    line: &[u8],
+    script: &[u8],
     told: &mut Vec<u8>,
 ) -> Result<(), AllocError> {
-    let answered = answer(rt, alloc, stage, line);
-    push_line(told, &answered)
+    for line in script.split(|octet| *octet == b'\n') {
+        let answered = answer(rt, alloc, stage, line);
+        push_line(told, &answered)?;
+    }
+    Ok(())
 }
 
 /// The answers to a script, a line each.
 fn played<R: Wait>(rt: &R, alloc: Global, script: &[u8]) -> Result<Vec<u8>, AllocError> {
     let mut told = Vec::new(alloc);
     let mut stage = Stage::Nothing;
-    for line in script.split(|octet| *octet == b'\n') {
-        tell(rt, alloc, &mut stage, line, &mut told)?;
+    match play(rt, alloc, &mut stage, script, &mut told) {
+        Ok(()) => Ok(told),
+        Err(none) => Err(none),
     }
-    Ok(told)
 }
 
 fn main(rt: HostRuntime) -> io::Result<()> {

@@ -117,23 +117,30 @@ impl Walk {
     /// The slots that each worker holds, in their order, and then of all halves that come home the slot, what they
     /// had to do and what they did, their hop, and their turns.
     pub fn end<R: Wait>(self, rt: &R, alloc: Global) -> Result<Vec<u8>, Stop> {
-        let first = self.first.into_end();
-        let second = self.second.into_end();
-        let third = self.third.into_end();
+        let ends = Vec::from_array(
+            alloc,
+            [
+                self.first.into_end(),
+                self.second.into_end(),
+                self.third.into_end(),
+            ],
+        )?;
         let mut text = Vec::new(alloc);
-        push_held(&mut text, &first)?;
-        push_held(&mut text, &second)?;
-        push_held(&mut text, &third)?;
-        let ends = Vec::from_array(alloc, [first, second, third])?;
-        match gather(rt, alloc, self.side.into_end(), ends) {
-            Ok(halves) => push_halves(&mut text, &halves)?,
-            Err(parts) => match parts.again(rt) {
-                Ok(halves) => push_halves(&mut text, &halves)?,
-                Err(_) => return Err(Stop::NoMemory),
-            },
-        }
+        let held = push_all_held(&mut text, &ends);
+        let Ok(halves) = gather(rt, alloc, self.side.into_end(), ends) else {
+            return Err(Stop::NoMemory);
+        };
+        held?;
+        push_halves(&mut text, &halves)?;
         Ok(text)
     }
+}
+
+fn push_all_held(text: &mut Vec<u8>, ends: &[WorkerEnd<Walker>]) -> Result<(), NoMemory> {
+    for end in ends {
+        push_held(text, end)?;
+    }
+    Ok(())
 }
 
 fn push_held(text: &mut Vec<u8>, end: &WorkerEnd<Walker>) -> Result<(), NoMemory> {
