@@ -96,7 +96,8 @@ module _ {H I : Type 0} where
       → s < length places → new ≡ set places s place → Lists places due
       → (is_busy place ≡ true → is_busy (place_at places s) ≡ true) → Lists new due
   lists_quiet places new place s due within made lists quiet =
-      lists_step places new place s due due within made lists lists.rising (λ t is. is) (λ busy. lists.all s (quiet busy))
+      lists_step places new place s due due within made lists lists.rising (λ t is. is)
+      (λ busy. lists.all s (quiet busy))
 
   -- a step whose slot joins the list
   pub lists_joined : (places new : Places H I) (place : Option (FlowPlace H I)) (s : ℕ) (busy : Bool)

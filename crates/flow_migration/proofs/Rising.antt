@@ -1,10 +1,10 @@
 -- The list of the slots for which something is still to be done.
-use Rattle.std.proofs.Common.{◌≡◌, ◌≢◌, ℕ, zero, suc, ◌+◌, ◌-◌, ◌<◌, ◌≤◌, Bool, true, false, true≢false, not, cond, List, []}
+use Rattle.std.proofs.Common.{◌≡◌, ◌≢◌, ℕ, zero, suc, ◌+◌, ◌-◌, ◌<◌, ◌≤◌, Bool, true, false, true≢false, cond, List, []}
 use Rattle.std.proofs.Common.{◌∷◌, ◌++◌, length, take, drop, set, get_or, refl, sym, ap, ◌∙◌, subst, arith, add-one}
 use Rattle.std.specs.Prelude.{nat_eq, nat_lt, nat_le, ◌&&◌, ◌||◌, Option, Some, None, filter, count_by}
 use Rattle.std.specs.List.{insert}
 use Rattle.std.proofs.lemmas.List.Sums.{sum_by-cons}
-use Rattle.std.proofs.lemmas.Bool.{lt-ltb, le-leb, ltb-true, ltb-false, leb-true, eqb-true, eqb-false, eq-eqb, ne_eqb, le-ltb}
+use Rattle.std.proofs.lemmas.Bool.{lt-ltb, le-leb, ltb-true, ltb-false, leb-true, eqb-true, eqb-false, eq-eqb, le-ltb}
 use Rattle.flow_migration.specs.Due.{is_among, is_rising, Joins}
 
 both : (a b : Bool) → (a && b) ≡ true → (a ≡ true) × (b ≡ true)
@@ -180,7 +180,8 @@ pub kept_among : (p : ℕ → Bool) (slot : ℕ) (xs : List ℕ) → is_among sl
     → is_among slot (filter p xs) ≡ true
 kept_among p slot [] is passes = is
 kept_among p slot (x ∷ xs) is passes =
-    elim (nat_eq x slot) as (λ b. nat_eq x slot ≡ b → is_among slot (cond (p x) (x ∷ filter p xs) (filter p xs)) ≡ true) [
+    elim (nat_eq x slot) as (λ b. nat_eq x slot ≡ b
+    → is_among slot (cond (p x) (x ∷ filter p xs) (filter p xs)) ≡ true) [
       | true ↦ λ e.
           let here : p x ≡ true = ap p (eqb-true x slot e) ∙ passes in
           ap (λ b. is_among slot (cond b (x ∷ filter p xs) (filter p xs))) here

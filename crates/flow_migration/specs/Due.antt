@@ -1,6 +1,6 @@
 -- The slots for which something is still to be done, in a list by slot.
-use Rattle.std.specs.Prelude.{◌≡◌, ℕ, ◌+◌, ◌<◌, ◌&&◌, ◌==◌, Bool, true, List, [], ◌∷◌, length, nat_le, nat_lt, slice_index}
-use Rattle.std.specs.Prelude.{slice_index_or, Option, Some, false}
+use Rattle.std.specs.Prelude.{◌≡◌, ℕ, ◌+◌, ◌<◌, ◌&&◌, ◌==◌, Bool, true, List, [], ◌∷◌, length, nat_le, nat_lt}
+use Rattle.std.specs.Prelude.{slice_index, slice_index_or, Option, Some, false}
 use Rattle.std.specs.List.{list_any}
 use Rattle.flow_migration.specs.declared.place.FlowPlace.{FlowPlace}
 use Rattle.flow_migration.specs.Places.{place_at, state_at, leaves, is_busy}

@@ -69,8 +69,8 @@ impl<H: Flow> FlowSide<H> {
     ghost use Rattle.flow_migration.specs.Queues.{EachShortens, QueuesStay};
     ghost use Rattle.flow_migration.specs.Sides.{AllMetFull, QueuesMetFull};
     ghost use Rattle.worker_core.specs.Homes.{HomeEnded};
-    ghost use Rattle.flow_migration.specs.Words.{desks_of, places_of, aside_of, due_of, queue_room_of, admitted_of, asked_of};
-    ghost use Rattle.flow_migration.specs.Words.{refused_of, roll_of, accepts_of};
+    ghost use Rattle.flow_migration.specs.Words.{desks_of, places_of, aside_of, due_of, queue_room_of, admitted_of};
+    ghost use Rattle.flow_migration.specs.Words.{asked_of, refused_of, roll_of, accepts_of};
     ghost use Rattle.flow_migration.specs.Words.{MetFull, Enters, Admits};
     ghost use Rattle.worker_core.specs.Homes.{TookOne};
     ghost use Rattle.worker_core.specs.Homes.{TookFrom};

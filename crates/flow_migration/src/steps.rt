@@ -23,6 +23,7 @@ use flow_core::{Flow, FlowDesk, FlowKind, FlowOrder};
 use lane_core::{Full, NoMemory};
 use pc_base::{SliceNo, Slot};
 use std::collections::VecDeque;
+use std::mem;
 use std::sync::Wait;
 use worker_core::Log;
 
@@ -457,34 +458,33 @@ fn give<H: Flow, R: Wait>(
     ensures { Gave (λ half. H.slot_at (H.name half)) H.item_slot H.handled slot room item result place.old place.new
         desks.old.items desks.new.items }
 {
-    let Some(place_was) = place.take() else {
-        unreachable!()
-    };
-    let (place_now, answer) = given(rt, desks, place_was, slot, room, item);
-    *place = Some(place_now);
-    answer
+    match place {
+        Some(here) => given(rt, desks, here, slot, room, item),
+        None => unreachable!(),
+    }
 }
 
 // The item goes to the queue of a place, or to the slice of its half.
 fn given<H: Flow, R: Wait>(
     rt: &R,
     desks: &mut Vec<FlowDesk<H>>,
-    place: FlowPlace<H>,
+    place: &mut FlowPlace<H>,
     slot: Slot,
     room: usize,
     item: H::Item,
-) -> (FlowPlace<H>, Result<(), FlowNo<H::Item>>)
+) -> Result<(), FlowNo<H::Item>>
     requires own { H.item_slot item ≡ slot }
-    requires fits { Fits (length desks.old.items) room (Some place) }
-    requires ready { IsReady (λ half. H.slot_at (H.name half)) H.item_slot slot (Some place) desks.old.items }
-    ensures parked { parks_at (Some place) ≡ true → (desks.new.items ≡ desks.old.items) × (result.0.state ≡ place.state)
-        × QueueTakes room item result.1 place.queue.items result.0.queue.items }
-    ensures placed { parks_at (Some place) ≡ false → (result.0.queue.items ≡ place.queue.items)
-        × Delivers slot item result.1 place.state result.0.state desks.old.items desks.new.items }
-    ensures accepted { Accepts item result.1 (accepted_by place) (accepted_by result.0) }
-    ensures same { (result.0.moved ≡ place.moved) × (result.0.admitted ≡ place.admitted) }
+    requires fits { Fits (length desks.old.items) room (Some place.old) }
+    requires ready { IsReady (λ half. H.slot_at (H.name half)) H.item_slot slot (Some place.old) desks.old.items }
+    ensures parked { parks_at (Some place.old) ≡ true → (desks.new.items ≡ desks.old.items)
+        × (place.new.state ≡ place.old.state)
+        × QueueTakes room item result place.old.queue.items place.new.queue.items }
+    ensures placed { parks_at (Some place.old) ≡ false → (place.new.queue.items ≡ place.old.queue.items)
+        × Delivers slot item result place.old.state place.new.state desks.old.items desks.new.items }
+    ensures accepted { Accepts item result (accepted_by place.old) (accepted_by place.new) }
+    ensures same { (place.new.moved ≡ place.old.moved) × (place.new.admitted ≡ place.old.admitted) }
 {
-    if parks(&place) {
+    if parks(place) {
         give_parked(place, slot, room, item)
     } else {
         give_placed(rt, desks, place, slot, item)
@@ -512,88 +512,75 @@ pub fn give_at<H: Flow, R: Wait>(
     give(rt, desks, &mut places[slot.0 as usize], slot, room, item)
 }
 
-// What is accepted after an answer.
-fn accepted_now<I>(
-    answer: &Result<(), FlowNo<I>>,
-    before: Log<I, Slot>,
-    more: Log<I, Slot>,
-) -> Log<I, Slot>
-    ensures ok { OnOk answer.now (result.items ≡ more.items) }
-    ensures err { OnErr answer.now (result.items ≡ before.items) }
+// Notes what is accepted after an answer.
+fn accept<I>(answer: &Result<(), FlowNo<I>>, accepted: &mut Log<I, Slot>, more: Log<I, Slot>)
+    ensures ok { OnOk answer.now (accepted.new.items ≡ more.items) }
+    ensures err { OnErr answer.now (accepted.new.items ≡ accepted.old.items) }
 {
-    match answer {
-        Ok(()) => more,
-        Err(_) => before,
+    if answer.is_ok() {
+        *accepted = more;
     }
 }
 
 // The item goes last into the queue.
 fn give_parked<H: Flow>(
-    place: FlowPlace<H>,
+    place: &mut FlowPlace<H>,
     slot: Slot,
     room: usize,
     item: H::Item,
-) -> (FlowPlace<H>, Result<(), FlowNo<H::Item>>)
-    ensures queue { QueueTakes room item result.1 place.queue.items result.0.queue.items }
-    ensures accepted { Accepts item result.1 (accepted_by place) (accepted_by result.0) }
-    ensures same { (result.0.moved ≡ place.moved) × (result.0.state ≡ place.state)
-        × (result.0.admitted ≡ place.admitted) }
+) -> Result<(), FlowNo<H::Item>>
+    ensures queue { QueueTakes room item result place.old.queue.items place.new.queue.items }
+    ensures accepted { Accepts item result (accepted_by place.old) (accepted_by place.new) }
+    ensures same { (place.new.moved ≡ place.old.moved) × (place.new.state ≡ place.old.state)
+        × (place.new.admitted ≡ place.old.admitted) }
 {
-    let FlowPlace {
-        moved,
-        state,
-        mut queue,
-        admitted,
-        accepted,
-    } = place;
-    let more = accepted.and(&item, &slot);
-    let answer = park(&mut queue, room, item);
-    let accepted = accepted_now(&answer, accepted, more);
-    let place = FlowPlace {
-        moved,
-        state,
-        queue,
-        admitted,
-        accepted,
-    };
-    (place, answer)
+    let more = place.accepted.and(&item, &slot);
+    let answer = park(&mut place.queue, room, item);
+    accept(&answer, &mut place.accepted, more);
+    answer
+}
+
+// Offers the order that a state waits to give, if there is one.
+fn serve_state<H: Flow, R: Wait>(
+    rt: &R,
+    desks: &mut Vec<FlowDesk<H>>,
+    slot: Slot,
+    state: &mut FlowState<H>,
+)
+    requires fits { (at_end state.old ≤ vec_len desks.old) × (to_end state.old ≤ vec_len desks.old) }
+    requires few { sum_by order_count desks.old.items < 2 ^ 50 }
+    requires law { MayGive (λ half. H.slot_at (H.name half)) H.item_slot slot state.old desks.old.items }
+    ensures serves { Serves slot state.old state.new desks.old.items desks.new.items }
+    ensures len { vec_len desks.new ≡ vec_len desks.old }
+{
+    if placed(state) {
+        return;
+    }
+    let was = mem::replace(state, FlowState::Placed { at: SliceNo(0) });
+    *state = served(rt, desks, slot, was);
 }
 
 // The item goes to the slice of its half, which arrives there first if it is at the front.
 fn give_placed<H: Flow, R: Wait>(
     rt: &R,
     desks: &mut Vec<FlowDesk<H>>,
-    place: FlowPlace<H>,
+    place: &mut FlowPlace<H>,
     slot: Slot,
     item: H::Item,
-) -> (FlowPlace<H>, Result<(), FlowNo<H::Item>>)
-    requires settled { is_settled place.state ≡ true }
+) -> Result<(), FlowNo<H::Item>>
+    requires settled { is_settled place.old.state ≡ true }
     requires own { H.item_slot item ≡ slot }
-    requires ready { IsReady (λ half. H.slot_at (H.name half)) H.item_slot slot (Some place) desks.old.items }
-    ensures delivers { Delivers slot item result.1 place.state result.0.state desks.old.items desks.new.items }
-    ensures accepted { Accepts item result.1 (accepted_by place) (accepted_by result.0) }
-    ensures same { (result.0.moved ≡ place.moved) × (result.0.queue.items ≡ place.queue.items)
-        × (result.0.admitted ≡ place.admitted) }
+    requires ready { IsReady (λ half. H.slot_at (H.name half)) H.item_slot slot (Some place.old) desks.old.items }
+    ensures delivers { Delivers slot item result place.old.state place.new.state desks.old.items desks.new.items }
+    ensures accepted { Accepts item result (accepted_by place.old) (accepted_by place.new) }
+    ensures same { (place.new.moved ≡ place.old.moved) × (place.new.queue.items ≡ place.old.queue.items)
+        × (place.new.admitted ≡ place.old.admitted) }
 {
-    let FlowPlace {
-        moved,
-        state,
-        queue,
-        admitted,
-        accepted,
-    } = place;
-    let more = accepted.and(&item, &slot);
-    let state = served(rt, desks, slot, state);
-    let answer = landed(rt, desks, slot, &state, item);
-    let accepted = accepted_now(&answer, accepted, more);
-    let place = FlowPlace {
-        moved,
-        state,
-        queue,
-        admitted,
-        accepted,
-    };
-    (place, answer)
+    let more = place.accepted.and(&item, &slot);
+    serve_state(rt, desks, slot, &mut place.state);
+    let answer = landed(rt, desks, slot, &place.state, item);
+    accept(&answer, &mut place.accepted, more);
+    answer
 }
 
 // A half that came home from a slice stands at the front where its slot is leaving that slice, and else

@@ -46,7 +46,8 @@ loop-at-preserved g c =
           (λ slice is. at.3.again slice is.0 is.1) c.loop-at.invariant.5,
       λ slot. waits_kept _ _ at.0 c.index-slot.result.now at.1 at.2 at.3.waits slot ∙ c.loop-at.invariant.6 slot,
       λ slot. states_kept _ _ at.0 c.index-slot.result.now at.1 at.2 at.3.state slot ∙ c.loop-at.invariant.7 slot,
-      each_shortens c.args.self.now.places.items _ _ at.0 c.index-slot.result.now at.1 at.2 at.3.queue c.loop-at.invariant.8,
+      each_shortens c.args.self.now.places.items _ _ at.0 c.index-slot.result.now at.1 at.2 at.3.queue
+          c.loop-at.invariant.8,
     )
 
 pub returns-clause-queues : goal.returns-clause-queues
