@@ -7,10 +7,12 @@ ghost use Rattle.report_lines.specs.declared.entry.Entry.{Entry};
 ghost use Rattle.report_lines.specs.Text.{entry_text};
 ghost use Rattle.report_lines.specs.Ranges.{IsEntry};
 
+use packet_steps::LentVerdict;
 use pc_base::Verdict;
-use report_lines::{Entry, Judgement, LentVerdict, LineEntry, NoMemory, push_packet, read, text};
+use report_lines::{Entry, Judgement, LineEntry, NoMemory, push_judged, push_packet, read, text};
 use std::alloc::Global;
 use std::{fs, io};
+use text_fields::Text;
 
 /// Whether the line is read as an entry, and is the entry's text.
 fn is_entry(alloc: Global, line: &[u8]) -> Result<bool, NoMemory>
@@ -61,25 +63,31 @@ fn show_entry(rt: &HostRuntime, entry: &Entry) -> io::Result<()> {
         String::from_utf8_lossy(rt.alloc(), without.as_slice())?
     )?;
     if let Entry::Line(LineEntry::P(told)) = entry {
-        let mut lent = Vec::new(rt.alloc());
-        push_judged(&mut lent, told)?;
+        let mut lent = Text::new(rt.alloc());
+        push_lent(&mut lent, told)?;
         println!(rt; "lent as it is: {}", lent.as_slice() == without.as_slice())?;
     }
     Ok(())
 }
 
-/// The entry of a packet from octets that are lent.
-fn push_judged(out: &mut Vec<u8>, told: &Judgement) -> Result<(), NoMemory> {
+/// The entry of a packet from octets that are lent; what goes down lends its payload alone, so that is written from
+/// its G-PDU.
+fn push_lent(out: &mut Text, told: &Judgement) -> Result<(), NoMemory> {
     let verdict = match &told.verdict {
         Verdict::Up { life, octets } => LentVerdict::Up {
             life: *life,
             octets: octets.as_slice(),
         },
-        Verdict::Down { life, peer, octets } => LentVerdict::Down {
-            life: *life,
-            peer: *peer,
-            octets: octets.as_slice(),
-        },
+        Verdict::Down { .. } => {
+            return push_judged(
+                out,
+                told.line,
+                told.slot,
+                told.number,
+                told.commands,
+                &told.verdict,
+            );
+        }
         Verdict::NoBearer => LentVerdict::NoBearer,
         Verdict::Spoof => LentVerdict::Spoof,
         Verdict::Idle { life } => LentVerdict::Idle { life: *life },

@@ -4,23 +4,23 @@ use audit_reading::trace_of;
 use audit_sentences::Meant;
 use control_half::CommandDone;
 use counter_half::{PacketDone, VersionDone};
-use pc_base::{Octets, Slot, Verdict};
+use pc_base::Slot;
 use report_lines::{
-    Entry, LentVerdict, push_answer, push_effect, push_note, push_open, push_packet, push_row, read,
+    Entry, push_answer, push_effect, push_judged, push_note, push_open, push_row, read,
 };
 use split_record::{Finished, NoMemory};
 use std::alloc::Global;
 use subscriber::Subscriber;
+use text_fields::Text;
 use trace_lines::TraceLine;
 
 const SLOT: Slot = Slot(0);
 
-fn end_line(text: &mut Vec<u8>) -> Result<(), NoMemory> {
-    text.push(b'\n')?;
-    Ok(())
+fn end_line(text: &mut Text) -> Result<(), NoMemory> {
+    text.push(b'\n')
 }
 
-fn push_commands(text: &mut Vec<u8>, line: u64, all: &[CommandDone]) -> Result<(), NoMemory> {
+fn push_commands(text: &mut Text, line: u64, all: &[CommandDone]) -> Result<(), NoMemory> {
     for done in all {
         if done.line == line {
             push_answer(text, line, SLOT, done.number, &done.reply)?;
@@ -30,45 +30,10 @@ fn push_commands(text: &mut Vec<u8>, line: u64, all: &[CommandDone]) -> Result<(
     Ok(())
 }
 
-fn copied(alloc: Global, message: &Option<Octets>) -> Result<Option<Octets>, NoMemory> {
-    match message {
-        Some(octets) => Ok(Some(Octets::of(Vec::from_slice(alloc, octets.as_slice())?))),
-        None => Ok(None),
-    }
-}
-
-fn lent(alloc: Global, verdict: &Verdict) -> Result<LentVerdict<'_>, NoMemory> {
-    match verdict {
-        Verdict::Up { life, octets } => Ok(LentVerdict::Up {
-            life: *life,
-            octets: octets.as_slice(),
-        }),
-        Verdict::Down { life, peer, octets } => Ok(LentVerdict::Down {
-            life: *life,
-            peer: *peer,
-            octets: octets.as_slice(),
-        }),
-        Verdict::NoBearer => Ok(LentVerdict::NoBearer),
-        Verdict::Spoof => Ok(LentVerdict::Spoof),
-        Verdict::Idle { life } => Ok(LentVerdict::Idle { life: *life }),
-        Verdict::Held { life, message } => Ok(LentVerdict::Held {
-            life: *life,
-            message: copied(alloc, message)?,
-        }),
-        Verdict::Policed { life } => Ok(LentVerdict::Policed { life: *life }),
-    }
-}
-
-fn push_packets(
-    alloc: Global,
-    text: &mut Vec<u8>,
-    line: u64,
-    all: &[PacketDone],
-) -> Result<(), NoMemory> {
+fn push_packets(text: &mut Text, line: u64, all: &[PacketDone]) -> Result<(), NoMemory> {
     for done in all {
         if done.line == line {
-            let verdict = lent(alloc, &done.verdict)?;
-            push_packet(text, line, SLOT, done.number, done.commands, &verdict)?;
+            push_judged(text, line, SLOT, done.number, done.commands, &done.verdict)?;
             end_line(text)?;
         }
     }
@@ -78,14 +43,14 @@ fn push_packets(
 // The entry of a line.
 fn push_line(
     alloc: Global,
-    text: &mut Vec<u8>,
+    text: &mut Text,
     line: u64,
     meant: &Meant<'_>,
     finished: &Finished,
 ) -> Result<(), NoMemory> {
     match meant {
         Meant::Command { .. } => push_commands(text, line, finished.commands.as_slice()),
-        Meant::Packet { .. } => push_packets(alloc, text, line, finished.packets.as_slice()),
+        Meant::Packet { .. } => push_packets(text, line, finished.packets.as_slice()),
         Meant::Move { text: note, .. } | Meant::Note(note) => {
             push_note(text, line, note.as_slice())?;
             end_line(text)
@@ -95,7 +60,7 @@ fn push_line(
 
 fn push_lines(
     alloc: Global,
-    text: &mut Vec<u8>,
+    text: &mut Text,
     lines: &[TraceLine],
     finished: &Finished,
 ) -> Result<(), NoMemory> {
@@ -110,7 +75,7 @@ fn push_lines(
     Ok(())
 }
 
-fn push_effects(text: &mut Vec<u8>, versions: &[VersionDone]) -> Result<(), NoMemory> {
+fn push_effects(text: &mut Text, versions: &[VersionDone]) -> Result<(), NoMemory> {
     for done in versions {
         for effect in done.effects.as_slice() {
             push_effect(text, SLOT, done.command, effect)?;
@@ -121,7 +86,7 @@ fn push_effects(text: &mut Vec<u8>, versions: &[VersionDone]) -> Result<(), NoMe
 }
 
 // The open counters, by the bearers' indices.
-fn push_opens(text: &mut Vec<u8>, record: &Subscriber) -> Result<(), NoMemory> {
+fn push_opens(text: &mut Text, record: &Subscriber) -> Result<(), NoMemory> {
     for bearer in record.version.bearers() {
         for counters in record.counters.book().still_open() {
             if counters.life == bearer.life {
@@ -139,7 +104,7 @@ pub fn report_of(
     lines: &[TraceLine],
     finished: &Finished,
 ) -> Result<Vec<u8>, NoMemory> {
-    let mut text = Vec::new(alloc);
+    let mut text = Text::new(alloc);
     push_lines(alloc, &mut text, lines, finished)?;
     push_effects(&mut text, finished.effects.as_slice())?;
     for row in finished.rows.as_slice() {
@@ -147,7 +112,7 @@ pub fn report_of(
         end_line(&mut text)?;
     }
     push_opens(&mut text, &finished.record)?;
-    Ok(text)
+    Ok(text.into_octets())
 }
 
 /// The entries of a report.

@@ -22,13 +22,14 @@ use printing::{push_passed, push_told, push_yes};
 use std::alloc::Global;
 use std::io::{self, BufRead, BufReader, BufWriter, Write};
 use stop::Stop;
+use text_fields::Text;
 
 /// What a line asks for: a new slot, a list, or what a slot does.
 fn answer(
     alloc: Global,
     now: &mut Option<Player>,
     line: &str,
-    text: &mut Vec<u8>,
+    text: &mut Text,
 ) -> Result<(), Stop> {
     let row = Fields::read(alloc, line.as_bytes())?;
     match row.letter {
@@ -45,7 +46,7 @@ fn answer(
     }
 }
 
-fn go_on(alloc: Global, player: &mut Player, row: Fields, text: &mut Vec<u8>) -> Result<(), Stop> {
+fn go_on(alloc: Global, player: &mut Player, row: Fields, text: &mut Text) -> Result<(), Stop> {
     match row.letter {
         b'e' => player.finish(text),
         b't' => player.take(text),
@@ -76,7 +77,7 @@ fn main(rt: HostRuntime) -> io::Result<()> {
     let mut now = None;
     for line in BufReader::new(alloc, rt.reader())?.lines(alloc) {
         let line = line?;
-        let mut text = Vec::new(alloc);
+        let mut text = Text::new(alloc);
         match answer(alloc, &mut now, line.as_str(), &mut text) {
             Ok(()) => out.write_all(text.as_slice())?,
             Err(stop) => writeln!(out, "{} at {line}", stop.word())?,

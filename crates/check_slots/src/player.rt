@@ -8,6 +8,7 @@ use pc_base::{Moment, Octets, SliceNo};
 use report_lines::{push_answer, push_row};
 use std::alloc::Global;
 use subscriber::Subscriber;
+use text_fields::Text;
 
 const LAST_MOMENT: u64 = 0x3_ffff_ffff_ffff;
 
@@ -40,7 +41,7 @@ impl Player {
         line: u64,
         event: &Event,
         lent: bool,
-        text: &mut Vec<u8>,
+        text: &mut Text,
     ) -> Result<(), Stop> {
         if let Event::Packet(packet) = event {
             if !self.may_come(packet) {
@@ -107,7 +108,7 @@ impl Player {
         line: u64,
         command: &Command,
         happened: &Happened,
-        text: &mut Vec<u8>,
+        text: &mut Text,
     ) -> Result<(), Stop> {
         let number = self.subscriber.commands();
         if !self.subscriber.has_room() {
@@ -130,7 +131,7 @@ impl Player {
         packet: &Packet,
         lent: bool,
         happened: &Happened,
-        text: &mut Vec<u8>,
+        text: &mut Text,
     ) -> Result<(), Stop> {
         let at = (line, self.slot, packet.number, self.subscriber.commands());
         let verdict = if lent {
@@ -141,7 +142,7 @@ impl Player {
         if !judges(happened, &verdict) {
             return Err(Stop::Differ);
         }
-        push_verdict(alloc, text, at, &verdict)?;
+        push_verdict(text, at, &verdict)?;
         end_line(text)?;
         Ok(())
     }
@@ -211,13 +212,13 @@ impl Player {
     }
 
     /// Appends the charging records, and the open counters by index.
-    pub fn finish(&mut self, text: &mut Vec<u8>) -> Result<(), Stop> {
+    pub fn finish(&mut self, text: &mut Text) -> Result<(), Stop> {
         self.take(text)?;
         self.opens(text)
     }
 
     /// Appends the charging records that weren't taken.
-    pub fn take(&mut self, text: &mut Vec<u8>) -> Result<(), Stop> {
+    pub fn take(&mut self, text: &mut Text) -> Result<(), Stop> {
         for row in &self.subscriber.take_closed() {
             push_row(text, self.slot, row)?;
             end_line(text)?;
@@ -226,7 +227,7 @@ impl Player {
     }
 
     /// Appends the open counters by index.
-    pub fn opens(&self, text: &mut Vec<u8>) -> Result<(), Stop> {
+    pub fn opens(&self, text: &mut Text) -> Result<(), Stop> {
         let opens = self.subscriber.still_open();
         for bearer in self.subscriber.bearers() {
             push_opens(text, self.slot, bearer.life, opens)?;

@@ -1,23 +1,23 @@
 //! Entries, each with a newline.
 use charging_book::Open;
 use gate_model::{Slot, Verdict};
-use pc_base::{Effect, Octets};
-use report_lines::{LentVerdict, push_effect, push_open, push_packet};
+use pc_base::Effect;
+use report_lines::{push_effect, push_judged, push_open};
 use std::alloc::{AllocError as NoMemory, Global};
+use text_fields::Text;
 
-pub fn end_line(text: &mut Vec<u8>) -> Result<(), NoMemory> {
-    text.push(b'\n')?;
-    Ok(())
+pub fn end_line(text: &mut Text) -> Result<(), NoMemory> {
+    text.push(b'\n')
 }
 
 /// How many packets passed.
-pub fn push_passed(alloc: Global, text: &mut Vec<u8>, passed: u32) -> Result<(), NoMemory> {
+pub fn push_passed(alloc: Global, text: &mut Text, passed: u32) -> Result<(), NoMemory> {
     let line = format!(in alloc; "passed {passed}\n")?;
     text.extend_from_slice(line.as_bytes())
 }
 
 /// The answer of a question.
-pub fn push_yes(text: &mut Vec<u8>, yes: bool) -> Result<(), NoMemory> {
+pub fn push_yes(text: &mut Text, yes: bool) -> Result<(), NoMemory> {
     let word: &[u8] = if yes { b"yes\n" } else { b"no\n" };
     text.extend_from_slice(word)
 }
@@ -25,7 +25,7 @@ pub fn push_yes(text: &mut Vec<u8>, yes: bool) -> Result<(), NoMemory> {
 /// What a subscriber says of itself.
 pub fn push_told(
     alloc: Global,
-    text: &mut Vec<u8>,
+    text: &mut Text,
     told: (u32, u8, u64, u64, Option<u64>),
 ) -> Result<(), NoMemory> {
     let (slot, slice, commands, packets, last) = told;
@@ -40,7 +40,7 @@ pub fn push_told(
 }
 
 pub fn push_effects(
-    text: &mut Vec<u8>,
+    text: &mut Text,
     slot: Slot,
     number: u64,
     effects: &[Effect],
@@ -53,12 +53,7 @@ pub fn push_effects(
 }
 
 /// The open counters of a life.
-pub fn push_opens(
-    text: &mut Vec<u8>,
-    slot: Slot,
-    life: u64,
-    opens: &[Open],
-) -> Result<(), NoMemory> {
+pub fn push_opens(text: &mut Text, slot: Slot, life: u64, opens: &[Open]) -> Result<(), NoMemory> {
     for counted in opens {
         if counted.life == life {
             push_open(text, slot, counted)?;
@@ -70,41 +65,10 @@ pub fn push_opens(
 
 /// The entry of a packet: its line, its slot, its number, and how many commands the slot had.
 pub fn push_verdict(
-    alloc: Global,
-    text: &mut Vec<u8>,
+    text: &mut Text,
     at: (u64, Slot, u64, u64),
     verdict: &Verdict,
 ) -> Result<(), NoMemory> {
     let (line, slot, number, commands) = at;
-    let lent = lent(alloc, verdict)?;
-    push_packet(text, line, slot, number, commands, &lent)
-}
-
-fn lent(alloc: Global, verdict: &Verdict) -> Result<LentVerdict<'_>, NoMemory> {
-    match verdict {
-        Verdict::Up { life, octets } => Ok(LentVerdict::Up {
-            life: *life,
-            octets: octets.as_slice(),
-        }),
-        Verdict::Down { life, peer, octets } => Ok(LentVerdict::Down {
-            life: *life,
-            peer: *peer,
-            octets: octets.as_slice(),
-        }),
-        Verdict::NoBearer => Ok(LentVerdict::NoBearer),
-        Verdict::Spoof => Ok(LentVerdict::Spoof),
-        Verdict::Idle { life } => Ok(LentVerdict::Idle { life: *life }),
-        Verdict::Held { life, message } => Ok(LentVerdict::Held {
-            life: *life,
-            message: copied(alloc, message)?,
-        }),
-        Verdict::Policed { life } => Ok(LentVerdict::Policed { life: *life }),
-    }
-}
-
-fn copied(alloc: Global, message: &Option<Octets>) -> Result<Option<Octets>, NoMemory> {
-    match message {
-        Some(octets) => Ok(Some(Octets::of(Vec::from_slice(alloc, octets.as_slice())?))),
-        None => Ok(None),
-    }
+    push_judged(text, line, slot, number, commands, verdict)
 }

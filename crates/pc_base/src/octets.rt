@@ -35,6 +35,13 @@ impl Octets {
         self.bytes.as_slice()
     }
 
+    /// The octets as a list of their own memory; none is taken.
+    pub fn into_vec(self) -> Vec<u8>
+        ensures { result.items ≡ self }
+    {
+        self.bytes
+    }
+
     /// A copy of the octets.
     pub fn try_clone(&self) -> Result<Octets, NoMemory>
         ensures { IfOk result (λ copy. copy ≡ self.now) }

@@ -18,7 +18,7 @@ use Rattle.pc_base.specs.declared.packet.Verdict.{Verdict}
 use Rattle.pc_base.specs.declared.packet.Verdict.TheVariants as verdict
 use Rattle.pc_base.specs.declared.packet.Way.{Way}
 use Rattle.pc_base.specs.declared.packet.Way.TheVariants.{Up, Down}
-use Rattle.pepc.specs.Entries.{IsShort}
+use Rattle.report_lines.specs.Lent.{IsShort}
 
 -- what goes down is eight octets longer than the packet
 abbrev GoesDownAs : ℕ → Verdict → Type 0

@@ -1,7 +1,5 @@
 -- The lines of a report.
-use Rattle.std.specs.Prelude.{ℕ, ◌<◌, ◌^◌, false, Some, List, [], ◌∷◌, ◌++◌, length}
-use Rattle.packet_steps.specs.declared.lent.LentVerdict.{LentVerdict as Judged}
-use Rattle.packet_steps.specs.declared.lent.LentVerdict.TheVariants.{Up, Down, NoBearer, Spoof, Idle, Held, Policed}
+use Rattle.std.specs.Prelude.{ℕ, false, Some, List, [], ◌∷◌, ◌++◌}
 use Rattle.pc_base.specs.declared.packet.Place.TheVariants.{Closing}
 use Rattle.pc_base.specs.declared.packet.Verdict.{Verdict}
 use Rattle.report_lines.specs.Records.{Judged as JudgedEntry}
@@ -23,13 +21,3 @@ judged_by line slot number commands verdict = record {
   place = Some Closing;
   parked = false;
 }
-
--- a packet that goes down is no longer than IPv4 allows
-abbrev pub IsShort : Judged → Type 0
-IsShort (Up life octets) = Unit {0}
-IsShort (Down life peer octets) = length octets.now < 2 ^ 16
-IsShort NoBearer = Unit {0}
-IsShort Spoof = Unit {0}
-IsShort (Idle life) = Unit {0}
-IsShort (Held life message) = Unit {0}
-IsShort (Policed life) = Unit {0}

@@ -1,5 +1,6 @@
 //! A run of `export`: line after line is read, and the capture of those that are kept written.
-ghost use Rattle.std.specs.Prelude.{◌≡◌, ◌≤◌, ◌^◌, ◌++◌, [], ℕ, List, Option, false, Ok, Err, OnOk, IfOk, IfErr};
+ghost use Rattle.std.specs.Prelude.{◌≡◌, ◌≤◌, ◌^◌, ◌++◌, [], ℕ, List, Option, false, Ok, Err, OnOk, OnErr, IfOk, IfErr};
+ghost use Rattle.std.specs.Io.KnownBytes.{Appends};
 ghost use Rattle.pc_outside.specs.Faults.{Rises};
 ghost use Rattle.pc_outside.specs.Fronts.{AppendsFront};
 ghost use Rattle.pcap_form.specs.Export.{header, record_of};
@@ -12,7 +13,7 @@ use pcap_form::{HEADER, push_record};
 use std::alloc::{AllocError, Global};
 use trace_lines::TraceLine;
 use trace_run::{
-    Ending, Next, Status, Unwritten, next_line, status_at, status_without, write_report,
+    Ending, Next, Status, Unwritten, next_line, status_at, status_without, write_octets,
 };
 
 // How many octets of a capture are gathered before they are written.
@@ -23,6 +24,21 @@ fn push_header(waiting: &mut Vec<u8>) -> Result<(), AllocError>
     ensures { OnOk result (waiting.new.items ≡ waiting.old.items ++ header) }
 {
     waiting.extend_from_slice(&HEADER)
+}
+
+// Writes what waits, and empties it.
+fn write_piece<K: Sink>(sink: &mut K, waiting: &mut Vec<u8>) -> Result<(), Unwritten>
+    ensures moved { OnOk result (Appends (K.written sink.old) (K.written sink.new) waiting.old.items) }
+    ensures emptied { OnOk result (waiting.new.items ≡ []) }
+    ensures cut { OnErr result (AppendsFront (K.written sink.old) (K.written sink.new) waiting.old.items) }
+    ensures no_other { OnErr result (result ≡ Err Unwritten.WriteFault) }
+
+    ensures later { K.faults sink.old ≤ K.faults sink.new }
+    ensures fault { OnErr result (Rises (K.faults sink.old) (K.faults sink.new)) }
+{
+    write_octets(sink, waiting.as_slice())?;
+    waiting.clear();
+    Ok(())
 }
 
 // Appends the record of a line to what waits. A piece that is long enough is written.
@@ -44,12 +60,13 @@ fn pass_line<K: Sink>(
     if waiting.len() < PIECE_LEN {
         return Ok(());
     }
-    write_report(sink, waiting)
+    write_piece(sink, waiting)
 }
 
-// The same of a line that is let go: its moment.
+// The same of a line that is let go, and leaves its room: its moment.
 fn spend_line<K: Sink>(
     line: TraceLine,
+    room: &mut Vec<u8>,
     sink: &mut K,
     waiting: &mut Vec<u8>,
 ) -> Result<Moment, Unwritten>
@@ -64,7 +81,11 @@ fn spend_line<K: Sink>(
     ensures fault { result ≡ Err Unwritten.WriteFault → Rises (K.faults sink.old) (K.faults sink.new) }
 {
     match pass_line(&line, sink, waiting) {
-        Ok(()) => Ok(line.moment),
+        Ok(()) => {
+            let moment = line.moment;
+            line.give_room(room);
+            Ok(moment)
+        }
         Err(why) => Err(why),
     }
 }
@@ -91,16 +112,17 @@ fn export_lines<S: Source, K: Sink>(
     ensures write_fault { result ≡ Err Unwritten.WriteFault → Rises (K.faults sink.old) (K.faults sink.new) }
 {
     push_header(waiting)?;
+    let mut room = Vec::new(alloc);
     let mut number = 1;
     let mut least = Moment(0);
     loop {
-        match next_line(alloc, source, buf, number, least) {
+        match next_line(&mut room, source, buf, number, least) {
             Next::Line { line, len: _len } => {
-                least = spend_line(line, sink, waiting)?;
+                least = spend_line(line, &mut room, sink, waiting)?;
                 number += 1;
             }
             Next::Last { line, len: _len } => {
-                spend_line(line, sink, waiting)?;
+                spend_line(line, &mut room, sink, waiting)?;
                 return Ok(Ending::Ended);
             }
             Next::Bad(why) => return Ok(Ending::BadLine(why)),
@@ -124,7 +146,7 @@ fn end_export<K: Sink>(ending: Ending, sink: &mut K, waiting: &mut Vec<u8>) -> S
     ensures later { K.faults sink.old ≤ K.faults sink.new }
     ensures write_fault { result ≡ Status.WriteFault → Rises (K.faults sink.old) (K.faults sink.new) }
 {
-    match write_report(sink, waiting) {
+    match write_piece(sink, waiting) {
         Ok(()) => status_at(ending),
         Err(why) => status_without(why),
     }

@@ -22,26 +22,23 @@ use crate::solo::Solo;
 use pc_base::Moment;
 use pc_outside::{LineBuf, Sink, Source};
 use std::alloc::{AllocError, Global};
+use text_fields::Text;
 use trace_lines::TraceLine;
 use trace_run::{
     Ending, Next, Size, Status, Unwritten, next_line, status_at, status_without, write_report,
 };
 
 // Ends the epoch, whose text is written when it is whole.
-fn end_epoch<K: Sink>(
-    gateway: &mut Solo,
-    sink: &mut K,
-    report: &mut Vec<u8>,
-) -> Result<(), Unwritten>
+fn end_epoch<K: Sink>(gateway: &mut Solo, sink: &mut K, report: &mut Text) -> Result<(), Unwritten>
     ensures stands { (story : Story) → Stands gateway.old story
         → OnOk result (Stands gateway.new (with_end story)) }
     ensures written { (story : Story) → Stands gateway.old story
         → OnOk result (Appends (K.written sink.old) (K.written sink.new)
-        (report.old.items ++ end_text story)) }
-    ensures emptied { OnOk result (report.new.items ≡ []) }
+        (report.old ++ end_text story)) }
+    ensures emptied { OnOk result (report.new ≡ []) }
     ensures cut { (story : Story) → Stands gateway.old story → result ≡ Err Unwritten.WriteFault
         → AppendsFront (K.written sink.old) (K.written sink.new)
-        (report.old.items ++ end_text story) }
+        (report.old ++ end_text story) }
     ensures kept { result ≡ Err Unwritten.NoMemory → sink.new ≡ sink.old }
 
     ensures later { K.faults sink.old ≤ K.faults sink.new }
@@ -60,7 +57,7 @@ fn take_line<K: Sink>(
     line: &TraceLine,
     len: usize,
     sink: &mut K,
-    report: &mut Vec<u8>,
+    report: &mut Text,
 ) -> Result<(), Unwritten>
     requires room { HasRoom gateway.old }
     requires late { IsLate gateway.old line.now }
@@ -74,7 +71,7 @@ fn take_line<K: Sink>(
         → Counts size.old open_
         → OnOk result (Takes (ends_epoch open_ line.now) gateway.new size.new
         (K.written sink.old) (K.written sink.new)
-        (next_text report.old.items done latest before made line.now) report.new.items
+        (next_text report.old done latest before made line.now) report.new
         (next_story done latest before made line.now) (open_ ++ line.now ∷ [])) }
     ensures cut { (done open_ : List Line) (latest : ℕ) (before : Histories) (made : List Meaning)
         → Stands gateway.old (story_of done latest before made) → latest ≤ line.now.moment
@@ -82,7 +79,7 @@ fn take_line<K: Sink>(
         → (ends_epoch open_ line.now ≡ true)
         × NoneBeyond (next_story done latest before made line.now)
         × AppendsFront (K.written sink.old) (K.written sink.new)
-        (next_text report.old.items done latest before made line.now
+        (next_text report.old done latest before made line.now
         ++ end_text (next_story done latest before made line.now)) }
     ensures kept { result ≡ Err Unwritten.NoMemory → sink.new ≡ sink.old }
 
@@ -97,15 +94,15 @@ fn take_line<K: Sink>(
     end_epoch(gateway, sink, report)
 }
 
-// The same of a line that is let go: its moment.
+// The same of a line that is let go, and leaves its room: its moment.
 fn spend_line<K: Sink>(
-    alloc: Global,
     gateway: &mut Solo,
     size: &mut Size,
     line: TraceLine,
     len: usize,
+    room: &mut Vec<u8>,
     sink: &mut K,
-    report: &mut Vec<u8>,
+    report: &mut Text,
 ) -> Result<Moment, Unwritten>
     requires room { HasRoom gateway.old }
     requires late { IsLate gateway.old line }
@@ -119,14 +116,14 @@ fn spend_line<K: Sink>(
         → Counts size.old open_
         → OnOk result (Takes (ends_epoch open_ line) gateway.new size.new (K.written sink.old)
         (K.written sink.new)
-        (next_text report.old.items done latest before made line) report.new.items
+        (next_text report.old done latest before made line) report.new
         (next_story done latest before made line) (open_ ++ line ∷ [])) }
     ensures cut { (done open_ : List Line) (latest : ℕ) (before : Histories) (made : List Meaning)
         → Stands gateway.old (story_of done latest before made) → latest ≤ line.moment
         → Counts size.old open_ → result ≡ Err Unwritten.WriteFault
         → (ends_epoch open_ line ≡ true) × NoneBeyond (next_story done latest before made line)
         × AppendsFront (K.written sink.old) (K.written sink.new)
-        (next_text report.old.items done latest before made line
+        (next_text report.old done latest before made line
         ++ end_text (next_story done latest before made line)) }
     ensures moment { IfOk result (λ at. at ≡ line.moment) }
     ensures kept { result ≡ Err Unwritten.NoMemory → sink.new ≡ sink.old }
@@ -135,8 +132,11 @@ fn spend_line<K: Sink>(
     ensures fault { result ≡ Err Unwritten.WriteFault
         → Rises (K.faults sink.old) (K.faults sink.new) }
 {
+    let alloc = *room.allocator();
     take_line(alloc, gateway, size, &line, len, sink, report)?;
-    Ok(line.moment)
+    let moment = line.moment;
+    line.give_room(room);
+    Ok(moment)
 }
 
 // Reads lines and answers them until no more come. The entries of the open epoch's lines are left
@@ -147,14 +147,14 @@ fn run_lines<S: Source, K: Sink>(
     sink: &mut K,
     buf: &mut LineBuf,
     gateway: &mut Solo,
-    report: &mut Vec<u8>,
+    report: &mut Text,
 ) -> Result<Ending, Unwritten>
     requires fresh { buf.old ≡ record { line = []; last = false; front = []; room = 2 ^ 40 } }
     requires first { Stands gateway.old (story_of [] 0 no_events []) }
-    requires empty { report.old.items ≡ [] }
+    requires empty { report.old ≡ [] }
 
     ensures ended { IfOk result (λ ending. Ends ending (S.left source.old) (S.left source.new)
-        (K.written sink.old) (K.written sink.new) report.new.items gateway.new) }
+        (K.written sink.old) (K.written sink.new) report.new gateway.new) }
     ensures cut { IfErr result (λ why. Cuts why (S.left source.old) (S.left source.new)
         (K.written sink.old) (K.written sink.new)) }
 
@@ -166,16 +166,17 @@ fn run_lines<S: Source, K: Sink>(
         → Rises (K.faults sink.old) (K.faults sink.new) }
 {
     let mut size = Size::new();
+    let mut room = Vec::new(alloc);
     let mut number = 1;
     let mut least = Moment(0);
     loop {
-        match next_line(alloc, source, buf, number, least) {
+        match next_line(&mut room, source, buf, number, least) {
             Next::Line { line, len } => {
-                least = spend_line(alloc, gateway, &mut size, line, len, sink, report)?;
+                least = spend_line(gateway, &mut size, line, len, &mut room, sink, report)?;
                 number += 1;
             }
             Next::Last { line, len } => {
-                spend_line(alloc, gateway, &mut size, line, len, sink, report)?;
+                spend_line(gateway, &mut size, line, len, &mut room, sink, report)?;
                 return Ok(Ending::Ended);
             }
             Next::Bad(why) => {
@@ -192,24 +193,19 @@ fn run_lines<S: Source, K: Sink>(
 }
 
 // Appends what stands behind the lines of the last epoch, and the open counters.
-pub(crate) fn push_rest(solo: &mut Solo, report: &mut Vec<u8>) -> Result<(), AllocError>
+pub(crate) fn push_rest(solo: &mut Solo, report: &mut Text) -> Result<(), AllocError>
     ensures { (story : Story) → Stands solo.old story
-        → OnOk result (report.new.items ≡ report.old.items ++ rest_text story) }
+        → OnOk result (report.new ≡ report.old ++ rest_text story) }
 {
     solo.close(report)?;
     solo.push_opens(report)
 }
 
 // Ends the last epoch, and writes it with the open counters.
-fn end_run<K: Sink>(
-    ending: Ending,
-    gateway: &mut Solo,
-    sink: &mut K,
-    report: &mut Vec<u8>,
-) -> Status
+fn end_run<K: Sink>(ending: Ending, gateway: &mut Solo, sink: &mut K, report: &mut Text) -> Status
     ensures whole { (before now : ℕ) (start left old : Option (List ℕ))
         → (ending ≡ Ending.ReadFault → Rises before now)
-        → Ends ending start left old (K.written sink.old) report.old.items gateway.old
+        → Ends ending start left old (K.written sink.old) report.old gateway.old
         → Runs IsSoloReport false result (Rises before now) start left old (K.written sink.new) }
     ensures read_fault { result ≡ Status.ReadFault → ending ≡ Ending.ReadFault }
     ensures no_usage { result ≡ Status.Usage → ⊥ }
@@ -247,7 +243,7 @@ pub fn solo<S: Source, K: Sink>(alloc: Global, source: &mut S, sink: &mut K) -> 
         Err(AllocError) => return Status::NoMemory,
     };
     let mut gateway = Solo::new(alloc);
-    let mut report = Vec::new(alloc);
+    let mut report = Text::new(alloc);
     match run_lines(alloc, source, sink, &mut buf, &mut gateway, &mut report) {
         Ok(ending) => end_run(ending, &mut gateway, sink, &mut report),
         Err(why) => status_without(why),

@@ -6,7 +6,6 @@ ghost use Rattle.bearer_state.specs.declared.version.ActiveBearer.{ActiveBearer}
 ghost use Rattle.charging_book.specs.Rows.{Counters};
 ghost use Rattle.demux.specs.Resolved.{IsDue, book_with, slot_of};
 ghost use Rattle.demux.specs.declared.decision.Whose.TheVariants.{New};
-ghost use Rattle.ipv4_packet.specs.Packet.{IsPacket};
 ghost use Rattle.gate_model.specs.declared.event.Event.{Event};
 ghost use Rattle.subscriber.specs.Standing.{StandsFor};
 ghost use Rattle.demux.specs.Texts.{move_note};
@@ -29,6 +28,7 @@ use demux::{Decision, LentPacket, Whose, decide, home_slice};
 use pc_base::{Imsi, SliceNo, Slot};
 use std::alloc::{AllocError, Global};
 use subscriber::{Subscriber, few_events_leave_room};
+use text_fields::Text;
 use trace_lines::TraceLine;
 
 /// How many slices there are for an order to move.
@@ -63,14 +63,14 @@ impl Solo {
         &mut self,
         alloc: Global,
         line: &TraceLine,
-        report: &mut Vec<u8>,
+        report: &mut Text,
     ) -> Result<(), AllocError>
         requires room { HasRoom self.old }
         requires late { IsLate self.old line.now }
 
         ensures told { (done : List Line) (latest : ℕ) (before : Histories) (made : List Meaning)
             → Stands self.old (story_of done latest before made)
-            → OnOk result (report.new.items ≡ report.old.items
+            → OnOk result (report.new ≡ report.old
             ++ entry_line (story_of done latest before made) (meant_next done line.now)) }
         ensures stands { (done : List Line) (latest : ℕ) (before : Histories) (made : List Meaning)
             → Stands self.old (story_of done latest before made)
@@ -79,7 +79,7 @@ impl Solo {
             (made ++ meant_next done line.now ∷ []))) }
     {
         match decide(alloc, &self.book, SLICES, line)? {
-            Decision::Packet { slot, packet } => self.packet(alloc, slot, &packet, report),
+            Decision::Packet { slot, packet } => self.packet(slot, &packet, report),
             Decision::Command { whose, command } => self.command(alloc, whose, &command, report),
             Decision::Move { slot, slice } => self.move_to(slot, slice, report),
             Decision::Note(text) => self.note(text.as_slice(), report),
@@ -87,9 +87,9 @@ impl Solo {
     }
 
     /// Ends an epoch: its effects are appended by slot, and then its charging records.
-    pub fn close(&mut self, report: &mut Vec<u8>) -> Result<(), AllocError>
+    pub fn close(&mut self, report: &mut Text) -> Result<(), AllocError>
         ensures told { (story : Story) → Stands self.old story
-            → OnOk result (report.new.items ≡ report.old.items
+            → OnOk result (report.new ≡ report.old
             ++ closing_text (length story.book) story.before story.made) }
         ensures stands { (story : Story) → Stands self.old story
             → OnOk result (Stands self.new (with_end story)) }
@@ -98,9 +98,9 @@ impl Solo {
     }
 
     /// Appends the open counters of all subscribers.
-    pub fn push_opens(&self, report: &mut Vec<u8>) -> Result<(), AllocError>
-        ensures { (story : Story) → Stands self.now story → OnOk result (report.new.items
-            ≡ report.old.items ++ charges_text
+    pub fn push_opens(&self, report: &mut Text) -> Result<(), AllocError>
+        ensures { (story : Story) → Stands self.now story → OnOk result (report.new
+            ≡ report.old ++ charges_text
             (by_slot (length story.book) (λ slot. opens slot (events_of story slot)))) }
     {
         for subscriber in self.subscribers.iter() {
@@ -110,11 +110,11 @@ impl Solo {
     }
 
     // A line that comes to a note alone.
-    fn note(&mut self, text: &[u8], report: &mut Vec<u8>) -> Result<(), AllocError>
+    fn note(&mut self, text: &[u8], report: &mut Text) -> Result<(), AllocError>
         requires { HasRoom self.old }
 
         ensures told { (story : Story) → Stands self.old story
-            → OnOk result (report.new.items ≡ report.old.items
+            → OnOk result (report.new ≡ report.old
             ++ entry_line story (noted text.now)) }
         ensures stands { (story : Story) → Stands self.old story
             → OnOk result (Stands self.new (with_meaning story (noted text.now))) }
@@ -126,17 +126,12 @@ impl Solo {
     }
 
     // An order that a subscriber goes to a slice.
-    fn move_to(
-        &mut self,
-        slot: Slot,
-        slice: SliceNo,
-        report: &mut Vec<u8>,
-    ) -> Result<(), AllocError>
+    fn move_to(&mut self, slot: Slot, slice: SliceNo, report: &mut Text) -> Result<(), AllocError>
         requires room { HasRoom self.old }
         requires known { IsInBook self.old slot }
 
         ensures told { (story : Story) → Stands self.old story
-            → OnOk result (report.new.items ≡ report.old.items
+            → OnOk result (report.new ≡ report.old
             ++ entry_line story (noted (move_note (story.bound slot) slot slice))) }
         ensures stands { (story : Story) (now : Meaning) → Stands self.old story → BringsNothing now
             → OnOk result (Stands self.new (with_move story now slot slice)) }
@@ -153,10 +148,9 @@ impl Solo {
     // A packet of a slot in the book.
     fn packet(
         &mut self,
-        alloc: Global,
         slot: Slot,
         packet: &LentPacket<'_>,
-        report: &mut Vec<u8>,
+        report: &mut Text,
     ) -> Result<(), AllocError>
         requires room { HasRoom self.old }
         requires known { IsInBook self.old slot }
@@ -164,7 +158,7 @@ impl Solo {
             × (story.latest ≤ packet.now.moment) }
 
         ensures told { (story : Story) → Stands self.old story
-            → OnOk result (report.new.items ≡ report.old.items
+            → OnOk result (report.new ≡ report.old
             ++ entry_line story (carried slot packet.now)) }
         ensures stands { (story : Story) → Stands self.old story → story.latest ≤ packet.now.moment
             → OnOk result (Stands self.new (with_packet story (carried slot packet.now)
@@ -174,10 +168,10 @@ impl Solo {
         let place = slot.0 as usize;
         let subscriber = &mut self.subscribers[place];
         // Below 2^16, as a G-PDU asks.
-        let _len = packet_len(packet.ip.octets());
+        let _len = packet.ip.total_len();
         few_events_leave_room();
         let handled = subscriber.judge(packet.moment, packet.way, &packet.ip)?;
-        push_handled(alloc, report, line, slot, handled)?;
+        push_handled(report, line, slot, handled)?;
         self.gathered.add_rows(slot, subscriber.take_closed())?;
         self.lines = line;
         Ok(())
@@ -189,13 +183,13 @@ impl Solo {
         alloc: Global,
         whose: Whose,
         command: &Command,
-        report: &mut Vec<u8>,
+        report: &mut Text,
     ) -> Result<(), AllocError>
         requires room { HasRoom self.old }
         requires due { IsDue self.old.book whose }
 
         ensures told { (story : Story) → Stands self.old story
-            → OnOk result (report.new.items ≡ report.old.items
+            → OnOk result (report.new ≡ report.old
             ++ entry_line story (commanded (slot_of story.book whose) command.now)) }
         ensures stands { (story : Story) → Stands self.old story
             → OnOk result (Stands self.new (with_book
@@ -217,13 +211,13 @@ impl Solo {
         alloc: Global,
         slot: Slot,
         command: &Command,
-        report: &mut Vec<u8>,
+        report: &mut Text,
     ) -> Result<(), AllocError>
         requires room { HasRoom self.old }
         requires known { IsInBook self.old slot }
 
         ensures told { (story : Story) → Stands self.old story
-            → OnOk result (report.new.items ≡ report.old.items
+            → OnOk result (report.new ≡ report.old
             ++ entry_line story (commanded slot command.now)) }
         ensures stands { (story : Story) → Stands self.old story
             → OnOk result (Stands self.new (with_meaning story (commanded slot command.now))) }
@@ -257,20 +251,11 @@ impl Solo {
     }
 }
 
-// How many octets a packet has, as it says itself.
-fn packet_len(octets: &[u8]) -> u32
-    requires { IsPacket octets.now }
-    ensures len { result ≡ length octets.now }
-    ensures bound { result < 2 ^ 16 }
-{
-    0x100 * u32::from(octets[2]) + u32::from(octets[3])
-}
-
 // Appends the open counters of a subscriber, by its bearers' indices.
-fn push_subscriber(report: &mut Vec<u8>, subscriber: &Subscriber) -> Result<(), AllocError>
+fn push_subscriber(report: &mut Text, subscriber: &Subscriber) -> Result<(), AllocError>
     ensures { (slot : ℕ) (events : List Event) (taken : ℕ)
         → StandsFor subscriber.now slot events taken
-        → OnOk result (report.new.items ≡ report.old.items ++ charges_text (opens slot events)) }
+        → OnOk result (report.new ≡ report.old ++ charges_text (opens slot events)) }
 {
     let slot = subscriber.slot();
     let counted = subscriber.still_open();
@@ -279,12 +264,12 @@ fn push_subscriber(report: &mut Vec<u8>, subscriber: &Subscriber) -> Result<(), 
 
 // Appends the open counters of bearers, which are among these.
 fn push_lives(
-    report: &mut Vec<u8>,
+    report: &mut Text,
     slot: Slot,
     bearers: &[ActiveBearer],
     counted: &[Open],
 ) -> Result<(), AllocError>
-    ensures { OnOk result (report.new.items ≡ report.old.items
+    ensures { OnOk result (report.new ≡ report.old
         ++ charges_text (flat_map
         (λ (bearer : ActiveBearer). open_for slot counted.now bearer.life) bearers.now)) }
 {
@@ -295,13 +280,8 @@ fn push_lives(
 }
 
 // Appends those of a life.
-fn push_life(
-    report: &mut Vec<u8>,
-    slot: Slot,
-    life: u64,
-    counted: &[Open],
-) -> Result<(), AllocError>
-    ensures { OnOk result (report.new.items ≡ report.old.items
+fn push_life(report: &mut Text, slot: Slot, life: u64, counted: &[Open]) -> Result<(), AllocError>
+    ensures { OnOk result (report.new ≡ report.old
         ++ charges_text (open_for slot counted.now life)) }
 {
     match counters_of(counted, life) {

@@ -17,6 +17,7 @@ use crate::run::push_rest;
 use crate::solo::Solo;
 use entry_counts::EntryCounts;
 use std::alloc::{AllocError, Global};
+use text_fields::Text;
 use trace_lines::{TraceLine, push_text};
 use trace_maker::{Maker, made_line};
 use trace_run::Size;
@@ -33,7 +34,7 @@ pub fn counted(alloc: Global, seed: u64, subs: u32, lines: u32) -> Result<EntryC
     let mut gateway = Solo::new(alloc);
     let mut size = Size::new();
     let mut text = Vec::new(alloc);
-    let mut report = Vec::new(alloc);
+    let mut report = Text::new(alloc);
     let mut counts = EntryCounts::new();
     while let Some(line) = made_line(alloc, &mut maker)? {
         spend_line(
@@ -58,7 +59,7 @@ fn spend_line(
     size: &mut Size,
     line: TraceLine,
     text: &mut Vec<u8>,
-    report: &mut Vec<u8>,
+    report: &mut Text,
     counts: &mut EntryCounts,
 ) -> Result<(), AllocError>
     requires room { HasRoom gateway.old }
@@ -70,7 +71,7 @@ fn spend_line(
     ensures taken { (done open_ : List Line) (latest : ℕ) (before : Histories) (made : List Meaning)
         → Stands gateway.old (story_of done latest before made) → latest ≤ line.moment → Counts size.old open_
         → OnOk result (CountsLine (ends_epoch open_ line) gateway.new size.new counts.old counts.new
-        (next_text report.old.items done latest before made line) report.new.items
+        (next_text report.old done latest before made line) report.new
         (next_story done latest before made line) (open_ ++ line ∷ [])) }
 {
     count_line(alloc, gateway, size, &line, text, report, counts)
@@ -83,7 +84,7 @@ fn count_line(
     size: &mut Size,
     line: &TraceLine,
     text: &mut Vec<u8>,
-    report: &mut Vec<u8>,
+    report: &mut Text,
     counts: &mut EntryCounts,
 ) -> Result<(), AllocError>
     requires room { HasRoom gateway.old }
@@ -95,7 +96,7 @@ fn count_line(
     ensures taken { (done open_ : List Line) (latest : ℕ) (before : Histories) (made : List Meaning)
         → Stands gateway.old (story_of done latest before made) → latest ≤ line.now.moment → Counts size.old open_
         → OnOk result (CountsLine (ends_epoch open_ line.now) gateway.new size.new counts.old counts.new
-        (next_text report.old.items done latest before made line.now) report.new.items
+        (next_text report.old done latest before made line.now) report.new
         (next_story done latest before made line.now) (open_ ++ line.now ∷ [])) }
 {
     text.clear();
@@ -110,13 +111,13 @@ fn count_line(
 // Ends the epoch, whose text is counted when it is whole.
 fn end_epoch(
     gateway: &mut Solo,
-    report: &mut Vec<u8>,
+    report: &mut Text,
     counts: &mut EntryCounts,
 ) -> Result<(), AllocError>
     ensures stands { (story : Story) → Stands gateway.old story → OnOk result (Stands gateway.new (with_end story)) }
     ensures counted { (story : Story) → Stands gateway.old story
-        → OnOk result (CountsMore counts.old counts.new (report.old.items ++ end_text story)) }
-    ensures emptied { OnOk result (report.new.items ≡ []) }
+        → OnOk result (CountsMore counts.old counts.new (report.old ++ end_text story)) }
+    ensures emptied { OnOk result (report.new ≡ []) }
 {
     gateway.close(report)?;
     counts.add(report.as_slice());

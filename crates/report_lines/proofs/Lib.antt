@@ -5,3 +5,4 @@ pub mod TextLemmas
 pub mod KeepLemmas
 pub mod ReadLemmas
 pub mod WritingLemmas
+mod HeadLemmas

@@ -13,7 +13,7 @@ pub joined-behind : (first : List ℕ) (texts : List (List ℕ)) → joined (fir
 joined-behind first [] = sym (append-nil first)
 joined-behind first (text ∷ texts) = ap (λ rest. first ++ 32 ∷ rest) (joined-behind text texts)
 
-behind-append : (texts more : List (List ℕ)) → behind (texts ++ more) ≡ behind texts ++ behind more
+pub behind-append : (texts more : List (List ℕ)) → behind (texts ++ more) ≡ behind texts ++ behind more
 behind-append [] more = refl
 behind-append (text ∷ texts) more =
     ap (λ rest. 32 ∷ text ++ rest) (behind-append texts more)

@@ -1,14 +1,14 @@
--- The verdict that a lent one stands for.
-use Rattle.pc_base.specs.declared.packet.Verdict.{Verdict}
-use Rattle.pc_base.specs.declared.packet.Verdict.TheVariants as verdict
-use Rattle.report_lines.specs.declared.lent.LentVerdict.{LentVerdict}
-use Rattle.report_lines.specs.declared.lent.LentVerdict.TheVariants as lent
+-- What is asked of a verdict whose octets are lent.
+use Rattle.std.specs.Prelude.{◌<◌, ◌^◌, length}
+use Rattle.packet_steps.specs.declared.lent.LentVerdict.{LentVerdict}
+use Rattle.packet_steps.specs.declared.lent.LentVerdict.TheVariants.{Up, Down, NoBearer, Spoof, Idle, Held, Policed}
 
-abbrev pub verdict_of : LentVerdict → Verdict
-verdict_of (lent.Up life octets) = verdict.Up life octets.now
-verdict_of (lent.Down life peer octets) = verdict.Down life peer octets.now
-verdict_of lent.NoBearer = verdict.NoBearer
-verdict_of lent.Spoof = verdict.Spoof
-verdict_of (lent.Idle life) = verdict.Idle life
-verdict_of (lent.Held life message) = verdict.Held life message
-verdict_of (lent.Policed life) = verdict.Policed life
+-- a packet that goes down is no longer than IPv4 allows
+abbrev pub IsShort : LentVerdict → Type 0
+IsShort (Up life octets) = Unit {0}
+IsShort (Down life peer octets) = length octets.now < 2 ^ 16
+IsShort NoBearer = Unit {0}
+IsShort Spoof = Unit {0}
+IsShort (Idle life) = Unit {0}
+IsShort (Held life message) = Unit {0}
+IsShort (Policed life) = Unit {0}

@@ -10,7 +10,7 @@ use crate::fields::{next_count, next_moment, next_number, next_octet};
 use crate::words::{read_why, why_word};
 use charging_book::{ChargeRow, Open, Why};
 use pc_base::Moment;
-use text_fields::{next_piece, push_field, push_number};
+use text_fields::{Text, next_piece};
 
 fn next_counters(left: Option<&[u8]>) -> Option<(Open, Option<&[u8]>)>
     ensures { Gives result (counters_at (pieces_left space left.entry)) }
@@ -86,8 +86,8 @@ fn row(counters: Open, first: Option<Moment>, last: Option<Moment>, why: Why) ->
     }
 }
 
-pub(crate) fn push_counters(out: &mut Vec<u8>, counters: &Open) -> Result<(), NoMemory>
-    ensures { OnOk result (out.new.items ≡ out.old.items ++ behind (counters_fields counters.now [])) }
+pub(crate) fn push_counters(out: &mut Text, counters: &Open) -> Result<(), NoMemory>
+    ensures { OnOk result (out.new ≡ out.old ++ behind (counters_fields counters.now [])) }
 {
     push_piece(out, counters.life, counters.ebi, counters.qci, counters.seq)?;
     push_counts(
@@ -100,35 +100,35 @@ pub(crate) fn push_counters(out: &mut Vec<u8>, counters: &Open) -> Result<(), No
 }
 
 // Which piece of which bearer's life.
-fn push_piece(out: &mut Vec<u8>, life: u64, ebi: u8, qci: u8, seq: u64) -> Result<(), NoMemory>
-    ensures { OnOk result (out.new.items
-        ≡ out.old.items ++ behind (decimal life ∷ decimal ebi ∷ decimal qci ∷ decimal seq ∷ [])) }
+fn push_piece(out: &mut Text, life: u64, ebi: u8, qci: u8, seq: u64) -> Result<(), NoMemory>
+    ensures { OnOk result (out.new
+        ≡ out.old ++ behind (decimal life ∷ decimal ebi ∷ decimal qci ∷ decimal seq ∷ [])) }
 {
-    push_number(out, life)?;
-    push_number(out, u64::from(ebi))?;
-    push_number(out, u64::from(qci))?;
-    push_number(out, seq)
+    out.push_number(life)?;
+    out.push_number(u64::from(ebi))?;
+    out.push_number(u64::from(qci))?;
+    out.push_number(seq)
 }
 
 // How many octets and packets it has, each up and down.
 fn push_counts(
-    out: &mut Vec<u8>,
+    out: &mut Text,
     up_octets: u64,
     down_octets: u64,
     up_packets: u64,
     down_packets: u64,
 ) -> Result<(), NoMemory>
-    ensures { OnOk result (out.new.items ≡ out.old.items
+    ensures { OnOk result (out.new ≡ out.old
         ++ behind (decimal up_octets ∷ decimal down_octets ∷ decimal up_packets ∷ decimal down_packets ∷ [])) }
 {
-    push_number(out, up_octets)?;
-    push_number(out, down_octets)?;
-    push_number(out, up_packets)?;
-    push_number(out, down_packets)
+    out.push_number(up_octets)?;
+    out.push_number(down_octets)?;
+    out.push_number(up_packets)?;
+    out.push_number(down_packets)
 }
 
-pub(crate) fn push_row_fields(out: &mut Vec<u8>, row: &ChargeRow) -> Result<(), NoMemory>
-    ensures { OnOk result (out.new.items ≡ out.old.items ++ behind (row_fields row.now)) }
+pub(crate) fn push_row_fields(out: &mut Text, row: &ChargeRow) -> Result<(), NoMemory>
+    ensures { OnOk result (out.new ≡ out.old ++ behind (row_fields row.now)) }
 {
     push_piece(out, row.life, row.ebi, row.qci, row.seq)?;
     push_counts(
@@ -142,19 +142,19 @@ pub(crate) fn push_row_fields(out: &mut Vec<u8>, row: &ChargeRow) -> Result<(), 
 }
 
 // The moments of a piece, and why it was finished.
-fn push_ending(out: &mut Vec<u8>, row: &ChargeRow) -> Result<(), NoMemory>
-    ensures { OnOk result (out.new.items ≡ out.old.items ++ behind (ending row.now)) }
+fn push_ending(out: &mut Text, row: &ChargeRow) -> Result<(), NoMemory>
+    ensures { OnOk result (out.new ≡ out.old ++ behind (ending row.now)) }
 {
     push_moment(out, row.first)?;
     push_moment(out, row.last)?;
-    push_field(out, why_word(row.why).as_bytes())
+    out.push_field(why_word(row.why).as_bytes())
 }
 
-fn push_moment(out: &mut Vec<u8>, moment: Option<Moment>) -> Result<(), NoMemory>
-    ensures { OnOk result (out.new.items ≡ out.old.items ++ 32 ∷ moment_word moment) }
+fn push_moment(out: &mut Text, moment: Option<Moment>) -> Result<(), NoMemory>
+    ensures { OnOk result (out.new ≡ out.old ++ 32 ∷ moment_word moment) }
 {
     match moment {
-        None => push_field(out, b"-"),
-        Some(moment) => push_number(out, moment.0),
+        None => out.push_field(b"-"),
+        Some(moment) => out.push_number(moment.0),
     }
 }

@@ -6,8 +6,8 @@
 mod charges;
 mod entry;
 mod fields;
+mod heads;
 mod laws;
-mod lent;
 mod packets;
 mod reading;
 mod words;
@@ -15,9 +15,9 @@ mod writing;
 
 pub use entry::{Answer, ChargeEntry, EffectEntry, Entry, Judgement, LineEntry, Note, Refusal};
 pub use laws::{one_text_of_an_entry, one_text_without_places, without_place_an_entry};
-pub use lent::LentVerdict;
 pub use reading::read;
 pub use std::alloc::AllocError as NoMemory;
 pub use writing::{
-    push_answer, push_effect, push_note, push_open, push_packet, push_row, push_text, text,
+    push_answer, push_effect, push_judged, push_note, push_open, push_packet, push_row, push_text,
+    text,
 };

@@ -3,18 +3,17 @@ ghost use Rattle.std.specs.Prelude.{◌≡◌, ◌++◌, ◌∷◌, [], codes, d
 ghost use Rattle.hex.specs.Hex.{encode_lower};
 ghost use Rattle.text_fields.specs.Address.{dotted};
 ghost use Rattle.text_fields.specs.Fields.{space, pieces_left, behind};
-ghost use Rattle.report_lines.specs.Lent.{verdict_of};
 ghost use Rattle.report_lines.specs.Text.{verdict_fields, fate_fields, place_fields};
 ghost use Rattle.report_lines.specs.Words.{message_word, place_word};
 ghost use Rattle.report_lines.specs.Reading.{Gives, down_of, up_of};
 ghost use Rattle.report_lines.specs.Reading.{held_of, verdict_at, verdict_of as verdict_of_fields};
 ghost use Rattle.report_lines.specs.Reading.{fate_at, fate_of, slice_at, place_at, place_of};
 
+use crate::NoMemory;
 use crate::fields::{next_address, next_message, next_number, next_octets};
-use crate::{LentVerdict, NoMemory};
 use pc_base::{Addr4, Fate, Octets, Place, SliceNo, Verdict};
 use std::alloc::Global;
-use text_fields::{next_piece, push_address, push_field, push_number, push_octets, read_number};
+use text_fields::{Text, next_piece, read_number};
 
 // What goes to an eNodeB: the life, the address and the octets.
 fn next_down(
@@ -195,127 +194,105 @@ fn place_of_slice(text: &[u8]) -> Option<Place>
     Some(Place::At(SliceNo(slice as u8)))
 }
 
-pub(crate) fn push_verdict(out: &mut Vec<u8>, verdict: &Verdict) -> Result<(), NoMemory>
-    ensures { OnOk result (out.new.items ≡ out.old.items ++ behind (verdict_fields verdict.now [])) }
+pub(crate) fn push_verdict(out: &mut Text, verdict: &Verdict) -> Result<(), NoMemory>
+    ensures { OnOk result (out.new ≡ out.old ++ behind (verdict_fields verdict.now [])) }
 {
     match verdict {
         Verdict::Up { life, octets } => push_up(out, *life, octets.as_slice()),
         Verdict::Down { life, peer, octets } => push_down(out, *life, *peer, octets.as_slice()),
-        Verdict::NoBearer => push_field(out, b"nobearer"),
-        Verdict::Spoof => push_field(out, b"spoof"),
+        Verdict::NoBearer => out.push_field(b"nobearer"),
+        Verdict::Spoof => out.push_field(b"spoof"),
         Verdict::Idle { life } => push_idle(out, *life),
         Verdict::Held { life, message } => push_held(out, *life, message),
         Verdict::Policed { life } => push_policed(out, *life),
     }
 }
 
-pub(crate) fn push_lent(out: &mut Vec<u8>, verdict: &LentVerdict<'_>) -> Result<(), NoMemory>
-    ensures { OnOk result (out.new.items ≡ out.old.items ++ behind (verdict_fields (verdict_of verdict.now) [])) }
+fn push_up(out: &mut Text, life: u64, octets: &[u8]) -> Result<(), NoMemory>
+    ensures { OnOk result (out.new
+        ≡ out.old ++ behind (codes "up" ∷ decimal life ∷ encode_lower octets.now ∷ [])) }
 {
-    match verdict {
-        LentVerdict::Up { life, octets } => push_up(out, *life, octets),
-        LentVerdict::Down { life, peer, octets } => push_down(out, *life, *peer, octets),
-        LentVerdict::NoBearer => push_field(out, b"nobearer"),
-        LentVerdict::Spoof => push_field(out, b"spoof"),
-        LentVerdict::Idle { life } => push_idle(out, *life),
-        LentVerdict::Held { life, message } => push_held(out, *life, message),
-        LentVerdict::Policed { life } => push_policed(out, *life),
-    }
+    out.push_field(b"up")?;
+    out.push_number(life)?;
+    out.push_octets(octets)
 }
 
-fn push_up(out: &mut Vec<u8>, life: u64, octets: &[u8]) -> Result<(), NoMemory>
-    ensures { OnOk result (out.new.items
-        ≡ out.old.items ++ behind (codes "up" ∷ decimal life ∷ encode_lower octets.now ∷ [])) }
+fn push_idle(out: &mut Text, life: u64) -> Result<(), NoMemory>
+    ensures { OnOk result (out.new ≡ out.old ++ behind (codes "idle" ∷ decimal life ∷ [])) }
 {
-    push_field(out, b"up")?;
-    push_number(out, life)?;
-    push_octets(out, octets)
+    out.push_field(b"idle")?;
+    out.push_number(life)
 }
 
-fn push_idle(out: &mut Vec<u8>, life: u64) -> Result<(), NoMemory>
-    ensures { OnOk result (out.new.items ≡ out.old.items ++ behind (codes "idle" ∷ decimal life ∷ [])) }
+fn push_held(out: &mut Text, life: u64, message: &Option<Octets>) -> Result<(), NoMemory>
+    ensures { OnOk result (out.new
+        ≡ out.old ++ behind (codes "held" ∷ decimal life ∷ message_word message.now ∷ [])) }
 {
-    push_field(out, b"idle")?;
-    push_number(out, life)
-}
-
-fn push_held(out: &mut Vec<u8>, life: u64, message: &Option<Octets>) -> Result<(), NoMemory>
-    ensures { OnOk result (out.new.items
-        ≡ out.old.items ++ behind (codes "held" ∷ decimal life ∷ message_word message.now ∷ [])) }
-{
-    push_field(out, b"held")?;
-    push_number(out, life)?;
+    out.push_field(b"held")?;
+    out.push_number(life)?;
     push_message(out, message)
 }
 
-fn push_down(out: &mut Vec<u8>, life: u64, peer: Addr4, octets: &[u8]) -> Result<(), NoMemory>
-    ensures { OnOk result (out.new.items ≡ out.old.items
+fn push_down(out: &mut Text, life: u64, peer: Addr4, octets: &[u8]) -> Result<(), NoMemory>
+    ensures { OnOk result (out.new ≡ out.old
         ++ behind (codes "down" ∷ decimal life ∷ dotted peer ∷ encode_lower octets.now ∷ [])) }
 {
-    push_field(out, b"down")?;
-    push_number(out, life)?;
-    push_address(out, peer.0)?;
-    push_octets(out, octets)
+    out.push_field(b"down")?;
+    out.push_number(life)?;
+    out.push_address(peer.0)?;
+    out.push_octets(octets)
 }
 
-fn push_policed(out: &mut Vec<u8>, life: u64) -> Result<(), NoMemory>
-    ensures { OnOk result (out.new.items ≡ out.old.items ++ behind (codes "policed" ∷ decimal life ∷ [])) }
+fn push_policed(out: &mut Text, life: u64) -> Result<(), NoMemory>
+    ensures { OnOk result (out.new ≡ out.old ++ behind (codes "policed" ∷ decimal life ∷ [])) }
 {
-    push_field(out, b"policed")?;
-    push_number(out, life)
+    out.push_field(b"policed")?;
+    out.push_number(life)
 }
 
 // Octets in hexadecimal, or a dash for none.
-pub(crate) fn push_message(out: &mut Vec<u8>, message: &Option<Octets>) -> Result<(), NoMemory>
-    ensures { OnOk result (out.new.items ≡ out.old.items ++ 32 ∷ message_word message.now) }
+pub(crate) fn push_message(out: &mut Text, message: &Option<Octets>) -> Result<(), NoMemory>
+    ensures { OnOk result (out.new ≡ out.old ++ 32 ∷ message_word message.now) }
 {
     match message {
-        None => push_field(out, b"-"),
-        Some(octets) => push_octets(out, octets.as_slice()),
+        None => out.push_field(b"-"),
+        Some(octets) => out.push_octets(octets.as_slice()),
     }
 }
 
-pub(crate) fn push_fate(out: &mut Vec<u8>, fate: &Fate) -> Result<(), NoMemory>
-    ensures { OnOk result (out.new.items ≡ out.old.items ++ behind (fate_fields fate.now)) }
+pub(crate) fn push_fate(out: &mut Text, fate: &Fate) -> Result<(), NoMemory>
+    ensures { OnOk result (out.new ≡ out.old ++ behind (fate_fields fate.now)) }
 {
     match fate {
         Fate::Down { life, peer, octets } => push_down(out, *life, *peer, octets.as_slice()),
         Fate::Policed { life } => push_policed(out, *life),
         Fate::Gone { life } => {
-            push_field(out, b"gone")?;
-            push_number(out, *life)
+            out.push_field(b"gone")?;
+            out.push_number(*life)
         }
     }
 }
 
-pub(crate) fn push_place(
-    out: &mut Vec<u8>,
-    place: Option<Place>,
-    parked: bool,
-) -> Result<(), NoMemory>
-    ensures { OnOk result (out.new.items ≡ out.old.items ++ behind (place_fields place parked)) }
+pub(crate) fn push_place(out: &mut Text, place: Option<Place>, parked: bool) -> Result<(), NoMemory>
+    ensures { OnOk result (out.new ≡ out.old ++ behind (place_fields place parked)) }
 {
     let Some(place) = place else {
         return Ok(());
     };
     push_place_word(out, place)?;
-    if parked {
-        push_field(out, b"p")
-    } else {
-        Ok(())
-    }
+    if parked { out.push_field(b"p") } else { Ok(()) }
 }
 
-fn push_place_word(out: &mut Vec<u8>, place: Place) -> Result<(), NoMemory>
-    ensures { OnOk result (out.new.items ≡ out.old.items ++ 32 ∷ place_word place) }
+fn push_place_word(out: &mut Text, place: Place) -> Result<(), NoMemory>
+    ensures { OnOk result (out.new ≡ out.old ++ 32 ∷ place_word place) }
 {
     match place {
         Place::At(slice) => {
             let mut buffer = itoa::Buffer::new();
-            push_field(out, b"@")?;
+            out.push_field(b"@")?;
             out.extend_from_slice(buffer.format(slice.0).as_bytes())?;
             Ok(())
         }
-        Place::Closing => push_field(out, b"@-"),
+        Place::Closing => out.push_field(b"@-"),
     }
 }

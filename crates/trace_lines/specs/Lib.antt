@@ -8,3 +8,4 @@ pub mod Refusal
 pub mod Memory
 pub mod Epochs
 pub mod Input
+pub mod Room

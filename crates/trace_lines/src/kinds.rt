@@ -14,11 +14,10 @@ use crate::arguments::{
 use crate::message::{read_message, read_octets};
 use crate::{LineBad, LineKind};
 use pc_base::Peer;
-use std::alloc::Global;
 use text_fields::next_piece;
 
 pub(crate) fn read_kind(
-    alloc: Global,
+    room: &mut Vec<u8>,
     word: &[u8],
     arguments: Option<&[u8]>,
 ) -> Result<LineKind, LineBad>
@@ -28,18 +27,22 @@ pub(crate) fn read_kind(
     ensures memory { result ≡ Err NoMemory → has_octets word.now ≡ true }
 {
     if word == b"S1U".as_slice() {
-        Ok(LineKind::S1u(read_message(alloc, arguments)?))
+        Ok(LineKind::S1u(read_message(room, arguments)?))
     } else if word == b"SGI".as_slice() {
-        Ok(LineKind::Sgi(read_message(alloc, arguments)?))
+        Ok(LineKind::Sgi(read_message(room, arguments)?))
     } else if word == b"S11".as_slice() {
-        Ok(LineKind::S11(read_message(alloc, arguments)?))
+        Ok(LineKind::S11(read_message(room, arguments)?))
     } else {
-        read_order(alloc, word, arguments)
+        read_order(room, word, arguments)
     }
 }
 
 // The operator's orders.
-fn read_order(alloc: Global, word: &[u8], arguments: Option<&[u8]>) -> Result<LineKind, LineBad>
+fn read_order(
+    room: &mut Vec<u8>,
+    word: &[u8],
+    arguments: Option<&[u8]>,
+) -> Result<LineKind, LineBad>
     requires { is_message word.now ≡ false }
     ensures kind { IfOk result (λ kind. kind_meaning word.now (pieces_left space arguments.entry) ≡ Ok kind) }
     ensures refusal { IfErr result (λ why. (why ≡ NoMemory)
@@ -49,9 +52,9 @@ fn read_order(alloc: Global, word: &[u8], arguments: Option<&[u8]>) -> Result<Li
     if word == b"ATTACH".as_slice() {
         read_attach(arguments)
     } else if word == b"BEARER".as_slice() {
-        read_bearer(alloc, arguments)
+        read_bearer(room, arguments)
     } else if word == b"FILTERS".as_slice() {
-        read_filters(alloc, arguments)
+        read_filters(room, arguments)
     } else if word == b"DROP".as_slice() {
         read_drop(arguments)
     } else if word == b"AMBR".as_slice() {
@@ -102,7 +105,7 @@ fn read_attach(arguments: Option<&[u8]>) -> Result<LineKind, LineBad>
     })
 }
 
-fn read_bearer(alloc: Global, arguments: Option<&[u8]>) -> Result<LineKind, LineBad>
+fn read_bearer(room: &mut Vec<u8>, arguments: Option<&[u8]>) -> Result<LineKind, LineBad>
     ensures kind { IfOk result (λ kind. bearer_meaning (pieces_left space arguments.entry) ≡ Ok kind) }
     ensures refusal { IfErr result (λ why. (why ≡ NoMemory)
         ⊎ (bearer_meaning (pieces_left space arguments.entry) ≡ Err why)) }
@@ -123,7 +126,7 @@ fn read_bearer(alloc: Global, arguments: Option<&[u8]>) -> Result<LineKind, Line
     let mbr_down = read_bearer_rate(mbr_down)?;
     let gbr_up = read_bearer_rate(gbr_up)?;
     let gbr_down = read_bearer_rate(gbr_down)?;
-    let tft = read_octets(alloc, tft)?;
+    let tft = read_octets(room, tft)?;
     Ok(LineKind::Bearer {
         imsi,
         qci,
@@ -135,7 +138,7 @@ fn read_bearer(alloc: Global, arguments: Option<&[u8]>) -> Result<LineKind, Line
     })
 }
 
-fn read_filters(alloc: Global, arguments: Option<&[u8]>) -> Result<LineKind, LineBad>
+fn read_filters(room: &mut Vec<u8>, arguments: Option<&[u8]>) -> Result<LineKind, LineBad>
     ensures kind { IfOk result (λ kind. filters_meaning (pieces_left space arguments.entry) ≡ Ok kind) }
     ensures refusal { IfErr result (λ why. (why ≡ NoMemory)
         ⊎ (filters_meaning (pieces_left space arguments.entry) ≡ Err why)) }
@@ -148,7 +151,7 @@ fn read_filters(alloc: Global, arguments: Option<&[u8]>) -> Result<LineKind, Lin
     };
     let imsi = read_imsi(imsi)?;
     let ebi = read_ebi(ebi)?;
-    let tft = read_octets(alloc, tft)?;
+    let tft = read_octets(room, tft)?;
     Ok(LineKind::Filters { imsi, ebi, tft })
 }
 

@@ -8,37 +8,40 @@ ghost use Rattle.trace_lines.specs.declared.bad.LineBad.TheVariants.{NoMemory, H
 
 use crate::LineBad;
 use pc_base::Octets;
-use std::alloc::Global;
+use std::mem;
 use text_fields::cut;
 
-pub(crate) fn read_octets(alloc: Global, text: &[u8]) -> Result<Octets, LineBad>
+// Octets are read into the room, and owned with it then.
+pub(crate) fn read_octets(room: &mut Vec<u8>, text: &[u8]) -> Result<Octets, LineBad>
     ensures value { IfOk result (λ octets. ok_or (octets_of text.now) Hex ≡ Ok octets) }
     ensures refusal { IfErr result (λ why. (why ≡ NoMemory) ⊎ (ok_or (octets_of text.now) Hex ≡ Err why)) }
 {
-    match text_fields::read_octets(alloc, text)? {
+    let alloc = *room.allocator();
+    let room = mem::replace(room, Vec::new(alloc));
+    match text_fields::read_octets_into(room, text)? {
         Some(octets) => Ok(Octets::of(octets)),
         None => Err(LineBad::Hex),
     }
 }
 
 // The one argument that is left.
-pub(crate) fn read_message(alloc: Global, arguments: Option<&[u8]>) -> Result<Octets, LineBad>
+pub(crate) fn read_message(room: &mut Vec<u8>, arguments: Option<&[u8]>) -> Result<Octets, LineBad>
     ensures value { IfOk result (λ octets. message_meaning (pieces_left space arguments.entry) ≡ Ok octets) }
     ensures refusal { IfErr result (λ why. (why ≡ NoMemory)
         ⊎ (message_meaning (pieces_left space arguments.entry) ≡ Err why)) }
 {
     match arguments {
-        Some(text) => read_rest(alloc, text),
+        Some(text) => read_rest(room, text),
         None => Err(LineBad::Field),
     }
 }
 
 // The rest of the line is taken for the argument, since a space is no digit.
-fn read_rest(alloc: Global, text: &[u8]) -> Result<Octets, LineBad>
+fn read_rest(room: &mut Vec<u8>, text: &[u8]) -> Result<Octets, LineBad>
     ensures value { IfOk result (λ octets. message_meaning (pieces space text.now) ≡ Ok octets) }
     ensures refusal { IfErr result (λ why. (why ≡ NoMemory) ⊎ (message_meaning (pieces space text.now) ≡ Err why)) }
 {
-    match read_octets(alloc, text) {
+    match read_octets(room, text) {
         Ok(octets) => Ok(octets),
         Err(why) => Err(refused(text, why)),
     }

@@ -51,17 +51,39 @@ pub fn read_line(
     ensures refusal { IfErr result (λ why. (why ≡ NoMemory)
         ⊎ (line_meaning least number text.now ≡ Err why)) }
 {
-    read_whole(alloc, text, number, least)
+    read_whole(&mut Vec::new(alloc), text, number, least)
+}
+
+/// The same, with its octets in memory that is lent: the line owns it then, and `give_room` gives it back.
+pub fn read_line_in(
+    room: &mut Vec<u8>,
+    text: &[u8],
+    number: u64,
+    least: Moment,
+) -> Result<TraceLine, LineBad>
+    ensures line { IfOk result (λ line. line_meaning least number text.now ≡ Ok line) }
+    ensures in_order { IfOk result (λ line. least ≤ line.moment) }
+    ensures as_long { IfOk result (λ line. length (line_text line) ≡ length text.now) }
+    ensures refusal { IfErr result (λ why. (why ≡ NoMemory)
+        ⊎ (line_meaning least number text.now ≡ Err why)) }
+    ensures memory { result ≡ Err NoMemory → wants_octets (fields_of text.now) ≡ true }
+{
+    read_whole(room, text, number, least)
 }
 
 // In one word.
-fn read_whole(alloc: Global, text: &[u8], number: u64, least: Moment) -> Result<TraceLine, LineBad>
+fn read_whole(
+    room: &mut Vec<u8>,
+    text: &[u8],
+    number: u64,
+    least: Moment,
+) -> Result<TraceLine, LineBad>
     ensures line { IfOk result (λ line. line_meaning least number text.now ≡ Ok line) }
     ensures refusal { IfErr result (λ why. (why ≡ NoMemory)
         ⊎ (line_meaning least number text.now ≡ Err why)) }
     ensures memory { result ≡ Err NoMemory → wants_octets (fields_of text.now) ≡ true }
 {
-    match read_fields(alloc, text, number, least) {
+    match read_fields(room, text, number, least) {
         Ok(line) => Ok(line),
         Err(why) => Err(refused(text, why)),
     }
@@ -79,7 +101,12 @@ fn refused(text: &[u8], why: LineBad) -> LineBad
 }
 
 // The same, where no field is empty.
-fn read_fields(alloc: Global, text: &[u8], number: u64, least: Moment) -> Result<TraceLine, LineBad>
+fn read_fields(
+    room: &mut Vec<u8>,
+    text: &[u8],
+    number: u64,
+    least: Moment,
+) -> Result<TraceLine, LineBad>
     ensures line { IfOk result (λ line. line_of_fields least number (fields_of text.now) ≡ Ok line) }
     ensures refusal { IfErr result (λ why. (why ≡ NoMemory)
         ⊎ (line_of_fields least number (fields_of text.now) ≡ Err why)) }
@@ -92,7 +119,7 @@ fn read_fields(alloc: Global, text: &[u8], number: u64, least: Moment) -> Result
     let (word, arguments) = cut(b' ', rest);
     let moment = read_in(moment, 0, LAST_MOMENT)?;
     let moment = Moment(moment);
-    let kind = read_kind(alloc, word, arguments)?;
+    let kind = read_kind(room, word, arguments)?;
     if moment < least {
         return Err(LineBad::MomentBack);
     }

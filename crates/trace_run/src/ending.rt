@@ -8,6 +8,7 @@ ghost use Rattle.trace_run.specs.Status.{status_at, status_without};
 use crate::status::Status;
 use pc_outside::{Sink, write_whole};
 use std::alloc::AllocError;
+use text_fields::Text;
 use trace_lines::LineBad;
 
 /// Why no more lines are read.
@@ -45,21 +46,32 @@ impl From<AllocError> for Unwritten {
     }
 }
 
-/// Writes what is there of the report, and empties it.
-pub fn write_report<K: Sink>(sink: &mut K, report: &mut Vec<u8>) -> Result<(), Unwritten>
-    ensures moved { OnOk result (Appends (K.written sink.old) (K.written sink.new)
-        report.old.items) }
-    ensures emptied { OnOk result (report.new.items ≡ []) }
-    ensures cut { OnErr result (AppendsFront (K.written sink.old) (K.written sink.new)
-        report.old.items) }
+/// Writes these octets.
+pub fn write_octets<K: Sink>(sink: &mut K, octets: &[u8]) -> Result<(), Unwritten>
+    ensures moved { OnOk result (Appends (K.written sink.old) (K.written sink.new) octets.now) }
+    ensures cut { OnErr result (AppendsFront (K.written sink.old) (K.written sink.new) octets.now) }
     ensures no_other { OnErr result (result ≡ Err Unwritten.WriteFault) }
 
     ensures later { K.faults sink.old ≤ K.faults sink.new }
     ensures fault { OnErr result (Rises (K.faults sink.old) (K.faults sink.new)) }
 {
-    if write_whole(sink, report.as_slice()).is_err() {
+    if write_whole(sink, octets).is_err() {
         return Err(Unwritten::WriteFault);
     }
+    Ok(())
+}
+
+/// Writes what is there of the report, and empties it.
+pub fn write_report<K: Sink>(sink: &mut K, report: &mut Text) -> Result<(), Unwritten>
+    ensures moved { OnOk result (Appends (K.written sink.old) (K.written sink.new) report.old) }
+    ensures emptied { OnOk result (report.new ≡ []) }
+    ensures cut { OnErr result (AppendsFront (K.written sink.old) (K.written sink.new) report.old) }
+    ensures no_other { OnErr result (result ≡ Err Unwritten.WriteFault) }
+
+    ensures later { K.faults sink.old ≤ K.faults sink.new }
+    ensures fault { OnErr result (Rises (K.faults sink.old) (K.faults sink.new)) }
+{
+    write_octets(sink, report.as_slice())?;
     report.clear();
     Ok(())
 }

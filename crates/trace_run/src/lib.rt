@@ -8,7 +8,7 @@ mod epoch;
 mod reading;
 mod status;
 
-pub use ending::{Ending, Unwritten, status_at, status_without, write_report};
+pub use ending::{Ending, Unwritten, status_at, status_without, write_octets, write_report};
 pub use epoch::Size;
 pub use reading::{Next, next_line};
 pub use status::{Status, fault_text};

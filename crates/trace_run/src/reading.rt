@@ -7,8 +7,7 @@ ghost use Rattle.trace_run.specs.Next.{Gives, Tells, TakesRoom, given_as, refuse
 
 use pc_base::Moment;
 use pc_outside::{LineBuf, LineRead, Source, read_line};
-use std::alloc::Global;
-use trace_lines::{LineBad, TraceLine};
+use trace_lines::{LineBad, TraceLine, read_line_in};
 
 /// What comes next in a trace.
 pub enum Next {
@@ -24,9 +23,9 @@ pub enum Next {
     NoMemory,
 }
 
-/// Reads the line of this number, which may have no moment below the least.
+/// Reads the line of this number, which may have no moment below the least; its octets take the room.
 pub fn next_line<S: Source>(
-    alloc: Global,
+    room: &mut Vec<u8>,
     source: &mut S,
     buf: &mut LineBuf,
     number: u64,
@@ -51,7 +50,7 @@ pub fn next_line<S: Source>(
         LineRead::ReadFault => return Next::ReadFault,
     }
     let text = buf.line();
-    match trace_lines::read_line(alloc, text, number, least) {
+    match read_line_in(room, text, number, least) {
         Ok(line) => given(line, text.len(), buf.is_last()),
         Err(why) => refused(why),
     }

@@ -5,11 +5,11 @@ use Rattle.pepc.proofs.export.pass_line.Goals as goal
 
 pub returns-clause-passed : goal.returns-clause-passed
 returns-clause-passed g c =
-    on_ok_all c.write_report.result
+    on_ok_all c.write_piece.result
     (λ written emptied again. inr (record {
       written = subst
-          (λ (text : List ℕ). Appends (g.K.Sink.written c.args.sink.now) (g.K.Sink.written c.write_report.new.sink) text)
+          (λ (text : List ℕ). Appends (g.K.Sink.written c.args.sink.now) (g.K.Sink.written c.write_piece.new.sink) text)
           c.in_ok-push_record.ensures written;
       emptied = emptied;
     }))
-    c.write_report.ensures.moved c.write_report.ensures.emptied c.write_report.ensures.emptied
+    c.write_piece.ensures.moved c.write_piece.ensures.emptied c.write_piece.ensures.emptied

@@ -12,5 +12,5 @@ returns c = λ story stands.
     let charges = charges_text (by_slot (length story.book) (λ slot. opens slot (events_of story slot))) in
     on_ok c.push_opens.result
     (λ told. told ∙ ap (λ front. front ++ charges) (c.in_ok-close.ensures.told story stands)
-    ∙ append_assoc c.args.report.now.items (end_text story) charges)
+    ∙ append_assoc c.args.report.now (end_text story) charges)
     (c.push_opens.ensures (with_end story) (c.in_ok-close.ensures.stands story stands))

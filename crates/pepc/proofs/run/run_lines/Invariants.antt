@@ -9,7 +9,7 @@ invariant-loop-line g l = record {
   progress : (done : List Line) × Progress (g.S.Source.left l.fn.source)
       (prepend_known l.buf.front (g.S.Source.left l.source))
       (g.K.Sink.written l.fn.sink) (g.K.Sink.written l.sink) l.gateway l.size l.number l.least l.buf.room
-      l.report.items done;
+      l.report done;
   source_later : g.S.Source.faults l.fn.source ≤ g.S.Source.faults l.source;
   sink_later : g.K.Sink.faults l.fn.sink ≤ g.K.Sink.faults l.sink;
 }

@@ -14,7 +14,7 @@ returns-then-not-take-clause-taken g c = λ done open_ latest before made stands
     let stays : ends_epoch open_ line ≡ false = sym (c.take.ensures.ends open_ counts) ∙ c.if-not-take.true in
     takes_open (ends_epoch open_ line) c.enter.new.self c.take.new.self (g.K.Sink.written c.args.sink.now)
     (g.K.Sink.written c.args.sink.now)
-    (next_text c.args.report.now.items done latest before made line) c.enter.new.report.items
+    (next_text c.args.report.now done latest before made line) c.enter.new.report
     (next_story done latest before made line) (open_ ++ line ∷ []) stays
     (record {
       stands = c.in_ok-enter.ensures.stands done latest before made stands late;
@@ -34,7 +34,7 @@ returns-clause-taken g c = λ done open_ latest before made stands late counts.
     (λ closed written emptied.
     takes_closed (ends_epoch open_ line) c.end_epoch.new.gateway c.take.new.self (g.K.Sink.written c.args.sink.now)
     (g.K.Sink.written c.end_epoch.new.sink)
-    (next_text c.args.report.now.items done latest before made line) c.end_epoch.new.report.items story (open_
+    (next_text c.args.report.now done latest before made line) c.end_epoch.new.report story (open_
     ++ line ∷ []) ends
     (record {
       stands = closed;

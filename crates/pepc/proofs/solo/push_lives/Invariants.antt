@@ -5,6 +5,6 @@ use Rattle.pepc.proofs.solo.push_lives.Given as goal
 
 abbrev pub invariant-loop-bearer : goal.invariant-loop-bearer
 invariant-loop-bearer l =
-    l.report.items ≡ l.initial.report.items
+    l.report ≡ l.initial.report
     ++ charges_text (flat_map (λ (bearer : ActiveBearer). open_for l.slot l.counted bearer.life)
     (take l.bearer-index l.bearers))

@@ -11,7 +11,7 @@ returns c = λ slot events taken stands.
     let counted = c.still_open-counted.ensures slot events taken stands in
     let bearers = c.bearers.ensures slot events taken stands in
     on_ok c.push_lives.result
-    (λ told. told ∙ (λ i. c.args.report.now.items ++ charges_text
+    (λ told. told ∙ (λ i. c.args.report.now ++ charges_text
     (flat_map (λ (b : ActiveBearer). open_for (own i) (counted i) b.life) (bearers i)))
-    ∙ ap (λ entries. c.args.report.now.items ++ charges_text entries) (opens_are slot events))
+    ∙ ap (λ entries. c.args.report.now ++ charges_text entries) (opens_are slot events))
     c.push_lives.ensures

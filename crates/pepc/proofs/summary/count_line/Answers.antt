@@ -12,7 +12,7 @@ returns-then-not-take c = record {
       let line = c.args.line.now in
       let stays : ends_epoch open_ line ≡ false = sym (c.take.ensures.ends open_ counts) ∙ c.if-not-take.true in
       subst (λ test. CountsLine test c.enter.new.self c.take.new.self c.args.counts.now c.args.counts.now
-      (next_text c.args.report.now.items done latest before made line) c.enter.new.report.items
+      (next_text c.args.report.now done latest before made line) c.enter.new.report
       (next_story done latest before made line) (open_ ++ line ∷ [])) (sym stays)
       (record {
         stands = c.in_ok-enter.ensures.stands done latest before made stands late;
@@ -33,8 +33,8 @@ returns c = record {
       on_ok_all c.end_epoch.result
       (λ closed counted emptied.
       subst (λ test. CountsLine test c.end_epoch.new.gateway c.take.new.self c.args.counts.now
-      c.end_epoch.new.counts (next_text c.args.report.now.items done latest before made line)
-      c.end_epoch.new.report.items story (open_ ++ line ∷ [])) (sym ends)
+      c.end_epoch.new.counts (next_text c.args.report.now done latest before made line)
+      c.end_epoch.new.report story (open_ ++ line ∷ [])) (sym ends)
       (record {
         stands = closed;
         sized = subst (λ test. Counts c.take.new.self (if test then [] else open_ ++ line ∷ [])) ends

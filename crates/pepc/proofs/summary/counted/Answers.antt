@@ -7,11 +7,11 @@ use Rattle.pepc.proofs.summary.counted.Goals as goal
 
 pub loop-report-init : goal.loop-report-init
 loop-report-init c =
-    subst (Counting c.new-gateway.result c.new-size.result c.new-counts.result c.new-report.result.items
+    subst (Counting c.new-gateway.result c.new-size.result c.new-counts.result c.new-report.result
     (made c.args.seed c.args.subs c.args.lines)) (sym c.new-maker.ensures)
-    (counting_begins c.new-gateway.result c.new-size.result c.new-counts.result c.new-report.result.items c.args.seed
+    (counting_begins c.new-gateway.result c.new-size.result c.new-counts.result c.new-report.result c.args.seed
     c.args.subs c.args.lines c.requires.some c.requires.slots c.requires.most c.new-gateway.ensures
-    c.new-size.ensures c.new-report.ensures.items c.new-counts.ensures)
+    c.new-size.ensures c.new-report.ensures c.new-counts.ensures)
 
 pub spend_line-requires-clause-room : goal.spend_line-requires-clause-room
 spend_line-requires-clause-room c =
@@ -39,7 +39,7 @@ loop-report-preserved c =
     next_is c.in-Some.is c.in_ok-line.ensures.made in
     let in_order = next_in_order so_far is_next in
     counting_goes_on c.loop-report.gateway c.spend_line.new.gateway c.loop-report.size c.spend_line.new.size
-    c.loop-report.counts c.spend_line.new.counts c.loop-report.report.items c.spend_line.new.report.items
+    c.loop-report.counts c.spend_line.new.counts c.loop-report.report c.spend_line.new.report
     (made c.args.seed c.args.subs c.args.lines) c.loop-report.maker c.made_line.new.maker c.in-Some.line so_far is_next
     (c.in_ok-spend_line.ensures.taken so_far.done so_far.so_far.open_ so_far.least _ _ so_far.so_far.stands in_order.1
     so_far.so_far.sized)
@@ -51,6 +51,6 @@ returns c =
     (λ line. c.loop-report.maker ≡ line ∷ c.made_line.new.maker) c.in_ok-line.field-0 c.in_default.not-Some
     c.in_ok-line.ensures.made).0 in
     counting_ends c.loop-report.gateway c.loop-report.size c.loop-report.counts c.add.new.self
-    c.loop-report.report.items c.push_rest.new.report.items c.args.seed c.args.subs c.args.lines c.loop-report.maker
+    c.loop-report.report c.push_rest.new.report c.args.seed c.args.subs c.args.lines c.loop-report.maker
     c.requires.some c.requires.slots c.requires.most c.loop-report.invariant none c.in_ok-push_rest.ensures
-    (subst (CountsMore c.loop-report.counts c.add.new.self) c.as_slice.ensures.value c.add.ensures)
+    (subst (CountsMore c.loop-report.counts c.add.new.self) c.as_slice.ensures c.add.ensures)

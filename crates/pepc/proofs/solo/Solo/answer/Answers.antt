@@ -24,7 +24,7 @@ returns-clause-told c = λ story stands.
     within c.slot.view_is c.index_mut-subscriber.ensures.value in
     let events = events_of story c.args.slot in
     c.in_ok-push_answer.ensures
-    ∙ ap (λ text. c.args.report.now.items ++ text)
+    ∙ ap (λ text. c.args.report.now ++ text)
     (told_command story c.args.slot c.args.command.now (c.args.self.now.lines
     + 1) c.commands-number.result c.in_ok-reply.reply
     (ap (λ n. n + 1) stands.counted) (c.commands-number.ensures ∙ held.stands.commands)

@@ -24,8 +24,8 @@ returns-in-Packet-clause-told c = λ done latest before made stands.
       same = stands.same_book;
     } in
     on_ok c.packet.result (λ told. told_so done c.args.line.now c.args.self.now.book
-    (decision.Packet c.in-Packet.slot c.in-Packet.packet) (story_of done latest before made) c.args.report.now.items
-    c.packet.new.report.items is (told)) (c.packet.ensures.told (story_of done latest before made) stands)
+    (decision.Packet c.in-Packet.slot c.in-Packet.packet) (story_of done latest before made) c.args.report.now
+    c.packet.new.report is (told)) (c.packet.ensures.told (story_of done latest before made) stands)
 
 pub returns-in-Packet-clause-stands : goal.returns-in-Packet-clause-stands
 returns-in-Packet-clause-stands c = λ done latest before made stands late.
@@ -53,8 +53,8 @@ returns-in-Command-clause-told c = λ done latest before made stands.
     } in
     on_ok c.command-in-Command.result (λ told. told_so done c.args.line.now c.args.self.now.book
     (decision.Command c.in-Command.whose c.in-Command.command)
-    (story_of done latest before made) c.args.report.now.items
-    c.command-in-Command.new.report.items is (told)) (c.command-in-Command.ensures.told
+    (story_of done latest before made) c.args.report.now
+    c.command-in-Command.new.report is (told)) (c.command-in-Command.ensures.told
     (story_of done latest before made) stands)
 
 pub returns-in-Command-clause-stands : goal.returns-in-Command-clause-stands
@@ -81,8 +81,8 @@ returns-in-Move-clause-told c = λ done latest before made stands.
       same = stands.same_book;
     } in
     on_ok c.move_to.result (λ told. told_so done c.args.line.now c.args.self.now.book
-    (decision.Move c.in-Move.slot c.in-Move.slice) (story_of done latest before made) c.args.report.now.items
-    c.move_to.new.report.items is (told ∙ ap (λ text. c.args.report.now.items ++ text)
+    (decision.Move c.in-Move.slot c.in-Move.slice) (story_of done latest before made) c.args.report.now
+    c.move_to.new.report is (told ∙ ap (λ text. c.args.report.now ++ text)
     (move_line (story_of done latest before made) done c.in-Move.slot c.in-Move.slice)))
     (c.move_to.ensures.told (story_of done latest before made) stands)
 

@@ -13,7 +13,7 @@ returns-clause-told c = λ story stands.
     let held = held_at c.args.self.now story c.args.slot c.slot.inside.0 c.index_mut-subscriber.result.now stands
     within c.slot.view_is c.index_mut-subscriber.ensures.value in
     c.in_ok-push_move.ensures
-    ∙ ap (λ text. c.args.report.now.items ++ text)
+    ∙ ap (λ text. c.args.report.now ++ text)
     (told_note story (move_note c.destination.result c.args.slot c.args.slice)
     (move_note (story.bound c.args.slot) c.args.slot c.args.slice)
     (c.args.self.now.lines + 1) (ap (λ n. n + 1) stands.counted)

@@ -42,7 +42,7 @@ push_handled-requires c =
     (packet_of c.index_mut-subscriber.result.now.packets c.args.packet.now.moment c.args.packet.now.way
     c.args.packet.now.ip)
     (c.in_ok-handled.ensures.verdict own events (length (records_after own events)) held.stands)
-    (omega (arith, c.packet_len-len.ensures.len, c.packet_len-len.ensures.bound, ap length c.octets.ensures.octets))
+    (omega (arith, c.total_len-len.ensures.len, c.total_len-len.type_inv))
 
 pub returns-clause-told : goal.returns-clause-told
 returns-clause-told c = λ story stands.
@@ -53,7 +53,7 @@ returns-clause-told c = λ story stands.
     let events = events_of story own in
     let counted = held.stands.packets in
     c.in_ok-push_handled.ensures
-    ∙ ap (λ text. c.args.report.now.items ++ text)
+    ∙ ap (λ text. c.args.report.now ++ text)
     (told_packet story own c.args.packet.now (c.args.self.now.lines
     + 1) c.in_ok-handled.handled.number c.in_ok-handled.handled.commands _
     (ap (λ n. n + 1) stands.counted) (c.in_ok-handled.ensures.number ∙ counted) (c.in_ok-handled.ensures.commands

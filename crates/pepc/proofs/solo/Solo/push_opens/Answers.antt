@@ -18,6 +18,6 @@ loop-subscriber-preserved c = λ story stands.
     ≡ get_or items index c.subscriber-item.result) lent c.subscriber-item.is in
     let held = held_at c.args.self.now story index index c.subscriber-item.result stands within refl is in
     c.in_ok-push_subscriber.ensures index (events_of story index) _ held.stands
-    ∙ opens_more index (λ slot. opens slot (events_of story slot)) c.args.report.now.items
-    c.loop-subscriber.report.items
+    ∙ opens_more index (λ slot. opens slot (events_of story slot)) c.args.report.now
+    c.loop-subscriber.report
     (c.loop-subscriber.invariant story stands)

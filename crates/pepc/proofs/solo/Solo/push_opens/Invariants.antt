@@ -7,5 +7,5 @@ use Rattle.pepc.proofs.solo.Solo.push_opens.Given as goal
 
 abbrev pub invariant-loop-subscriber : goal.invariant-loop-subscriber
 invariant-loop-subscriber l = (story : Story) → Stands l.self story
-    → l.report.items ≡ l.initial.report.items ++ charges_text
+    → l.report ≡ l.initial.report ++ charges_text
     (by_slot l.subscriber-index (λ slot. opens slot (events_of story slot)))

@@ -1,0 +1,121 @@
+//! The entries of packets, which most entries are: a head put together from its last field to its first, and the
+//! octets behind it.
+ghost use Rattle.std.specs.Prelude.{◌≡◌, ◌+◌, ◌≤◌, ◌<◌, ◌^◌, ◌++◌, ◌∷◌, [], codes, decimal, length, OnOk};
+ghost use Rattle.hex.specs.Hex.{encode_lower};
+ghost use Rattle.packet_steps.specs.Messages.{gpdu};
+ghost use Rattle.text_fields.specs.Address.{dotted};
+ghost use Rattle.text_fields.specs.Fields.{joined};
+ghost use Rattle.report_lines.specs.Words.{message_word};
+
+use crate::NoMemory;
+use crate::packets::push_message;
+use gtpu_codec::gpdu_head;
+use pc_base::{Octets, Peer, Slot};
+use text_fields::{Head, Text};
+
+/// A slot's packet of this number, behind so many of its commands, on a line.
+#[derive(Clone, Copy)]
+pub(crate) struct Which {
+    pub line: u64,
+    pub slot: Slot,
+    pub number: u64,
+    pub commands: u64,
+}
+
+pub(crate) fn push_up(
+    out: &mut Text,
+    packet: Which,
+    life: u64,
+    octets: &[u8],
+) -> Result<(), NoMemory>
+    ensures { OnOk result (out.new ≡ out.old ++ joined (codes "P" ∷ decimal packet.line ∷ decimal packet.slot
+        ∷ decimal packet.number ∷ decimal packet.commands ∷ codes "up" ∷ decimal life
+        ∷ encode_lower octets.now ∷ [])) }
+{
+    let mut head = Head::new();
+    head.put(b' ');
+    head.put_number(life);
+    head.put_word(b"up");
+    put_counts(&mut head, packet);
+    out.push_headed(head.as_slice(), octets)
+}
+
+/// A packet that goes down is in the tunnel to its eNodeB: its G-PDU is written from its two parts.
+pub(crate) fn push_down(
+    out: &mut Text,
+    packet: Which,
+    life: u64,
+    peer: Peer,
+    octets: &[u8],
+) -> Result<(), NoMemory>
+    requires { length octets.now < 2 ^ 16 }
+    ensures { OnOk result (out.new ≡ out.old ++ joined (codes "P" ∷ decimal packet.line ∷ decimal packet.slot
+        ∷ decimal packet.number ∷ decimal packet.commands ∷ codes "down" ∷ decimal life ∷ dotted peer.addr
+        ∷ encode_lower (gpdu peer octets.now) ∷ [])) }
+{
+    let tunnel = gpdu_head(peer.teid, octets.len() as u16);
+    let mut head = Head::new();
+    head.put_eight(tunnel);
+    head.put(b' ');
+    head.put_address(peer.addr.0);
+    head.put_number(life);
+    head.put_word(b"down");
+    put_counts(&mut head, packet);
+    out.push_headed(head.as_slice(), octets)
+}
+
+pub(crate) fn push_word(out: &mut Text, packet: Which, word: &[u8]) -> Result<(), NoMemory>
+    requires { length word.now ≤ 8 }
+    ensures { OnOk result (out.new ≡ out.old ++ joined (codes "P" ∷ decimal packet.line ∷ decimal packet.slot
+        ∷ decimal packet.number ∷ decimal packet.commands ∷ word.now ∷ [])) }
+{
+    let mut head = Head::new();
+    head.put_word(word);
+    put_counts(&mut head, packet);
+    out.extend_from_slice(head.as_slice())
+}
+
+pub(crate) fn push_life(
+    out: &mut Text,
+    packet: Which,
+    word: &[u8],
+    life: u64,
+) -> Result<(), NoMemory>
+    requires { length word.now ≤ 8 }
+    ensures { OnOk result (out.new ≡ out.old ++ joined (codes "P" ∷ decimal packet.line ∷ decimal packet.slot
+        ∷ decimal packet.number ∷ decimal packet.commands ∷ word.now ∷ decimal life ∷ [])) }
+{
+    let mut head = Head::new();
+    head.put_number(life);
+    head.put_word(word);
+    put_counts(&mut head, packet);
+    out.extend_from_slice(head.as_slice())
+}
+
+pub(crate) fn push_held(
+    out: &mut Text,
+    packet: Which,
+    life: u64,
+    message: &Option<Octets>,
+) -> Result<(), NoMemory>
+    ensures { OnOk result (out.new ≡ out.old ++ joined (codes "P" ∷ decimal packet.line ∷ decimal packet.slot
+        ∷ decimal packet.number ∷ decimal packet.commands ∷ codes "held" ∷ decimal life
+        ∷ message_word message.now ∷ [])) }
+{
+    push_life(out, packet, b"held", life)?;
+    push_message(out, message)
+}
+
+// The word of the entry, and the numbers in front of a verdict.
+#[inline(always)]
+fn put_counts(head: &mut Head, packet: Which)
+    requires { length head.old ≤ 75 }
+    ensures { head.new ≡ 80 ∷ 32 ∷ decimal packet.line ++ (32 ∷ decimal packet.slot ++ (32 ∷ decimal packet.number
+        ++ (32 ∷ decimal packet.commands ++ head.old))) }
+{
+    head.put_number(packet.commands);
+    head.put_number(packet.number);
+    head.put_number(u64::from(packet.slot.0));
+    head.put_number(packet.line);
+    head.put(b'P');
+}
