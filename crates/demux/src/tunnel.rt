@@ -11,7 +11,7 @@ use crate::{Decision, LentPacket};
 use address_book::AddressBook;
 use gtpu_codec::{GtpU, GtpUKind, read, write};
 use ipv4_packet::Ip4;
-use pc_base::{GATEWAY_ADDR, Moment, NoMemory, Octets, Slot, Teid, Way};
+use pc_base::{Addr4, GATEWAY_ADDR, Moment, NoMemory, Octets, Slot, Teid, Way};
 use std::alloc::Global;
 
 /// What octets of an eNodeB mean.
