@@ -26,6 +26,7 @@ use pc_base::{NoMemory, Octets, Slot, Teid};
 use std::alloc::Global;
 
 /// What octets of the MME mean.
+#[inline(never)]
 #[tactic(auto, unfolding(crate::specs::Resolved::resolved))]
 pub fn decide_mme<'a>(
     alloc: Global,

@@ -29,6 +29,7 @@ pub fn seq_of_line(number: u64) -> u32
 }
 
 /// An order that attaches the subscriber of an IMSI.
+#[inline(never)]
 #[tactic(auto, unfolding(crate::specs::Resolved::resolved))]
 pub fn decide_attach<'a>(
     alloc: Global,
@@ -61,6 +62,7 @@ fn unknown_imsi<'a>(alloc: Global) -> Result<Decision<'a>, NoMemory>
 }
 
 /// An order for the subscriber of an IMSI.
+#[inline(never)]
 #[tactic(auto, unfolding(crate::specs::Resolved::resolved))]
 pub fn decide_order<'a>(
     alloc: Global,
@@ -78,6 +80,7 @@ pub fn decide_order<'a>(
 }
 
 /// An order that the subscriber of an IMSI goes to a slice.
+#[inline(never)]
 #[tactic(auto, unfolding(crate::specs::Resolved::resolved))]
 pub fn decide_move<'a>(
     alloc: Global,
@@ -139,6 +142,7 @@ pub struct NewBearer {
 }
 
 /// An order for one bearer more of the subscriber of an IMSI.
+#[inline(never)]
 #[tactic(auto, unfolding(crate::specs::Resolved::resolved))]
 pub fn decide_bearer<'a>(
     alloc: Global,
@@ -171,6 +175,7 @@ pub fn decide_bearer<'a>(
 }
 
 /// An order that changes the filters of a bearer of the subscriber of an IMSI.
+#[inline(never)]
 #[tactic(auto, unfolding(crate::specs::Resolved::resolved))]
 pub fn decide_filters<'a>(
     alloc: Global,

@@ -50,6 +50,7 @@ fn end_epoch<K: Sink>(gateway: &mut Solo, sink: &mut K, report: &mut Text) -> Re
 }
 
 // Answers a line, whose text has this length. An epoch that it ends is written.
+#[inline(always)]
 fn take_line<K: Sink>(
     alloc: Global,
     gateway: &mut Solo,

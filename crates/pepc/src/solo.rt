@@ -110,6 +110,7 @@ impl Solo {
     }
 
     // A line that comes to a note alone.
+    #[inline(never)]
     fn note(&mut self, text: &[u8], report: &mut Text) -> Result<(), AllocError>
         requires { HasRoom self.old }
 
@@ -126,6 +127,7 @@ impl Solo {
     }
 
     // An order that a subscriber goes to a slice.
+    #[inline(never)]
     fn move_to(&mut self, slot: Slot, slice: SliceNo, report: &mut Text) -> Result<(), AllocError>
         requires room { HasRoom self.old }
         requires known { IsInBook self.old slot }
@@ -178,6 +180,7 @@ impl Solo {
     }
 
     // A command of a slot in the book, or of a new one.
+    #[inline(never)]
     fn command(
         &mut self,
         alloc: Global,

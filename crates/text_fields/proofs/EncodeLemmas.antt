@@ -1,5 +1,5 @@
 -- Blocks of digits put behind each other.
-use Rattle.std.proofs.Common.{◌≡◌, ℕ, zero, suc, ◌+◌, ◌*◌, ◌/◌, ◌%◌, ◌^◌, ◌<◌, ◌≤◌, List, [], ◌∷◌, ◌++◌, length, map, take, drop, get_or, bit_and, refl, subst, append-nil, sym, ap, ◌∙◌, arith, take-add}
+use Rattle.std.proofs.Common.{◌≡◌, ℕ, zero, suc, ◌+◌, ◌*◌, ◌/◌, ◌%◌, ◌^◌, ◌<◌, ◌≤◌, List, [], ◌∷◌, ◌++◌, length, map, take, drop, get_or, slice_index, bit_and, refl, subst, append-nil, sym, ap, ◌∙◌, arith, take-add}
 use Rattle.std.proofs.lemmas.List.{take_all, get_or-map, ext_get_or, length-map, length-take-le, length-drop, length-append, take_at, drop_all}
 use Rattle.std.proofs.lemmas.Nat.{and_mask}
 use Rattle.std.proofs.lemmas.Slice.{take-put_mid}
@@ -148,3 +148,12 @@ two_chunks digits front back whole first second =
     ap (λ xs. put_chunk 16 (xs ++ drop 16 digits) back) one ∙ put_chunk_is 16 both back room
     ∙ ap (λ xs. xs ++ (back ++ drop (length back) (drop 16 both))) start
     ∙ ap (λ xs. front ++ (back ++ xs)) left ∙ ap (λ xs. front ++ xs) (append-nil back)
+
+-- ---- eight octets
+
+pub eight_digits : (octets : List ℕ) → length octets ≡ 8
+    → front_of (map high_digit (octets ++ replicate 8 0) ++ map low_digit (octets ++ replicate 8 0)) ≡ encode_lower octets
+unfolding encode_with
+eight_digits octets long =
+    subst (λ (xs : List ℕ). front_of (map high_digit (xs ++ replicate 8 0) ++ map low_digit (xs ++ replicate 8 0))
+    ≡ encode_lower xs) (is_listing octets 8 long) refl

@@ -55,6 +55,21 @@ fn encode_block(octets: &[u8], digits: &mut [u8])
     high.shuffle(low, BACK).copy_to_slice(&mut digits[16..]);
 }
 
+/// Eight octets to 16 digits.
+#[inline(always)]
+pub(crate) fn encode_eight(octets: &[u8], digits: &mut [u8])
+    requires octets { length octets.now ≡ 8 }
+    requires digits { length digits.old ≡ 16 }
+    ensures { digits.new ≡ encode_lower octets.now }
+{
+    let mut padded = [0; 16];
+    padded[..8].copy_from_slice(octets);
+    let lanes = u8x16::from_array(padded);
+    let high = high_digits(lanes);
+    let low = low_digits(lanes);
+    high.shuffle(low, FRONT).copy_to_slice(digits);
+}
+
 #[inline(always)]
 fn high_digits(octets: u8x16) -> u8x16
     ensures { result ≡ map high_digit octets }

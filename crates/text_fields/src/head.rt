@@ -4,7 +4,7 @@ ghost use Rattle.std.specs.Prelude.{◌≡◌, ◌+◌, ◌≤◌, ◌<◌, ◌+
 ghost use Rattle.hex.specs.Hex.{encode_lower};
 ghost use Rattle.text_fields.specs.Address.{dotted};
 
-use crate::hexadecimal::encode;
+use crate::encoding::encode_eight;
 use itoa::write_digits;
 use std::marker::Model;
 
@@ -129,7 +129,7 @@ fn eight_before(octets: &mut [u8; HEAD_LEN], end: usize, eight: [u8; 8]) -> usiz
     ensures within { result ≤ HEAD_LEN }
 {
     let at = end - 16;
-    encode(&eight, &mut octets[at..end]);
+    encode_eight(&eight, &mut octets[at..end]);
     at
 }
 

@@ -12,6 +12,7 @@ use std::mem;
 use text_fields::cut;
 
 // Octets are read into the room, and owned with it then.
+#[inline(always)]
 pub(crate) fn read_octets(room: &mut Vec<u8>, text: &[u8]) -> Result<Octets, LineBad>
     ensures value { IfOk result (λ octets. ok_or (octets_of text.now) Hex ≡ Ok octets) }
     ensures refusal { IfErr result (λ why. (why ≡ NoMemory) ⊎ (ok_or (octets_of text.now) Hex ≡ Err why)) }
