@@ -2,7 +2,7 @@
 ghost use Rattle.std.specs.Prelude.{◌≡◌, IfOk, Some, map};
 ghost use Rattle.std.specs.String.{string_bytes};
 ghost use Rattle.trace_lines.specs.Input.{ended, input_of};
-ghost use Rattle.pepc.specs.Report.{IsDone};
+ghost use Rattle.trace_run.specs.Report.{IsDone};
 ghost use Rattle.command_words.specs.Job.{job_of};
 ghost use Rattle.command_words.specs.declared.jobs.Job.TheVariants.{Solo};
 
