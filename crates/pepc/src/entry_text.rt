@@ -1,6 +1,6 @@
 //! The lines of a report: an entry's text and a newline, made of lent parts.
 ghost use Rattle.std.specs.Prelude.{◌≡◌, ◌++◌, ◌∷◌, [], codes, OnOk};
-ghost use Rattle.demux.specs.Texts.{move_note, move_word};
+ghost use Rattle.demux.specs.Texts.{move_note};
 ghost use Rattle.packet_steps.specs.Lent.{verdict_of};
 ghost use Rattle.report_lines.specs.declared.entry.ChargeEntry.TheVariants as charge;
 ghost use Rattle.report_lines.specs.declared.entry.Entry.TheVariants as entry;
@@ -10,6 +10,7 @@ ghost use Rattle.trace_lines.specs.Word.{word_of};
 ghost use Rattle.pepc.specs.Entries.{text_line, judged_by};
 
 use charging_book::{ChargeRow, Open};
+use demux::move_word;
 use pc_base::{Effect, Reply, SliceNo, Slot};
 use std::alloc::AllocError;
 use subscriber::Handled;
@@ -59,16 +60,6 @@ pub fn push_move(
     report.push_number(u64::from(slot.0))?;
     report.push_number(u64::from(slice.0))?;
     end_line(report)
-}
-
-fn move_word(bound_for: SliceNo, slice: SliceNo) -> &'static str
-    ensures { result.now ≡ move_word bound_for slice }
-{
-    if slice.0 == bound_for.0 {
-        "stay"
-    } else {
-        "move"
-    }
 }
 
 /// Appends the entry of a slot's command of this number, with its reply.
