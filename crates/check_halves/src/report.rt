@@ -70,7 +70,7 @@ fn push_lines(
 
 fn push_epochs(
     alloc: Global,
-    text: &mut Vec<u8>,
+    text: &mut Text,
     epochs: &[Vec<Meant<'_>>],
     finished: &Finished,
 ) -> Result<(), NoMemory> {
@@ -97,7 +97,7 @@ fn push_effects(text: &mut Text, versions: &[VersionDone]) -> Result<(), NoMemor
 // The open counters, by the bearers' indices.
 fn push_opens(text: &mut Text, record: &Subscriber) -> Result<(), NoMemory> {
     for bearer in record.version.bearers() {
-        for counters in record.counters.book().still_open() {
+        for counters in record.still_open() {
             if counters.life == bearer.life {
                 push_open(text, SLOT, counters)?;
                 end_line(text)?;

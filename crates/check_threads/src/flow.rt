@@ -125,12 +125,12 @@ fn gathered<R: Wait>(
 {
     let ends = Vec::from_array(alloc, [end])?;
     match gather_flow(rt, alloc, side, ends) {
-        Ok(homes) => Ok(came(&homes)),
+        Ok(homes) => Ok(counted(&homes)),
         Err(_) => Err(Stop::Back),
     }
 }
 
-fn came(homes: &[Home<FlowHalf>]) -> Came {
+fn counted(homes: &[Home<FlowHalf>]) -> Came {
     let left = match homes.first() {
         Some(home) => home.left.len(),
         None => 0,

@@ -16,4 +16,5 @@ abbrev pub NoteIsDriven : Type 0
 NoteIsDriven = (rooms : Rooms) (bounds : ℕ → ℕ) (turns : List (List ℕ)) (slots first : ℕ) (before : Histories)
     (made : List Meaning) (told : EpochReport) (text : List ℕ) → length turns ≡ length made
     → IsDriven rooms bounds turns slots first before made told
-    → IsDriven rooms bounds turns slots first before (made ++ note text ∷ []) (with_note told (first + length made) text)
+    → IsDriven rooms bounds turns slots first before (made ++ note text ∷ [])
+    (with_note told (first + length made) text)

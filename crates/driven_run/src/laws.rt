@@ -27,8 +27,8 @@ pub fn driven_runs_are_lawful()
     ensures { DrivenRunsAreLawful }
 {}
 
-/// Where a line can't be read, its note stands behind the lines of its epoch, and no turns behind it. It changes nothing
-/// that is told of them.
+/// Where a line can't be read, its note stands behind the lines of its epoch, and no turns behind it. It changes
+/// nothing that is told of them.
 pub fn a_note_is_driven()
     ensures { NoteIsDriven }
 {}

@@ -21,7 +21,7 @@ use Rattle.trace_run.specs.Report.{IsBad, IsDone, IsLong}
 use Rattle.trace_run.specs.Told.{WhereTold}
 use Rattle.trace_run.proofs.ToldLemmas.{told_map}
 
--- the capture of first lines is a front of that of all
+-- the capture of first lines is a prefix of that of all
 export-front : (done more : List Line) → export_of (done ++ more) ≡ export_of done ++ flat_map record_of more
 export-front done more =
     ap (λ records. header ++ records) (flat_map-append record_of done more)
@@ -89,7 +89,7 @@ ends_whole ending failed start left old mid new waiting now ends sent = record {
       (λ octets rest reached. reports_at ending octets rest (export_of ends.done) ends.done refl reached) ends.reached;
 }
 
--- or a front of it
+-- or a prefix of it
 pub ends_cut : (ending : Ending) (failed : Type 0) (start left old mid new : Option (List ℕ)) (waiting : List ℕ)
     → ExportEnds ending start left old mid waiting → AppendsFront mid new waiting
     → Exports status.WriteFault failed start left old new

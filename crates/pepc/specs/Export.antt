@@ -19,7 +19,7 @@ pub record IsFaultExport (octets left text : List ℕ) : Type 0 where
   pub stop : (input_of taken.whole).stop ≡ ended
   pub capture : text ≡ export_of (input_of taken.whole).lines
 
--- a front of the capture
+-- a prefix of the capture
 pub record IsCutExport (octets text : List ℕ) : Type 0 where
   pub more : List ℕ
   pub parts : input_export octets ≡ text ++ more

@@ -47,7 +47,7 @@ pub record ExportEnds (ending : Ending) (start left old new : Option (List ℕ))
   pub written : Appends old new sent
   pub waits : export_of done ≡ sent ++ waiting
 
--- what was written of the capture of these lines where it is cut: a front of it, or that of some first ones
+-- what was written of the capture of these lines where it is cut: a prefix of it, or that of some first ones
 abbrev pub CutAt : Unwritten → List Line → List ℕ → Type 0
 CutAt unwritten.WriteFault done text = (more : List ℕ) × (export_of done ≡ text ++ more)
 CutAt unwritten.NoMemory done text = IsFirst text done

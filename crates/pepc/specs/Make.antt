@@ -39,7 +39,7 @@ abbrev pub IsMakeFront : Bool → List Line → List ℕ → Type 0
 IsMakeFront false lines text = IsFront lines text
 IsMakeFront true lines text = text ≡ []
 
--- a front of the text, and not all
+-- a prefix of the text, and not all
 pub record IsMakeCut (summary : Bool) (lines : List Line) (text : List ℕ) : Type 0 where
   pub more : List ℕ
   pub some_left : 0 < length more

@@ -88,7 +88,7 @@ abbrev pub next_text : List ℕ → List Line → ℕ → Histories → List Mea
 next_text waiting done latest before made line =
     waiting ++ entry_line (story_of done latest before made) (meant_next done line)
 
--- These lines are done: the gateway stands for them, the texts of the whole epochs are written, and the entries of the
+-- These lines are done: the gateway represents them, the texts of the whole epochs are written, and the entries of the
 -- open epoch's lines wait.
 pub record Progress (start ahead old new : Option (List ℕ)) (gateway : Solo) (size : Size) (number least room : ℕ)
     (waiting : List ℕ) (done : List Line) : Type 0 where
@@ -120,7 +120,7 @@ pub record Ends (ending : Ending) (start left old new : Option (List ℕ)) (wait
   pub said : SaysClosed sent closed
   pub waits : waiting ≡ entries_text (open_entries closed open_ (stop_noted (stop_of ending (length done + 1))))
 
--- the report was cut: what was written is a front of the texts of some first whole epochs, and all of it where memory
+-- the report was cut: what was written is a prefix of the texts of some first whole epochs, and all of it where memory
 -- ran out
 pub record Cuts (why : Unwritten) (start left old new : Option (List ℕ)) : Type 0 where
   pub done : List Line

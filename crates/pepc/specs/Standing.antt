@@ -1,4 +1,4 @@
--- What a gateway on one thread stands for: the lines that it answered, epoch by epoch.
+-- What a gateway on one thread represents: the lines that it answered, epoch by epoch.
 use Rattle.std.specs.Prelude.{◌≡◌, ℕ, ◌+◌, ◌^◌, ◌<◌, ◌≤◌, ◌==◌, if◌then◌else◌, List, []}
 use Rattle.std.specs.Prelude.{◌∷◌, ◌++◌, length, IfSome}
 use Rattle.trace_lines.specs.Line.{Line}
@@ -53,7 +53,7 @@ with_book story book = record story { book = book }
 abbrev pub with_end : Story → Story
 with_end story = record story { before = events_of story; made = [] }
 
--- A subscriber stands for the events of its slot, and its charging records are all taken out; it is bound for a slice,
+-- A subscriber represents the events of its slot, and its charging records are all taken out; it is bound for a slice,
 -- and none of its packets came later than this moment.
 pub record SlotStands (held : subscribers.SubscriberState) (slot bound latest : ℕ) (events : List Event) : Type 0 where
   pub stands : subscribers.StandsFor held slot events (length (records_after slot events))
@@ -64,7 +64,7 @@ pub record SlotStands (held : subscribers.SubscriberState) (slot bound latest : 
 abbrev pub NoneBeyond : Story → Type 0
 NoneBeyond story = (slot : ℕ) → length story.book ≤ slot → events_of story slot ≡ []
 
--- the gateway has a subscriber for each slot of the book, and each stands for its slot's events
+-- the gateway has a subscriber for each slot of the book, and each represents its slot's events
 pub record Stands (solo : Solo) (story : Story) : Type 0 where
   pub counted : solo.lines ≡ story.lines
   pub same_book : solo.book ≡ story.book

@@ -57,7 +57,7 @@ impl Solo {
         }
     }
 
-    /// Answers a line: its entry's text is appended to the report. After want of memory the gateway
+    /// Answers a line: its entry's text is appended to the report. After running out of memory the gateway
     /// may only be dropped.
     pub fn enter(
         &mut self,

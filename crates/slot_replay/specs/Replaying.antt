@@ -122,6 +122,6 @@ pub record Goes (subscriber : SubscriberState) (replayed : Replayed) (slot : ℕ
   pub plays : Plays subscriber replayed slot before now
   pub rest : now ++ ordered done (length (packets_of (before ++ now))) left packets ≡ all
 
--- only what is told of packets is more, or all else but that
+-- what is told of packets is as it was
 abbrev pub KeepsPackets : Replayed → Replayed → Type 0
 KeepsPackets old new = new.packets.items ≡ old.packets.items

@@ -12,8 +12,8 @@ pub struct Replied {
     pub reply: Reply,
 }
 
-/// The verdict on the slot's packet of this number, behind so many of its commands, and where it was
-/// handled. Its octets lie in its line.
+/// The verdict on the slot's packet of this number, told to stand behind so many of its commands, and where it
+/// was handled. Its octets lie in its line.
 #[derive(Drop)]
 pub struct Judged<'a> {
     pub number: u64,

@@ -177,7 +177,7 @@ runs_whole may_have places ending source_failed start left old new done text rea
       (λ octets over is. reports_ending may_have places ending source_failed octets over text done is due) reached;
 }
 
--- a front of the report of this ending
+-- a prefix of the report of this ending
 cut_ending : (may_have : Input → Report → Type 0) (places : Bool) (ending : Ending) (source_failed : Type 0)
     (octets left text more : List ℕ) (done : List Line)
     → (ending ≡ ReadFault → source_failed)

@@ -13,8 +13,8 @@ use Rattle.trace_run.specs.declared.status.Status.{Status}
 use Rattle.trace_run.specs.declared.status.Status.TheVariants as status
 use Rattle.trace_run.specs.Told.{WhereTold}
 
--- Which reports an input may have is a relation, and whether places are told in its text a choice; the definitions below
--- hold for any of them. The text is that of a report that the input may have.
+-- Which reports an input may have is a relation, and whether places are told in its text a choice; the definitions
+-- below hold for any of them. The text is that of a report that the input may have.
 pub record IsText (may_have : Input → Report → Type 0) (places : Bool) (input : Input) (text : List ℕ) : Type 0 where
   pub report : Report
   pub allowed : may_have input report
@@ -57,8 +57,8 @@ pub record IsFaultText (may_have : Input → Report → Type 0) (places : Bool) 
   pub stop : (input_of taken.whole).stop ≡ ended
   pub report : IsText may_have places (input_of taken.whole) text
 
--- a front of what another status would have left: of the whole report, or of that of the lines taken where the source
--- failed; or a front of the text of some first whole epochs, without open counters
+-- a prefix of what another status would have left: of the whole report, or of that of the lines taken where the source
+-- failed; or a prefix of the text of some first whole epochs, without open counters
 pub record IsCutText (may_have : Input → Report → Type 0) (places : Bool) (source_failed : Type 0)
     (octets left text : List ℕ) : Type 0 where
   pub more : List ℕ
