@@ -1,0 +1,68 @@
+//! The text of a schedule: a letter a line (`t` taken, `p` parked, `f` refused), by slot what each packet met and
+//! where, and the generator's state.
+use pc_base::Place;
+use schedule_run::{Met, Outcome, Scheduled, Turns};
+use std::alloc::AllocError;
+use text_fields::push_number;
+
+fn letter(outcome: Outcome) -> u8 {
+    if !outcome.taken {
+        b'f'
+    } else if outcome.parked {
+        b'p'
+    } else {
+        b't'
+    }
+}
+
+fn push_met(text: &mut Vec<u8>, met: &Met) -> Result<(), AllocError> {
+    push_number(text, met.commands as u64)?;
+    match met.place {
+        Place::At(slice) => {
+            text.push(b'@')?;
+            push_digits(text, u64::from(slice.0))
+        }
+        Place::Closing => text.extend_from_slice(b"@-"),
+    }
+}
+
+// A number below 100.
+fn push_digits(text: &mut Vec<u8>, number: u64) -> Result<(), AllocError> {
+    if number >= 10 {
+        text.push(b'0' + (number / 10 % 10) as u8)?;
+    }
+    text.push(b'0' + (number % 10) as u8)?;
+    Ok(())
+}
+
+fn push_slot(text: &mut Vec<u8>, slot: u32, mets: &[Met]) -> Result<(), AllocError> {
+    text.extend_from_slice(b" |")?;
+    push_number(text, u64::from(slot))?;
+    for met in mets {
+        push_met(text, met)?;
+    }
+    Ok(())
+}
+
+/// The text of a schedule of the slots below this one.
+pub fn push_schedule(
+    text: &mut Vec<u8>,
+    scheduled: &Scheduled,
+    slots: u32,
+    turns: &Turns,
+) -> Result<(), AllocError> {
+    for outcome in scheduled.outcomes() {
+        text.push(letter(*outcome))?;
+    }
+    for slot in 0..slots {
+        let mets = scheduled.mets(slot);
+        if !mets.is_empty() {
+            push_slot(text, slot, mets)?;
+        }
+    }
+    if let Turns::Drawn { state, .. } = turns {
+        text.extend_from_slice(b" ;")?;
+        push_number(text, *state)?;
+    }
+    Ok(())
+}
