@@ -120,11 +120,11 @@ impl Bench {
         kind: CommandKind,
         floor: u32,
     ) -> Result<bool, Stop> {
+        let version = self.version_of(alloc, kind)?;
+        let batch = Batch::new(alloc, version, u64::from(floor))?;
         if self.versions.offers() > 100 {
             return Err(Stop::Step);
         }
-        let version = self.version_of(alloc, kind)?;
-        let batch = Batch::new(alloc, version, u64::from(floor))?;
         Ok(self.versions.offer(rt, batch).is_ok())
     }
 
