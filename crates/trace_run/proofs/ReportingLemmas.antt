@@ -92,7 +92,15 @@ ends_open may_have places before behind size later waiting text done sent latest
       said = said;
     }
 
--- the text of the epoch that ended waits whole
+-- the epoch is open, or its text waits whole
+pub answered_open : (ends : Bool) (may_have : Input → Report → Type 0) (places : Bool)
+    (represents : List (List Line) → List Line → List ℕ → List ℕ → Type 0) (size : Size) (text : List ℕ)
+    (done : List Line) (sent : List ℕ) → ends ≡ false
+    → AnsweredAs ends may_have places represents size text done sent
+    → Standing may_have places represents size text done sent
+answered_open ends may_have places represents size text done sent is answered =
+    subst (λ test. AnsweredAs test may_have places represents size text done sent) is answered
+
 pub answered_whole : (ends : Bool) (may_have : Input → Report → Type 0) (places : Bool)
     (represents : List (List Line) → List Line → List ℕ → List ℕ → Type 0) (size : Size) (text : List ℕ)
     (done : List Line) (sent : List ℕ) → ends ≡ true
