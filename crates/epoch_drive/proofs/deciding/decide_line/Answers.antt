@@ -1,0 +1,42 @@
+use Rattle.std.proofs.Common.{◌≡◌, sym, ap, subst, ◌∙◌}
+use Rattle.demux.specs.declared.decision.Decision.{Decision}
+use Rattle.demux.specs.declared.decision.Decision.TheVariants as decision
+use Rattle.demux.specs.Resolved.{HasMoment, IsDecision, book_behind}
+use Rattle.at_rest.proofs.Resting.{new_rests}
+use Rattle.epoch_drive.proofs.Turning.{IsDecided, turned_command, turned_note, turned_order, turned_packet}
+use Rattle.epoch_drive.proofs.deciding.decide_line.Goals as goal
+
+pub returns-in-Command : goal.returns-in-Command
+returns-in-Command c =
+    let made : Decision = decision.Command c.in-Command.whose c.in-Command.command in
+    let is : IsDecided c.args.slices c.args.book.now c.args.line.now made = record {
+      decision = sym c.in-Command.is ∙ c.in_ok-whose.ensures.decision;
+      behind = ap (book_behind c.args.book.now) (sym c.in-Command.is) ∙ c.in_ok-whose.ensures.book;
+    } in
+    turned_command new_rests c.args.slices c.args.book.now c.args.subscribers.now.items c.args.line.now
+    c.in-Command.whose c.in-Command.command c.in_ok-slot.slot c.admit.new.book c.admit.new.subscribers.items
+    c.requires.slices.0 c.requires.many is
+    (subst (IsDecision c.args.slices c.args.book.now) c.in-Command.is c.in_ok-whose.ensures.valid)
+    c.in_ok-slot.ensures.slot c.in_ok-slot.ensures.book c.in_ok-slot.ensures.subscribers
+
+pub returns-in-Packet : goal.returns-in-Packet
+returns-in-Packet c =
+    let made : Decision = decision.Packet c.in-Packet.slot c.in-Packet.packet in
+    let is : IsDecided c.args.slices c.args.book.now c.args.line.now made = record {
+      decision = sym c.in-Packet.is ∙ c.in_ok-whose.ensures.decision;
+      behind = ap (book_behind c.args.book.now) (sym c.in-Packet.is) ∙ c.in_ok-whose.ensures.book;
+    } in
+    turned_packet c.args.slices c.args.book.now c.args.subscribers.now.items c.args.line.now c.in-Packet.slot
+    c.in-Packet.packet c.requires.many is
+    (subst (IsDecision c.args.slices c.args.book.now) c.in-Packet.is c.in_ok-whose.ensures.valid)
+    (subst (HasMoment c.args.line.now.moment) c.in-Packet.is c.in_ok-whose.ensures.moment)
+
+pub returns-in-Note : goal.returns-in-Note
+returns-in-Note c =
+    let made : Decision = decision.Note c.in-Note.text in
+    let is : IsDecided c.args.slices c.args.book.now c.args.line.now made = record {
+      decision = sym c.in-Note.is ∙ c.in_ok-whose.ensures.decision;
+      behind = ap (book_behind c.args.book.now) (sym c.in-Note.is) ∙ c.in_ok-whose.ensures.book;
+    } in
+    turned_note c.args.slices c.args.book.now c.args.subscribers.now.items c.args.line.now c.in-Note.text
+    c.requires.many is
