@@ -40,3 +40,21 @@ returns-in-Note c =
     } in
     turned_note c.args.slices c.args.book.now c.args.subscribers.now.items c.args.line.now c.in-Note.text
     c.requires.many is
+
+pub returns-in-Move : goal.returns-in-Move
+returns-in-Move c =
+    let made : Decision = decision.Move c.in-Move.slot c.in-Move.slice in
+    let is : IsDecided c.args.slices c.args.book.now c.args.line.now made = record {
+      decision = sym c.in-Move.is ∙ c.in_ok-whose.ensures.decision;
+      behind = ap (book_behind c.args.book.now) (sym c.in-Move.is) ∙ c.in_ok-whose.ensures.book;
+    } in
+    let valid : IsDecision c.args.slices c.args.book.now made =
+    subst (IsDecision c.args.slices c.args.book.now) c.in-Move.is c.in_ok-whose.ensures.valid in
+    IfOk-weaker c.go.result
+    (λ meant. GoesOrStays c.args.subscribers.now.items c.go.new.subscribers.items c.in-Move.slot c.in-Move.slice meant)
+    (λ meant. Turned c.args.slices c.args.book.now c.args.subscribers.now.items c.args.line.now meant c.args.book.now
+    c.go.new.subscribers.items)
+    (λ meant does.
+    turned_order c.args.slices c.args.book.now c.args.subscribers.now.items c.args.line.now c.in-Move.slot
+    c.in-Move.slice meant c.go.new.subscribers.items c.requires.many is valid.0 valid.1 does)
+    c.go.ensures
