@@ -1,4 +1,4 @@
-use Rattle.std.proofs.Common.{◌≡◌, ◌++◌, ◌∷◌, [], map, sym, ap, subst, ◌∙◌}
+use Rattle.std.proofs.Common.{◌+◌, ◌++◌, ◌∷◌, [], List, map, take, sym, ap, subst, ◌∙◌, arith}
 use Rattle.std.proofs.lemmas.List.{map_push}
 use Rattle.slice_schedule.specs.Front.{Asks}
 use Rattle.schedule_run.specs.Lines.{asked}
@@ -11,7 +11,7 @@ use Rattle.epoch_drive.proofs.deciding.decide_all.Goals as goal
 pub loop-line-init : goal.loop-line-init
 loop-line-init c = record {
   turned = turned_first c.args.slices c.args.book.now c.args.subscribers.now.items c.new-meant.result.items
-      c.requires.many c.new-meant.ensures.items;
+      (omega (arith, c.requires.many, c.args.subscribers.now.ok.0)) c.new-meant.ensures.items;
   asks = ap (map asked) c.new-asks.ensures.items
       ∙ sym (ap (map (λ (now : Meant). asks_of (meaning_of now))) c.new-meant.ensures.items);
 }
@@ -22,7 +22,8 @@ loop-line-preserved c =
     let now = c.in_ok-now.now in
     let means : Meant → Asks = λ now. asks_of (meaning_of now) in
     record {
-      turned = subst (λ ms. TurnedAll c.args.slices c.args.book.now c.args.subscribers.now.items _ ms
+      turned = subst (λ (ms : List Meant). TurnedAll c.args.slices c.args.book.now c.args.subscribers.now.items
+          (take (at.line-index + 1) c.args.lines.now) ms
           c.decide_line.new.book c.decide_line.new.subscribers.items) (sym c.in_ok-push-2.ensures.items)
           (turned_next c.args.slices c.args.book.now at.book c.decide_line.new.book c.args.subscribers.now.items
           at.subscribers.items c.decide_line.new.subscribers.items c.args.lines.now at.line-index c.line-item.result
