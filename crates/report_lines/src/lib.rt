@@ -13,11 +13,14 @@ mod reading;
 mod words;
 mod writing;
 
+pub use charges::{push_open, push_row};
 pub use entry::{Answer, ChargeEntry, EffectEntry, Entry, Judgement, LineEntry, Note, Refusal};
-pub use laws::{one_text_of_an_entry, one_text_without_places, without_place_an_entry};
+pub use laws::{
+    an_entry_is_a_line, one_text_of_an_entry, one_text_without_places, without_place_an_entry,
+};
 pub use reading::read;
 pub use std::alloc::AllocError as NoMemory;
 pub use writing::{
-    push_answer, push_effect, push_judged, push_note, push_open, push_packet, push_row, push_text,
-    text,
+    push_answer, push_effect, push_judged, push_note, push_packet, push_placed, push_refusal,
+    push_text, text,
 };
