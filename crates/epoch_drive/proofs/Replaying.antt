@@ -14,11 +14,11 @@ use Rattle.lawful_run.specs.Run.{by_slot}
 use Rattle.lawful_run.specs.Telling.{counted}
 use Rattle.subscriber.specs.Standing.{SubscriberState}
 use Rattle.at_rest.specs.Rest.{Represents}
-use Rattle.slot_replay.specs.Replaying.{IsLedTo, counts_in, counts_of, effects_told, events_of, latest_of, moment_of, placed_lent, places_in, places_of}
+use Rattle.slot_replay.specs.Replaying.{counts_of, effects_told, events_of, latest_of, moment_of, placed_lent, places_of}
 use Rattle.slot_replay.specs.declared.placed.Placed.{Placed}
 use Rattle.slot_replay.specs.declared.replayed.Replayed.{Replayed}
 use Rattle.epoch_drive.specs.Meant.{AreStanding}
-use Rattle.epoch_drive.specs.Replays.{HasDone, HaveDone, IsTold, commands_at, commands_shared, events_shared, packets_at, packets_shared}
+use Rattle.epoch_drive.specs.Replays.{AllCanDo, CanDo, DoesShare, HasDone, HaveDone, IsTold, commands_at, commands_shared, events_shared, packets_at, packets_shared}
 use Rattle.epoch_drive.specs.Told.{rows_told}
 use Rattle.epoch_drive.specs.declared.replays.Answers.{Answers}
 use Rattle.epoch_drive.specs.declared.replays.Replays.{Replays}
@@ -41,20 +41,6 @@ by_slot-next has n =
     let more : n + 1 ≡ suc n = omega arith in
     let at : 0 + n ≡ n = omega arith in
     ap (λ k. flat_map has (counted 0 k)) more ∙ flat_next has 0 n ∙ ap (λ k. by_slot n has ++ has k) at
-
--- what a subscriber does with a share
-pub record DoesShare (old new : SubscriberState) (share : Share) (replayed : Replayed) : Type 0 where
-  pub led : (slot : ℕ) (before : List Event) → Represents old slot before
-      → IsLedTo replayed slot before (events_of before (commands_shared share) (packets_shared share))
-  pub rows : (slot : ℕ) (before : List Event) → Represents old slot before
-      → map (R slot) replayed.rows.items
-      ≡ made_of.rows slot before (events_of before (commands_shared share) (packets_shared share))
-  pub counts : counts_in replayed.packets.items ≡ counts_of share.packets.items
-  pub places : places_in replayed.packets.items ≡ places_of share.packets.items
-  pub represents : (slot : ℕ) (before : List Event) → Represents old slot before
-      → Represents new slot (before ++ events_of before (commands_shared share) (packets_shared share))
-  pub last : moment_of new ≡ latest_of (moment_of old) share.packets.items
-  pub destination : new.destination ≡ old.destination
 
 pub record AddsReplayed (replays after : Replays) (slot : ℕ) (replayed : Replayed) : Type 0 where
   pub answers : after.answers.items ≡ replays.answers.items
@@ -185,3 +171,12 @@ more_done old now new shares replays after i subscriber did share replayed have 
           ∙ ap (λ es. by_slot i has ++ es) (does.rows i (before i) represents ∙ ap (made_of.rows i (before i)) events)
           ∙ sym (by_slot-next has i);
     }
+
+-- the next subscriber can do its share
+pub can_next : (old now : List SubscriberState) (shares : List Share) (replays : Replays) (i : ℕ)
+    (subscriber : SubscriberState) (share : Share) → HaveDone old now shares replays i → AllCanDo old shares
+    → i < length old → subscriber ≡ get_or now i subscriber → share ≡ get_or shares i share
+    → CanDo subscriber share
+can_next old now shares replays i subscriber share have can low is share_is =
+    subst (λ s. CanDo s share) (sym (is ∙ have.later i subscriber (omega arith)))
+    (subst (CanDo (get_or old i subscriber)) (sym share_is) (can i subscriber share low))

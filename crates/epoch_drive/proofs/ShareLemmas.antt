@@ -3,7 +3,7 @@ use Rattle.std.proofs.Common.{◌≡◌, ◌≢◌, ℕ, zero, suc, ◌+◌, ◌
 use Rattle.std.specs.List.{All, filter_map, cons_option}
 use Rattle.std.specs.Option.{option_map}
 use Rattle.std.proofs.lemmas.Bool.{cases_eq, eq-eqb, ne_eqb}
-use Rattle.std.proofs.lemmas.List.{get_or-map, length-map, map_push, take-append-drop, take_more}
+use Rattle.std.proofs.lemmas.List.{get_or-map, length-map, map_push, take-append-drop, take_all, take_more}
 use Rattle.std.proofs.lemmas.List.Elements.{filter_map-append, All-get_or}
 use Rattle.control_steps.specs.declared.command.CommandKind.{CommandKind}
 use Rattle.demux.specs.Trace.{Meaning, command, packet, move, note}
@@ -18,8 +18,11 @@ use Rattle.schedule_run.specs.Plan.{Plan, mets_of}
 use Rattle.slot_replay.specs.Replaying.{commands_lent, counts_of, places_of}
 use Rattle.slot_replay.specs.declared.placed.Placed.{Placed}
 use Rattle.subscriber.specs.Standing.{SubscriberState, commands_met}
+use Rattle.epoch_drive.specs.Meant.{IsWithin, meaning_of}
 use Rattle.epoch_drive.specs.Opened.{open_command, open_entry, open_packet, opened}
-use Rattle.epoch_drive.specs.Shares.{AreMet, AreShares, base_at, GivesCommand, GivesPacket, IsEmpty, IsShare, MayMeet, packets_alone, packets_lent}
+use Rattle.epoch_drive.specs.Shares.{AreMet, AreShares, base_at, GivesCommand, GivesPacket, HasMet, IsEmpty, IsShare, MayMeet, packets_alone, packets_lent}
+use Rattle.epoch_drive.specs.declared.meant.Meant.{Meant}
+use Rattle.epoch_drive.specs.declared.meant.Meant.TheVariants as meant
 use Rattle.epoch_drive.specs.declared.sharing.Share.{Share}
 use Rattle.epoch_drive.proofs.Places.{AllAt, all_set}
 
@@ -293,3 +296,72 @@ may_meet shares subscribers plan told i n own p o low many is_taken are met more
       All-get_or (λ (s : SubscriberState). commands_met s ≤ 2 ^ 40) subscribers own subscriber
       (omega (arith, low, many)) met.counts;
 }
+
+-- the lines of an epoch, one after another
+module _ (shares : List Share) (subscribers : List SubscriberState) (plan : Plan) where
+  empty_is : (share : Share) (base : ℕ) (mets : List Met) (slot : ℕ) → IsEmpty share → IsShare share base mets [] slot
+  empty_is share base mets slot is = record {
+    commands = ap commands_lent is.0;
+    packets = ap packets_lent is.1;
+    counts = ap counts_of is.1
+        ∙ ap (λ ps. map (λ (m : Met). base + m.commands) (take (length ps) mets)) (sym is.1);
+    places = ap places_of is.1 ∙ ap (λ ps. map (λ (m : Met). m.place) (take (length ps) mets)) (sym is.1);
+  }
+
+  -- none of them yet
+  pub shares_none : All IsEmpty shares → AreShares shares subscribers plan []
+  shares_none all slot share low =
+      empty_is (get_or shares slot share) (base_at subscribers slot) (mets_of plan slot) slot
+      (All-get_or IsEmpty shares slot share low all)
+
+  -- one that was refused
+  pub shares_refused : (told : List LineTold) (n : ℕ) (m : Meaning) (o : Outcome) → o.taken ≡ false
+      → AreShares shares subscribers plan told → AreShares shares subscribers plan (told ++ line_at n m o ∷ [])
+  shares_refused told n m o isnt are =
+      shares_stay shares subscribers plan told (line_at n m o) are (λ slot. refused_nothing n m o slot isnt)
+
+  module _ (meants : List Meant) (i : ℕ) (as_many : length plan.outcomes ≡ length meants) where
+    abbrev lines_from : ℕ → List LineTold
+    lines_from first = opened first (map meaning_of meants) plan.outcomes
+
+    is_next : (first : ℕ) (it : Meant) (o : Outcome) → i < length meants → it ≡ get_or meants i it
+        → o ≡ get_or plan.outcomes i o
+        → take i (lines_from first) ++ line_at (first + i) (meaning_of it) o ∷ [] ≡ take (i + 1) (lines_from first)
+    is_next first it o low it_is o_is =
+        opened_more first i (map meaning_of meants) plan.outcomes (meaning_of it) o
+        (omega (arith, low, length-map meants meaning_of)) (omega (arith, low, as_many))
+        (ap meaning_of it_is ∙ sym (get_or-map meaning_of meants i it (meaning_of it) low)) o_is
+
+    pub shares_next : (first : ℕ) (it : Meant) (o : Outcome) → i < length meants → it ≡ get_or meants i it
+        → o ≡ get_or plan.outcomes i o
+        → AreShares shares subscribers plan (take i (lines_from first) ++ line_at (first + i) (meaning_of it) o ∷ [])
+        → AreShares shares subscribers plan (take (i + 1) (lines_from first))
+    shares_next first it o low it_is o_is are =
+        subst (AreShares shares subscribers plan) (is_next first it o low it_is o_is) are
+
+    -- the packet of the next one has what it meets
+    pub has_met : (it : Meant) (o : Outcome) → length shares ≡ length subscribers
+        → All (IsWithin (length subscribers)) meants → i < length meants → it ≡ get_or meants i it
+        → o ≡ get_or plan.outcomes i o → AreShares shares subscribers plan (take i (lines_from 0))
+        → AreMet plan subscribers (lines_from 0) → o.taken ≡ true → HasMet shares subscribers plan it
+    has_met (meant.Command slot c) o many all low it_is o_is are met is_taken = tt
+    has_met (meant.Packet slot p) o many all low it_is o_is are met is_taken =
+        let within : IsWithin (length subscribers) (meant.Packet slot p) =
+        subst (IsWithin (length subscribers)) (sym it_is)
+        (All-get_or (IsWithin (length subscribers)) meants i (meant.Packet slot p) low all) in
+        may_meet shares subscribers plan (lines_from 0) i (0 + i) slot p o (omega (arith, within, many)) many is_taken
+        are met (is_next 0 (meant.Packet slot p) o low it_is o_is)
+    has_met (meant.Move slot slice text) o many all low it_is o_is are met is_taken = tt
+    has_met (meant.Note text) o many all low it_is o_is are met is_taken = tt
+
+    opened_few : (n : ℕ) (made : List Meaning) (outs : List Outcome) → length (opened n made outs) ≤ length made
+    opened_few n [] outs = omega arith
+    opened_few n (m ∷ made) [] = omega arith
+    opened_few n (m ∷ made) (o ∷ outs) = omega (arith, opened_few (n + 1) made outs)
+
+    -- all of them
+    pub shares_over : (first : ℕ) → length meants ≤ i → AreShares shares subscribers plan (take i (lines_from first))
+        → AreShares shares subscribers plan (lines_from first)
+    shares_over first over are =
+        subst (AreShares shares subscribers plan) (take_all i (lines_from first)
+        (omega (arith, over, opened_few first (map meaning_of meants) plan.outcomes, length-map meants meaning_of))) are

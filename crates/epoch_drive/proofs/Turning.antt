@@ -327,7 +327,7 @@ all_within few many meants it le all own =
     (All-weaker (IsWithin few) (IsWithin many) (λ x. within_more few many x le) meants all) own
 
 -- no line yet
-pub turned_none : (slices : ℕ) (book : List (List ℕ)) (subscribers : List SubscriberState)
+turned_none : (slices : ℕ) (book : List (List ℕ)) (subscribers : List SubscriberState)
     → length subscribers ≡ length book → TurnedAll slices book subscribers [] [] book subscribers
 turned_none slices book subscribers many = record {
   many = many;
@@ -338,6 +338,12 @@ turned_none slices book subscribers many = record {
   keep = λ before standing. standing;
   rest = λ count latest rest. rest;
 }
+
+pub turned_first : (slices : ℕ) (book : List (List ℕ)) (subscribers : List SubscriberState) (meants : List Meant)
+    → length subscribers ≡ length book → meants ≡ [] → TurnedAll slices book subscribers [] meants book subscribers
+turned_first slices book subscribers meants many none =
+    subst (λ ms. TurnedAll slices book subscribers [] ms book subscribers) (sym none)
+    (turned_none slices book subscribers many)
 
 -- and one more
 meant_from-push : (slices : ℕ) (prior lines : List Line) (line : Line)

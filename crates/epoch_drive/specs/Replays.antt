@@ -1,5 +1,6 @@
 -- What the subscribers make of their shares.
 use Rattle.std.specs.Prelude.{◌≡◌, ℕ, ◌+◌, ◌≤◌, ◌<◌, List, [], ◌++◌, length, map, get_or}
+use Rattle.std.specs.Borrow.{Bor}
 use Rattle.control_steps.specs.declared.command.CommandKind.{CommandKind}
 use Rattle.gate_model.specs.Events.{commands_of, packets_of}
 use Rattle.gate_model.specs.declared.event.Event.{Event}
@@ -8,9 +9,12 @@ use Rattle.lawful_run.specs.Order.{Histories}
 use Rattle.lawful_run.specs.Outcomes as made_of
 use Rattle.lawful_run.specs.Run.{by_slot}
 use Rattle.lawful_run.specs.Telling.{counted}
+use Rattle.report_lines.specs.declared.entry.ChargeEntry.TheVariants.{R}
 use Rattle.subscriber.specs.Standing.{SubscriberState}
 use Rattle.at_rest.specs.Rest.{Represents}
-use Rattle.slot_replay.specs.Replaying.{AreLate, CanReplay, commands_lent, counts_in, counts_of, effects_told, events_of, latest_of, moment_of, numbers_in, packet_numbers_in, placed_lent, places_in, places_of, replies_in, verdicts_in}
+use Rattle.slot_replay.specs.Replaying.{AreLate, CanReplay, IsLedTo, commands_lent, counts_in, counts_of, effects_told, events_of, latest_of, moment_of, numbers_in, packet_numbers_in, placed_lent, places_in, places_of, replies_in, verdicts_in}
+use Rattle.slot_replay.specs.declared.placed.Placed.{Placed}
+use Rattle.slot_replay.specs.declared.replayed.Replayed.{Replayed}
 use Rattle.epoch_drive.specs.Meant.{AreStanding}
 use Rattle.epoch_drive.specs.Told.{rows_told}
 use Rattle.epoch_drive.specs.declared.replays.Answers.{Answers}
@@ -53,6 +57,25 @@ pub record HasDone (old new : SubscriberState) (shares : List Share) (answers : 
   pub places : (share : Share) → places_in answers.packets.items ≡ places_of (get_or shares slot share).packets.items
   pub moment : (share : Share) → moment_of new ≡ latest_of (moment_of old) (get_or shares slot share).packets.items
   pub destination : new.destination ≡ old.destination
+
+-- what a subscriber does with commands and packets
+pub record DoesWith (old new : SubscriberState) (commands : List (Bor CommandKind)) (packets : List Placed)
+    (replayed : Replayed) : Type 0 where
+  pub led : (slot : ℕ) (before : List Event) → Represents old slot before
+      → IsLedTo replayed slot before (events_of before (commands_lent commands) (placed_lent packets))
+  pub rows : (slot : ℕ) (before : List Event) → Represents old slot before
+      → map (R slot) replayed.rows.items
+      ≡ made_of.rows slot before (events_of before (commands_lent commands) (placed_lent packets))
+  pub counts : counts_in replayed.packets.items ≡ counts_of packets
+  pub places : places_in replayed.packets.items ≡ places_of packets
+  pub represents : (slot : ℕ) (before : List Event) → Represents old slot before
+      → Represents new slot (before ++ events_of before (commands_lent commands) (placed_lent packets))
+  pub last : moment_of new ≡ latest_of (moment_of old) packets
+  pub destination : new.destination ≡ old.destination
+
+-- .. with a share
+abbrev pub DoesShare : (old new : SubscriberState) → Share → Replayed → Type 0
+DoesShare old new share replayed = DoesWith old new share.commands.items share.packets.items replayed
 
 -- the subscribers of the first slots did theirs
 pub record HaveDone (old new : List SubscriberState) (shares : List Share) (replays : Replays) (done : ℕ) :

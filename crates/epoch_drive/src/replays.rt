@@ -2,7 +2,7 @@
 ghost use Rattle.std.specs.Prelude.{◌≡◌, ◌++◌, ◌∷◌, [], length, map, vec_len, IfOk, OnOk};
 ghost use Rattle.slot_replay.specs.Replaying.{effects_told};
 ghost use Rattle.report_lines.specs.declared.entry.ChargeEntry.TheVariants.{R};
-ghost use Rattle.epoch_drive.specs.Replays.{AllCanDo, HaveDone};
+ghost use Rattle.epoch_drive.specs.Replays.{AllCanDo, CanDo, DoesShare, HaveDone};
 ghost use Rattle.epoch_drive.specs.Told.{rows_told};
 
 use crate::epoch::Closed;
@@ -50,16 +50,24 @@ pub fn replay_all<'a>(
     };
     for i in 0..slots {
         let place = i as usize;
-        let share = &shares[place];
-        let replayed = replay(
-            alloc,
-            &mut subscribers[place],
-            share.commands.as_slice(),
-            share.packets.as_slice(),
-        )?;
+        let replayed = replay_share(alloc, &mut subscribers[place], &shares[place])?;
         add_replayed(&mut replays, Slot(i), replayed)?;
     }
     Ok(replays)
+}
+
+// A subscriber does its share.
+fn replay_share<'a>(
+    alloc: Global,
+    subscriber: &mut Subscriber,
+    share: &Share<'_, 'a>,
+) -> Result<Replayed<'a>, AllocError>
+    requires { CanDo subscriber.old share.now }
+    ensures { IfOk result (DoesShare subscriber.old subscriber.new share.now) }
+{
+    let commands = share.commands.as_slice();
+    let packets = share.packets.as_slice();
+    Ok(replay(alloc, subscriber, commands, packets)?)
 }
 
 // What the next slot's share led to.

@@ -1,7 +1,6 @@
 //! The commands and packets that were taken, by slot.
 ghost use Rattle.std.specs.Prelude.{◌≡◌, ◌<◌, ℕ, ◌++◌, ◌∷◌, [], List, All, length, map, vec_len, true, IfOk, OnOk};
 ghost use Rattle.lawful_run.specs.LinesTold.{LineTold};
-ghost use Rattle.slice_schedule.specs.Front.{Outcome};
 ghost use Rattle.epoch_drive.specs.Meant.{IsWithin, meaning_of};
 ghost use Rattle.epoch_drive.specs.Opened.{open_entry, opened};
 ghost use Rattle.epoch_drive.specs.Shares.{
@@ -18,7 +17,7 @@ use crate::meant::Meant;
 use control_steps::Command;
 use demux::LentPacket;
 use pc_base::Slot;
-use schedule_run::Scheduled;
+use schedule_run::{Outcome, Scheduled};
 use slot_replay::Placed;
 use std::alloc::{AllocError, Global};
 use subscriber::Subscriber;
@@ -48,51 +47,58 @@ pub fn shares_of<'p, 'a>(
     let mut shares = empty_shares(alloc, subscribers.len())?;
     let outcomes = scheduled.outcomes();
     for (i, now) in meant.iter().enumerate() {
-        let outcome = outcomes[i];
-        if outcome.taken {
-            share_line(&mut shares, subscribers, scheduled, now)?;
-        }
+        share_line(&mut shares, subscribers, scheduled, now, outcomes[i])?;
     }
     Ok(shares)
 }
 
-fn empty_shares<'a>(alloc: Global, slots: usize) -> Result<Vec<Share<'a, 'a>>, AllocError>
+fn empty_shares<'p, 'a>(alloc: Global, slots: usize) -> Result<Vec<Share<'p, 'a>>, AllocError>
     ensures many { IfOk result (λ shares. vec_len shares ≡ slots) }
     ensures empty { IfOk result (λ shares. All IsEmpty shares.items) }
 {
-    let mut shares = Vec::new(alloc);
+    let mut shares: Vec<Share<'p, 'a>> = Vec::new(alloc);
     for _ in 0..slots {
-        shares.push(Share {
+        let share: Share<'p, 'a> = Share {
             commands: Vec::new(alloc),
             packets: Vec::new(alloc),
-        })?;
+        };
+        shares.push(share)?;
     }
     Ok(shares)
 }
 
-// A line that was taken.
+// A line, if it was taken.
 fn share_line<'p, 'a>(
     shares: &mut Vec<Share<'p, 'a>>,
     subscribers: &[Subscriber],
     scheduled: &Scheduled,
     now: &'p Meant<'a>,
+    outcome: Outcome,
 ) -> Result<(), AllocError>
     requires within { IsWithin (vec_len shares.old) now.now }
     requires many { vec_len shares.old ≡ length subscribers.now }
-    requires met { HasMet shares.old.items subscribers.now scheduled.now now.now }
+    requires met { outcome.taken ≡ true → HasMet shares.old.items subscribers.now scheduled.now now.now }
 
-    ensures shares { (told : List LineTold) (n : ℕ) (outcome : Outcome) → outcome.taken ≡ true
+    ensures shares { (told : List LineTold) (n : ℕ)
         → AreShares shares.old.items subscribers.now scheduled.now told
         → OnOk result (AreShares shares.new.items subscribers.now scheduled.now
         (told ++ record { meaning = meaning_of now.now; entry = open_entry n (meaning_of now.now) outcome } ∷ [])) }
     ensures many { OnOk result (vec_len shares.new ≡ vec_len shares.old) }
 {
+    if !outcome.taken {
+        return Ok(());
+    }
     match now {
         Meant::Command { slot, command } => give_command(shares, *slot, command),
         Meant::Packet { slot, packet } => {
             give_packet(shares, subscribers, scheduled, *slot, packet)
         }
-        _ => Ok(()),
+        Meant::Move {
+            slot: _,
+            slice: _,
+            text: _,
+        } => Ok(()),
+        Meant::Note(_) => Ok(()),
     }
 }
 
