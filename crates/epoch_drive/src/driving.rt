@@ -151,7 +151,8 @@ fn bounds_of(alloc: Global, subscribers: &[Subscriber]) -> Result<Vec<u8>, Alloc
 {
     let mut bounds = Vec::with_capacity(alloc, subscribers.len())?;
     for subscriber in subscribers {
-        bounds.push(subscriber.destination().0)?;
+        let destination = subscriber.destination();
+        bounds.push(destination.0)?;
     }
     Ok(bounds)
 }
