@@ -1,5 +1,5 @@
 //! What the subscribers make of their commands and packets.
-ghost use Rattle.std.specs.Prelude.{◌≡◌, ◌++◌, ◌∷◌, [], length, map, vec_len, IfOk, OnOk};
+ghost use Rattle.std.specs.Prelude.{◌≡◌, ◌≤◌, ◌++◌, ◌∷◌, [], length, map, vec_len, IfOk, OnOk};
 ghost use Rattle.slot_replay.specs.Replaying.{effects_told};
 ghost use Rattle.report_lines.specs.declared.entry.ChargeEntry.TheVariants.{R};
 ghost use Rattle.epoch_drive.specs.Replays.{AllCanDo, CanDo, DoesShare, HaveDone};
@@ -37,6 +37,7 @@ pub fn replay_all<'a>(
     shares: &[Share<'_, 'a>],
 ) -> Result<Replays<'a>, AllocError>
     requires slots { slots ≡ vec_len subscribers.old }
+    requires few { slots ≤ 65533 }
     requires many { length shares.now ≡ vec_len subscribers.old }
     requires can { AllCanDo subscribers.old.items shares.now }
 
