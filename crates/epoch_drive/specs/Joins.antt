@@ -4,7 +4,7 @@ use Rattle.std.specs.Prelude.{option_to_list}
 use Rattle.packet_steps.specs.Lent.{verdict_of}
 use Rattle.report_lines.specs.declared.entry.LineEntry.{LineEntry}
 use Rattle.epoch_join.specs.Filling.{Met, Mets, Replied, Replies, fill, met_slot, others_of, replied_slot}
-use Rattle.report_lines.specs.Lent.{IsShort}
+use Rattle.slot_replay.specs.Replaying.{AreShort}
 use Rattle.slot_replay.specs.declared.replayed.Judged.{Judged}
 use Rattle.slot_replay.specs.declared.replayed.Replied as told
 use Rattle.epoch_drive.specs.Opened.{open_command, open_packet}
@@ -35,10 +35,6 @@ replies_at answers slot = get_or (map replies_of answers) slot []
 
 abbrev pub mets_at : List Answers → Mets
 mets_at answers slot = get_or (map mets_of answers) slot []
-
--- TEMP
-abbrev pub AreShort : List Judged → Type 0
-AreShort packets = All (λ (judged : Judged). IsShort judged.verdict) packets
 
 -- each verdict can be written
 abbrev pub AllShort : List Answers → Type 0
