@@ -110,7 +110,7 @@ join-requires-clause-outcomes c =
     ap length c.outcomes.ensures ∙ plan.long
 
 pub join-requires-clause-short : goal.join-requires-clause-short
-join-requires-clause-short c = ?
+join-requires-clause-short c = c.in_ok-replays.ensures.short
 
 pub returns-clause-does : goal.returns-clause-does
 returns-clause-does c =
