@@ -7,6 +7,7 @@ use Rattle.std.proofs.lemmas.Bool.{ne_eqb}
 use Rattle.std.proofs.lemmas.List.{length-map}
 use Rattle.std.proofs.lemmas.List.Elements.{All-head, All-tail, All-weaker}
 use Rattle.control_steps.specs.declared.command.CommandKind.{CommandKind}
+use Rattle.trace_lines.specs.Line.{Line}
 use Rattle.demux.specs.Trace.{Meaning, command, packet, move, note}
 use Rattle.demux.specs.declared.packet.LentPacket.{LentPacket}
 use Rattle.gate_model.specs.Events.{commands_of}
@@ -14,25 +15,28 @@ use Rattle.lawful_run.specs.Accepted as accepted
 use Rattle.lawful_run.specs.LinesTold.{lines_told}
 use Rattle.lawful_run.specs.Run.{no_events}
 use Rattle.slice_schedule.specs.Front.{Asks, Outcome}
-use Rattle.slice_schedule.specs.Schedule.{outcomes, mets}
+use Rattle.slice_schedule.specs.Schedule.{Driven, outcomes, mets}
 use Rattle.slice_schedule.specs.Slots.{Met}
 use Rattle.slice_schedule.specs.World.{Rooms, start}
 use Rattle.schedule_run.specs.Lines.{asked, bound_in, driven_by}
 use Rattle.schedule_run.specs.Plan.{Plan, mets_of}
+use Rattle.schedule_run.specs.Told.{turns_told}
 use Rattle.schedule_run.specs.declared.ask.Ask.{Ask}
+use Rattle.schedule_run.specs.declared.turns.Turns.{Turns}
 use Rattle.driven_run.specs.Driven.{asks_of, driven, mets_driven}
 use Rattle.driven_run.proofs.Forms as forms
 use Rattle.subscriber.specs.Standing.{SubscriberState, commands_met}
 use Rattle.subscriber.proofs.CountLemmas.{all_counted}
 use Rattle.at_rest.specs.Rest.{AreAtRest, HasEvents, IsAtRest}
-use Rattle.epoch_drive.specs.Meant.{IsWithin, bound_of, meaning_of}
+use Rattle.epoch_drive.specs.Meant.{IsWithin, TurnedAll, bound_of, meaning_of}
 use Rattle.epoch_drive.specs.Opened.{open_command, open_entry, open_packet, opened}
 use Rattle.epoch_drive.specs.Shares.{AreMet}
 use Rattle.epoch_drive.specs.declared.meant.Meant.{Meant}
 use Rattle.epoch_drive.specs.declared.meant.Meant.TheVariants as now
 use Rattle.epoch_drive.proofs.Bounds.{bounds_listed}
 use Rattle.epoch_drive.proofs.Events.{opened_lines, opens_same}
-use Rattle.epoch_drive.proofs.Scheduled.{as_many, driven_so, few_met}
+use Rattle.epoch_drive.proofs.Ends.{length-moments}
+use Rattle.epoch_drive.proofs.Scheduled.{as_many, driven_so, few_met, length-outcomes}
 use Rattle.std.specs.Option.{option_map}
 use Rattle.epoch_drive.proofs.ShareLemmas.{Nothing, alone, line_at, moved_nothing, noted_nothing}
 
@@ -152,3 +156,44 @@ no_packets n slot k (it ∷ meants) (o ∷ outs) past within =
     let rest = no_packets n slot (k + 1) meants outs past (All-tail (IsWithin n) it meants within) in
     ap (λ p. cons_option p (accepted.packets_accepted slot (opened (k + 1) (map meaning_of meants) outs)))
     (beyond_line n slot k it o past (All-head (IsWithin n) it meants within)).packet_ ∙ rest
+
+-- the plan that was made is the schedule of the lines
+pub record Planned (rooms : Rooms) (slices : ℕ) (subscribers : List SubscriberState) (lines : List Line)
+    (turns : List (List ℕ)) (meants : List Meant) (plan : Plan) : Type 0 where
+  pub outcomes_are : plan.outcomes
+      ≡ outcomes rooms (bound_of slices subscribers) start (driven (map meaning_of meants) turns)
+  pub mets_are : (slot : ℕ) → mets_of plan slot
+      ≡ mets_driven rooms (bound_of slices subscribers) turns (map meaning_of meants) slot
+  pub long : length plan.outcomes ≡ length meants
+  pub counted : length meants ≡ length lines
+
+abbrev asks_driven : (slices : ℕ) → Turns → List Ask → List Driven
+asks_driven slices turns asks = driven_by (map asked asks) (turns_told turns slices (length asks))
+
+pub planned : (rooms : Rooms) (slices : ℕ) (book book_now : List (List ℕ)) (subscribers between : List SubscriberState)
+    (lines : List Line) (bounds : List ℕ) (asks : List Ask) (meants : List Meant) (turns : Turns) (plan : Plan)
+    → TurnedAll slices book subscribers lines meants book_now between
+    → bounds ≡ map (λ (s : SubscriberState). s.destination) subscribers
+    → map asked asks ≡ map (λ (it : Meant). asks_of (meaning_of it)) meants
+    → plan.outcomes ≡ outcomes rooms (bound_in slices bounds) start (asks_driven slices turns asks)
+    → ((slot : ℕ) → mets_of plan slot ≡ mets rooms (bound_in slices bounds) (asks_driven slices turns asks) slot)
+    → Planned rooms slices subscribers lines (turns_told turns slices (length lines)) meants plan
+planned rooms slices book book_now subscribers between lines bounds asks meants turns plan turned bounds_is asks_are
+    outs_are mets_are =
+      let counted : length meants ≡ length lines = length-moments lines meants turned.moments in
+      let same : turns_told turns slices (length asks) ≡ turns_told turns slices (length lines) =
+      ap (turns_told turns slices) (length-asks asks meants asks_are ∙ counted) in
+      let outs : plan.outcomes ≡ outcomes rooms (bound_of slices subscribers) start
+      (driven (map meaning_of meants) (turns_told turns slices (length lines))) =
+      outs_are ∙ plan_outcomes rooms slices subscribers bounds asks meants (turns_told turns slices (length lines))
+      (turns_told turns slices (length asks)) bounds_is asks_are same in
+      record {
+        outcomes_are = outs;
+        mets_are = λ slot. mets_are slot
+            ∙ plan_mets rooms slices subscribers bounds asks meants (turns_told turns slices (length lines))
+            (turns_told turns slices (length asks)) bounds_is asks_are same slot;
+        long = ap length outs
+            ∙ length-outcomes rooms (bound_of slices subscribers) (map meaning_of meants)
+            (turns_told turns slices (length lines)) ∙ length-map meants meaning_of;
+        counted = counted;
+      }

@@ -1,19 +1,25 @@
 -- Entries that are filled one after another.
-use Rattle.std.proofs.Common.{◌≡◌, ℕ, zero, suc, ◌+◌, ◌==◌, ◌<◌, ◌≤◌, Bool, true, false, cond, Option, Some, None, List, [], ◌∷◌, ◌++◌, map, length, drop, get_or, set, get_or-set_same, get_or-set_other, length-set, refl, sym, ap, subst, ◌∙◌, inl, inr, arith, append_assoc, append-nil}
+use Rattle.std.proofs.Common.{◌≡◌, ℕ, zero, suc, ◌+◌, ◌==◌, ◌<◌, ◌≤◌, Bool, true, false, cond, Option, Some, None, IfSome, List, [], ◌∷◌, ◌++◌, map, length, drop, get_or, set, get_or-set_same, get_or-set_other, length-set, refl, sym, ap, subst, ◌∙◌, inl, inr, arith, append_assoc, append-nil}
 use Rattle.std.specs.Prelude.{option_to_list}
 use Rattle.std.proofs.lemmas.Bool.{cases_eq, cases_lt, eq-eqb, eqb-true, ne_eqb}
-use Rattle.std.proofs.lemmas.List.{drop_all, get_or-map, get_or_past, length-map, map_push, nil_from_length, length-drop}
-use Rattle.demux.specs.Trace.{Meaning, command, packet, move, note}
+use Rattle.std.proofs.lemmas.List.{drop-map, drop_more, get_or-map, get_or_past, length-map, map_push, nil_from_length, length-drop}
+use Rattle.std.proofs.lemmas.List.Elements.{All-drop, All-head, All-set}
+use Rattle.report_lines.specs.Lent.{IsShort}
 use Rattle.report_lines.specs.declared.entry.LineEntry.{LineEntry}
+use Rattle.report_lines.specs.declared.entry.LineEntry.TheVariants as line
 use Rattle.epoch_join.specs.Filling.{Met, Mets, Replied, Replies, fill, filled, met_slot, others_of, replied_slot}
 use Rattle.slice_schedule.specs.Front.{Outcome}
+use Rattle.slot_replay.specs.Replaying.{AreShort}
 use Rattle.slot_replay.specs.declared.replayed.Judged.{Judged}
 use Rattle.slot_replay.specs.declared.replayed.Replied as told
 use Rattle.epoch_drive.specs.declared.epoch.Entry.{Entry}
+use Rattle.epoch_drive.specs.declared.epoch.Entry.TheVariants as entries
+use Rattle.epoch_drive.specs.declared.meant.Meant.{Meant}
 use Rattle.epoch_drive.specs.declared.replays.Answers.{Answers}
-use Rattle.epoch_drive.specs.Joins.{met_so, mets_at, mets_of, next_met, next_reply, replied_so, replies_at, replies_of, told_of_command, told_of_packet}
+use Rattle.epoch_drive.specs.Joins.{AllShort, FillsNext, TakesPacket, TakesReply, met_so, mets_at, mets_of, next_met, next_reply, replied_so, replies_at, replies_of, told_of_command, told_of_packet}
+use Rattle.epoch_drive.specs.Meant.{meaning_of}
 use Rattle.epoch_drive.specs.Opened.{open_command, open_entries, open_entry, open_packet}
-use Rattle.epoch_drive.specs.Told.{line_told}
+use Rattle.epoch_drive.specs.Told.{IsShortEntry, line_told}
 
 -- lists by slot, where the value of one slot is another
 get_other : {X Y : Type 0} (f : X → List Y) (xs : List X) (own slot : ℕ) (x : X) → (own ≡ slot → ⊥)
@@ -98,29 +104,6 @@ next_judged xs ys None is rest n slot parked replies mets own =
 next_judged xs ys (Some j) is rest n slot parked replies mets own =
     ap (λ ms. fill (open_packet n slot true parked) replies (λ k. ms)) (sym (ap (map met_so) is) ∙ own)
 
--- the entries that are left, behind one more
-pub opens_more : (first i : ℕ) (made : List Meaning) (outs : List Outcome) (m : Meaning) (o : Outcome)
-    → i < length made → i < length outs → m ≡ get_or made i m → o ≡ get_or outs i o
-    → drop i (open_entries first made outs) ≡ open_entry (first + i) m o ∷ drop (i + 1) (open_entries first made outs)
-opens_more first i [] outs m o low low_outs m_is o_is = absurd (omega (arith, low))
-opens_more first i (m1 ∷ made) [] m o low low_outs m_is o_is = absurd (omega (arith, low_outs))
-opens_more first zero (m1 ∷ made) (o1 ∷ outs) m o low low_outs m_is o_is =
-    let at : first ≡ first + 0 = omega arith in
-    λ i. open_entry (at i) (sym m_is i) (sym o_is i) ∷ open_entries (first + 1) made outs
-opens_more first (suc i) (m1 ∷ made) (o1 ∷ outs) m o low low_outs m_is o_is =
-    let at : first + 1 + i ≡ first + suc i = omega arith in
-    let more : suc (i + 1) ≡ suc i + 1 = omega arith in
-    opens_more (first + 1) i made outs m o (omega (arith, low)) (omega (arith, low_outs)) m_is o_is
-    ∙ ap (λ k. open_entry k m o ∷ drop (i + 1) (open_entries (first + 1) made outs)) at
-    ∙ ap (λ k. open_entry (first + suc i) m o ∷ drop k (open_entries first (m1 ∷ made) (o1 ∷ outs))) more
-
-length-open : (first : ℕ) (made : List Meaning) (outs : List Outcome) → length outs ≡ length made
-    → length (open_entries first made outs) ≡ length made
-length-open first [] outs same = refl
-length-open first (m ∷ made) [] same = absurd (omega (arith, same))
-length-open first (m ∷ made) (o ∷ outs) same =
-    let rest = length-open (first + 1) made outs (omega (arith, same)) in omega (arith, rest)
-
 -- the entries so far, and those that are left to fill
 abbrev pub Joins : (entries : List Entry) (left : List LineEntry) (replies : Replies) (mets : Mets)
     (whole : List LineEntry) → Type 0
@@ -139,17 +122,137 @@ joins_more entries entry open_ left rest replies replies_now mets mets_now whole
     ∙ ap (λ l. map line_told entries ++ filled l replies mets) (sym is)
     ∙ joins
 
-pub joins_all : (entries : List Entry) (opens : List LineEntry) (i : ℕ) (replies : Replies) (mets : Mets)
-    (whole : List LineEntry) → length opens ≤ i → Joins entries (drop i opens) replies mets whole
-    → map line_told entries ≡ whole
-joins_all entries opens i replies mets whole over joins =
-    sym (append-nil (map line_told entries))
-    ∙ ap (λ l. map line_told entries ++ filled l replies mets) (sym (drop_all i opens over)) ∙ joins
+pub joins_next : (entries : List Entry) (entry : Entry) (first i : ℕ) (it : Meant) (rest left : List Meant)
+    (outs : List Outcome) (o : Outcome) (old new : List Answers) (whole : List LineEntry)
+    → i < length outs → o ≡ get_or outs i o → left ≡ it ∷ rest
+    → Joins entries (open_entries (first + i) (map meaning_of left) (drop i outs)) (replies_at old) (mets_at old) whole
+    → FillsNext old new (open_entry (first + i) (meaning_of it) o) entry
+    → Joins (entries ++ entry ∷ []) (open_entries (first + (i + 1)) (map meaning_of rest) (drop (i + 1) outs))
+    (replies_at new) (mets_at new) whole
+joins_next entries entry first i it rest left outs o old new whole low o_is left_is joins fills =
+    let at : first + i + 1 ≡ first + (i + 1) = omega arith in
+    let out : drop i outs ≡ o ∷ drop (i + 1) outs =
+    drop_more outs i o low ∙ ap (λ x. x ∷ drop (i + 1) outs) (sym o_is) in
+    joins_more entries entry (open_entry (first + i) (meaning_of it) o)
+    (open_entries (first + i) (map meaning_of left) (drop i outs))
+    (open_entries (first + (i + 1)) (map meaning_of rest) (drop (i + 1) outs)) (replies_at old) (replies_at new)
+    (mets_at old) (mets_at new) whole joins
+    (ap (λ ms. open_entries (first + i) (map meaning_of ms) (drop i outs)) left_is
+    ∙ ap (open_entries (first + i) (map meaning_of (it ∷ rest))) out
+    ∙ ap (λ k. open_entry (first + i) (meaning_of it) o ∷ open_entries k (map meaning_of rest) (drop (i + 1) outs)) at)
+    fills.filled_so fills.replies fills.mets
 
-pub joins_end : (entries : List Entry) (first i : ℕ) (made : List Meaning) (outs : List Outcome) (replies : Replies)
-    (mets : Mets) (whole : List LineEntry) → length outs ≡ length made → length made ≤ i
-    → Joins entries (drop i (open_entries first made outs)) replies mets whole
-    → map line_told entries ≡ whole
-joins_end entries first i made outs replies mets whole same over joins =
-    joins_all entries (open_entries first made outs) i replies mets whole
-    (omega (arith, over, length-open first made outs same)) joins
+pub joins_over : (entries : List Entry) (n : ℕ) (left : List Meant) (outs : List Outcome) (replies : Replies)
+    (mets : Mets) (whole : List LineEntry) → left ≡ []
+    → Joins entries (open_entries n (map meaning_of left) outs) replies mets whole → map line_told entries ≡ whole
+joins_over entries n left outs replies mets whole none joins =
+    sym (append-nil (map line_told entries))
+    ∙ ap (λ ms. map line_told entries ++ filled (open_entries n (map meaning_of ms) outs) replies mets) (sym none) ∙ joins
+
+-- a verdict that is taken can be written
+next_short : (xs ys : List Judged) (next : Option Judged) → xs ≡ option_to_list next ++ ys → AreShort xs
+    → IfSome next (λ (j : Judged). IsShort j.verdict)
+next_short xs ys None is short = tt
+next_short xs ys (Some j) is short =
+    All-head (λ (judged : Judged). IsShort judged.verdict) j ys (subst AreShort is short)
+
+-- the entry of a command, or a packet, that was taken
+pub fills_command : (old new : List Answers) (n slot : ℕ) (taken : Bool) (next : Option told.Replied) (entry : Entry)
+    → taken ≡ true → slot < length old → TakesReply old new slot next
+    → line_told entry ≡ told_of_command n slot next → IsShortEntry entry
+    → FillsNext old new (open_command n slot taken) entry
+fills_command old new n slot taken next entry is_taken low takes told_so short =
+    let own : replies_of takes.before ≡ replies_at old slot =
+    ap replies_of takes.found ∙ sym (get_or-map replies_of old slot takes.before [] low) in
+    let first : replies_of takes.after ≡ drop 1 (replies_of takes.before) =
+    ap (map replied_so) takes.rest ∙ sym (drop-map replied_so 1 takes.before.replies.items) in
+    let fills : FillsNext old new (open_command n slot true) entry = record {
+      filled_so = told_so
+          ∙ next_replied takes.before.replies.items takes.after.replies.items next takes.first takes.rest n slot
+          (replies_at old) (mets_at old) own;
+      many = ap length takes.is ∙ length-set old slot takes.after;
+      replies = λ k.
+          ap (λ xs. replies_at xs k) takes.is
+          ∙ popped replies_of old slot takes.before takes.after low takes.found first k;
+      mets = λ k.
+          ap (λ xs. mets_at xs k) takes.is
+          ∙ kept mets_of old slot takes.before takes.after low takes.found (ap (map met_so) takes.same) k;
+      short = λ all. short;
+      still = λ all.
+          subst AllShort (sym takes.is)
+          (All-set (λ (a : Answers). AreShort a.packets.items) old slot takes.after
+          (subst AreShort (sym takes.same)
+          (subst (λ (a : Answers). AreShort a.packets.items) (sym takes.found) (all slot takes.before low))) all);
+    } in
+    subst (λ t. FillsNext old new (open_command n slot t) entry) (sym is_taken) fills
+
+pub fills_packet : (old new : List Answers) (n slot : ℕ) (taken parked : Bool) (next : Option Judged) (entry : Entry)
+    → taken ≡ true → slot < length old → TakesPacket old new slot next
+    → line_told entry ≡ told_of_packet n slot parked next
+    → (IfSome next (λ (j : Judged). IsShort j.verdict) → IsShortEntry entry)
+    → FillsNext old new (open_packet n slot taken parked) entry
+fills_packet old new n slot taken parked next entry is_taken low takes told_so short =
+    let own : mets_of takes.before ≡ mets_at old slot =
+    ap mets_of takes.found ∙ sym (get_or-map mets_of old slot takes.before [] low) in
+    let first : mets_of takes.after ≡ drop 1 (mets_of takes.before) =
+    ap (map met_so) takes.rest ∙ sym (drop-map met_so 1 takes.before.packets.items) in
+    let before_short : AllShort old → AreShort takes.before.packets.items =
+    λ all. subst (λ (a : Answers). AreShort a.packets.items) (sym takes.found) (all slot takes.before low) in
+    let fills : FillsNext old new (open_packet n slot true parked) entry = record {
+      filled_so = told_so
+          ∙ next_judged takes.before.packets.items takes.after.packets.items next takes.first takes.rest n slot parked
+          (replies_at old) (mets_at old) own;
+      many = ap length takes.is ∙ length-set old slot takes.after;
+      replies = λ k.
+          ap (λ xs. replies_at xs k) takes.is
+          ∙ kept replies_of old slot takes.before takes.after low takes.found (ap (map replied_so) takes.same) k;
+      mets = λ k.
+          ap (λ xs. mets_at xs k) takes.is
+          ∙ popped mets_of old slot takes.before takes.after low takes.found first k;
+      short = λ all.
+          short (next_short takes.before.packets.items takes.after.packets.items next takes.first (before_short all));
+      still = λ all.
+          subst AllShort (sym takes.is)
+          (All-set (λ (a : Answers). AreShort a.packets.items) old slot takes.after
+          (subst AreShort (sym takes.rest)
+          (All-drop (λ (judged : Judged). IsShort judged.verdict) 1 takes.before.packets.items (before_short all))) all);
+    } in
+    subst (λ t. FillsNext old new (open_packet n slot t parked) entry) (sym is_taken) fills
+
+-- and of one that wasn't, which takes nothing
+pub fills_refused_command : (answers : List Answers) (n slot : ℕ) (taken : Bool) → taken ≡ false
+    → FillsNext answers answers (open_command n slot taken) (entries.Refusal n slot false)
+fills_refused_command answers n slot taken is =
+    let fills : FillsNext answers answers (open_command n slot false) (entries.Refusal n slot false) = record {
+      filled_so = refl;
+      many = refl;
+      replies = λ k. refl;
+      mets = λ k. refl;
+      short = λ all. tt;
+      still = λ all. all;
+    } in
+    subst (λ t. FillsNext answers answers (open_command n slot t) (entries.Refusal n slot false)) (sym is) fills
+
+pub fills_refused_packet : (answers : List Answers) (n slot : ℕ) (taken parked : Bool) → taken ≡ false
+    → FillsNext answers answers (open_packet n slot taken parked) (entries.Refusal n slot true)
+fills_refused_packet answers n slot taken parked is =
+    let fills : FillsNext answers answers (open_packet n slot false parked) (entries.Refusal n slot true) = record {
+      filled_so = refl;
+      many = refl;
+      replies = λ k. refl;
+      mets = λ k. refl;
+      short = λ all. tt;
+      still = λ all. all;
+    } in
+    subst (λ t. FillsNext answers answers (open_packet n slot t parked) (entries.Refusal n slot true)) (sym is) fills
+
+pub fills_note : (answers : List Answers) (n : ℕ) (text : List ℕ)
+    → FillsNext answers answers (line.N (record { line = n; note = text })) (entries.Note n text)
+fills_note answers n text = record {
+  filled_so = refl;
+  many = refl;
+  replies = λ k. refl;
+  mets = λ k. refl;
+  short = λ all. tt;
+  still = λ all. all;
+}

@@ -5,3 +5,4 @@ pub mod Opened
 pub mod Shares
 pub mod Replays
 pub mod Joins
+pub mod Steps

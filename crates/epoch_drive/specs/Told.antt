@@ -1,8 +1,9 @@
 -- The report of what is told of an epoch.
-use Rattle.std.specs.Prelude.{List, map, flat_map}
+use Rattle.std.specs.Prelude.{List, All, map, flat_map}
 use Rattle.packet_steps.specs.Lent.{verdict_of}
+use Rattle.report_lines.specs.Lent.{IsShort}
 use Rattle.report_lines.specs.declared.entry.LineEntry.{LineEntry}
-use Rattle.report_lines.specs.declared.entry.LineEntry.TheVariants as line
+use Rattle.report_lines.specs.declared.entry.LineEntry.TheVariants as line_entry
 use Rattle.report_lines.specs.declared.entry.ChargeEntry.{ChargeEntry}
 use Rattle.report_lines.specs.declared.entry.ChargeEntry.TheVariants.{R}
 use Rattle.lawful_run.specs.Report.{EpochReport}
@@ -13,10 +14,10 @@ use Rattle.epoch_drive.specs.declared.epoch.Entry.TheVariants as entry
 use Rattle.epoch_drive.specs.declared.epoch.Epoch.{Epoch}
 
 abbrev pub line_told : Entry → LineEntry
-line_told (entry.Note n text) = line.N (record { line = n; note = text })
+line_told (entry.Note n text) = line_entry.N (record { line = n; note = text })
 line_told (entry.Answer n slot number reply) =
-    line.C (record { line = n; slot = slot; number = number; reply = reply })
-line_told (entry.Judgement n slot number commands verdict place parked) = line.P (record {
+    line_entry.C (record { line = n; slot = slot; number = number; reply = reply })
+line_told (entry.Judgement n slot number commands verdict place parked) = line_entry.P (record {
   line = n;
   slot = slot;
   number = number;
@@ -25,7 +26,17 @@ line_told (entry.Judgement n slot number commands verdict place parked) = line.P
   place = place;
   parked = parked;
 })
-line_told (entry.Refusal n slot packet) = line.F (record { line = n; slot = slot; packet = packet })
+line_told (entry.Refusal n slot packet) = line_entry.F (record { line = n; slot = slot; packet = packet })
+
+-- each verdict that is told can be written: what goes down is no longer than IPv4 allows
+abbrev pub IsShortEntry : Entry → Type 0
+IsShortEntry (entry.Note n text) = Unit {0}
+IsShortEntry (entry.Answer n slot number reply) = Unit {0}
+IsShortEntry (entry.Judgement n slot number commands verdict place parked) = IsShort verdict
+IsShortEntry (entry.Refusal n slot packet) = Unit {0}
+
+abbrev pub AreShort : List Entry → Type 0
+AreShort entries = All IsShortEntry entries
 
 abbrev pub rows_closed : Closed → List ChargeEntry
 rows_closed closed = map (R closed.slot) closed.rows.items

@@ -1,5 +1,5 @@
 //! An epoch, driven.
-ghost use Rattle.std.specs.Prelude.{◌≡◌, ℕ, ◌+◌, ◌≤◌, ◌^◌, ◌++◌, List, length, map, IfOk, OnOk};
+ghost use Rattle.std.specs.Prelude.{◌≡◌, ℕ, ◌+◌, ◌≤◌, ◌^◌, ◌++◌, List, length, map, vec_len, IfOk, OnOk};
 ghost use Rattle.subscriber.specs.Standing.{SubscriberState};
 ghost use Rattle.trace_lines.specs.Line.{Line};
 ghost use Rattle.lawful_run.specs.Trace.{meant_from};
@@ -10,13 +10,15 @@ ghost use Rattle.schedule_run.specs.Told.{AreWorkers, turns_told, turns_behind};
 ghost use Rattle.driven_run.specs.Driven.{IsDriven};
 ghost use Rattle.driven_run.specs.Runs.{bounds_behind};
 ghost use Rattle.epoch_drive.specs.Lines.{AreLater, latest_behind, rooms_of};
-ghost use Rattle.epoch_drive.specs.Told.{told_by};
+ghost use Rattle.epoch_drive.specs.Steps.{DoesLines, MayCome};
+ghost use Rattle.epoch_drive.specs.Told.{AreShort, told_by};
 
 use crate::Epoch;
 use crate::deciding::{Decided, decide_all};
 use crate::joining::join;
-use crate::replays::replay_all;
+use crate::replays::{Replays, replay_all};
 use crate::sharing::shares_of;
+use address_book::AddressBook;
 use at_rest::AtRest;
 use gate_model::sessions_keep_their_slot;
 use schedule_run::{Rooms, Turns, schedule};
@@ -58,6 +60,9 @@ pub fn drive_epoch<'a>(
         × (driven.0.lane ≡ rest.lane)) }
     ensures latest { IfOk result (λ driven. driven.0.latest ≡ latest_behind rest.latest lines.now) }
 
+    // Each verdict can be written.
+    ensures short { IfOk result (λ driven. AreShort driven.1.lines.items) }
+
     // Listed turns stay, and drawn ones go on.
     ensures turns { OnOk result (turns.new ≡ turns_behind turns.old (length lines.now)) }
 {
@@ -72,22 +77,16 @@ pub fn drive_epoch<'a>(
         fulls,
     } = rest;
     sessions_keep_their_slot();
-    let bounds = bounds_of(alloc, subscribers.as_slice())?;
-    let Decided { meant, asks } = decide_all(alloc, slices, &mut book, &mut subscribers, lines)?;
-    let rooms = Rooms { room, lane };
-    let scheduled = schedule(
+    let epoch = do_lines(
         alloc,
-        rooms,
+        Rooms { room, lane },
         slices,
-        bounds.as_slice(),
-        asks.as_slice(),
+        &mut book,
+        &mut subscribers,
+        count,
+        lines,
         turns,
     )?;
-    let shares = shares_of(alloc, subscribers.as_slice(), &scheduled, meant.as_slice())?;
-    let mut replays = replay_all(alloc, book.len(), &mut subscribers, shares.as_slice())?;
-    drop(shares);
-    let outcomes = scheduled.outcomes();
-    let entries = join(alloc, count + 1, meant, outcomes, &mut replays.answers)?;
     let driven = AtRest {
         slices,
         room,
@@ -98,12 +97,51 @@ pub fn drive_epoch<'a>(
         latest: moment_behind(latest, lines),
         fulls,
     };
-    let epoch = Epoch {
-        lines: entries,
-        effects: replays.effects,
-        rows: replays.rows,
-    };
     Ok((driven, epoch))
+}
+
+// The steps of an epoch: lines are decided, their schedule is made, each subscriber does its share, and
+// entries are joined.
+fn do_lines<'a>(
+    alloc: Global,
+    rooms: Rooms,
+    slices: u8,
+    book: &mut AddressBook,
+    subscribers: &mut Vec<Subscriber>,
+    count: u64,
+    lines: &'a [TraceLine],
+    turns: &mut Turns,
+) -> Result<Epoch<'a>, AllocError>
+    requires slices { (1 ≤ slices) × (slices ≤ 64) }
+    requires many { vec_len subscribers.old ≡ length book.old }
+    requires workers { AreWorkers slices turns.old }
+    requires may { (latest : ℕ) × MayCome slices count latest subscribers.old.items lines.now }
+
+    ensures does { IfOk result (λ epoch. DoesLines rooms slices (count + 1)
+        (turns_told turns.old slices (length lines.now)) book.old subscribers.old.items lines.now book.new
+        subscribers.new.items epoch) }
+    ensures short { IfOk result (λ epoch. AreShort epoch.lines.items) }
+    ensures turns { OnOk result (turns.new ≡ turns_behind turns.old (length lines.now)) }
+{
+    let bounds = bounds_of(alloc, subscribers.as_slice())?;
+    let Decided { meant, asks } = decide_all(alloc, slices, book, subscribers, lines)?;
+    let bounds = bounds.as_slice();
+    let scheduled = schedule(alloc, rooms, slices, bounds, asks.as_slice(), turns)?;
+    let shares = shares_of(alloc, subscribers.as_slice(), &scheduled, meant.as_slice())?;
+    let slots = book.len();
+    let replays = replay_all(alloc, slots, subscribers, shares.as_slice())?;
+    drop(shares);
+    let Replays {
+        mut answers,
+        effects,
+        rows,
+    } = replays;
+    let entries = join(alloc, count + 1, meant, scheduled.outcomes(), &mut answers)?;
+    Ok(Epoch {
+        lines: entries,
+        effects,
+        rows,
+    })
 }
 
 // Where each subscriber is bound for.
@@ -113,7 +151,8 @@ fn bounds_of(alloc: Global, subscribers: &[Subscriber]) -> Result<Vec<u8>, Alloc
 {
     let mut bounds = Vec::with_capacity(alloc, subscribers.len())?;
     for subscriber in subscribers {
-        bounds.push(subscriber.destination().0)?;
+        let destination = subscriber.destination();
+        bounds.push(destination.0)?;
     }
     Ok(bounds)
 }

@@ -1,10 +1,20 @@
 //! The entry of each line, with what is told of its slot's next command or packet.
-ghost use Rattle.std.specs.Prelude.{◌≡◌, ℕ, ◌+◌, ◌<◌, ◌^◌, All, length, map, vec_len, option_map, IfOk, OnOk};
-ghost use Rattle.epoch_join.specs.Filling.{fill, filled, met_slot, others_of, replied_slot};
-ghost use Rattle.epoch_drive.specs.Joins.{mets_at, replies_at, told_of_command, told_of_packet};
+ghost use Rattle.std.specs.Prelude.{◌≡◌, ◌+◌, ◌<◌, ◌^◌, All, length, map, IfOk, IfSome};
+ghost use Rattle.epoch_join.specs.Filling.{filled};
+ghost use Rattle.report_lines.specs.Lent.{IsShort};
+ghost use Rattle.epoch_drive.specs.Joins.{
+  AllShort,
+  FillsNext,
+  TakesPacket,
+  TakesReply,
+  mets_at,
+  replies_at,
+  told_of_command,
+  told_of_packet,
+};
 ghost use Rattle.epoch_drive.specs.Meant.{IsWithin, meaning_of};
-ghost use Rattle.epoch_drive.specs.Opened.{open_entries, open_entry};
-ghost use Rattle.epoch_drive.specs.Told.{line_told};
+ghost use Rattle.epoch_drive.specs.Opened.{open_command, open_entries, open_entry, open_packet};
+ghost use Rattle.epoch_drive.specs.Told.{AreShort, IsShortEntry, line_told};
 
 use crate::epoch::Entry;
 use crate::meant::Meant;
@@ -23,18 +33,21 @@ pub fn join<'a>(
     outcomes: &[Outcome],
     answers: &mut Vec<Answers<'a>>,
 ) -> Result<Vec<Entry<'a>>, AllocError>
-    requires within { All (IsWithin (vec_len answers.old)) meant.items }
-    requires outcomes { length outcomes.now ≡ vec_len meant }
-    requires few { first + vec_len meant < 2 ^ 64 }
+    requires within { All (IsWithin (length answers.old.items)) meant.items }
+    requires outcomes { length outcomes.now ≡ length meant.items }
+    requires few { first + length meant.items < 2 ^ 64 }
+    requires short { AllShort answers.old.items }
 
-    ensures { IfOk result (λ entries. map line_told entries.items
+    ensures entries { IfOk result (λ entries. map line_told entries.items
         ≡ filled (open_entries first (map meaning_of meant.entry.items) outcomes.now)
         (replies_at answers.old.items) (mets_at answers.old.items)) }
+    ensures short { IfOk result (λ entries. AreShort entries.items) }
 {
     let mut entries = Vec::new(alloc);
     let mut i = 0usize;
     for now in meant {
-        entries.push(entry_of(first + i as u64, now, outcomes[i], answers))?;
+        let entry = entry_of(first + i as u64, now, outcomes[i], answers);
+        entries.push(entry)?;
         i += 1;
     }
     Ok(entries)
@@ -46,16 +59,8 @@ fn entry_of<'a>(
     outcome: Outcome,
     answers: &mut Vec<Answers<'a>>,
 ) -> Entry<'a>
-    requires { IsWithin (vec_len answers.old) now }
-
-    ensures entry { line_told result ≡ fill (open_entry line (meaning_of now.entry) outcome)
-        (replies_at answers.old.items) (mets_at answers.old.items) }
-    ensures many { vec_len answers.new ≡ vec_len answers.old }
-    ensures replies { (slot : ℕ) → replies_at answers.new.items slot
-        ≡ others_of (replied_slot (open_entry line (meaning_of now.entry) outcome))
-        (replies_at answers.old.items) slot }
-    ensures mets { (slot : ℕ) → mets_at answers.new.items slot
-        ≡ others_of (met_slot (open_entry line (meaning_of now.entry) outcome)) (mets_at answers.old.items) slot }
+    requires { IsWithin (length answers.old.items) now }
+    ensures { FillsNext answers.old.items answers.new.items (open_entry line (meaning_of now.entry) outcome) result }
 {
     match now {
         Meant::Note(text) => Entry::Note { line, text },
@@ -64,36 +69,77 @@ fn entry_of<'a>(
             slice: _,
             text,
         } => Entry::Note { line, text },
-        Meant::Command { slot, command: _ } => {
-            if outcome.taken {
-                let own = &mut answers[slot.0 as usize];
-                answer(line, slot, own.replies.pop_front())
-            } else {
-                Entry::Refusal {
-                    line,
-                    slot,
-                    packet: false,
-                }
-            }
-        }
+        Meant::Command { slot, command: _ } => command_entry(line, slot, outcome.taken, answers),
         Meant::Packet { slot, packet: _ } => {
-            if outcome.taken {
-                let own = &mut answers[slot.0 as usize];
-                judgement(line, slot, outcome.parked, own.packets.pop_front())
-            } else {
-                Entry::Refusal {
-                    line,
-                    slot,
-                    packet: true,
-                }
-            }
+            packet_entry(line, slot, outcome.taken, outcome.parked, answers)
         }
     }
 }
 
+fn command_entry<'a>(
+    line: u64,
+    slot: Slot,
+    taken: bool,
+    answers: &mut Vec<Answers<'a>>,
+) -> Entry<'a>
+    requires { slot < length answers.old.items }
+    ensures { FillsNext answers.old.items answers.new.items (open_command line slot taken) result }
+{
+    if taken {
+        let next = next_reply(answers, slot);
+        answer(line, slot, next)
+    } else {
+        Entry::Refusal {
+            line,
+            slot,
+            packet: false,
+        }
+    }
+}
+
+fn packet_entry<'a>(
+    line: u64,
+    slot: Slot,
+    taken: bool,
+    parked: bool,
+    answers: &mut Vec<Answers<'a>>,
+) -> Entry<'a>
+    requires { slot < length answers.old.items }
+    ensures { FillsNext answers.old.items answers.new.items (open_packet line slot taken parked) result }
+{
+    if taken {
+        let next = next_packet(answers, slot);
+        judgement(line, slot, parked, next)
+    } else {
+        Entry::Refusal {
+            line,
+            slot,
+            packet: true,
+        }
+    }
+}
+
+// What is told next of a slot's commands, and of its packets.
+fn next_reply(answers: &mut Vec<Answers<'_>>, slot: Slot) -> Option<Replied>
+    requires { slot < length answers.old.items }
+    ensures { TakesReply answers.old.items answers.new.items slot result }
+{
+    let own = &mut answers[slot.0 as usize];
+    own.replies.pop_front()
+}
+
+fn next_packet<'a>(answers: &mut Vec<Answers<'a>>, slot: Slot) -> Option<Judged<'a>>
+    requires { slot < length answers.old.items }
+    ensures { TakesPacket answers.old.items answers.new.items slot result }
+{
+    let own = &mut answers[slot.0 as usize];
+    own.packets.pop_front()
+}
+
 // A command's entry: it has the next reply.
 fn answer<'a>(line: u64, slot: Slot, next: Option<Replied>) -> Entry<'a>
-    ensures { line_told result ≡ told_of_command line slot next }
+    ensures told { line_told result ≡ told_of_command line slot next }
+    ensures short { IsShortEntry result }
 {
     match next {
         Some(replied) => Entry::Answer {
@@ -116,7 +162,8 @@ fn answer<'a>(line: u64, slot: Slot, next: Option<Replied>) -> Entry<'a>
 
 // A packet's entry: it has the next verdict.
 fn judgement<'a>(line: u64, slot: Slot, parked: bool, next: Option<Judged<'a>>) -> Entry<'a>
-    ensures { line_told result ≡ told_of_packet line slot parked next.entry }
+    ensures told { line_told result ≡ told_of_packet line slot parked next.entry }
+    ensures short { IfSome next.entry (λ judged. IsShort judged.verdict) → IsShortEntry result }
 {
     match next {
         Some(judged) => Entry::Judgement {
