@@ -1,16 +1,14 @@
 -- Subscribers that do their shares, one slot after another.
-use Rattle.std.proofs.Common.{◌≡◌, ◌≢◌, ℕ, zero, suc, ◌+◌, ◌<◌, ◌≤◌, List, [], ◌∷◌, ◌++◌, map, length, get_or, set, get_or-set_same, get_or-set_other, length-set, refl, sym, ap, subst, ◌∙◌, inl, inr, arith, length-append, append_assoc, append-nil, flat_map}
+use Rattle.std.proofs.Common.{◌≡◌, ◌≢◌, ℕ, zero, suc, ◌+◌, ◌<◌, List, [], ◌∷◌, ◌++◌, map, length, get_or, set, get_or-set_same, get_or-set_other, length-set, refl, sym, ap, subst, ◌∙◌, inl, inr, arith, length-append, append_assoc, append-nil, flat_map}
 use Rattle.std.specs.List.{All}
-use Rattle.std.proofs.lemmas.Bool.{cases_eq, cases_lt}
+use Rattle.std.proofs.lemmas.Bool.{cases_lt}
 use Rattle.std.proofs.lemmas.List.{get_or-map, get_or_append_left, get_or_at, get_or_default}
 use Rattle.std.proofs.lemmas.List.Elements.{All-nil, All-push}
-use Rattle.control_steps.specs.declared.command.CommandKind.{CommandKind}
 use Rattle.gate_model.specs.declared.event.Event.{Event}
 use Rattle.report_lines.specs.Records.{Effected}
 use Rattle.report_lines.specs.declared.entry.ChargeEntry.{ChargeEntry}
 use Rattle.report_lines.specs.declared.entry.ChargeEntry.TheVariants.{R}
 use Rattle.lawful_run.specs.Accepted as accepted
-use Rattle.lawful_run.specs.Order.{Histories}
 use Rattle.lawful_run.specs.Outcomes as made_of
 use Rattle.lawful_run.specs.Run.{by_slot}
 use Rattle.lawful_run.specs.Telling.{counted}
@@ -19,7 +17,6 @@ use Rattle.at_rest.specs.Rest.{Represents}
 use Rattle.slot_replay.specs.Replaying.{counts_of, effects_told, events_of, latest_of, moment_of, placed_lent, places_of}
 use Rattle.slot_replay.specs.declared.placed.Placed.{Placed}
 use Rattle.slot_replay.specs.declared.replayed.Replayed.{Replayed}
-use Rattle.epoch_drive.specs.Meant.{AreStanding}
 use Rattle.epoch_drive.specs.Replays.{AreShortAnswers, DoesShare, HasDone, HaveDone, IsTold, commands_at, commands_shared, events_shared, packets_at, packets_shared}
 use Rattle.epoch_drive.specs.Told.{rows_told}
 use Rattle.epoch_drive.specs.declared.replays.Answers.{Answers}

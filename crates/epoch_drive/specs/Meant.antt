@@ -2,7 +2,6 @@
 use Rattle.std.specs.Prelude.{◌≡◌, ◌≢◌, ℕ, ◌≤◌, ◌<◌, ◌⊎◌, List, [], ◌∷◌, ◌++◌, length, map, All, None, get_or, set, slice_get}
 use Rattle.trace_lines.specs.Line.{Line}
 use Rattle.demux.specs.Destinations.{home_slice}
-use Rattle.demux.specs.Resolved.{book_with}
 use Rattle.demux.specs.Texts.{move_note}
 use Rattle.demux.specs.Trace.{Meaning, command, packet, move, note, book_of, destination_after, meaning}
 use Rattle.demux.specs.declared.decision.Whose.{Whose}

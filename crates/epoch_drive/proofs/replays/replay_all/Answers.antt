@@ -1,4 +1,4 @@
-use Rattle.std.proofs.Common.{◌≡◌, ◌<◌, length, refl, arith}
+use Rattle.std.proofs.Common.{◌<◌, length, refl, arith}
 use Rattle.epoch_drive.proofs.Replaying.{more_done}
 use Rattle.epoch_drive.proofs.replays.replay_all.Goals as goal
 
