@@ -3,7 +3,7 @@ use Rattle.std.proofs.Common.{◌≡◌, ◌≢◌, ℕ, zero, suc, ◌+◌, ◌
 use Rattle.std.specs.List.{All}
 use Rattle.std.proofs.lemmas.Bool.{cases_lt}
 use Rattle.std.proofs.lemmas.List.{get_or-map, get_or_append_left, get_or_at, get_or_default}
-use Rattle.std.proofs.lemmas.List.Elements.{All-nil, All-push}
+use Rattle.std.proofs.lemmas.List.Elements.{All-push}
 use Rattle.gate_model.specs.declared.event.Event.{Event}
 use Rattle.report_lines.specs.Records.{Effected}
 use Rattle.report_lines.specs.declared.entry.ChargeEntry.{ChargeEntry}
@@ -92,19 +92,6 @@ done_share old new shares share replayed slot low is does =
           (is ∙ get_or_default shares slot share other low);
       destination = does.destination;
     }
-
--- before the first slot
-pub none_done : (old : List SubscriberState) (shares : List Share) (replays : Replays) → replays.answers.items ≡ []
-    → replays.effects.items ≡ [] → replays.rows.items ≡ [] → HaveDone old old shares replays 0
-none_done old shares replays answers effects rows = record {
-  many = refl;
-  answered = ap length answers;
-  each = λ slot none no_answers low. absurd (omega (arith, low));
-  later = λ slot none past. refl;
-  effects = λ before standing. ap effects_told effects;
-  rows = λ before standing. ap rows_told rows;
-  short = subst (All AreShortAnswers) (sym answers) (All-nil AreShortAnswers);
-}
 
 pub more_done : (old now new : List SubscriberState) (shares : List Share) (replays after : Replays) (i : ℕ)
     (subscriber did : SubscriberState) (share : Share) (replayed : Replayed)

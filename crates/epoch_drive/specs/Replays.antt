@@ -12,7 +12,10 @@ use Rattle.lawful_run.specs.Telling.{counted}
 use Rattle.report_lines.specs.declared.entry.ChargeEntry.TheVariants.{R}
 use Rattle.subscriber.specs.Standing.{SubscriberState}
 use Rattle.at_rest.specs.Rest.{Represents}
-use Rattle.slot_replay.specs.Replaying.{AreLate, AreShort, CanReplay, IsLedTo, commands_lent, counts_in, counts_of, effects_told, events_of, latest_of, moment_of, numbers_in, packet_numbers_in, placed_lent, places_in, places_of, replies_in, verdicts_in}
+use Rattle.slot_replay.specs.Replaying.{AreLate, AreShort, CanReplay, IsLedTo, commands_lent, counts_in}
+use Rattle.slot_replay.specs.Replaying.{counts_of, effects_told, events_of, latest_of, moment_of}
+use Rattle.slot_replay.specs.Replaying.{numbers_in, packet_numbers_in, placed_lent, places_in, places_of}
+use Rattle.slot_replay.specs.Replaying.{replies_in, verdicts_in}
 use Rattle.slot_replay.specs.declared.placed.Placed.{Placed}
 use Rattle.slot_replay.specs.declared.replayed.Replayed.{Replayed}
 use Rattle.epoch_drive.specs.Meant.{AreStanding}
