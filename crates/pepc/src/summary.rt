@@ -12,6 +12,7 @@ ghost use Rattle.pepc.specs.Make.{IsCounted};
 use crate::solo::Solo;
 use entry_counts::EntryCounts;
 use std::alloc::{AllocError, Global};
+use text_fields::Text;
 use trace_lines::{TraceLine, push_text};
 use trace_maker::{Maker, made_line};
 use trace_run::{Ending, Epochs};
@@ -26,10 +27,11 @@ pub fn counted(alloc: Global, seed: u64, subs: u32, lines: u32) -> Result<EntryC
 {
     let mut maker = Maker::new(seed, subs, lines);
     let mut epochs = Epochs::new(alloc, Solo::new(alloc));
+    let mut text = Text::new(alloc);
     let mut room = Vec::new(alloc);
     let mut counts = EntryCounts::new();
     while let Some(line) = made_line(alloc, &mut maker)? {
-        count_line(&mut epochs, line, &mut room, &mut counts)?;
+        count_line(&mut epochs, line, &mut text, &mut room, &mut counts)?;
     }
     epochs.finish(Ending::Ended, u64::from(subs) + u64::from(lines))?;
     counts.add(epochs.text.as_slice());
@@ -40,6 +42,7 @@ pub fn counted(alloc: Global, seed: u64, subs: u32, lines: u32) -> Result<EntryC
 fn count_line(
     epochs: &mut Epochs<Solo>,
     line: TraceLine,
+    text: &mut Text,
     room: &mut Vec<u8>,
     counts: &mut EntryCounts,
 ) -> Result<(), AllocError>
@@ -53,9 +56,9 @@ fn count_line(
         → OnOk result (CountedSoFar epochs.new.reporter epochs.new.size epochs.new.text counts.new
         (done ++ line ∷ []) line.moment) }
 {
-    room.clear();
-    push_text(room, &line)?;
-    let len = room.len();
+    text.clear();
+    push_text(text, &line)?;
+    let len = text.as_slice().len();
     if !epochs.answer(line, len, room)? {
         return Ok(());
     }

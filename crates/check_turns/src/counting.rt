@@ -1,0 +1,302 @@
+//! A counter half at its lane, which learns and judges by hand.
+use crate::answers::{Stop, push_word, push_yes};
+use crate::step::Step;
+use bearer_state::{Ask, Asks, Qos, Session, Version};
+use control_half::Batch;
+use control_steps::{Command, CommandKind, step};
+use counter_half::{FlowHalf, FlowItem, FlowRest, FlowState, PacketDone};
+use lane_core::{NoMemory, Sender, lane};
+use packet_steps::Counters;
+use pc_base::{
+    Addr4, Effect, Fate, Kbps, Moment, Octets, Packet, Peer, Place, SliceNo, Slot, Teid, Verdict,
+    Way,
+};
+use std::alloc::Global;
+use std::sync::Wait;
+use text_fields::{Text, push_field, push_number};
+
+// 28 octets of UDP from 203.0.113.9, port 5060, to 10.45.0.2.
+const DOWN: [u8; 28] = [
+    0x45, 0, 0, 28, 0, 0, 0, 0, 64, 17, 0, 0, 203, 0, 113, 9, 10, 45, 0, 2, 0x13, 0xc4, 0x27, 0x10,
+    0, 8, 0, 0,
+];
+
+/// A half, the far end of its lane, and the session whose versions are sent there.
+#[derive(Drop)]
+pub struct Bench {
+    half: FlowHalf,
+    versions: Sender<Batch<Version>>,
+    session: Session,
+    number: u64,
+    packets: u64,
+}
+
+// The Create Session Request of EBI 5.
+fn create() -> CommandKind {
+    CommandKind::Create {
+        seq: 1,
+        mme: Peer {
+            teid: Teid(0x1000),
+            addr: Addr4(0xc633_6401),
+        },
+        pdn: 3,
+        ebi: 5,
+        qos: Qos {
+            arp: 0x24,
+            qci: 9,
+            mbr_up: Kbps(0),
+            mbr_down: Kbps(0),
+            gbr_up: Kbps(0),
+            gbr_down: Kbps(0),
+        },
+        enb: None,
+        up: Kbps(50_000),
+        down: Kbps(100_000),
+    }
+}
+
+// A Modify Bearer Request: EBI 5 has the eNodeB of this number, 1 to 100.
+fn modify(alloc: Global, enb: u32) -> Result<CommandKind, Stop> {
+    if enb > 100 {
+        return Err(Stop::Step);
+    }
+    let mut asks = Vec::new(alloc);
+    asks.push(Ask {
+        ebi: 5,
+        enb: Some(Peer {
+            teid: Teid(0xa00 + enb),
+            addr: Addr4(0xc633_6406 + enb),
+        }),
+    })?;
+    match Asks::of(asks) {
+        Some(asks) => Ok(CommandKind::Modify {
+            seq: 1 + enb,
+            mme: None,
+            asks,
+        }),
+        None => Err(Stop::Step),
+    }
+}
+
+impl Bench {
+    /// A new half, over a lane of so many batches.
+    pub fn new(alloc: Global, batches: u32) -> Result<Bench, Stop> {
+        if batches == 0 || batches > 100 {
+            return Err(Stop::Step);
+        }
+        let (versions, taking) = lane(alloc, batches)?;
+        let session = Session::new(alloc, Slot(0));
+        let version = session.version(0)?;
+        match FlowHalf::new(&session, version, Counters::new(alloc), 0, taking) {
+            Ok(half) => Ok(Bench {
+                half,
+                versions,
+                session,
+                number: 0,
+                packets: 0,
+            }),
+            Err(_) => Err(Stop::NoMemory),
+        }
+    }
+
+    // The version that a command leaves.
+    fn version_of(&mut self, alloc: Global, kind: CommandKind) -> Result<Version, Stop> {
+        if self.number > 100 || !self.session.has_room() {
+            return Err(Stop::Step);
+        }
+        let Some(command) = Command::of(kind) else {
+            return Err(Stop::Step);
+        };
+        step(alloc, &mut self.session, &command)?;
+        self.number += 1;
+        Ok(self.session.version(self.number)?)
+    }
+
+    // Sends the version that a command leaves, in a batch of its own; whether the lane takes it.
+    fn send<R: Wait>(
+        &mut self,
+        rt: &R,
+        alloc: Global,
+        kind: CommandKind,
+        floor: u32,
+    ) -> Result<bool, Stop> {
+        let version = self.version_of(alloc, kind)?;
+        let batch = Batch::new(alloc, version, u64::from(floor))?;
+        if self.versions.offers() > 100 {
+            return Err(Stop::Step);
+        }
+        Ok(self.versions.offer(rt, batch).is_ok())
+    }
+
+    // The next packet down. It is ten lines behind its number.
+    fn item(&self, alloc: Global, floor: u32, moment: u32) -> Result<FlowItem, Stop> {
+        let number = self.packets;
+        if number > 100 {
+            return Err(Stop::Step);
+        }
+        Ok(FlowItem {
+            slot: Slot(0),
+            number,
+            floor: u64::from(floor),
+            line: number + 10,
+            parked: false,
+            packet: Packet {
+                number,
+                moment: Moment(u64::from(moment)),
+                way: Way::Down,
+                octets: Octets::of(Vec::from_slice(alloc, &DOWN)?),
+            },
+        })
+    }
+
+    // Handles the next packet at slice 1, if it may; whether it does.
+    fn handle(&mut self, item: &FlowItem) -> Result<bool, NoMemory> {
+        if !self.half.may_handle(item) {
+            return Ok(false);
+        }
+        self.half.handle(SliceNo(1), item)?;
+        self.packets = self.packets.saturating_add(1);
+        Ok(true)
+    }
+
+    // The version that the session's making leaves, or another eNodeB.
+    fn publish<R: Wait>(&mut self, rt: &R, alloc: Global, step: Step) -> Result<bool, Stop> {
+        if step.letter == b's' {
+            return self.send(rt, alloc, create(), step.one);
+        }
+        let kind = modify(alloc, step.one)?;
+        self.send(rt, alloc, kind, step.two)
+    }
+
+    /// The version that the session's making leaves (s, with a floor) or another eNodeB (n, with a floor); whether a
+    /// packet of a floor may be handled (m), a learning of at most so many batches (l), or a packet of a floor and a
+    /// moment (p).
+    pub fn play<R: Wait>(
+        &mut self,
+        rt: &R,
+        alloc: Global,
+        step: Step,
+        text: &mut Vec<u8>,
+    ) -> Result<(), Stop> {
+        match step.letter {
+            b's' | b'n' => {
+                let took = self.publish(rt, alloc, step)?;
+                push_word(text, if took { b"ok" } else { b"full" })
+            }
+            b'm' => {
+                let item = self.item(alloc, step.one, 0)?;
+                push_yes(text, self.half.may_handle(&item))
+            }
+            b'l' if step.one > 0 => {
+                let learnt = self.half.learn_at_most(rt, step.one)?;
+                push_yes(text, learnt)
+            }
+            b'p' => {
+                let item = self.item(alloc, step.one, step.two)?;
+                let handled = self.handle(&item)?;
+                push_word(text, if handled { b"ok" } else { b"waits" })
+            }
+            _ => Err(Stop::Step),
+        }
+    }
+
+    /// How many commands were learnt and packets handled, the floor of a batch that is kept, the moment of the last
+    /// packet; then each packet's verdict, and each effect with its command.
+    pub fn end(self, text: &mut Vec<u8>) -> Result<(), NoMemory> {
+        let rest = self.half.into_rest();
+        push_rest(text, &rest)
+    }
+}
+
+fn push_rest(text: &mut Vec<u8>, rest: &FlowRest) -> Result<(), NoMemory> {
+    let state = &rest.state;
+    push_number(text, state.met)?;
+    push_number(text, state.done)?;
+    push_floor(text, &rest.batch)?;
+    push_last(text, state)?;
+    push_notes(text, state)?;
+    push_effects(text, state)
+}
+
+fn push_floor(text: &mut Vec<u8>, batch: &Option<Batch<Version>>) -> Result<(), NoMemory> {
+    match batch {
+        Some(batch) => push_number(text, batch.floor()),
+        None => push_field(text, b"-"),
+    }
+}
+
+fn push_last(text: &mut Vec<u8>, state: &FlowState) -> Result<(), NoMemory> {
+    match state.counters.last() {
+        Some(moment) => push_number(text, moment.0),
+        None => push_field(text, b"-"),
+    }
+}
+
+// What goes to an eNodeB.
+fn push_down(text: &mut Vec<u8>, word: &[u8], life: u64, octets: &Octets) -> Result<(), NoMemory> {
+    push_field(text, word)?;
+    push_number(text, life)?;
+    let mut digits = Text::new(*text.allocator());
+    digits.push_octets(octets.as_slice())?;
+    text.extend_from_slice(digits.as_slice())
+}
+
+fn push_verdict(text: &mut Vec<u8>, verdict: &Verdict) -> Result<(), NoMemory> {
+    match verdict {
+        Verdict::Down { life, octets, .. } => push_down(text, b"down", *life, octets),
+        Verdict::Held { life, .. } => {
+            push_field(text, b"held")?;
+            push_number(text, *life)
+        }
+        _ => push_field(text, b"neither"),
+    }
+}
+
+fn push_effect(text: &mut Vec<u8>, effect: &Effect) -> Result<(), NoMemory> {
+    match effect {
+        Effect::Marker { life, octets, .. } => push_down(text, b"marker", *life, octets),
+        Effect::Fate {
+            packet,
+            fate: Fate::Down { life, octets, .. },
+        } => {
+            push_field(text, b"packet")?;
+            push_number(text, *packet)?;
+            push_down(text, b"down", *life, octets)
+        }
+        Effect::Fate { .. } => push_field(text, b"neither"),
+    }
+}
+
+fn push_notes(text: &mut Vec<u8>, state: &FlowState) -> Result<(), NoMemory> {
+    for note in state.notes.as_slice() {
+        push_note(text, note)?;
+    }
+    Ok(())
+}
+
+fn push_note(text: &mut Vec<u8>, note: &PacketDone) -> Result<(), NoMemory> {
+    text.push(b';')?;
+    push_number(text, note.line)?;
+    push_number(text, note.number)?;
+    push_number(text, note.commands)?;
+    push_field(
+        text,
+        match note.place {
+            Place::At(SliceNo(1)) => b"@1",
+            Place::At(_) => b"@another",
+            Place::Closing => b"@closing",
+        },
+    )?;
+    push_verdict(text, &note.verdict)
+}
+
+fn push_effects(text: &mut Vec<u8>, state: &FlowState) -> Result<(), NoMemory> {
+    for done in state.effects.as_slice() {
+        for effect in done.effects.as_slice() {
+            text.push(b';')?;
+            push_number(text, done.command)?;
+            push_effect(text, effect)?;
+        }
+    }
+    Ok(())
+}
