@@ -17,8 +17,8 @@ pub fn one_thread_is_lawful_on_slices()
     ensures { OneThreadIsLawful }
 {}
 
-/// An audit finds nothing to refute in a report that one thread made of a trace whose commands, packets and notes are in
-/// their ranges: held against one thread, or against 64 slices with any room and lanes.
+/// An audit finds nothing to refute in a report that one thread made of a trace whose commands, packets and notes are
+/// in their ranges: held against one thread, or against 64 slices with any room and lanes.
 pub fn own_report_is_confirmed()
     ensures yes { OwnReportIsConfirmed }
     ensures only { OwnReportIsNeverRefuted }
