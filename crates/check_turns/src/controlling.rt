@@ -110,9 +110,11 @@ impl Desk {
     }
 
     /// The replies: line, number and outcome of each.
-    pub fn end(self, text: &mut Vec<u8>) -> Result<(), NoMemory> {
+    pub fn end(self, alloc: Global) -> Result<Vec<u8>, Stop> {
+        let mut text = Vec::new(alloc);
         let end = self.half.into_end();
-        push_notes(text, end.control.notes.as_slice())
+        push_notes(&mut text, end.control.notes.as_slice())?;
+        Ok(text)
     }
 }
 

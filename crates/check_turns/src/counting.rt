@@ -202,9 +202,11 @@ impl Bench {
 
     /// How many commands were learnt and packets handled, the floor of a batch that is kept, the moment of the last
     /// packet; then each packet's verdict, and each effect with its command.
-    pub fn end(self, text: &mut Vec<u8>) -> Result<(), NoMemory> {
+    pub fn end(self, alloc: Global) -> Result<Vec<u8>, Stop> {
+        let mut text = Vec::new(alloc);
         let rest = self.half.into_rest();
-        push_rest(text, &rest)
+        push_rest(&mut text, &rest)?;
+        Ok(text)
     }
 }
 

@@ -1,7 +1,7 @@
-//! Plays scripts of turns: a step a line, and the answer a line. With small halves of its own it plays a lane (L), a side
-//! of halves that travel (W), or one of halves to which items come (F), each with its workers; of a subscriber a batch (B,
-//! with its first version and its floor), a control half (C, with the room of its lanes) or a counter half (P, with the
-//! room of its lane). A line x closes it, and all come home. A line that begins with '#' is repeated.
+//! Plays scripts of turns: a step a line, and the answer a line. With small halves of its own it plays a lane (L), a
+//! side of halves that travel (W), or one of halves to which items come (F), each with its workers; of a subscriber a
+//! batch (B, with its first version and its floor), a control half (C, with the room of its lanes) or a counter half (P,
+//! with the room of its lane). A line x closes it, and all come home. A line that begins with '#' is repeated.
 #![tactic(auto)]
 
 mod answers;
@@ -15,7 +15,7 @@ mod step;
 mod walker;
 mod walking;
 
-use answers::{Stop, push_word, word_of};
+use answers::{Stop, word_of};
 use batching::Shelf;
 use controlling::Desk;
 use counting::Bench;
@@ -71,17 +71,15 @@ fn go_on<R: Wait>(rt: &R, alloc: Global, stage: &mut Stage, step: Step) -> Resul
 }
 
 fn close<R: Wait>(rt: &R, alloc: Global, stage: Stage) -> Result<Vec<u8>, Stop> {
-    let mut text = Vec::new(alloc);
     match stage {
-        Stage::Nothing => return Err(Stop::Step),
-        Stage::Lane(lane) => return lane.end(rt, alloc),
-        Stage::Walk(walk) => return walk.end(rt, alloc),
-        Stage::Stream(stream) => return stream.end(rt, alloc),
-        Stage::Batch(_) => push_word(&mut text, b"closed")?,
-        Stage::Control(desk) => desk.end(&mut text)?,
-        Stage::Counter(bench) => bench.end(&mut text)?,
+        Stage::Nothing => Err(Stop::Step),
+        Stage::Lane(lane) => lane.end(rt, alloc),
+        Stage::Walk(walk) => walk.end(rt, alloc),
+        Stage::Stream(stream) => stream.end(rt, alloc),
+        Stage::Batch(_) => word_of(alloc, b"closed"),
+        Stage::Control(desk) => desk.end(alloc),
+        Stage::Counter(bench) => bench.end(alloc),
     }
-    Ok(text)
 }
 
 fn answer<R: Wait>(rt: &R, alloc: Global, stage: &mut Stage, line: &[u8]) -> Result<Vec<u8>, Stop> {

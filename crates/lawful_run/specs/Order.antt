@@ -26,7 +26,8 @@ commands_lent commands = map (λ (command : Bor CommandKind). command.now) comma
 abbrev pub events_of : List Event → List CommandKind → List Placed → List Event
 events_of before commands packets = ordered (length (commands_of before)) (length (packets_of before)) commands packets
 
--- This holds of a slot behind some events and those now, which are so few, with so many more, that every count may rise.
+-- This holds of a slot behind some events and those now, which are so few, with so many more, that every count may
+-- rise.
 pub record CanGo (Holds : ℕ → List Event → List Event → Type 0) (more : ℕ) : Type 0 where
   pub slot : ℕ
   pub before : List Event

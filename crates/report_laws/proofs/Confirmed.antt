@@ -17,6 +17,8 @@ use Rattle.audit_run.specs.Texts.{Text}
 use Rattle.audit_run.proofs.OneFinding.{one_finding}
 use Rattle.report_laws.specs.Confirming.{OwnReportIsConfirmed, OwnReportIsNeverRefuted, audited, lines_of}
 use Rattle.report_laws.specs.Shown.{report_shown}
+use Rattle.report_laws.proofs.BookBound.{book_most}
+use Rattle.report_laws.proofs.EntriesIn.{entries_in}
 use Rattle.report_laws.proofs.OneThread.{entries_shown, lawful_on_slices}
 
 abbrev IsOther : Text → Type 0
@@ -60,7 +62,8 @@ own_confirmed setup trace report slices own = record {
   are = record {
     same = parts_report trace (lines_of report) own.unmarked ∙ texts_shown (entries_of report)
         ∙ ap (map entry_text) (sym (entries_shown report));
-    ranges = own.ranges;
+    ranges = entries_in solo (length (book_of (trace_from 1 0 trace).lines)) (epochs_told 64 (trace_from 1 0 trace)) report
+        own.lawful own.ranges own.few (book_most (trace_from 1 0 trace).lines);
   };
   lawful = subst (λ (texts : List Text). IsOf setup (trace_from 1 0 texts) (entries_of (report_shown report)))
       (sym (parts_trace trace (lines_of report) own.unmarked))

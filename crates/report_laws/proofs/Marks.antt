@@ -202,7 +202,7 @@ same_marks (x ∷ xs) (y ∷ ys) numbers counts verdicts =
     λ i. record { number = number i; commands = count i; verdict = verdict i } ∷ rest i
 
 -- an epoch's entries tell those of its events
-epoch_marks : (setup : Setup) (slots first : ℕ) (before : Histories) (made : List Meaning) (told : EpochReport)
+pub epoch_marks : (setup : Setup) (slots first : ℕ) (before : Histories) (made : List Meaning) (told : EpochReport)
     (slot : ℕ) → IsEpochRun setup slots first before made told
     → filter_map (mark_told slot) told.lines ≡ marks slot (before slot) (now_events before made told slot)
 epoch_marks setup slots first before made told slot run =

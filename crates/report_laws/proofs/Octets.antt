@@ -92,18 +92,18 @@ reply_some slot before c =
     octets_some (row_of session c) session c (session_some _ before tt)
 
 -- a packet has octets
-packet_some : (packet : List ℕ) → is_packet packet ≡ true → 0 < length packet
+pub packet_some : (packet : List ℕ) → is_packet packet ≡ true → 0 < length packet
 packet_some [] is = cc
 packet_some (octet ∷ packet) is = omega arith
 
-gpdu_some : (peer : Peer) (packet : List ℕ) → 0 < length (gpdu peer packet)
+pub gpdu_some : (peer : Peer) (packet : List ℕ) → 0 < length (gpdu peer packet)
 gpdu_some peer packet = omega (arith, length-gpdu peer packet)
 
-marker_some : (peer : Peer) → 0 < length (end_marker peer)
+pub marker_some : (peer : Peer) → 0 < length (end_marker peer)
 unfolding end_marker
 marker_some peer = omega arith
 
-notification_some : (mme : Peer) (number ebi : ℕ) → 0 < length (notification mme number ebi)
+pub notification_some : (mme : Peer) (number ebi : ℕ) → 0 < length (notification mme number ebi)
 unfolding notification
 notification_some mme number ebi = omega arith
 

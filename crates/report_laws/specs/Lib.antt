@@ -2,3 +2,4 @@ pub mod Shown
 pub mod Confirming
 pub mod Held
 pub mod Octets
+pub mod Ranges

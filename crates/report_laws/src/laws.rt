@@ -2,6 +2,7 @@
 ghost use Rattle.report_laws.specs.Confirming.{OwnReportIsConfirmed, OwnReportIsNeverRefuted};
 ghost use Rattle.report_laws.specs.Held.{AtMostOneFate, FatesFollow};
 ghost use Rattle.report_laws.specs.Octets.{ToldHaveOctets};
+ghost use Rattle.report_laws.specs.Ranges.{EntriesAreInRange};
 ghost use Rattle.report_laws.specs.Shown.{EntriesAreShown, OneThreadIsLawful, PlacesMayBeLeftOut};
 
 /// A lawful run stays one where its packets tell neither their place nor that they were parked, as in the text of a
@@ -16,8 +17,8 @@ pub fn one_thread_is_lawful_on_slices()
     ensures { OneThreadIsLawful }
 {}
 
-/// An audit finds nothing to refute in a report that one thread made of a trace, where each entry is in the ranges of a
-/// report: held against one thread, or against 64 slices with any room and lanes.
+/// An audit finds nothing to refute in a report that one thread made of a trace whose commands, packets and notes are
+/// in their ranges: held against one thread, or against 64 slices with any room and lanes.
 pub fn own_report_is_confirmed()
     ensures yes { OwnReportIsConfirmed }
     ensures only { OwnReportIsNeverRefuted }
@@ -33,4 +34,11 @@ pub fn held_packets_have_one_fate()
 /// What a lawful report tells has octets: the message of a reply, a packet that goes on, a notification, an End Marker.
 pub fn told_have_octets()
     ensures { ToldHaveOctets }
+{}
+
+/// Each entry of a lawful report, without its place, is one that a report can hold: where fewer than 2^40 lines mean
+/// commands and packets whose numbers are in their ranges, and notes that print. So `report_lines::read` reads it again
+/// from its text.
+pub fn entries_are_in_range()
+    ensures { EntriesAreInRange }
 {}
