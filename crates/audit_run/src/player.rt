@@ -75,7 +75,7 @@ impl Player {
     }
 
     /// Plays the accepted commands and packets of an epoch: before each packet as many commands as it tells, counted
-    /// from the slot's first one on. A slot has fewer than 2^40 events. Where memory is wanting, the player has played
+    /// from the slot's first one on. A slot has fewer than 2^40 events. Out of memory, the player has played
     /// a part of them, and is of no more use.
     pub fn play(
         &mut self,

@@ -69,7 +69,7 @@ fn new_record(alloc: Global) -> Result<Subscriber, NoMemory>
     Subscriber::new(alloc, Slot(0), SliceNo(0))
 }
 
-// A new subscriber, split. Where memory is wanting the record is as before, and is split again.
+// A new subscriber, split. Out of memory, the record is as before, and is split again.
 fn new_parts(alloc: Global) -> Result<(FrontEnd, ControlHalf, FlowHalf), Stop>
     ensures one { IfOk result (λ parts. AreOfOneSplit parts.0 parts.1 parts.2) }
     ensures packets { IfOk result (λ parts. parts.0.packets ≡ (start_of parts.0).packets) }
@@ -198,7 +198,7 @@ impl Bench {
         }
     }
 
-    // One step of an order. Where memory is wanting it is done again, at most twice more.
+    // One step of an order. Out of memory, it is done again, at most twice more.
     fn step<R: Wait>(&mut self, rt: &R, step: char) -> Result<(), NoMemory> {
         for _ in 0..2 {
             if self.try_step(rt, step).is_ok() {

@@ -1,6 +1,6 @@
 //! Plays a subscriber in two halves by hand: ten stated orders of turns over two traces. Each order ends with the
 //! halves as one record again; its report is printed and held against the sentences of the lawful run, and once
-//! more with one count changed. The words, where there are any, are the orders to play. Where memory is wanting a
+//! more with one count changed. The words, where there are any, are the orders to play. Out of memory, a
 //! step is done again.
 #![tactic(auto)]
 

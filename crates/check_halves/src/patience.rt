@@ -1,4 +1,4 @@
-//! What is done again where memory is wanting.
+//! What is done again out of memory.
 use std::alloc::AllocError as NoMemory;
 use std::io;
 

@@ -28,8 +28,8 @@ fn on(slot: u32, slice: u8, packets: u64) -> Load
     }
 }
 
-/// Of three slots on one slice of two the heaviest goes; one slot stays; of four slots on three slices two go, the lowest
-/// of equals first.
+/// Of three slots on one slice of two the heaviest goes; one slot stays; of four slots on three slices two go, the
+/// lowest of equals first.
 pub fn push_plans(alloc: Global, text: &mut Vec<u8>) -> Result<(), AllocError> {
     let three = plan(alloc, &[on(0, 0, 5), on(1, 0, 3), on(2, 0, 2)], 2, 4)?;
     push_plan(text, &three)?;

@@ -1,6 +1,6 @@
 //! A row: `SLICES ROOM LANE BOUND,BOUND,.. TURNS ASK ASK ..`, where each slot is bound for by slot; TURNS is `-` for
-//! none, `all` for those of two slices in order, or `STATE/PER` for drawn ones; ASK is `n` for a note, `c3` and `p3` for
-//! a command and a packet of slot 3, `m3>1` for a move of slot 3 to slice 1.
+//! none, `all` for those of two slices in order, or `STATE/PER` for drawn ones; ASK is `n` for a note, `c3` and `p3`
+//! for a command and a packet of slot 3, `m3>1` for a move of slot 3 to slice 1.
 ghost use Rattle.schedule_run.specs.Told.{AreWorkers};
 ghost use Rattle.std.specs.Prelude.{IfOk};
 

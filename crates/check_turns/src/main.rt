@@ -1,7 +1,7 @@
 //! Plays scripts of turns: a step a line, and the answer a line. With small halves of its own it plays a lane (L), a
 //! side of halves that travel (W), or one of halves to which items come (F), each with its workers; of a subscriber a
-//! batch (B, with its first version and its floor), a control half (C, with the room of its lanes) or a counter half (P,
-//! with the room of its lane). A line x closes it, and all come home. A line that begins with '#' is repeated.
+//! batch (B, with its first version and its floor), a control half (C, with the room of its lanes) or a counter half
+//! (P, with the room of its lane). A line x closes it, and all come home. A line that begins with '#' is repeated.
 #![tactic(auto)]
 
 mod answers;

@@ -18,7 +18,7 @@ pub struct Controller {
 }
 
 impl Controller {
-    /// Applies a command, and notes its reply. Where memory is wanting, nothing changes.
+    /// Applies a command, and notes its reply. Out of memory, nothing changes.
     pub fn apply(&mut self, item: &CommandItem) -> Result<(), NoMemory>
         requires room { HasRoom self.old.session }
         requires few { self.old.number < 2 ^ 61 }

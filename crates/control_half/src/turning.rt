@@ -147,7 +147,7 @@ impl ControlInner {
         }
     }
 
-    /// Applies the command at the head. Where memory is wanting, it stays there.
+    /// Applies the command at the head. Out of memory, it stays there.
     fn apply(&mut self) -> Result<(), NoMemory>
         requires done { self.old.due ≡ None }
         requires fits { Fits self.old.hop self.old.batch self.old.head }
@@ -169,7 +169,7 @@ impl ControlInner {
         Ok(())
     }
 
-    /// Makes the version that is due, and puts it into the batch. Where memory is wanting, it stays due.
+    /// Makes the version that is due, and puts it into the batch. Out of memory, it stays due.
     fn publish(&mut self) -> Result<(), NoMemory>
         ensures same { IsSameHalf self.old self.new }
         ensures control { self.new.control ≡ self.old.control }

@@ -27,7 +27,7 @@ use subscriber::Subscriber;
 use trace_lines::TraceLine;
 
 /// Does the lines of an epoch, behind each of them the turns. Lines are counted on from those before,
-/// and are at most 2^39 in all. Where memory is wanting, nothing of the gateway is left, and drawn
+/// and are at most 2^39 in all. Out of memory, nothing of the gateway is left, and drawn
 /// turns may have gone on.
 pub fn drive_epoch<'a>(
     alloc: Global,

@@ -4,8 +4,9 @@ ghost use Rattle.std.specs.Prelude.{IfOk, IfSome, OnOk};
 ghost use Rattle.std.specs.Option.{is_some};
 ghost use Rattle.rate_policer.specs.Buckets.{full_bucket};
 ghost use Rattle.packet_steps.specs.Meters.{own_meter};
-ghost use Rattle.packet_steps.specs.Parts.{ArePartsOf, IsMadeOf, buckets_in, own_buckets, fit, may_fit, first_fit, own_fit};
-ghost use Rattle.packet_steps.specs.Parts.{buckets_fit, were_asked, is_piece_of, has_bearer, all_have_bearers, pieces_fit};
+ghost use Rattle.packet_steps.specs.Parts.{ArePartsOf, IsMadeOf, buckets_in, own_buckets};
+ghost use Rattle.packet_steps.specs.Parts.{fit, may_fit, first_fit, own_fit, buckets_fit, were_asked};
+ghost use Rattle.packet_steps.specs.Parts.{is_piece_of, has_bearer, all_have_bearers, pieces_fit};
 ghost use Rattle.packet_steps.specs.Parts.{may_wait, all_may_wait, in_order, waiting_fit, held_fit};
 ghost use Rattle.packet_steps.specs.Parts.{first_meter, no_meters, own_with, PartsRepresentTheSame};
 

@@ -63,8 +63,8 @@ ending_text number ending.ReadFault = []
 ending_text number ending.LineLong = []
 ending_text number ending.TooLong = []
 
--- The gateway answered these lines, which are whole epochs and an open one: the former text is that of the whole epochs,
--- and the entries of the open one's lines wait.
+-- The gateway answered these lines, which are whole epochs and an open one: the former text is that of the whole
+-- epochs, and the entries of the open one's lines wait.
 pub record HasAnswered (gateway : Solo) (done : List Line) (latest : ℕ) (closed : List (List Line)) (open_ : List Line)
     (sent waiting : List ℕ) : Type 0 where
   pub parts : done ≡ lines_in closed ++ open_

@@ -20,7 +20,7 @@ use subscriber::{Subscriber, few_events_leave_room};
 
 /// Does the accepted commands and packets of an epoch, each in line order: before each packet as many
 /// commands as it tells, counted from the slot's first one on, and at last those that are left. The
-/// charging records are taken out. A slot has fewer than 2^40 events. Where memory is wanting, the
+/// charging records are taken out. A slot has fewer than 2^40 events. Out of memory, the
 /// subscriber has done a part of them, and may only be dropped.
 pub fn replay<'a>(
     alloc: Global,

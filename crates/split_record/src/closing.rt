@@ -39,7 +39,7 @@ impl Closing {
     ghost use Rattle.split_record.specs.Origin.{IsClosing, IsApplied, IsDone, commands_left, items_left};
 
     /// Applies what commands are left. Then each packet is handled behind every version whose floor is met
-    /// there, and at last every version is learnt. Where memory is wanting, what is done stays done.
+    /// there, and at last every version is learnt. Out of memory, what is done stays done.
     pub(crate) fn work(&mut self, alloc: Global, origin: &Origin) -> Result<(), NoMemory>
         requires at { IsClosing origin.now self.old }
         requires accepted { AreAccepted origin.now.front.value (items_in_all origin.now) }

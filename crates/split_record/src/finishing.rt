@@ -33,7 +33,7 @@ pub struct Finished {
 /// Does what the halves of a subscriber have left to do, with the packets that were accepted and that no
 /// one handled, and makes them one record. The three come from one split. The items that the counter half
 /// handled and those that are left are those that the front end counted, in order, and their moments don't
-/// fall. Those that are left are handled at the end of an epoch (`Place::Closing`). Where memory is wanting, all is
+/// fall. Those that are left are handled at the end of an epoch (`Place::Closing`). Out of memory, all is
 /// handed back.
 pub fn finish<R: Wait>(
     rt: &R,

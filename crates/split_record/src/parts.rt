@@ -139,7 +139,7 @@ impl RecordParts {
     }
 }
 
-/// Both lanes are closed. Where memory is wanting, no lane is closed in part.
+/// Both lanes are closed. Out of memory, no lane is closed in part.
 fn closed<R: Wait>(rt: &R, alloc: Global, origin: &Origin, stage: Stage) -> Result<Closing, Stage>
     requires at { IsAt origin.now stage }
     ensures ok { IfOk result (λ closing. IsClosing origin.now closing) }
@@ -173,7 +173,7 @@ fn closed_behind<R: Wait>(
 }
 
 impl Open {
-    /// The lane of commands is closed. Where memory is wanting, all is as before.
+    /// The lane of commands is closed. Out of memory, all is as before.
     fn closed<R: Wait>(self, rt: &R, alloc: Global, origin: &Origin) -> Result<Halfway, Open>
         requires at { IsOpen origin.now self }
         ensures ok { IfOk result (λ half. IsHalfway origin.now half) }
@@ -228,7 +228,7 @@ impl Open {
 }
 
 impl Halfway {
-    /// The lane of versions is closed too. Where memory is wanting, all is as before.
+    /// The lane of versions is closed too. Out of memory, all is as before.
     fn closed<R: Wait>(self, rt: &R, alloc: Global, origin: &Origin) -> Result<Closing, Halfway>
         requires at { IsHalfway origin.now self }
         ensures ok { IfOk result (λ closing. IsClosing origin.now closing) }
