@@ -1,0 +1,5 @@
+pub mod BookLemmas
+pub mod EpochLemmas
+pub mod Texts
+pub mod StandLemmas
+pub mod Reports
