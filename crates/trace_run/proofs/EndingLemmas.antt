@@ -1,5 +1,5 @@
 -- How the lines of an input end, and what a run that ends, or is cut, wrote.
-use Rattle.std.proofs.Common.{◌≡◌, ℕ, ◌+◌, ◌^◌, Bool, List, [], ◌∷◌, ◌++◌, length, All, true, flat_map, Option, None, Some, ◌⊎◌, inl, inr, refl, sym, ap, subst, ◌∙◌, append_assoc, append-nil}
+use Rattle.std.proofs.Common.{◌≡◌, ℕ, ◌+◌, ◌^◌, Bool, List, [], ◌∷◌, ◌++◌, length, Option, None, Some, inl, inr, refl, sym, ap, subst, ◌∙◌, append_assoc, append-nil}
 use Rattle.std.specs.Io.KnownBytes.{Appends, prepend_known}
 use Rattle.std.proofs.KnownBytes.{Appends-nil}
 use Rattle.pc_outside.specs.Held.{Held, IsUnfinished}
@@ -8,17 +8,17 @@ use Rattle.trace_lines.specs.Input.{Input, Stop, bad, long, big, ended, stopped,
 use Rattle.trace_lines.specs.Line.{Line}
 use Rattle.trace_lines.specs.declared.bad.LineBad.{LineBad}
 use Rattle.lawful_run.specs.Cut.{IsCut, lines_in}
-use Rattle.lawful_run.specs.Report.{Report, epoch_entries, texts_of}
-use Rattle.lawful_run.specs.Trace.{is_whole}
+use Rattle.lawful_run.specs.Report.{Report}
 use Rattle.lawful_run.proofs.CutLines.{cut_closed, cut_nothing}
 use Rattle.trace_run.specs.declared.ending.Ending.{Ending}
 use Rattle.trace_run.specs.declared.ending.Ending.TheVariants.{Ended, ReadFault, BadLine, LineLong, TooLong}
 use Rattle.trace_run.specs.declared.reading.Next.TheVariants as next
 use Rattle.trace_run.specs.declared.status.Status.{Status}
 use Rattle.trace_run.specs.declared.status.Status.TheVariants as status
-use Rattle.trace_run.specs.Lines.{Begins, Fails, HasRead, Reached, Stops, stop_of}
+use Rattle.trace_run.specs.Lines.{Begins, Fails, HasRead, Reached, Stops}
 use Rattle.trace_run.specs.Next.{Tells}
 use Rattle.trace_run.specs.Report.{IsBad, IsCutText, IsDone, IsEpochsText, IsFaultText, IsLong, IsText, Reports, Runs, input_with}
+use Rattle.trace_run.specs.Reporting.{IsDue, SaysEpochs}
 use Rattle.trace_run.specs.Status.{status_at}
 use Rattle.trace_run.specs.Told.{WhereTold}
 use Rattle.trace_run.proofs.ReadLemmas.{begins_more, fails_so, none_left, stops_so, told_next}
@@ -139,11 +139,6 @@ fault_of may_have places octets left text done reached said = record {
   report = whole_of may_have places reached.taken.whole done ended text reached.stops said;
 }
 
--- the text is that of the report that is due at an ending
-abbrev pub IsDue : (Input → Report → Type 0) → Bool → Ending → List Line → List ℕ → Type 0
-IsDue may_have places ending done text =
-    IsText may_have places (record { lines = done; stop = stop_of ending (length done + 1) }) text
-
 reports_ending : (may_have : Input → Report → Type 0) (places : Bool) (ending : Ending) (source_failed : Type 0)
     (octets left text : List ℕ) (done : List Line)
     → Reached ending octets left done → IsDue may_have places ending done text
@@ -225,13 +220,6 @@ begins_front octets done front back parts begins = (
   begins.1 ∙ ap (λ lines. after_lines lines begins.0) parts
       ∙ ap (λ lines. record { lines = lines; stop = begins.0.stop }) (append_assoc front back begins.0.lines),
 )
-
--- the text of these epochs, which are whole
-pub record SaysEpochs (may_have : Input → Report → Type 0) (places : Bool) (closed : List (List Line))
-    (text : List ℕ) : Type 0 where
-  pub report : Report
-  pub allowed : may_have (input_with (lines_in closed)) report
-  pub written : text ≡ texts_of places (flat_map epoch_entries report.epochs)
 
 epochs_of_cut : (may_have : Input → Report → Type 0) (places : Bool) (octets : List ℕ) (closed : List (List Line))
     (text : List ℕ) → IsCut (lines_in closed) closed [] → Begins octets (lines_in closed)

@@ -89,11 +89,11 @@ takes_given room after octets rest text true line len holds as_long =
 takes_given room after octets rest text false line len holds as_long =
     let some = text_some line in omega (arith, holds.form.given)
 
--- and comes with its length, in its order
-pub gives_given : (line : Line) (len least : ℕ) (last : Bool) → IsNext line len least
-    → Gives (given_as line len last) least
-gives_given line len least true is = is
-gives_given line len least false is = is
+-- and comes with its number and its length, in its order
+pub gives_given : (line : Line) (len number least : ℕ) (last : Bool) → IsNext line len number least
+    → Gives (given_as line len last) number least
+gives_given line len number least true is = is
+gives_given line len number least false is = is
 
 -- and is no fault
 pub given-no_fault : (last : Bool) (line : Line) (len : ℕ) → given_as line len last ≡ next.ReadFault → ⊥
@@ -101,13 +101,13 @@ given-no_fault true line len is = cc
 given-no_fault false line len is = cc
 
 -- a refusal gives no line
-pub gives_refused : (bad_one : LineBad) (least : ℕ) → Gives (refused_as bad_one) least
-gives_refused why.Field least = tt
-gives_refused why.Number least = tt
-gives_refused why.Kind least = tt
-gives_refused why.Hex least = tt
-gives_refused why.MomentBack least = tt
-gives_refused why.NoMemory least = tt
+pub gives_refused : (bad_one : LineBad) (number least : ℕ) → Gives (refused_as bad_one) number least
+gives_refused why.Field number least = tt
+gives_refused why.Number number least = tt
+gives_refused why.Kind number least = tt
+gives_refused why.Hex number least = tt
+gives_refused why.MomentBack number least = tt
+gives_refused why.NoMemory number least = tt
 
 says_refused : (number least room after : ℕ) (octets rest text : List ℕ) (last : Bool) (bad_one : LineBad)
     → HoldsLine room after octets rest text last → line_meaning least number text ≡ Err bad_one

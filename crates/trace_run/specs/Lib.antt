@@ -4,3 +4,5 @@ pub mod Cut
 pub mod Status
 pub mod Report
 pub mod Lines
+pub mod Takers
+pub mod Reporting

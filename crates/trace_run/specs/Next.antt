@@ -49,19 +49,22 @@ TakesRoom next.TooLong room after = Unit {0}
 TakesRoom next.ReadFault room after = Unit {0}
 TakesRoom next.NoMemory room after = Unit {0}
 
--- a line comes with the length of its text, which isn't too long, and isn't below the least moment
-abbrev pub IsNext : Line → ℕ → ℕ → Type 0
-IsNext line len least = (len ≡ length (line_text line)) × (len ≤ line_max) × (least ≤ line.moment)
+-- a line comes with its number and with the length of its text, which isn't too long, and isn't below the least moment
+pub record IsNext (line : Line) (len number least : ℕ) : Type 0 where
+  pub numbered : line.number ≡ number
+  pub long : len ≡ length (line_text line)
+  pub short : len ≤ line_max
+  pub late : least ≤ line.moment
 
-abbrev pub Gives : Next → ℕ → Type 0
-Gives (next.Line line len) least = IsNext line len least
-Gives (next.Last line len) least = IsNext line len least
-Gives (next.Bad why) least = Unit {0}
-Gives next.End least = Unit {0}
-Gives next.LineLong least = Unit {0}
-Gives next.TooLong least = Unit {0}
-Gives next.ReadFault least = Unit {0}
-Gives next.NoMemory least = Unit {0}
+abbrev pub Gives : Next → ℕ → ℕ → Type 0
+Gives (next.Line line len) number least = IsNext line len number least
+Gives (next.Last line len) number least = IsNext line len number least
+Gives (next.Bad why) number least = Unit {0}
+Gives next.End number least = Unit {0}
+Gives next.LineLong number least = Unit {0}
+Gives next.TooLong number least = Unit {0}
+Gives next.ReadFault number least = Unit {0}
+Gives next.NoMemory number least = Unit {0}
 
 -- a line that was read, with the length of its text, and whether it is the last one
 abbrev pub given_as : Line → ℕ → Bool → Next

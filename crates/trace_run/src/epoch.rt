@@ -1,48 +1,49 @@
 //! How large the open epoch is.
-ghost use Rattle.std.specs.Prelude.{◌≡◌, ◌<◌, ◌^◌, ◌∷◌, ◌++◌, [], List, length, if◌then◌else◌};
-ghost use Rattle.trace_lines.specs.Epochs.{ends_epoch};
+ghost use Rattle.std.specs.Prelude.{◌≡◌, ◌+◌, ◌<◌, ◌^◌, ◌∷◌, ◌++◌, [], List, length, if◌then◌else◌};
+ghost use Rattle.trace_lines.specs.Epochs.{ends_epoch, octets_in};
 ghost use Rattle.trace_lines.specs.Line.{Line};
 ghost use Rattle.trace_lines.specs.Text.{line_text};
 ghost use Rattle.trace_run.specs.Cut.{Counts};
 
 use trace_lines::{TraceLine, ends_epoch};
 
-/// How many lines the open epoch has, and how many octets they have.
+/// The number of the open epoch's first line, and how many octets its lines have.
 #[derive(Clone, Copy)]
 pub struct Size {
-    lines: u64,
+    first: u64,
     octets: u64,
 }
 
 impl Size {
-    /// An epoch before its first line.
+    /// An epoch before the first line of a trace.
     pub fn new() -> Size
-        ensures { Counts result [] }
+        ensures { Counts result 1 [] }
     {
         Size {
-            lines: 0,
+            first: 1,
             octets: 0,
         }
     }
 
-    /// Takes a line with a text of this length into the epoch: whether it is the epoch's last one.
-    /// The next line then begins an epoch.
+    /// Takes the next line, with a text of this length, into the epoch: whether it is the epoch's last one. The
+    /// line behind it then begins an epoch.
     pub fn take(&mut self, line: &TraceLine, len: u64) -> bool
         requires length { len ≡ length (line_text line.now) }
-        requires few { self.old.lines < 2 ^ 60 }
-        requires short { self.old.octets < 2 ^ 60 }
+        requires counted { (before : List Line) × Counts self.old line.now.number before
+            × (line.now.number < 2 ^ 60) × (octets_in before < 2 ^ 60) }
         requires short_line { len < 2 ^ 60 }
 
-        ensures ends { (before : List Line) → Counts self.old before
+        ensures ends { (before : List Line) → Counts self.old line.now.number before
             → result ≡ ends_epoch before line.now }
-        ensures counts { (before : List Line) → Counts self.old before
-            → Counts self.new (if ends_epoch before line.now then [] else before ++ line.now ∷ []) }
+        ensures counts { (before : List Line) → Counts self.old line.now.number before
+            → Counts self.new (line.now.number + 1)
+            (if ends_epoch before line.now then [] else before ++ line.now ∷ []) }
     {
-        let ends = ends_epoch(line, len, self.lines, self.octets);
+        let ends = ends_epoch(line, len, line.number - self.first, self.octets);
         if ends {
-            *self = Size::new();
+            self.first = line.number + 1;
+            self.octets = 0;
         } else {
-            self.lines += 1;
             self.octets += len;
         }
         ends

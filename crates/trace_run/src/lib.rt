@@ -6,9 +6,13 @@
 mod ending;
 mod epoch;
 mod reading;
+mod reporting;
 mod status;
+mod taking;
 
 pub use ending::{Ending, Unwritten, status_at, status_without, write_octets, write_report};
 pub use epoch::Size;
 pub use reading::{Next, next_line};
+pub use reporting::{Epochs, Reporter, run_report};
 pub use status::{Status, fault_text};
+pub use taking::{LineTaker, run_lines};

@@ -35,7 +35,7 @@ pub fn next_line<S: Source>(
         (prepend_known buf.old.front (S.left source.old))
         (prepend_known buf.new.front (S.left source.new)) }
     ensures room { TakesRoom result buf.old.room buf.new.room }
-    ensures given { Gives result least }
+    ensures given { Gives result number least }
 
     // A fault is the source's, and comes only where more octets of a line are needed.
     ensures later { S.faults source.old ≤ S.faults source.new }

@@ -1,4 +1,5 @@
 use Rattle.std.proofs.Common.{sym, ap, ◌∙◌, length, arith}
+use Rattle.trace_lines.proofs.MeaningLemmas.{meaning_given}
 use Rattle.trace_run.proofs.NextLemmas.{gives_given, gives_refused, tells_given, takes_given, given-no_fault, tells_refused, tells_end, tells_long, tells_big, tells_fault}
 use Rattle.trace_run.proofs.reading.next_line.Goals as goal
 
@@ -28,11 +29,12 @@ returns-in-Ok-clause-room g c =
 
 pub returns-in-Ok-clause-given : goal.returns-in-Ok-clause-given
 returns-in-Ok-clause-given g c =
-    rw c.given.ensures (gives_given c.in-Ok.line _ c.args.least c.is_last.result (
-      sym c.in-Ok.ensures.as_long,
-      omega (arith, c.in-Line.ensures.held.1.short, ap length c.line-text.ensures),
-      c.in-Ok.ensures.in_order,
-    ))
+    rw c.given.ensures (gives_given c.in-Ok.line _ c.args.number c.args.least c.is_last.result (record {
+      numbered = (meaning_given c.args.least c.args.number c.line-text.result.now c.in-Ok.line c.in-Ok.ensures.line).1;
+      long = sym c.in-Ok.ensures.as_long;
+      short = omega (arith, c.in-Line.ensures.held.1.short, ap length c.line-text.ensures);
+      late = c.in-Ok.ensures.in_order;
+    }))
 
 pub returns-in-Ok-clause-fault : goal.returns-in-Ok-clause-fault
 returns-in-Ok-clause-fault g c =
@@ -43,7 +45,7 @@ returns-in-Ok-clause-unfinished g c =
     λ is. absurd (given-no_fault c.is_last.result c.in-Ok.line _ (sym c.given.ensures ∙ is))
 
 pub returns-in-Err-clause-given : goal.returns-in-Err-clause-given
-returns-in-Err-clause-given g c = rw c.refused.ensures (gives_refused c.in-Err.why c.args.least)
+returns-in-Err-clause-given g c = rw c.refused.ensures (gives_refused c.in-Err.why c.args.number c.args.least)
 
 pub returns-in-Err-clause-tells : goal.returns-in-Err-clause-tells
 returns-in-Err-clause-tells g c =

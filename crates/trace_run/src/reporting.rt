@@ -1,0 +1,216 @@
+//! The report of a trace, told epoch by epoch.
+ghost use Rattle.std.specs.Prelude.{◌≡◌, ◌≤◌, ◌+◌, ◌^◌, ◌∷◌, ◌++◌, [], ℕ, Bool, List, Option, length, Ok, OnOk, IfOk};
+ghost use Rattle.pc_outside.specs.Faults.{Rises};
+ghost use Rattle.pc_outside.specs.Limits.{line_max};
+ghost use Rattle.trace_lines.specs.Input.{Input};
+ghost use Rattle.trace_lines.specs.Line.{Line};
+ghost use Rattle.trace_lines.specs.Text.{line_text};
+ghost use Rattle.lawful_run.specs.Cut.{IsCut};
+ghost use Rattle.lawful_run.specs.Report.{Report};
+ghost use Rattle.trace_run.specs.Report.{Runs};
+ghost use Rattle.trace_run.specs.Reporting.{AnsweredAs, IsDue, SaysEpochs, Standing};
+ghost use Rattle.trace_run.specs.Takers.{IsNextOf};
+
+use crate::ending::{Ending, Unwritten, status_at, status_without, write_report};
+use crate::epoch::Size;
+use crate::status::Status;
+use crate::taking::{LineTaker, run_lines};
+use pc_outside::{Sink, Source};
+use std::alloc::{AllocError, Global};
+use text_fields::Text;
+use trace_lines::TraceLine;
+
+/// Answers the lines of a trace, epoch by epoch, and tells its report. After an error it may only be dropped.
+pub trait Reporter: Drop {
+    /// The reports that it may tell of an input, by what it was before the first line, and whether their texts
+    /// tell places.
+    ghost may_have: { Self → Input → Report → Type 0 };
+
+    ghost places: { Self → Bool };
+
+    /// What it was before the first line, and what it is behind these lines, where the last one has this moment (0
+    /// before the first): they are these whole epochs, whose text is the former, and those of the open one, whose
+    /// text is the latter so far.
+    ghost represents: { Self → Self → List Line → ℕ → List (List Line) → List Line → List ℕ → List ℕ → Type 0 };
+
+    /// Takes the next line. One that isn't kept gives its room back.
+    fn take(
+        &mut self,
+        line: TraceLine,
+        room: &mut Vec<u8>,
+        text: &mut Text,
+    ) -> Result<(), AllocError>
+        requires { (first : Self) × (done : List Line) × (latest : ℕ) × (closed : List (List Line))
+            × (open_ : List Line) × (sent : List ℕ)
+            × represents first self.old done latest closed open_ sent text.old × IsNextOf done latest line }
+
+        ensures { (first : Self) (done : List Line) (latest : ℕ) (closed : List (List Line))
+            (open_ : List Line) (sent : List ℕ)
+            → represents first self.old done latest closed open_ sent text.old → IsNextOf done latest line
+            → OnOk result (represents first self.new (done ++ line ∷ []) line.moment closed (open_ ++ line ∷ [])
+            sent text.new) };
+
+    /// Ends an epoch that its last line ended: the text is whole then.
+    fn close(&mut self, text: &mut Text) -> Result<(), AllocError>
+        requires { (first : Self) × (done : List Line) × (latest : ℕ) × (closed : List (List Line))
+            × (open_ : List Line) × (sent : List ℕ)
+            × represents first self.old done latest closed open_ sent text.old
+            × IsCut done (closed ++ open_ ∷ []) [] }
+
+        ensures closed { (first : Self) (done : List Line) (latest : ℕ) (closed : List (List Line))
+            (open_ : List Line) (sent : List ℕ)
+            → represents first self.old done latest closed open_ sent text.old
+            → IsCut done (closed ++ open_ ∷ []) []
+            → OnOk result (represents first self.new done latest (closed ++ open_ ∷ []) [] (sent ++ text.new) []) }
+        ensures says { (first : Self) (done : List Line) (latest : ℕ) (closed : List (List Line))
+            (open_ : List Line) (sent : List ℕ)
+            → represents first self.old done latest closed open_ sent text.old
+            → IsCut done (closed ++ open_ ∷ []) []
+            → OnOk result (SaysEpochs (may_have first) (places first) (closed ++ open_ ∷ []) (sent ++ text.new)) };
+
+    /// Ends the last epoch and the report, where so many lines were read and ended so. A bad line's note stands
+    /// behind the entries of the lines before it.
+    fn finish(&mut self, ending: Ending, lines: u64, text: &mut Text) -> Result<(), AllocError>
+        requires reported { (first : Self) × (done : List Line) × (latest : ℕ) × (closed : List (List Line))
+            × (open_ : List Line) × (sent : List ℕ)
+            × represents first self.old done latest closed open_ sent text.old × IsCut done closed open_
+            × (lines ≡ length done) }
+        requires few { lines ≤ 2 ^ 40 }
+
+        ensures { (first : Self) (done : List Line) (latest : ℕ) (closed : List (List Line))
+            (open_ : List Line) (sent : List ℕ)
+            → represents first self.old done latest closed open_ sent text.old → IsCut done closed open_
+            → lines ≡ length done
+            → OnOk result (IsDue (may_have first) (places first) ending done (sent ++ text.new)) };
+}
+
+/// A reporter, how large the open epoch is, and the text of what stands in it.
+#[derive(Drop)]
+pub struct Epochs<R> {
+    pub reporter: R,
+    pub size: Size,
+    pub text: Text,
+}
+
+impl<R: Reporter> Epochs<R> {
+    /// Before the first line.
+    pub fn new(alloc: Global, reporter: R) -> Epochs<R>
+        ensures same { result.reporter ≡ reporter }
+        ensures stands { R.represents reporter reporter [] 0 [] [] [] []
+            → SaysEpochs (R.may_have reporter) (R.places reporter) [] []
+            → Standing (R.may_have reporter) (R.places reporter) (R.represents reporter result.reporter [] 0)
+            result.size result.text [] [] }
+    {
+        Epochs {
+            reporter,
+            size: Size::new(),
+            text: Text::new(alloc),
+        }
+    }
+
+    /// Answers a line, whose text has this length: whether it ends its epoch. Then the text is that of the whole
+    /// epoch, and is to be emptied.
+    #[inline(always)]
+    pub fn answer(
+        &mut self,
+        line: TraceLine,
+        len: usize,
+        room: &mut Vec<u8>,
+    ) -> Result<bool, AllocError>
+        requires next { (first : R) × (done : List Line) × (latest : ℕ) × (sent : List ℕ)
+            × Standing (R.may_have first) (R.places first) (R.represents first self.old.reporter done latest)
+            self.old.size self.old.text done sent × IsNextOf done latest line }
+        requires long { len ≡ length (line_text line) }
+        requires short { len ≤ line_max }
+
+        ensures { (first : R) (done : List Line) (latest : ℕ) (sent : List ℕ)
+            → Standing (R.may_have first) (R.places first) (R.represents first self.old.reporter done latest)
+            self.old.size self.old.text done sent → IsNextOf done latest line
+            → IfOk result (λ ends. AnsweredAs ends (R.may_have first) (R.places first)
+            (R.represents first self.new.reporter (done ++ line ∷ []) line.moment) self.new.size self.new.text
+            (done ++ line ∷ []) sent) }
+    {
+        let ends = self.size.take(&line, len as u64);
+        self.reporter.take(line, room, &mut self.text)?;
+        if !ends {
+            return Ok(false);
+        }
+        self.reporter.close(&mut self.text)?;
+        Ok(true)
+    }
+
+    /// Ends the last epoch and the report, where so many lines were read and ended so.
+    pub fn finish(&mut self, ending: Ending, lines: u64) -> Result<(), AllocError>
+        requires reported { (first : R) × (done : List Line) × (latest : ℕ) × (sent : List ℕ)
+            × Standing (R.may_have first) (R.places first) (R.represents first self.old.reporter done latest)
+            self.old.size self.old.text done sent × (lines ≡ length done) }
+        requires few { lines ≤ 2 ^ 40 }
+
+        ensures { (first : R) (done : List Line) (latest : ℕ) (sent : List ℕ)
+            → Standing (R.may_have first) (R.places first) (R.represents first self.old.reporter done latest)
+            self.old.size self.old.text done sent → lines ≡ length done
+            → OnOk result (IsDue (R.may_have first) (R.places first) ending done (sent ++ self.new.text)) }
+    {
+        self.reporter.finish(ending, lines, &mut self.text)
+    }
+}
+
+impl<R: Reporter> LineTaker for Epochs<R> {
+    ghost use Rattle.trace_run.specs.Reporting.{BreaksOff, HasWritten};
+
+    ghost represents = { λ first now done latest. HasWritten (R.may_have first.reporter) (R.places first.reporter)
+        (R.represents first.reporter now.reporter done latest) now.size now.text done };
+
+    ghost breaks = { λ first. BreaksOff (R.may_have first.reporter) (R.places first.reporter) };
+
+    #[inline(always)]
+    fn take<K: Sink>(
+        &mut self,
+        line: TraceLine,
+        len: usize,
+        room: &mut Vec<u8>,
+        sink: &mut K,
+    ) -> Result<(), Unwritten> {
+        if !self.answer(line, len, room)? {
+            return Ok(());
+        }
+        write_report(sink, &mut self.text)
+    }
+}
+
+/// Reads a trace, has it answered, and writes the report epoch by epoch.
+pub fn run_report<S: Source, K: Sink, R: Reporter>(
+    alloc: Global,
+    source: &mut S,
+    sink: &mut K,
+    reporter: R,
+) -> Status
+    requires first { R.represents reporter reporter [] 0 [] [] [] [] }
+    requires nothing { SaysEpochs (R.may_have reporter) (R.places reporter) [] [] }
+
+    ensures runs { Runs (R.may_have reporter) (R.places reporter) result
+        (Rises (S.faults source.old) (S.faults source.new)) (S.left source.old) (S.left source.new)
+        (K.written sink.old) (K.written sink.new) }
+    ensures no_usage { result ≡ Status.Usage → ⊥ }
+
+    ensures source_later { S.faults source.old ≤ S.faults source.new }
+    ensures sink_later { K.faults sink.old ≤ K.faults sink.new }
+    ensures read_fault { result ≡ Status.ReadFault
+        → Rises (S.faults source.old) (S.faults source.new) }
+    ensures write_fault { result ≡ Status.WriteFault
+        → Rises (K.faults sink.old) (K.faults sink.new) }
+{
+    let mut epochs = Epochs::new(alloc, reporter);
+    let (ending, lines) = match run_lines(alloc, source, sink, &mut epochs) {
+        Ok(end) => end,
+        Err(why) => return status_without(why),
+    };
+    match epochs.finish(ending, lines) {
+        Ok(()) => {}
+        Err(AllocError) => return Status::NoMemory,
+    }
+    match write_report(sink, &mut epochs.text) {
+        Ok(()) => status_at(ending),
+        Err(why) => status_without(why),
+    }
+}

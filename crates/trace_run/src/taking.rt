@@ -1,0 +1,94 @@
+//! The lines of a trace, one behind another, and what takes them.
+ghost use Rattle.std.specs.Prelude.{◌≡◌, ◌≤◌, ◌∷◌, ◌++◌, [], ℕ, List, Option, length, Err, OnOk, IfOk, IfErr};
+ghost use Rattle.pc_outside.specs.Faults.{Rises};
+ghost use Rattle.pc_outside.specs.Limits.{line_max};
+ghost use Rattle.trace_lines.specs.Line.{Line};
+ghost use Rattle.trace_lines.specs.Text.{line_text};
+ghost use Rattle.trace_run.specs.Takers.{IsNextOf, LinesCut, LinesEnd};
+
+use crate::ending::{Ending, Unwritten};
+use crate::reading::{Next, next_line};
+use pc_base::Moment;
+use pc_outside::{LineBuf, Sink, Source};
+use std::alloc::Global;
+use trace_lines::TraceLine;
+
+/// What a run does with each line of a trace.
+pub trait LineTaker {
+    /// What it was before the first line, and what it is behind these lines, where the last one has this moment (0
+    /// before the first), and a sink told the former octets before the first line and tells the latter now.
+    ghost represents: { Self → Self → List Line → ℕ → Option (List ℕ) → Option (List ℕ) → Type 0 };
+
+    /// By what it was before the first line: the sink failed at the last of these lines.
+    ghost breaks: { Self → List Line → Option (List ℕ) → Option (List ℕ) → Type 0 };
+
+    /// Takes the next line, whose text has this length. A line that isn't kept gives its room back. After an
+    /// error it may only be dropped.
+    fn take<K: Sink>(
+        &mut self,
+        line: TraceLine,
+        len: usize,
+        room: &mut Vec<u8>,
+        sink: &mut K,
+    ) -> Result<(), Unwritten>
+        requires next { (first : Self) × (done : List Line) × (latest : ℕ) × (old : Option (List ℕ))
+            × represents first self.old done latest old (K.written sink.old) × IsNextOf done latest line }
+        requires long { len ≡ length (line_text line) }
+        requires short { len ≤ line_max }
+
+        ensures taken { (first : Self) (done : List Line) (latest : ℕ) (old : Option (List ℕ))
+            → represents first self.old done latest old (K.written sink.old) → IsNextOf done latest line
+            → OnOk result (represents first self.new (done ++ line ∷ []) line.moment old (K.written sink.new)) }
+        ensures broken { (first : Self) (done : List Line) (latest : ℕ) (old : Option (List ℕ))
+            → represents first self.old done latest old (K.written sink.old) → IsNextOf done latest line
+            → result ≡ Err Unwritten.WriteFault → breaks first (done ++ line ∷ []) old (K.written sink.new) }
+        ensures kept { result ≡ Err Unwritten.NoMemory → K.written sink.new ≡ K.written sink.old }
+
+        ensures later { K.faults sink.old ≤ K.faults sink.new }
+        ensures fault { result ≡ Err Unwritten.WriteFault → Rises (K.faults sink.old) (K.faults sink.new) };
+}
+
+/// Reads lines and has them taken until no more come: why, and how many they were.
+pub fn run_lines<S: Source, K: Sink, T: LineTaker>(
+    alloc: Global,
+    source: &mut S,
+    sink: &mut K,
+    taker: &mut T,
+) -> Result<(Ending, u64), Unwritten>
+    requires { T.represents taker.old taker.old [] 0 (K.written sink.old) (K.written sink.old) }
+
+    ensures ended { IfOk result (λ end. LinesEnd (T.represents taker.old taker.new) end.0 end.1
+        (S.left source.old) (S.left source.new) (K.written sink.old) (K.written sink.new)) }
+    ensures cut { IfErr result (λ why. LinesCut (T.represents taker.old) (T.breaks taker.old) why (S.left source.old)
+        (S.left source.new) (K.written sink.old) (K.written sink.new)) }
+
+    ensures source_later { S.faults source.old ≤ S.faults source.new }
+    ensures sink_later { K.faults sink.old ≤ K.faults sink.new }
+    ensures read_fault { IfOk result (λ end. end.0 ≡ Ending.ReadFault
+        → Rises (S.faults source.old) (S.faults source.new)) }
+    ensures write_fault { result ≡ Err Unwritten.WriteFault → Rises (K.faults sink.old) (K.faults sink.new) }
+{
+    let mut buf = LineBuf::new(alloc)?;
+    let mut room = Vec::new(alloc);
+    let mut lines = 0;
+    let mut least = Moment(0);
+    loop {
+        match next_line(&mut room, source, &mut buf, lines + 1, least) {
+            Next::Line { line, len } => {
+                least = line.moment;
+                lines += 1;
+                taker.take(line, len, &mut room, sink)?;
+            }
+            Next::Last { line, len } => {
+                taker.take(line, len, &mut room, sink)?;
+                return Ok((Ending::Ended, lines + 1));
+            }
+            Next::Bad(why) => return Ok((Ending::BadLine(why), lines)),
+            Next::End => return Ok((Ending::Ended, lines)),
+            Next::LineLong => return Ok((Ending::LineLong, lines)),
+            Next::TooLong => return Ok((Ending::TooLong, lines)),
+            Next::ReadFault => return Ok((Ending::ReadFault, lines)),
+            Next::NoMemory => return Err(Unwritten::NoMemory),
+        }
+    }
+}
