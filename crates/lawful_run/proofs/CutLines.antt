@@ -1,10 +1,13 @@
--- Lines cut into epochs, behind one line more.
-use Rattle.std.proofs.Common.{◌≡◌, ℕ, suc, true, false, if◌then◌else◌, List, [], ◌∷◌, ◌++◌, length, refl, sym, ap, ◌∙◌, arith, append_assoc, append-nil, length-append}
+-- Lines cut into epochs, behind one line more, and how long an epoch is.
+use Rattle.std.proofs.Common.{◌≡◌, ℕ, suc, ◌+◌, ◌<◌, ◌||◌, nat_le, Bool, true, false, if◌then◌else◌, List, [], ◌∷◌, ◌++◌, length, refl, sym, ap, ◌∙◌, subst, arith, append_assoc, append-nil, length-append}
 use Rattle.std.specs.List.{flat_map}
+use Rattle.std.proofs.lemmas.Bool.{leb-false}
 use Rattle.std.proofs.lemmas.Grind.{flat_map-append}
 use Rattle.std.proofs.lemmas.List.Elements.{All-nil, All-push}
-use Rattle.trace_lines.specs.Epochs.{ends_epoch, epochs_behind, epochs_of}
+use Rattle.std.proofs.lemmas.List.Sums.{sum_by-append}
+use Rattle.trace_lines.specs.Epochs.{ends_epoch, epochs_behind, epochs_of, is_fence, octets_in}
 use Rattle.trace_lines.specs.Line.{Line}
+use Rattle.trace_lines.specs.Text.{line_text}
 use Rattle.demux.specs.Trace.{Meaning}
 use Rattle.lawful_run.specs.Cut.{IsCut, lines_in}
 use Rattle.lawful_run.specs.Trace.{is_whole, meant_epochs, meant_from, open_epoch}
@@ -127,3 +130,33 @@ count_meant slices before (epoch ∷ closed) =
       length-meant_from slices before epoch,
       count_meant slices (before ++ epoch) closed,
     )
+
+-- an epoch that a line doesn't end is short
+both_below : (a b c : Bool) → (a || b || c) ≡ false → (b ≡ false) × (c ≡ false)
+both_below true b c is = (cc, cc)
+both_below false true c is = (cc, cc)
+both_below false false c is = (refl, is)
+
+pub stays_short : (open_ : List Line) (line : Line) → ends_epoch open_ line ≡ false
+    → (length open_ + 1 < 65536) × (octets_in open_ + length (line_text line) < 67108864)
+stays_short open_ line is =
+    let both = both_below (is_fence line.kind) (nat_le 65536 (length open_ + 1))
+    (nat_le 67108864 (octets_in open_ + length (line_text line))) is in
+    (leb-false 65536 (length open_ + 1) both.0, leb-false 67108864 (octets_in open_ + length (line_text line)) both.1)
+
+pub octets_more : (open_ : List Line) (line : Line)
+    → octets_in (open_ ++ line ∷ []) ≡ octets_in open_ + length (line_text line)
+octets_more open_ line =
+    let more = sum_by-append (λ (l : Line). length (line_text l)) open_ (line ∷ []) in omega (arith, more)
+
+-- and so is one that no line ended
+open_short : (before : List Line) (line : Line) (lines : List Line) → is_whole before (line ∷ lines) ≡ false
+    → octets_in (before ++ line ∷ lines) < 67108864
+open_short before line [] is = omega (arith, stays_short before line is, octets_more before line)
+open_short before line (next ∷ lines) is =
+    subst (λ all. octets_in all < 67108864) (append_assoc before (line ∷ []) (next ∷ lines))
+    (open_short (before ++ line ∷ []) next lines is)
+
+pub short_open : (open_ : List Line) → is_whole [] open_ ≡ false → octets_in open_ < 67108864
+short_open [] is = omega arith
+short_open (line ∷ lines) is = open_short [] line lines is

@@ -4,7 +4,7 @@ use Rattle.std.specs.List.{flat_map}
 use Rattle.demux.specs.Trace.{Meaning}
 use Rattle.std.proofs.lemmas.List.{append_cancel_left, map-append}
 use Rattle.gate_model.specs.Events.{commands_of}
-use Rattle.gate_model.specs.SlotPast.{effects_after, records_after, records_made}
+use Rattle.gate_model.specs.SlotPast.{effects_after, records_after, records_made, reply_after, verdict_after}
 use Rattle.gate_model.specs.declared.event.Event.{Event}
 use Rattle.gate_model.specs.declared.event.Event.TheVariants as event
 use Rattle.gate_model.proofs.Charges.{records_added}
@@ -98,6 +98,33 @@ effects-append slot before (event.Packet p ∷ events) more =
     effects-append slot (before ++ event.Packet p ∷ []) events more
     ∙ ap (λ done. made_of.effects slot (before ++ event.Packet p ∷ []) events ++ made_of.effects slot done more)
     (append_assoc before (event.Packet p ∷ []) events)
+
+-- one event more
+pub replies-push : (slot : ℕ) (before now : List Event) (e : Event)
+    → made_of.replies slot before (now ++ e ∷ []) ≡ made_of.replies slot before now
+    ++ made_of.replies slot (before ++ now) (e ∷ [])
+replies-push slot before [] e = ap (λ done. made_of.replies slot done (e ∷ [])) (sym (append-nil before))
+replies-push slot before (event.Command c ∷ now) e =
+    ap (λ rest. reply_after slot before c ∷ rest) (replies-push slot (before ++ event.Command c ∷ []) now e
+    ∙ ap (λ done. made_of.replies slot (before ++ event.Command c ∷ []) now ++ made_of.replies slot done (e ∷ []))
+    (append_assoc before (event.Command c ∷ []) now))
+replies-push slot before (event.Packet p ∷ now) e =
+    replies-push slot (before ++ event.Packet p ∷ []) now e
+    ∙ ap (λ done. made_of.replies slot (before ++ event.Packet p ∷ []) now ++ made_of.replies slot done (e ∷ []))
+    (append_assoc before (event.Packet p ∷ []) now)
+
+pub verdicts-push : (slot : ℕ) (before now : List Event) (e : Event)
+    → made_of.verdicts slot before (now ++ e ∷ []) ≡ made_of.verdicts slot before now
+    ++ made_of.verdicts slot (before ++ now) (e ∷ [])
+verdicts-push slot before [] e = ap (λ done. made_of.verdicts slot done (e ∷ [])) (sym (append-nil before))
+verdicts-push slot before (event.Command c ∷ now) e =
+    verdicts-push slot (before ++ event.Command c ∷ []) now e
+    ∙ ap (λ done. made_of.verdicts slot (before ++ event.Command c ∷ []) now ++ made_of.verdicts slot done (e ∷ []))
+    (append_assoc before (event.Command c ∷ []) now)
+verdicts-push slot before (event.Packet p ∷ now) e =
+    ap (λ rest. verdict_after slot before p ∷ rest) (verdicts-push slot (before ++ event.Packet p ∷ []) now e
+    ∙ ap (λ done. made_of.verdicts slot (before ++ event.Packet p ∷ []) now ++ made_of.verdicts slot done (e ∷ []))
+    (append_assoc before (event.Packet p ∷ []) now))
 
 pub records-append : (slot : ℕ) (before events more : List Event)
     → records_made slot before (events ++ more) ≡ records_made slot before events

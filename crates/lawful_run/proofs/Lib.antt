@@ -1,6 +1,7 @@
 pub mod SlotCases
 pub mod OrderLemmas
 pub mod Counting
+pub mod EventByEvent
 pub mod Meets
 pub mod AtOnceSlots
 pub mod AnsweredLines
@@ -9,6 +10,7 @@ pub mod EveryTrace
 pub mod OneList
 pub mod OneRun
 pub mod OneText
+pub mod BookGrows
 pub mod Growing
 pub mod BySlot
 pub mod ChargesTold

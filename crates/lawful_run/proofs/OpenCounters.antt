@@ -1,6 +1,6 @@
 -- The open counters of the active bearers are those of the lives that are open.
-use Rattle.std.proofs.Common.{◌≡◌, ℕ, List, [], ◌∷◌, map, refl, sym, ap, subst, ◌∙◌, inl, inr, ◌⊎◌}
-use Rattle.std.proofs.lemmas.Bool.{cases_eq, eq-eqb, ne_eqb}
+use Rattle.std.proofs.Common.{◌≡◌, ◌==◌, ℕ, Bool, true, false, cond, Some, List, [], ◌∷◌, map, find, refl, sym, ap, subst, ◌∙◌, inl, inr, ◌⊎◌}
+use Rattle.std.proofs.lemmas.Bool.{cases_eq, eq-eqb, eqb-true, false≢true, ne_eqb}
 use Rattle.bearer_state.specs.declared.version.ActiveBearer.{ActiveBearer}
 use Rattle.charging_book.specs.Happenings.{Happening, lives_of, open_at, opens_of}
 use Rattle.charging_book.specs.Ledger.{opens_for, TellLast}
@@ -12,6 +12,23 @@ use Rattle.gate_model.proofs.BookSteps.{active_lives}
 use Rattle.gate_model.proofs.Members.{In, AreDistinct, other_at}
 use Rattle.gate_model.proofs.Sound.{past_sound}
 use Rattle.lawful_run.specs.Outcomes.{open_counters}
+
+-- the counters of a life are among those of lives
+pub found : (happened : List Happening) (lives : List ℕ) (life : ℕ) → In life lives
+    → find (λ (counters : Counters). counters.life == life) (map (open_at happened) lives)
+    ≡ Some (open_at happened life)
+found happened [] life there = absurd there
+found happened (first ∷ lives) life there = by_test (first == life) refl there (found happened lives life)
+  where
+    by_test : (test : Bool) → (first == life) ≡ test → In life (first ∷ lives)
+        → (In life lives → find (λ (counters : Counters). counters.life == life) (map (open_at happened) lives)
+        ≡ Some (open_at happened life))
+        → cond test (Some (open_at happened first)) (find (λ (counters : Counters). counters.life == life)
+        (map (open_at happened) lives))
+        ≡ Some (open_at happened life)
+    by_test true is at rest = ap (λ l. Some (open_at happened l)) (eqb-true first life is)
+    by_test false is (inl here) rest = absurd (false≢true (sym is ∙ eq-eqb first life here))
+    by_test false is (inr later) rest = rest later
 
 module _ (life : ℕ) (happened : List Happening) where
   -- the counters of a life that isn't there

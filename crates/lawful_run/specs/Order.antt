@@ -1,5 +1,6 @@
 -- The order in which the events of a slot were handled.
-use Rattle.std.specs.Prelude.{ℕ, ◌+◌, ◌-◌, List, [], ◌∷◌, ◌++◌, length, map, take, drop}
+use Rattle.std.specs.Prelude.{ℕ, ◌+◌, ◌-◌, ◌<◌, ◌^◌, List, [], ◌∷◌, ◌++◌, length, map, take, drop}
+use Rattle.std.specs.Borrow.{Bor}
 use Rattle.control_steps.specs.declared.command.CommandKind.{CommandKind}
 use Rattle.demux.specs.Packets.{numbered}
 use Rattle.gate_model.specs.Events.{commands_of, packets_of}
@@ -16,6 +17,22 @@ ordered done next commands (first ∷ packets) =
     map event.Command (take (first.commands - done) commands)
     ++ event.Packet (numbered next first.packet) ∷ ordered first.commands (next + 1)
     (drop (first.commands - done) commands) packets
+
+-- the commands that are lent
+abbrev pub commands_lent : List (Bor CommandKind) → List CommandKind
+commands_lent commands = map (λ (command : Bor CommandKind). command.now) commands
+
+-- the events of accepted commands and packets behind those before
+abbrev pub events_of : List Event → List CommandKind → List Placed → List Event
+events_of before commands packets = ordered (length (commands_of before)) (length (packets_of before)) commands packets
+
+-- This holds of a slot behind some events and those now, which are so few, with so many more, that every count may rise.
+pub record CanGo (Holds : ℕ → List Event → List Event → Type 0) (more : ℕ) : Type 0 where
+  pub slot : ℕ
+  pub before : List Event
+  pub now : List Event
+  pub holds : Holds slot before now
+  pub few : length (before ++ now) + more < 2 ^ 40
 
 -- the events of each slot
 abbrev pub Histories : Type 0

@@ -1,15 +1,12 @@
 -- What one event more leads to.
-use Rattle.std.proofs.Common.{◌≡◌, ℕ, zero, suc, ◌+◌, ◌-◌, ◌<◌, ◌≤◌, ◌^◌, List, [], ◌∷◌, ◌++◌, map, length, get_or, take, drop, sym, ap, ◌∙◌, subst, arith, append_assoc, append-nil, length-append}
-use Rattle.std.specs.Prelude.{OnOk, Result, Ok, Err}
-use Rattle.std.proofs.lemmas.List.{drop_all, drop_more, length-map, map_push, take-append-drop}
+use Rattle.std.proofs.Common.{◌≡◌, ℕ, zero, suc, ◌+◌, ◌<◌, ◌≤◌, List, [], ◌∷◌, ◌++◌, map, length, get_or, drop, sym, ap, ◌∙◌, subst, arith, append_assoc, append-nil, length-append}
+use Rattle.std.proofs.lemmas.List.{drop_all, drop_more, map_push}
 use Rattle.std.proofs.lemmas.List.Elements.{filter_map-append}
 use Rattle.pc_base.specs.declared.effect.Effect.{Effect}
 use Rattle.pc_base.specs.declared.packet.Packet.{Packet}
-use Rattle.pc_base.specs.declared.packet.Verdict.{Verdict}
 use Rattle.pc_base.specs.declared.reply.Reply.{Reply}
 use Rattle.control_steps.specs.declared.command.CommandKind.{CommandKind}
 use Rattle.packet_steps.specs.Lent.{verdict_of}
-use Rattle.demux.specs.Packets.{numbered}
 use Rattle.gate_model.specs.Events.{commands_of, packets_of}
 use Rattle.gate_model.specs.SlotPast.{reply_after, effects_after, verdict_after, records_after}
 use Rattle.gate_model.specs.declared.event.Event.{Event}
@@ -18,43 +15,15 @@ use Rattle.report_lines.specs.Records.{Effected}
 use Rattle.std.proofs.Math.Logic.{∥∥₁_elim}
 use Rattle.std.proofs.Props.{props}
 use Rattle.subscriber.specs.Standing.{SubscriberState, StandsFor, FewEventsLeaveRoom, HasRoom, commands_met}
-use Rattle.lawful_run.specs.Accepted as accepted
-use Rattle.lawful_run.specs.Order.{ordered}
 use Rattle.lawful_run.specs.Outcomes as made_of
 use Rattle.lawful_run.specs.Telling.{counted}
 use Rattle.lawful_run.proofs.Counting.{commands-command, commands-packet, packets-packet, packets-command}
-use Rattle.lawful_run.proofs.Growing.{effects-append}
-use Rattle.slot_replay.specs.Replaying.{AreLate, CanPlay, IsLedTo, Plays, effects_told, latest_of, numbers_in, packet_numbers_in, replies_in, verdicts_in}
+use Rattle.lawful_run.proofs.Growing.{effects-append, replies-push, verdicts-push}
+use Rattle.slot_replay.specs.Replaying.{AreLate, CanPlay, Plays, effects_told, latest_of, numbers_in, packet_numbers_in, replies_in, verdicts_in}
 use Rattle.slot_replay.specs.declared.placed.Placed.{Placed}
 use Rattle.slot_replay.specs.declared.replayed.Judged.{Judged}
 use Rattle.slot_replay.specs.declared.replayed.Replayed.{Replayed}
 use Rattle.slot_replay.specs.declared.replayed.Replied.{Replied}
-
-replies-push : (slot : ℕ) (before now : List Event) (e : Event)
-    → made_of.replies slot before (now ++ e ∷ []) ≡ made_of.replies slot before now
-    ++ made_of.replies slot (before ++ now) (e ∷ [])
-replies-push slot before [] e = ap (λ done. made_of.replies slot done (e ∷ [])) (sym (append-nil before))
-replies-push slot before (event.Command c ∷ now) e =
-    ap (λ rest. reply_after slot before c ∷ rest) (replies-push slot (before ++ event.Command c ∷ []) now e
-    ∙ ap (λ done. made_of.replies slot (before ++ event.Command c ∷ []) now ++ made_of.replies slot done (e ∷ []))
-    (append_assoc before (event.Command c ∷ []) now))
-replies-push slot before (event.Packet p ∷ now) e =
-    replies-push slot (before ++ event.Packet p ∷ []) now e
-    ∙ ap (λ done. made_of.replies slot (before ++ event.Packet p ∷ []) now ++ made_of.replies slot done (e ∷ []))
-    (append_assoc before (event.Packet p ∷ []) now)
-
-verdicts-push : (slot : ℕ) (before now : List Event) (e : Event)
-    → made_of.verdicts slot before (now ++ e ∷ []) ≡ made_of.verdicts slot before now
-    ++ made_of.verdicts slot (before ++ now) (e ∷ [])
-verdicts-push slot before [] e = ap (λ done. made_of.verdicts slot done (e ∷ [])) (sym (append-nil before))
-verdicts-push slot before (event.Command c ∷ now) e =
-    verdicts-push slot (before ++ event.Command c ∷ []) now e
-    ∙ ap (λ done. made_of.verdicts slot (before ++ event.Command c ∷ []) now ++ made_of.verdicts slot done (e ∷ []))
-    (append_assoc before (event.Command c ∷ []) now)
-verdicts-push slot before (event.Packet p ∷ now) e =
-    ap (λ rest. verdict_after slot before p ∷ rest) (verdicts-push slot (before ++ event.Packet p ∷ []) now e
-    ∙ ap (λ done. made_of.verdicts slot (before ++ event.Packet p ∷ []) now ++ made_of.verdicts slot done (e ∷ []))
-    (append_assoc before (event.Packet p ∷ []) now))
 
 -- one number more
 counted-push : (first n : ℕ) → counted first (suc n) ≡ counted first n ++ (first + n) ∷ []
@@ -156,37 +125,18 @@ plays_packet old new replayed after slot before now p j plays numbered_so judged
       };
     }
 
--- the events in order are as many as commands and packets
-pub ordered_length : (done next : ℕ) (commands : List CommandKind) (packets : List accepted.Placed)
-    → length (ordered done next commands packets) ≡ length commands + length packets
-ordered_length done next commands [] = length-map commands event.Command ∙ (omega arith)
-ordered_length done next commands (p ∷ packets) =
-    let k = p.commands - done in
-    let front : length (map event.Command (take k commands)) ≡ length (take k commands) =
-    length-map (take k commands) event.Command in
-    let both : length (take k commands) + length (drop k commands) ≡ length commands =
-    sym (length-append (take k commands) (drop k commands)) ∙ ap length (take-append-drop k commands) in
-    let later = ordered_length p.commands (next + 1) (drop k commands) packets in
-    length-append (map event.Command (take k commands))
-    (event.Packet (numbered next p.packet) ∷ ordered p.commands (next + 1) (drop k commands) packets)
-    ∙ omega (arith, front, both, later)
-
 -- few events leave room for one more
 pub room_for : FewEventsLeaveRoom → (subscriber : SubscriberState) (replayed : Replayed) (more : ℕ)
     → ∥ CanPlay subscriber replayed more ∥₁ → HasRoom subscriber
 room_for leaves subscriber replayed more can =
     let room : CanPlay subscriber replayed more → HasRoom subscriber = λ is.
-    leaves subscriber is.slot (is.before ++ is.now) (length (records_after is.slot is.before)) is.plays.stands
+    leaves subscriber is.slot (is.before ++ is.now) (length (records_after is.slot is.before)) is.holds.stands
     (omega (arith, is.few)) in
     record {
       rates = ∥∥₁_elim can (hlevel props) (λ is. (room is).rates);
       lives = ∥∥₁_elim can (hlevel props) (λ is. (room is).lives);
       few = ∥∥₁_elim can (hlevel props) (λ is. (room is).few);
     }
-
-pub on_ok : {X E : Type 0} {P Q : Type 0} (r : Result X E) → (P → Q) → OnOk r P → OnOk r Q
-on_ok (Ok x) then is = then is
-on_ok (Err e) then is = is
 
 -- the packets behind one more
 pub late_next : (packets : List Placed) (k : ℕ) (p : Placed) (least now : ℕ) → k < length packets

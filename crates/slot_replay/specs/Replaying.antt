@@ -1,18 +1,18 @@
 -- A subscriber that replays events of its slot.
-use Rattle.std.specs.Prelude.{◌≡◌, ℕ, ◌+◌, ◌≤◌, ◌<◌, ◌^◌, List, [], ◌∷◌, ◌++◌, length, map, flat_map, unwrap_or}
-use Rattle.std.specs.Borrow.{Bor}
+use Rattle.std.specs.Prelude.{◌≡◌, ℕ, ◌+◌, ◌≤◌, ◌<◌, ◌^◌, List, [], ◌∷◌, ◌++◌, All, length, map, flat_map, unwrap_or}
 use Rattle.pc_base.specs.declared.packet.Place.{Place}
 use Rattle.pc_base.specs.declared.packet.Verdict.{Verdict}
 use Rattle.pc_base.specs.declared.reply.Reply.{Reply}
+use Rattle.report_lines.specs.Lent.{IsShort}
 use Rattle.report_lines.specs.Records.{Effected}
-use Rattle.control_steps.specs.declared.command.CommandKind.{CommandKind}
 use Rattle.packet_steps.specs.Lent.{verdict_of}
 use Rattle.gate_model.specs.Events.{commands_of, packets_of}
 use Rattle.gate_model.specs.SlotPast.{records_after}
 use Rattle.gate_model.specs.declared.event.Event.{Event}
 use Rattle.subscriber.specs.Standing.{SubscriberState, StandsFor, last_of}
 use Rattle.lawful_run.specs.Accepted as accepted
-use Rattle.lawful_run.specs.Order.{ordered}
+use Rattle.lawful_run.specs.Order.{CanGo}
+pub use Rattle.lawful_run.specs.Order.{commands_lent, events_of}
 use Rattle.lawful_run.specs.Outcomes as made_of
 use Rattle.lawful_run.specs.Telling.{counted}
 use Rattle.at_rest.specs.Rest.{Represents}
@@ -22,10 +22,7 @@ use Rattle.slot_replay.specs.declared.replayed.Judged.{Judged}
 use Rattle.slot_replay.specs.declared.replayed.Replayed.{Replayed}
 use Rattle.slot_replay.specs.declared.replayed.Replied.{Replied}
 
--- the commands that are lent, and the packets, each with the count of commands before it
-abbrev pub commands_lent : List (Bor CommandKind) → List CommandKind
-commands_lent commands = map (λ (command : Bor CommandKind). command.now) commands
-
+-- the packets, each with the count of commands before it
 abbrev pub placed_so : Placed → accepted.Placed
 placed_so placed = record { commands = placed.commands; packet = placed.packet }
 
@@ -37,10 +34,6 @@ counts_of packets = map (λ (placed : Placed). placed.commands) packets
 
 abbrev pub places_of : List Placed → List Place
 places_of packets = map (λ (placed : Placed). placed.place) packets
-
--- the events of accepted commands and packets behind those before
-abbrev pub events_of : List Event → List CommandKind → List accepted.Placed → List Event
-events_of before commands packets = ordered (length (commands_of before)) (length (packets_of before)) commands packets
 
 -- packets come one after another, and none before this moment
 abbrev pub AreLate : ℕ → List Placed → Type 0
@@ -83,6 +76,10 @@ counts_in packets = map (λ (j : Judged). j.commands) packets
 abbrev pub places_in : List Judged → List Place
 places_in packets = map (λ (j : Judged). j.place) packets
 
+-- each verdict can be written: what goes down is no longer than IPv4 allows
+abbrev pub AreShort : List Judged → Type 0
+AreShort packets = All (λ (judged : Judged). IsShort judged.verdict) packets
+
 -- What was replayed is what these events lead to behind those before.
 pub record IsLedTo (replayed : Replayed) (slot : ℕ) (before now : List Event) : Type 0 where
   -- the reply to each command, the verdict on each packet, and the effects, as of the one-thread gateway
@@ -102,25 +99,14 @@ pub record Plays (subscriber : SubscriberState) (replayed : Replayed) (slot : �
   pub led : IsLedTo replayed slot before now
 
 -- so few events, with so many more, that every count may rise
-pub record CanPlay (subscriber : SubscriberState) (replayed : Replayed) (more : ℕ) : Type 0 where
-  pub slot : ℕ
-  pub before : List Event
-  pub now : List Event
-  pub plays : Plays subscriber replayed slot before now
-  pub few : length (before ++ now) + more < 2 ^ 40
+abbrev pub CanPlay : SubscriberState → Replayed → ℕ → Type 0
+CanPlay subscriber replayed more = CanGo (Plays subscriber replayed) more
 
 pub record CanReplay (subscriber : SubscriberState) (more : ℕ) : Type 0 where
   pub slot : ℕ
   pub before : List Event
   pub represents : Represents subscriber slot before
   pub few : length before + more < 2 ^ 40
-
--- a loop over the packets: what was replayed so far, and the events that are left
-pub record Goes (subscriber : SubscriberState) (replayed : Replayed) (slot : ℕ) (before all : List Event) (done : ℕ)
-    (left : List CommandKind) (packets : List accepted.Placed) : Type 0 where
-  pub now : List Event
-  pub plays : Plays subscriber replayed slot before now
-  pub rest : now ++ ordered done (length (packets_of (before ++ now))) left packets ≡ all
 
 -- what is told of packets is as it was
 abbrev pub KeepsPackets : Replayed → Replayed → Type 0

@@ -6,24 +6,9 @@ ghost use Rattle.lawful_run.specs.Outcomes.{rows, effect_entry};
 ghost use Rattle.report_lines.specs.declared.entry.ChargeEntry.TheVariants.{R};
 ghost use Rattle.subscriber.specs.Standing.{last_of};
 ghost use Rattle.at_rest.specs.Rest.{Represents};
-ghost use Rattle.slot_replay.specs.Replaying.{
-  AreLate,
-  CanPlay,
-  CanReplay,
-  IsLedTo,
-  KeepsPackets,
-  Plays,
-  commands_lent,
-  counts_in,
-  counts_of,
-  effects_told,
-  events_of,
-  latest_of,
-  moment_of,
-  placed_lent,
-  places_in,
-  places_of,
-};
+ghost use Rattle.slot_replay.specs.Replaying.{AreLate, AreShort, CanPlay, CanReplay, IsLedTo, KeepsPackets, Plays};
+ghost use Rattle.slot_replay.specs.Replaying.{commands_lent, counts_in, counts_of, effects_told, events_of};
+ghost use Rattle.slot_replay.specs.Replaying.{latest_of, moment_of, placed_lent, places_in, places_of};
 
 use crate::lending::lend_again;
 use crate::{Caused, Judged, Placed, Replayed, Replied};
@@ -57,6 +42,9 @@ pub fn replay<'a>(
     // Counts and places are those that were told.
     ensures counts { IfOk result (λ replayed. counts_in replayed.packets.items ≡ counts_of packets.now) }
     ensures places { IfOk result (λ replayed. places_in replayed.packets.items ≡ places_of packets.now) }
+
+    // Each verdict can be written.
+    ensures short { IfOk result (λ replayed. AreShort replayed.packets.items) }
 
     // The subscriber represents these events behind those before.
     ensures represents { (slot : ℕ) (before : List Event) → Represents subscriber.old slot before
@@ -159,11 +147,14 @@ fn do_packet<'a>(
         ≡ counts_in replayed.old.packets.items ++ placed.now.commands ∷ []) }
     ensures places { OnOk result (places_in replayed.new.packets.items
         ≡ places_in replayed.old.packets.items ++ placed.now.place ∷ []) }
+    ensures short { AreShort replayed.old.packets.items → OnOk result (AreShort replayed.new.packets.items) }
     ensures last { OnOk result (moment_of subscriber.new ≡ placed.now.packet.moment) }
     ensures destination { OnOk result (subscriber.new.destination ≡ subscriber.old.destination) }
 {
     few_events_leave_room();
     let packet = &placed.packet;
+    // Below 2^16, as a verdict that is told asks.
+    let _len = packet.ip.total_len();
     let handled = subscriber.judge(packet.moment, packet.way, &packet.ip)?;
     let judged = Judged {
         number: handled.number,

@@ -1,6 +1,7 @@
 use Rattle.std.proofs.Common.{◌++◌, length, refl}
 use Rattle.gate_model.specs.SlotPast.{records_after}
-use Rattle.slot_replay.proofs.Steps.{on_ok, plays_command, room_for}
+use Rattle.packet_steps.proofs.ResultLemmas.{on_ok}
+use Rattle.slot_replay.proofs.Steps.{plays_command, room_for}
 use Rattle.slot_replay.proofs.replaying.do_command.Goals as goal
 
 pub command-requires : goal.command-requires

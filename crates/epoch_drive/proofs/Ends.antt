@@ -1,0 +1,167 @@
+-- Subscribers can do their shares, and are at rest behind them.
+use Rattle.std.proofs.Common.{◌≡◌, ℕ, zero, suc, ◌+◌, ◌-◌, ◌<◌, ◌≤◌, ◌^◌, List, [], ◌∷◌, ◌++◌, map, length, take, drop, get_or, refl, sym, ap, subst, ◌∙◌, inl, inr, arith, length-append}
+use Rattle.std.proofs.Math.Logic.{∥∥₁_elim, ∥∥₁_map}
+use Rattle.std.proofs.Props.{props}
+use Rattle.std.proofs.lemmas.Bool.{cases_lt}
+use Rattle.std.proofs.lemmas.List.{get_or-map, length-map, take-append-drop}
+use Rattle.std.specs.Borrow.{Bor}
+use Rattle.trace_lines.specs.Line.{Line}
+use Rattle.control_steps.specs.declared.command.CommandKind.{CommandKind}
+use Rattle.demux.specs.Trace.{Meaning}
+use Rattle.bearer_state.specs.Session.{SessionState}
+use Rattle.gate_model.specs.Events.{commands_of, packets_of}
+use Rattle.gate_model.specs.Versions.{SessionsKeepTheirSlot}
+use Rattle.gate_model.specs.declared.event.Event.{Event}
+use Rattle.gate_model.specs.declared.event.Event.TheVariants as event
+use Rattle.demux.specs.Packets.{numbered}
+use Rattle.lawful_run.specs.Order.{ordered}
+use Rattle.lawful_run.specs.Accepted as accepted
+use Rattle.lawful_run.specs.LinesTold.{LineTold}
+use Rattle.slice_schedule.specs.Front.{Outcome}
+use Rattle.schedule_run.specs.Plan.{Plan, mets_of}
+use Rattle.subscriber.specs.Standing.{SubscriberState}
+use Rattle.at_rest.specs.Rest.{AreAtRest, HasEvents, IsAtRest}
+use Rattle.slot_replay.specs.Replaying.{AreLate, latest_of, moment_of}
+use Rattle.slot_replay.specs.declared.placed.Placed.{Placed}
+use Rattle.epoch_drive.specs.Lines.{AreLater, latest_behind}
+use Rattle.epoch_drive.specs.Meant.{HaveMoments, meaning_of}
+use Rattle.epoch_drive.specs.Opened.{opened}
+use Rattle.epoch_drive.specs.Replays.{AllCanDo, HasDone, HaveDone, commands_at, commands_shared, events_shared, packets_at, packets_shared}
+use Rattle.epoch_drive.specs.Shares.{AreShares, IsShare, base_at, packets_alone, packets_lent}
+use Rattle.epoch_drive.specs.declared.meant.Meant.{Meant}
+use Rattle.epoch_drive.specs.declared.replays.Answers.{Answers}
+use Rattle.epoch_drive.specs.declared.replays.Replays.{Replays}
+use Rattle.epoch_drive.specs.declared.sharing.Share.{Share}
+use Rattle.epoch_drive.proofs.Driven.{some_at}
+use Rattle.epoch_drive.proofs.Events.{few_taken}
+use Rattle.epoch_drive.proofs.Moments.{Rises, late_so, taken_rise}
+
+-- the events in order are as many as commands and packets
+ordered_length : (done next : ℕ) (commands : List CommandKind) (packets : List accepted.Placed)
+    → length (ordered done next commands packets) ≡ length commands + length packets
+ordered_length done next commands [] = length-map commands event.Command ∙ (omega arith)
+ordered_length done next commands (p ∷ packets) =
+    let k = p.commands - done in
+    let front : length (map event.Command (take k commands)) ≡ length (take k commands) =
+    length-map (take k commands) event.Command in
+    let both : length (take k commands) + length (drop k commands) ≡ length commands =
+    sym (length-append (take k commands) (drop k commands)) ∙ ap length (take-append-drop k commands) in
+    let later = ordered_length p.commands (next + 1) (drop k commands) packets in
+    length-append (map event.Command (take k commands))
+    (event.Packet (numbered next p.packet) ∷ ordered p.commands (next + 1) (drop k commands) packets)
+    ∙ omega (arith, front, both, later)
+
+pub length-moments : (lines : List Line) (meants : List Meant) → HaveMoments lines meants
+    → length meants ≡ length lines
+length-moments [] [] have = refl
+length-moments [] (it ∷ meants) have = absurd have
+length-moments (line ∷ lines) [] have = absurd have
+length-moments (line ∷ lines) (it ∷ meants) have = ap suc (length-moments lines meants have.1)
+
+length-opened : (n : ℕ) (made : List Meaning) (outs : List Outcome) → length (opened n made outs) ≤ length made
+length-opened n [] outs = omega arith
+length-opened n (m ∷ made) [] = omega arith
+length-opened n (m ∷ made) (o ∷ outs) = let rest = length-opened (n + 1) made outs in omega (arith, rest)
+
+module _ (slices count latest : ℕ) (old : List SubscriberState) (shares : List Share) (plan : Plan)
+    (lines : List Line) (meants : List Meant) (outs : List Outcome) (n : ℕ)
+    (rest : AreAtRest slices count latest old) (many : length shares ≡ length old)
+    (are : AreShares shares old plan (opened n (map meaning_of meants) outs)) (later : AreLater latest lines)
+    (have : HaveMoments lines meants) where
+  -- a share has at most as many as there are lines
+  share_few : (slot : ℕ) (share : Share) → slot < length shares
+      → length (get_or shares slot share).commands.items + length (get_or shares slot share).packets.items ≤ length lines
+  share_few slot share low =
+      let own : Share = get_or shares slot share in
+      let told : List LineTold = opened n (map meaning_of meants) outs in
+      let is : IsShare own (base_at old slot) (mets_of plan slot) told slot = are slot share low in
+      let commands : length own.commands.items ≡ length (accepted.commands_accepted slot told) =
+      sym (length-map own.commands.items (λ (c : Bor CommandKind). c.now)) ∙ ap length is.commands in
+      let packets : length own.packets.items ≡ length (accepted.packets_accepted slot told) =
+      sym (length-map own.packets.items (λ (p : Placed). p.packet)) ∙ ap length is.packets
+      ∙ length-map (accepted.packets_accepted slot told) (λ (p : accepted.Placed). p.packet) in
+      let few = few_taken slot told in
+      let short = length-opened n (map meaning_of meants) outs in
+      omega (arith, commands, packets, few, short, length-map meants meaning_of, length-moments lines meants have)
+
+  -- its packets come one after another
+  share_late : (slot : ℕ) (share : Share) (m : ℕ) → slot < length shares → m ≤ latest
+      → AreLate m (get_or shares slot share).packets.items
+      × (latest_of m (get_or shares slot share).packets.items ≤ latest_behind latest lines)
+  share_late slot share m low le =
+      let own : Share = get_or shares slot share in
+      late_so m latest (latest_behind latest lines) own.packets.items le
+      (subst (Rises latest (latest_behind latest lines)) (sym (are slot share low).packets)
+      (taken_rise slot latest n lines meants outs later have))
+
+  pub all_can : count + length lines ≤ 2 ^ 39 → AllCanDo old shares
+  all_can few slot none share low =
+      let within : slot < length shares = omega (arith, low, many) in
+      let at = rest slot none low in
+      let short = share_few slot share within in
+      record {
+        room = ∥∥₁_map at.has_events (λ (has : HasEvents slot count (get_or old slot none)). record {
+          slot = slot;
+          before = has.events;
+          represents = has.represents;
+          few = omega (arith, has.few, short, few);
+        });
+        late = (share_late slot share (moment_of (get_or old slot none)) within at.late).0;
+      }
+
+  module _ (new : List SubscriberState) (replays : Replays) (done : HaveDone old new shares replays (length old)) where
+    events_few : (slot : ℕ) (before : List Event) → slot < length shares
+        → length (events_shared shares slot before) ≤ length lines
+    events_few slot before low =
+        let share = some_at shares slot low in
+        let short = share_few slot share.0 low in
+        let own : Share = get_or shares slot share.0 in
+        let commands : length (commands_at shares slot) ≡ length own.commands.items =
+        ap length (get_or-map commands_shared shares slot share.0 [] low)
+        ∙ length-map own.commands.items (λ (c : Bor CommandKind). c.now) in
+        let packets : length (packets_at shares slot) ≡ length own.packets.items =
+        ap length (get_or-map packets_shared shares slot share.0 [] low)
+        ∙ length-map own.packets.items (λ (p : Placed). record { commands = p.commands; packet = p.packet }) in
+        let all = ordered_length (length (commands_of before)) (length (packets_of before)) (commands_at shares slot)
+        (packets_at shares slot) in
+        omega (arith, all, commands, packets, short)
+
+    pub did_at : (slot : ℕ) (none : SubscriberState) → slot < length old
+        → (a : Answers) × HasDone (get_or old slot none) (get_or new slot none) shares a slot
+    did_at slot none low =
+        let a = some_at replays.answers.items slot (omega (arith, low, done.answered)) in
+        (get_or replays.answers.items slot a.0, done.each slot none a.0 low)
+
+    pub rests : SessionsKeepTheirSlot → AreAtRest slices (count + length lines) (latest_behind latest lines) new
+    rests keeps slot none below =
+        let low : slot < length old = omega (arith, below, done.many) in
+        let within : slot < length shares = omega (arith, low, many) in
+        let at = rest slot none low in
+        let did = (did_at slot none low).1 in
+        let share = some_at shares slot within in
+        let late = (share_late slot share.0 (moment_of (get_or old slot none)) within at.late).1 in
+        record {
+          own = ∥∥₁_elim at.has_events (hlevel props) (λ (has : HasEvents slot count (get_or old slot none)).
+              ap (λ (s : SessionState). s.slot) (did.represents has.events has.represents).session
+              ∙ keeps slot (has.events ++ events_shared shares slot has.events));
+          bound = subst (λ d. d < slices) (sym did.destination) at.bound;
+          late = omega (arith, late, did.moment share.0);
+          has_events = ∥∥₁_map at.has_events (λ (has : HasEvents slot count (get_or old slot none)). record {
+            events = has.events ++ events_shared shares slot has.events;
+            represents = did.represents has.events has.represents;
+            few =
+                let short = events_few slot has.events within in
+                omega (
+                  arith,
+                  has.few,
+                  short,
+                  length-append has.events (events_shared shares slot has.events),
+                );
+          });
+        }
+
+    pub lengths_behind : (slot : ℕ) (before : List Event) → length before ≤ count
+        → slot < length shares → length (before ++ events_shared shares slot before) ≤ count + length lines
+    lengths_behind slot before few low =
+        let short = events_few slot before low in
+        omega (arith, few, short, length-append before (events_shared shares slot before))

@@ -1,0 +1,14 @@
+mod Places
+mod Turning
+mod Bounds
+mod Moments
+mod ShareLemmas
+mod Replaying
+mod EntryLemmas
+mod Events
+mod Scheduled
+mod Driven
+mod Ends
+mod Drives
+mod Finals
+mod Epochs

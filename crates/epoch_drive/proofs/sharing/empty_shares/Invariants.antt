@@ -1,0 +1,10 @@
+use Rattle.std.proofs.Common.{◌≡◌, vec_len}
+use Rattle.std.specs.List.{All}
+use Rattle.epoch_drive.specs.Shares.{IsEmpty}
+use Rattle.epoch_drive.proofs.sharing.empty_shares.Given as goal
+
+abbrev pub invariant-loop : goal.invariant-loop
+invariant-loop l = record {
+  many : vec_len l.shares ≡ l.counter;
+  empty : All IsEmpty l.shares.items;
+}

@@ -1,0 +1,12 @@
+use Rattle.std.proofs.Common.{◌≡◌, ℕ, length, map, take, vec_len}
+use Rattle.epoch_drive.specs.Meant.{meaning_of}
+use Rattle.epoch_drive.specs.Opened.{opened}
+use Rattle.epoch_drive.specs.Shares.{AreShares}
+use Rattle.epoch_drive.proofs.sharing.shares_of.Given as goal
+
+abbrev pub invariant-loop-i : goal.invariant-loop-i
+invariant-loop-i l = record {
+  many : vec_len l.shares ≡ length l.subscribers;
+  shares : (first : ℕ) → AreShares l.shares.items l.subscribers l.scheduled
+      (take l.i (opened first (map meaning_of l.meant) l.scheduled.outcomes));
+}

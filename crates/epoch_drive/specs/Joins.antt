@@ -1,0 +1,88 @@
+-- What is told of each slot's commands and packets, as entries are filled with it.
+use Rattle.std.specs.Prelude.{◌≡◌, ℕ, Bool, true, List, [], ◌∷◌, ◌++◌, All, length, map, drop, get_or, set, Option, Some, None}
+use Rattle.std.specs.Prelude.{option_to_list}
+use Rattle.packet_steps.specs.Lent.{verdict_of}
+use Rattle.report_lines.specs.declared.entry.LineEntry.{LineEntry}
+use Rattle.epoch_join.specs.Filling.{Met, Mets, Replied, Replies, fill, met_slot, others_of, replied_slot}
+use Rattle.report_lines.specs.Lent.{IsShort}
+use Rattle.slot_replay.specs.declared.replayed.Judged.{Judged}
+use Rattle.slot_replay.specs.declared.replayed.Replied as told
+use Rattle.epoch_drive.specs.Opened.{open_command, open_packet}
+use Rattle.epoch_drive.specs.Told.{IsShortEntry, line_told}
+use Rattle.epoch_drive.specs.declared.epoch.Entry.{Entry}
+use Rattle.epoch_drive.specs.declared.replays.Answers.{Answers}
+
+abbrev pub replied_so : told.Replied → Replied
+replied_so replied = record { number = replied.number; reply = replied.reply }
+
+abbrev pub met_so : Judged → Met
+met_so judged = record {
+  number = judged.number;
+  commands = judged.commands;
+  verdict = verdict_of judged.verdict;
+  place = Some judged.place;
+}
+
+-- by slot, and none beyond
+abbrev pub replies_of : Answers → List Replied
+replies_of answers = map replied_so answers.replies.items
+
+abbrev pub mets_of : Answers → List Met
+mets_of answers = map met_so answers.packets.items
+
+abbrev pub replies_at : List Answers → Replies
+replies_at answers slot = get_or (map replies_of answers) slot []
+
+abbrev pub mets_at : List Answers → Mets
+mets_at answers slot = get_or (map mets_of answers) slot []
+
+-- TEMP
+abbrev pub AreShort : List Judged → Type 0
+AreShort packets = All (λ (judged : Judged). IsShort judged.verdict) packets
+
+-- each verdict can be written
+abbrev pub AllShort : List Answers → Type 0
+AllShort answers = All (λ (a : Answers). AreShort a.packets.items) answers
+
+-- the entry of a command or packet that was taken, with what comes next of its slot
+abbrev pub next_reply : Option told.Replied → List Replied
+next_reply None = []
+next_reply (Some replied) = replied_so replied ∷ []
+
+abbrev pub next_met : Option Judged → List Met
+next_met None = []
+next_met (Some judged) = met_so judged ∷ []
+
+abbrev pub told_of_command : (n slot : ℕ) → Option told.Replied → LineEntry
+told_of_command n slot next = fill (open_command n slot true) (λ own. next_reply next) (λ own. [])
+
+abbrev pub told_of_packet : (n slot : ℕ) → Bool → Option Judged → LineEntry
+told_of_packet n slot parked next = fill (open_packet n slot true parked) (λ own. []) (λ own. next_met next)
+
+-- the next reply of a slot is taken, and the next verdict
+pub record TakesReply (old new : List Answers) (slot : ℕ) (next : Option told.Replied) : Type 0 where
+  pub before : Answers
+  pub after : Answers
+  pub found : before ≡ get_or old slot before
+  pub is : new ≡ set old slot after
+  pub first : before.replies.items ≡ option_to_list next ++ after.replies.items
+  pub rest : after.replies.items ≡ drop 1 before.replies.items
+  pub same : after.packets.items ≡ before.packets.items
+
+pub record TakesPacket (old new : List Answers) (slot : ℕ) (next : Option Judged) : Type 0 where
+  pub before : Answers
+  pub after : Answers
+  pub found : before ≡ get_or old slot before
+  pub is : new ≡ set old slot after
+  pub first : before.packets.items ≡ option_to_list next ++ after.packets.items
+  pub rest : after.packets.items ≡ drop 1 before.packets.items
+  pub same : after.replies.items ≡ before.replies.items
+
+-- an open entry is filled with what is told next of its slot, which is taken
+pub record FillsNext (old new : List Answers) (open_ : LineEntry) (entry : Entry) : Type 0 where
+  pub filled_so : line_told entry ≡ fill open_ (replies_at old) (mets_at old)
+  pub many : length new ≡ length old
+  pub replies : (slot : ℕ) → replies_at new slot ≡ others_of (replied_slot open_) (replies_at old) slot
+  pub mets : (slot : ℕ) → mets_at new slot ≡ others_of (met_slot open_) (mets_at old) slot
+  pub short : AllShort old → IsShortEntry entry
+  pub still : AllShort old → AllShort new

@@ -1,0 +1,50 @@
+-- What the steps of an epoch make of its lines.
+use Rattle.std.specs.Prelude.{◌≡◌, ℕ, ◌+◌, ◌≤◌, ◌^◌, List, length, map}
+use Rattle.trace_lines.specs.Line.{Line}
+use Rattle.epoch_join.specs.Filling.{filled}
+use Rattle.slice_schedule.specs.Schedule.{outcomes}
+use Rattle.slice_schedule.specs.World.{Rooms, start}
+use Rattle.schedule_run.specs.Plan.{Plan, mets_of}
+use Rattle.driven_run.specs.Driven.{driven, mets_driven}
+use Rattle.subscriber.specs.Standing.{SubscriberState}
+use Rattle.at_rest.specs.Rest.{AreAtRest}
+use Rattle.epoch_drive.specs.Joins.{mets_at, replies_at}
+use Rattle.epoch_drive.specs.Lines.{AreLater}
+use Rattle.epoch_drive.specs.Meant.{TurnedAll, bound_of, meaning_of}
+use Rattle.epoch_drive.specs.Opened.{open_entries, opened}
+use Rattle.epoch_drive.specs.Replays.{HaveDone}
+use Rattle.epoch_drive.specs.Shares.{AreShares}
+use Rattle.epoch_drive.specs.Told.{line_told}
+use Rattle.epoch_drive.specs.declared.epoch.Epoch.{Epoch}
+use Rattle.epoch_drive.specs.declared.meant.Meant.{Meant}
+use Rattle.epoch_drive.specs.declared.replays.Replays.{Replays}
+use Rattle.epoch_drive.specs.declared.sharing.Share.{Share}
+
+-- subscribers at rest, and lines that may come behind those before
+pub record MayCome (slices count latest : ℕ) (subscribers : List SubscriberState) (lines : List Line) : Type 0 where
+  pub at_rest : AreAtRest slices count latest subscribers
+  pub later : AreLater latest lines
+  pub few : count + length lines ≤ 2 ^ 39
+
+-- The lines are decided, which leaves these subscribers; the plan is that of their schedule; each subscriber does its
+-- share, and entries are filled with what is told of it.
+pub record DoesLines (rooms : Rooms) (slices first : ℕ) (turns : List (List ℕ)) (book : List (List ℕ))
+    (subscribers : List SubscriberState) (lines : List Line) (book_now : List (List ℕ))
+    (subscribers_now : List SubscriberState) (epoch : Epoch) : Type 0 where
+  pub meants : List Meant
+  pub between : List SubscriberState
+  pub plan : Plan
+  pub shares : List Share
+  pub replays : Replays
+  pub turned : TurnedAll slices book subscribers lines meants book_now between
+  pub outcomes_are : plan.outcomes
+      ≡ outcomes rooms (bound_of slices subscribers) start (driven (map meaning_of meants) turns)
+  pub mets_are : (slot : ℕ) → mets_of plan slot
+      ≡ mets_driven rooms (bound_of slices subscribers) turns (map meaning_of meants) slot
+  pub many : length shares ≡ length between
+  pub are : (from : ℕ) → AreShares shares between plan (opened from (map meaning_of meants) plan.outcomes)
+  pub done : HaveDone between subscribers_now shares replays (length between)
+  pub joined : map line_told epoch.lines.items ≡ filled (open_entries first (map meaning_of meants) plan.outcomes)
+      (replies_at replays.answers.items) (mets_at replays.answers.items)
+  pub effects : epoch.effects ≡ replays.effects
+  pub rows : epoch.rows ≡ replays.rows

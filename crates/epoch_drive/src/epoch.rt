@@ -1,0 +1,55 @@
+//! What is told of an epoch.
+use charging_book::ChargeRow;
+use packet_steps::LentVerdict;
+use pc_base::{Octets, Place, Reply, Slot};
+use slot_replay::Caused;
+
+/// What is told of a line.
+#[derive(Drop)]
+pub enum Entry<'a> {
+    /// It is a note, or an order to move.
+    Note {
+        line: u64,
+        text: Octets,
+    },
+    /// It is the command of this number of a slot, with this reply.
+    Answer {
+        line: u64,
+        slot: Slot,
+        number: u64,
+        reply: Reply,
+    },
+    /// It is the packet of this number of a slot, judged behind so many of the slot's commands; where it
+    /// was handled, and whether it was parked. The verdict's octets lie in the line.
+    Judgement {
+        line: u64,
+        slot: Slot,
+        number: u64,
+        commands: u64,
+        verdict: LentVerdict<'a>,
+        place: Option<Place>,
+        parked: bool,
+    },
+    /// It is a command, or a packet, that found its queue full.
+    Refusal {
+        line: u64,
+        slot: Slot,
+        packet: bool,
+    },
+}
+
+/// Charging records of a slot, in the order in which they were made.
+#[derive(Drop)]
+pub struct Closed {
+    pub slot: Slot,
+    pub rows: Vec<ChargeRow>,
+}
+
+/// What is told of an epoch: of each line, the effects of its commands by slot, and the charging
+/// records that were made in it by slot.
+#[derive(Drop)]
+pub struct Epoch<'a> {
+    pub lines: Vec<Entry<'a>>,
+    pub effects: Vec<Caused>,
+    pub rows: Vec<Closed>,
+}

@@ -1,0 +1,188 @@
+//! The entry of each line, with what is told of its slot's next command or packet.
+ghost use Rattle.std.specs.Prelude.{◌≡◌, ◌+◌, ◌<◌, ◌^◌, All, length, map, IfOk, IfSome};
+ghost use Rattle.epoch_join.specs.Filling.{filled};
+ghost use Rattle.report_lines.specs.Lent.{IsShort};
+ghost use Rattle.epoch_drive.specs.Joins.{
+  AllShort,
+  FillsNext,
+  TakesPacket,
+  TakesReply,
+  mets_at,
+  replies_at,
+  told_of_command,
+  told_of_packet,
+};
+ghost use Rattle.epoch_drive.specs.Meant.{IsWithin, meaning_of};
+ghost use Rattle.epoch_drive.specs.Opened.{open_command, open_entries, open_entry, open_packet};
+ghost use Rattle.epoch_drive.specs.Told.{AreShort, IsShortEntry, line_told};
+
+use crate::epoch::Entry;
+use crate::meant::Meant;
+use crate::replays::Answers;
+use packet_steps::LentVerdict;
+use pc_base::{Outcome as Done, Reply, Slot};
+use schedule_run::Outcome;
+use slot_replay::{Judged, Replied};
+use std::alloc::{AllocError, Global};
+
+/// The entries of lines, which are counted on from this number.
+pub fn join<'a>(
+    alloc: Global,
+    first: u64,
+    meant: Vec<Meant<'a>>,
+    outcomes: &[Outcome],
+    answers: &mut Vec<Answers<'a>>,
+) -> Result<Vec<Entry<'a>>, AllocError>
+    requires within { All (IsWithin (length answers.old.items)) meant.items }
+    requires outcomes { length outcomes.now ≡ length meant.items }
+    requires few { first + length meant.items < 2 ^ 64 }
+    requires short { AllShort answers.old.items }
+
+    ensures entries { IfOk result (λ entries. map line_told entries.items
+        ≡ filled (open_entries first (map meaning_of meant.entry.items) outcomes.now)
+        (replies_at answers.old.items) (mets_at answers.old.items)) }
+    ensures short { IfOk result (λ entries. AreShort entries.items) }
+{
+    let mut entries = Vec::new(alloc);
+    let mut i = 0usize;
+    for now in meant {
+        let entry = entry_of(first + i as u64, now, outcomes[i], answers);
+        entries.push(entry)?;
+        i += 1;
+    }
+    Ok(entries)
+}
+
+fn entry_of<'a>(
+    line: u64,
+    now: Meant<'a>,
+    outcome: Outcome,
+    answers: &mut Vec<Answers<'a>>,
+) -> Entry<'a>
+    requires { IsWithin (length answers.old.items) now }
+    ensures { FillsNext answers.old.items answers.new.items (open_entry line (meaning_of now.entry) outcome) result }
+{
+    match now {
+        Meant::Note(text) => Entry::Note { line, text },
+        Meant::Move {
+            slot: _,
+            slice: _,
+            text,
+        } => Entry::Note { line, text },
+        Meant::Command { slot, command: _ } => command_entry(line, slot, outcome.taken, answers),
+        Meant::Packet { slot, packet: _ } => {
+            packet_entry(line, slot, outcome.taken, outcome.parked, answers)
+        }
+    }
+}
+
+fn command_entry<'a>(
+    line: u64,
+    slot: Slot,
+    taken: bool,
+    answers: &mut Vec<Answers<'a>>,
+) -> Entry<'a>
+    requires { slot < length answers.old.items }
+    ensures { FillsNext answers.old.items answers.new.items (open_command line slot taken) result }
+{
+    if taken {
+        let next = next_reply(answers, slot);
+        answer(line, slot, next)
+    } else {
+        Entry::Refusal {
+            line,
+            slot,
+            packet: false,
+        }
+    }
+}
+
+fn packet_entry<'a>(
+    line: u64,
+    slot: Slot,
+    taken: bool,
+    parked: bool,
+    answers: &mut Vec<Answers<'a>>,
+) -> Entry<'a>
+    requires { slot < length answers.old.items }
+    ensures { FillsNext answers.old.items answers.new.items (open_packet line slot taken parked) result }
+{
+    if taken {
+        let next = next_packet(answers, slot);
+        judgement(line, slot, parked, next)
+    } else {
+        Entry::Refusal {
+            line,
+            slot,
+            packet: true,
+        }
+    }
+}
+
+// What is told next of a slot's commands, and of its packets.
+fn next_reply(answers: &mut Vec<Answers<'_>>, slot: Slot) -> Option<Replied>
+    requires { slot < length answers.old.items }
+    ensures { TakesReply answers.old.items answers.new.items slot result }
+{
+    let own = &mut answers[slot.0 as usize];
+    own.replies.pop_front()
+}
+
+fn next_packet<'a>(answers: &mut Vec<Answers<'a>>, slot: Slot) -> Option<Judged<'a>>
+    requires { slot < length answers.old.items }
+    ensures { TakesPacket answers.old.items answers.new.items slot result }
+{
+    let own = &mut answers[slot.0 as usize];
+    own.packets.pop_front()
+}
+
+// A command's entry: it has the next reply.
+fn answer<'a>(line: u64, slot: Slot, next: Option<Replied>) -> Entry<'a>
+    ensures told { line_told result ≡ told_of_command line slot next }
+    ensures short { IsShortEntry result }
+{
+    match next {
+        Some(replied) => Entry::Answer {
+            line,
+            slot,
+            number: replied.number,
+            reply: replied.reply,
+        },
+        None => Entry::Answer {
+            line,
+            slot,
+            number: 0,
+            reply: Reply {
+                outcome: Done::Done,
+                message: None,
+            },
+        },
+    }
+}
+
+// A packet's entry: it has the next verdict.
+fn judgement<'a>(line: u64, slot: Slot, parked: bool, next: Option<Judged<'a>>) -> Entry<'a>
+    ensures told { line_told result ≡ told_of_packet line slot parked next.entry }
+    ensures short { IfSome next.entry (λ judged. IsShort judged.verdict) → IsShortEntry result }
+{
+    match next {
+        Some(judged) => Entry::Judgement {
+            line,
+            slot,
+            number: judged.number,
+            commands: judged.commands,
+            verdict: judged.verdict,
+            place: Some(judged.place),
+            parked,
+        },
+        None => Entry::Judgement {
+            line,
+            slot,
+            number: 0,
+            commands: 0,
+            verdict: LentVerdict::NoBearer,
+            place: None,
+            parked,
+        },
+    }
+}

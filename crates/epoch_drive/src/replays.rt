@@ -1,0 +1,115 @@
+//! What the subscribers make of their commands and packets.
+ghost use Rattle.std.specs.Prelude.{◌≡◌, ◌≤◌, ◌++◌, ◌∷◌, [], length, map, vec_len, IfOk, OnOk};
+ghost use Rattle.slot_replay.specs.Replaying.{effects_told};
+ghost use Rattle.report_lines.specs.declared.entry.ChargeEntry.TheVariants.{R};
+ghost use Rattle.epoch_drive.specs.Replays.{AllCanDo, CanDo, DoesShare, HaveDone};
+ghost use Rattle.epoch_drive.specs.Told.{rows_told};
+
+use crate::epoch::Closed;
+use crate::sharing::Share;
+use charging_book::ChargeRow;
+use pc_base::Slot;
+use slot_replay::{Caused, Judged, Replayed, Replied, replay};
+use std::alloc::{AllocError, Global};
+use std::collections::VecDeque;
+use subscriber::Subscriber;
+
+/// What is told of a slot's commands and packets, to be taken from the front.
+#[derive(Drop)]
+pub struct Answers<'a> {
+    pub replies: VecDeque<Replied>,
+    pub packets: VecDeque<Judged<'a>>,
+}
+
+/// By slot: what is told of commands and packets, and all effects and charging records.
+#[derive(Drop)]
+pub struct Replays<'a> {
+    pub answers: Vec<Answers<'a>>,
+    pub effects: Vec<Caused>,
+    pub rows: Vec<Closed>,
+}
+
+/// Each subscriber does its share.
+pub fn replay_all<'a>(
+    alloc: Global,
+    slots: u32,
+    subscribers: &mut Vec<Subscriber>,
+    shares: &[Share<'_, 'a>],
+) -> Result<Replays<'a>, AllocError>
+    requires slots { slots ≡ vec_len subscribers.old }
+    requires few { slots ≤ 65533 }
+    requires many { length shares.now ≡ vec_len subscribers.old }
+    requires can { AllCanDo subscribers.old.items shares.now }
+
+    ensures { IfOk result (λ replays. HaveDone subscribers.old.items subscribers.new.items shares.now replays
+        slots) }
+{
+    let mut replays = Replays {
+        answers: Vec::new(alloc),
+        effects: Vec::new(alloc),
+        rows: Vec::new(alloc),
+    };
+    for i in 0..slots {
+        let place = i as usize;
+        let replayed = replay_share(alloc, &mut subscribers[place], &shares[place])?;
+        add_replayed(&mut replays, Slot(i), replayed)?;
+    }
+    Ok(replays)
+}
+
+// A subscriber does its share.
+fn replay_share<'a>(
+    alloc: Global,
+    subscriber: &mut Subscriber,
+    share: &Share<'_, 'a>,
+) -> Result<Replayed<'a>, AllocError>
+    requires { CanDo subscriber.old share.now }
+    ensures { IfOk result (DoesShare subscriber.old subscriber.new share.now) }
+{
+    let commands = share.commands.as_slice();
+    let packets = share.packets.as_slice();
+    Ok(replay(alloc, subscriber, commands, packets)?)
+}
+
+// What the next slot's share led to.
+fn add_replayed<'a>(
+    replays: &mut Replays<'a>,
+    slot: Slot,
+    replayed: Replayed<'a>,
+) -> Result<(), AllocError>
+    ensures answers { OnOk result (replays.new.answers.items ≡ replays.old.answers.items
+        ++ record { replies = replayed.entry.replies; packets = replayed.entry.packets } ∷ []) }
+    ensures effects { OnOk result (effects_told replays.new.effects.items
+        ≡ effects_told replays.old.effects.items ++ effects_told replayed.entry.effects.items) }
+    ensures rows { OnOk result (rows_told replays.new.rows.items
+        ≡ rows_told replays.old.rows.items ++ map (R slot) replayed.entry.rows.items) }
+{
+    let Replayed {
+        replies,
+        packets,
+        effects,
+        rows,
+    } = replayed;
+    replays.answers.push(Answers { replies, packets })?;
+    add_effects(&mut replays.effects, effects)?;
+    add_rows(&mut replays.rows, slot, rows)
+}
+
+// The charging records of a slot, where it has some.
+fn add_rows(all: &mut Vec<Closed>, slot: Slot, rows: Vec<ChargeRow>) -> Result<(), AllocError>
+    ensures { OnOk result (rows_told all.new.items ≡ rows_told all.old.items ++ map (R slot) rows.items) }
+{
+    if rows.is_empty() {
+        return Ok(());
+    }
+    all.push(Closed { slot, rows })?;
+    Ok(())
+}
+
+fn add_effects(all: &mut Vec<Caused>, effects: Vec<Caused>) -> Result<(), AllocError>
+    ensures { OnOk result (effects_told all.new.items
+        ≡ effects_told all.old.items ++ effects_told effects.items) }
+{
+    let mut effects = effects;
+    all.append(&mut effects)
+}

@@ -1,0 +1,149 @@
+//! The commands and packets that were taken, by slot.
+ghost use Rattle.std.specs.Prelude.{◌≡◌, ◌<◌, ℕ, ◌++◌, ◌∷◌, [], List, All, length, map, vec_len, true, IfOk, OnOk};
+ghost use Rattle.lawful_run.specs.LinesTold.{LineTold};
+ghost use Rattle.epoch_drive.specs.Meant.{IsWithin, meaning_of};
+ghost use Rattle.epoch_drive.specs.Opened.{open_entry, opened};
+ghost use Rattle.epoch_drive.specs.Shares.{
+  AreMet,
+  AreShares,
+  GivesCommand,
+  GivesPacket,
+  HasMet,
+  IsEmpty,
+  MayMeet,
+};
+
+use crate::meant::Meant;
+use control_steps::Command;
+use demux::LentPacket;
+use pc_base::Slot;
+use schedule_run::{Outcome, Scheduled};
+use slot_replay::Placed;
+use std::alloc::{AllocError, Global};
+use subscriber::Subscriber;
+
+/// The commands and packets of a slot, in line order.
+#[derive(Drop)]
+pub struct Share<'p, 'a> {
+    pub commands: Vec<&'p Command>,
+    pub packets: Vec<Placed<'a>>,
+}
+
+/// What was taken of the lines, for each of the subscribers.
+pub fn shares_of<'p, 'a>(
+    alloc: Global,
+    subscribers: &[Subscriber],
+    scheduled: &Scheduled,
+    meant: &'p [Meant<'a>],
+) -> Result<Vec<Share<'p, 'a>>, AllocError>
+    requires within { All (IsWithin (length subscribers.now)) meant.now }
+    requires outcomes { length scheduled.now.outcomes ≡ length meant.now }
+    requires met { AreMet scheduled.now subscribers.now (opened 0 (map meaning_of meant.now) scheduled.now.outcomes) }
+
+    ensures many { IfOk result (λ shares. vec_len shares ≡ length subscribers.now) }
+    ensures shares { (first : ℕ) → IfOk result (λ shares. AreShares shares.items subscribers.now scheduled.now
+        (opened first (map meaning_of meant.now) scheduled.now.outcomes)) }
+{
+    let mut shares = empty_shares(alloc, subscribers.len())?;
+    let outcomes = scheduled.outcomes();
+    for (i, now) in meant.iter().enumerate() {
+        share_line(&mut shares, subscribers, scheduled, now, outcomes[i])?;
+    }
+    Ok(shares)
+}
+
+fn empty_shares<'p, 'a>(alloc: Global, slots: usize) -> Result<Vec<Share<'p, 'a>>, AllocError>
+    ensures many { IfOk result (λ shares. vec_len shares ≡ slots) }
+    ensures empty { IfOk result (λ shares. All IsEmpty shares.items) }
+{
+    let mut shares: Vec<Share<'p, 'a>> = Vec::new(alloc);
+    for _ in 0..slots {
+        let share: Share<'p, 'a> = Share {
+            commands: Vec::new(alloc),
+            packets: Vec::new(alloc),
+        };
+        shares.push(share)?;
+    }
+    Ok(shares)
+}
+
+// A line, if it was taken.
+fn share_line<'p, 'a>(
+    shares: &mut Vec<Share<'p, 'a>>,
+    subscribers: &[Subscriber],
+    scheduled: &Scheduled,
+    now: &'p Meant<'a>,
+    outcome: Outcome,
+) -> Result<(), AllocError>
+    requires within { IsWithin (vec_len shares.old) now.now }
+    requires many { vec_len shares.old ≡ length subscribers.now }
+    requires met { outcome.taken ≡ true → HasMet shares.old.items subscribers.now scheduled.now now.now }
+
+    ensures shares { (told : List LineTold) (n : ℕ)
+        → AreShares shares.old.items subscribers.now scheduled.now told
+        → OnOk result (AreShares shares.new.items subscribers.now scheduled.now
+        (told ++ record { meaning = meaning_of now.now; entry = open_entry n (meaning_of now.now) outcome } ∷ [])) }
+    ensures many { OnOk result (vec_len shares.new ≡ vec_len shares.old) }
+{
+    if !outcome.taken {
+        return Ok(());
+    }
+    match now {
+        Meant::Command { slot, command } => give_command(shares, *slot, command),
+        Meant::Packet { slot, packet } => {
+            give_packet(shares, subscribers, scheduled, *slot, packet)
+        }
+        Meant::Move {
+            slot: _,
+            slice: _,
+            text: _,
+        } => Ok(()),
+        Meant::Note(_) => Ok(()),
+    }
+}
+
+fn give_command<'p, 'a>(
+    shares: &mut Vec<Share<'p, 'a>>,
+    slot: Slot,
+    command: &'p Command,
+) -> Result<(), AllocError>
+    requires { slot < vec_len shares.old }
+    ensures { OnOk result (GivesCommand shares.old.items shares.new.items slot command.now) }
+{
+    let share = &mut shares[slot.0 as usize];
+    share.commands.push(command)?;
+    Ok(())
+}
+
+// A packet meets the next of its slot's counts, behind the commands before the epoch.
+fn give_packet<'a>(
+    shares: &mut Vec<Share<'_, 'a>>,
+    subscribers: &[Subscriber],
+    scheduled: &Scheduled,
+    slot: Slot,
+    packet: &LentPacket<'a>,
+) -> Result<(), AllocError>
+    requires low { slot < vec_len shares.old }
+    requires many { vec_len shares.old ≡ length subscribers.now }
+    requires met { MayMeet shares.old.items subscribers.now scheduled.now slot }
+    ensures { OnOk result
+        (GivesPacket shares.old.items shares.new.items subscribers.now scheduled.now slot packet.now) }
+{
+    let place = slot.0 as usize;
+    let before = subscribers[place].commands();
+    let share = &mut shares[place];
+    let number = share.packets.len();
+    let mets = scheduled.mets(slot.0);
+    let met = mets[number];
+    let placed = Placed {
+        commands: before + met.commands as u64,
+        place: met.place,
+        packet: LentPacket {
+            moment: packet.moment,
+            way: packet.way,
+            ip: packet.ip.copied(),
+        },
+    };
+    share.packets.push(placed)?;
+    Ok(())
+}
