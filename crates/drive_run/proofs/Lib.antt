@@ -1,4 +1,3 @@
-pub mod BookLemmas
 pub mod EpochLemmas
 pub mod Texts
 pub mod StandLemmas

@@ -32,7 +32,7 @@ use Rattle.trace_run.specs.declared.ending.Ending.TheVariants.{Ended, ReadFault,
 use Rattle.drive_run.specs.Driven.{IsDrivenReport, Schedule, Turns, drawn, listed, rooms_in, turns_by_epoch, turns_for, turns_in, turns_left}
 use Rattle.drive_run.specs.Standing.{Drives, Drove, DroveAll, DroveOn, Stands, bad_at, driven_text, events_behind, homes, meant_all, meant_in, noted, noted_meant, schedule_of}
 use Rattle.drive_run.specs.declared.driver.Driver.{Driver}
-use Rattle.drive_run.proofs.BookLemmas.{book_grows_all}
+use Rattle.lawful_run.proofs.BookGrows.{book_grows_all}
 use Rattle.drive_run.proofs.EpochLemmas.{behind_all-push, driven_untold, length-turns_for, told_length, turns_by_epoch-push}
 use Rattle.drive_run.proofs.StandLemmas.{drives_more}
 use Rattle.trace_run.proofs.EntryLemmas.{epochs_text-push, lines-append, texts-append}

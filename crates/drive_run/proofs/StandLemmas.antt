@@ -17,7 +17,7 @@ use Rattle.driven_run.specs.Runs.{AreDriven, bounds_behind}
 use Rattle.epoch_drive.specs.Lines.{rooms_of}
 use Rattle.drive_run.specs.Driven.{Schedule, bounds_all, rooms_in, turns_by_epoch, turns_for, turns_in, turns_past}
 use Rattle.drive_run.specs.Standing.{DrivesNext, Stands, events_behind, homes, meant_in}
-use Rattle.drive_run.proofs.BookLemmas.{book_grows_all}
+use Rattle.lawful_run.proofs.BookGrows.{book_grows_all}
 use Rattle.drive_run.proofs.EpochLemmas.{behind_all-push, bounds_all-push, driven-push, first_behind-meant, same_many, told_length, turns_by_epoch-push, turns_left-push}
 
 -- the turns that the code has

@@ -1,5 +1,5 @@
 -- Texts of entries, one more behind the others.
-use Rattle.std.proofs.Common.{◌≡◌, ℕ, ◌+◌, ◌<◌, Bool, Result, Ok, Err, OnOk, List, [], ◌∷◌, ◌++◌, length, get_or, take, map, flat_map, sym, ap, ◌∙◌, append_assoc, append-nil}
+use Rattle.std.proofs.Common.{◌≡◌, ℕ, ◌+◌, ◌<◌, Bool, List, [], ◌∷◌, ◌++◌, length, get_or, take, map, flat_map, sym, ap, ◌∙◌, append_assoc, append-nil}
 use Rattle.std.proofs.lemmas.Grind.{flat_map-append}
 use Rattle.std.proofs.lemmas.List.{map-append, take_more}
 use Rattle.charging_book.specs.declared.records.ChargeRow.{ChargeRow}
@@ -11,10 +11,6 @@ use Rattle.report_lines.specs.declared.entry.Entry.TheVariants as entry
 use Rattle.report_lines.specs.declared.entry.LineEntry.{LineEntry}
 use Rattle.lawful_run.specs.Report.{EpochReport, epoch_entries, texts_of}
 use Rattle.trace_run.specs.Entries.{charges_text, closing_text, line_of, lines_text}
-
-pub on_ok : {T E : Type 0} {P Q : Type 0} (r : Result T E) → (P → Q) → OnOk r P → OnOk r Q
-on_ok (Ok x) follows holds = follows holds
-on_ok (Err e) follows holds = tt
 
 pub texts-append : (places : Bool) (front back : List Entry)
     → texts_of places (front ++ back) ≡ texts_of places front ++ texts_of places back

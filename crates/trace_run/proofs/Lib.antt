@@ -5,3 +5,5 @@ pub mod CutLemmas
 pub mod EndingLemmas
 pub mod TakeLemmas
 pub mod ReportingLemmas
+pub mod EntryLemmas
+pub mod OpenLemmas

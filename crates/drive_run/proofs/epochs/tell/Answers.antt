@@ -2,7 +2,7 @@ use Rattle.std.proofs.Common.{◌≡◌, ◌++◌, ap, ◌∙◌}
 use Rattle.epoch_drive.specs.Told.{rows_told, told_by}
 use Rattle.trace_run.specs.Entries.{charges_text, effects_text, lines_text}
 use Rattle.drive_run.specs.Standing.{noted}
-use Rattle.trace_run.proofs.EntryLemmas.{on_ok}
+use Rattle.packet_steps.proofs.ResultLemmas.{on_ok}
 use Rattle.drive_run.proofs.Texts.{gathered}
 use Rattle.drive_run.proofs.epochs.tell.Goals as goal
 

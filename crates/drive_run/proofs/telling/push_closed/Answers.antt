@@ -1,7 +1,7 @@
 use Rattle.std.proofs.Common.{◌++◌, map, ap, ◌∙◌}
 use Rattle.report_lines.specs.declared.entry.ChargeEntry.TheVariants.{R}
 use Rattle.trace_run.specs.Entries.{charges_text}
-use Rattle.trace_run.proofs.EntryLemmas.{on_ok}
+use Rattle.packet_steps.proofs.ResultLemmas.{on_ok}
 use Rattle.drive_run.proofs.telling.push_closed.Goals as goal
 
 pub returns : goal.returns

@@ -1,7 +1,7 @@
 use Rattle.std.proofs.Common.{◌++◌, flat_map, ap, ◌∙◌}
 use Rattle.bearer_state.specs.declared.version.ActiveBearer.{ActiveBearer}
 use Rattle.trace_run.specs.Entries.{charges_text, open_for}
-use Rattle.trace_run.proofs.EntryLemmas.{on_ok}
+use Rattle.packet_steps.proofs.ResultLemmas.{on_ok}
 use Rattle.trace_run.proofs.OpenLemmas.{opens_are}
 use Rattle.trace_run.proofs.opens.push_subscriber.Goals as goal
 

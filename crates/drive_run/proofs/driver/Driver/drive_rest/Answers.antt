@@ -1,5 +1,5 @@
 use Rattle.std.proofs.Common.{◌∙◌}
-use Rattle.trace_run.proofs.EntryLemmas.{on_ok}
+use Rattle.packet_steps.proofs.ResultLemmas.{on_ok}
 use Rattle.drive_run.proofs.Reports.{all_so}
 use Rattle.drive_run.proofs.driver.Driver.drive_rest.Goals as goal
 

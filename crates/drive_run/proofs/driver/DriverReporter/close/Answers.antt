@@ -1,5 +1,5 @@
 use Rattle.std.proofs.Common.{[], ◌∷◌, ◌++◌}
-use Rattle.trace_run.proofs.EntryLemmas.{on_ok}
+use Rattle.packet_steps.proofs.ResultLemmas.{on_ok}
 use Rattle.drive_run.proofs.Reports.{closes_so, says_epochs}
 use Rattle.drive_run.proofs.driver.DriverReporter.close.Goals as goal
 

@@ -1,5 +1,5 @@
 use Rattle.std.proofs.Common.{◌+◌, ◌++◌, ap, subst}
-use Rattle.trace_run.proofs.EntryLemmas.{on_ok}
+use Rattle.packet_steps.proofs.ResultLemmas.{on_ok}
 use Rattle.lawful_run.specs.Run.{behind_all, no_events}
 use Rattle.drive_run.specs.Standing.{DroveAll, bad_at, meant_all, schedule_of}
 use Rattle.drive_run.proofs.Reports.{due_so}
