@@ -1,11 +1,8 @@
--- What lines mean that are cut into epochs, and how long an epoch is.
-use Rattle.std.proofs.Common.{◌≡◌, ℕ, ◌+◌, ◌<◌, ◌≤◌, ◌||◌, nat_le, Bool, true, false, List, [], ◌∷◌, ◌++◌, length, refl, ap, ◌∙◌, arith, append-nil, length-append}
-use Rattle.std.proofs.lemmas.Bool.{leb-false}
+-- What lines mean that are cut into epochs.
+use Rattle.std.proofs.Common.{◌≡◌, ℕ, ◌+◌, ◌≤◌, List, [], ◌∷◌, ◌++◌, length, refl, ap, ◌∙◌, arith, append-nil, length-append}
 use Rattle.std.proofs.lemmas.Grind.{flat_map-append}
-use Rattle.std.proofs.lemmas.List.Sums.{sum_by-append}
-use Rattle.trace_lines.specs.Epochs.{ends_epoch, epochs_of, is_fence, octets_in}
+use Rattle.trace_lines.specs.Epochs.{epochs_of}
 use Rattle.trace_lines.specs.Line.{Line}
-use Rattle.trace_lines.specs.Text.{line_text}
 use Rattle.demux.specs.Trace.{Meaning}
 use Rattle.lawful_run.specs.Cut.{IsCut, lines_in}
 use Rattle.lawful_run.specs.Trace.{epochs_from, meant_epochs, meant_from, own_epoch}
@@ -51,21 +48,3 @@ count_told slices done closed open_ noted cut few =
       ap length cut.parts,
       length-append (lines_in closed) open_,
     )
-
--- an epoch that a line doesn't end is short
-third_false : (a b c : Bool) → (a || b || c) ≡ false → (b ≡ false) × (c ≡ false)
-third_false true b c is = (cc, cc)
-third_false false true c is = (cc, cc)
-third_false false false c is = (refl, is)
-
-pub stays_short : (open_ : List Line) (line : Line) → ends_epoch open_ line ≡ false
-    → (length open_ + 1 < 65536) × (octets_in open_ + length (line_text line) < 67108864)
-stays_short open_ line is =
-    let both = third_false (is_fence line.kind) (nat_le 65536 (length open_ + 1))
-    (nat_le 67108864 (octets_in open_ + length (line_text line))) is in
-    (leb-false 65536 (length open_ + 1) both.0, leb-false 67108864 (octets_in open_ + length (line_text line)) both.1)
-
-pub octets_more : (open_ : List Line) (line : Line)
-    → octets_in (open_ ++ line ∷ []) ≡ octets_in open_ + length (line_text line)
-octets_more open_ line =
-    let more = sum_by-append (λ (l : Line). length (line_text l)) open_ (line ∷ []) in omega (arith, more)

@@ -1,12 +1,9 @@
 -- Each line is about a slot of the book behind the lines.
-use Rattle.std.proofs.Common.{ℕ, ◌<◌, ◌≤◌, ◌==◌, nat_lt, Bool, true, false, if◌then◌else◌, List, [], ◌∷◌, ◌++◌, All, length, ap, arith, append_assoc, append-nil, length-append}
-use Rattle.std.specs.Prelude.{is_some}
+use Rattle.std.proofs.Common.{ℕ, ◌<◌, ◌≤◌, ◌==◌, Bool, true, false, if◌then◌else◌, List, [], ◌∷◌, ◌++◌, All, length, ap, arith, append_assoc, length-append}
 use Rattle.std.proofs.lemmas.List.Elements.{All-append, All-cons, All-nil}
-use Rattle.address_book.specs.Book.{slot_in}
 use Rattle.trace_lines.specs.Line.{Line}
-use Rattle.demux.specs.Asked.{Asked, note, admission, of}
 use Rattle.demux.specs.Line.{asked}
-use Rattle.demux.specs.Resolved.{IsDecision, book_behind, booked, decided}
+use Rattle.demux.specs.Resolved.{IsDecision, book_behind, decided}
 use Rattle.demux.specs.Trace as trace
 use Rattle.demux.specs.Trace.{Meaning, book_of, decisions, destination_after, meaning, meant}
 use Rattle.demux.specs.declared.decision.Decision.{Decision}
@@ -14,36 +11,11 @@ use Rattle.demux.specs.declared.decision.Decision.TheVariants as decision
 use Rattle.demux.specs.declared.decision.Whose.TheVariants as whose
 use Rattle.demux.proofs.ResolvedLemmas.{book_resolved, is_decision}
 use Rattle.demux.proofs.TraceLemmas.{book_of-push}
+use Rattle.lawful_run.proofs.BookGrows.{book_grows, book_grows_all}
 use Rattle.lawful_run.specs.Trace.{meant_epochs, meant_from, own_epoch, settled_by}
 use Rattle.lawful_run.specs.Cut.{IsCut, lines_in}
 use Rattle.audit_reading.specs.Holding.{AreKnown, IsKnown}
 use Rattle.audit_reading.proofs.CutLemmas.{cut_told}
-
--- a book loses no one
-length-admitted : (is room : Bool) (book : List (List ℕ)) (digits : List ℕ)
-    → length book ≤ length (if room then (if is then book else book ++ digits ∷ []) else book)
-length-admitted true true book digits = omega arith
-length-admitted false true book digits = omega (arith, length-append book (digits ∷ []))
-length-admitted is false book digits = omega arith
-
-length-booked : (book : List (List ℕ)) (asked : Asked) → length book ≤ length (booked book asked)
-length-booked book (note text) = omega arith
-length-booked book (admission digits asks full) =
-    length-admitted (is_some (slot_in book digits)) (nat_lt (length book) 65533) book digits
-length-booked book (of whom wish missing) = omega arith
-
-book_grows : (lines : List Line) (line : Line) → length (book_of lines) ≤ length (book_of (lines ++ line ∷ []))
-book_grows lines line = omega (arith, length-booked (book_of lines) (asked line), ap length (book_of-push lines line))
-
-book_grows_all : (lines more : List Line) → length (book_of lines) ≤ length (book_of (lines ++ more))
-book_grows_all lines [] = omega (arith, ap (λ l. length (book_of l)) (append-nil lines))
-book_grows_all lines (line ∷ more) =
-    omega (
-      arith,
-      book_grows lines line,
-      book_grows_all (lines ++ line ∷ []) more,
-      ap (λ l. length (book_of l)) (append_assoc lines (line ∷ []) more),
-    )
 
 -- a decision is for a slot of the book behind it
 settled_known : (slices slots slot slice : ℕ) (text : List ℕ) (before : List Line) (test : Bool) → slot < slots

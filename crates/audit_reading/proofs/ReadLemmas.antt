@@ -30,8 +30,8 @@ use Rattle.lawful_run.specs.Cut.{IsCut, lines_in}
 use Rattle.audit_reading.specs.Cutting.{Cuts, Measures, Reads, meant_next, moved_from}
 use Rattle.audit_reading.specs.Holding.{AreKnown, IsKnown, epochs_meant, meant_of}
 use Rattle.audit_reading.specs.Setups.{input_with, stop_of}
-use Rattle.lawful_run.proofs.CutLines.{cut_open, cut_whole, meant_epochs-push}
-use Rattle.audit_reading.proofs.CutLemmas.{count_told, cut_told, epochs_mean, octets_more, stays_short}
+use Rattle.lawful_run.proofs.CutLines.{cut_open, cut_whole, meant_epochs-push, octets_more, stays_short}
+use Rattle.audit_reading.proofs.CutLemmas.{count_told, cut_told, epochs_mean}
 use Rattle.audit_reading.proofs.KnownLemmas.{told_known}
 
 -- the home slices of the slots so far

@@ -117,7 +117,7 @@ long_said setup start left old texts reached = record {
   text = [];
   written = Appends-nil old;
   report = told_as start left (λ octets rest. Reached stopped_at.LineLong octets rest texts)
-      (λ octets rest. Reports audited.LineLong setup octets rest []) (λ octets rest is. (is, refl)) reached;
+      (λ octets rest. Reports audited.LineLong setup octets rest []) (λ octets rest is. (is.0, refl)) reached;
 }
 
 pub big_said : (setup : Setup) (start left old : Option (List ℕ)) (texts : List Text)
@@ -127,5 +127,5 @@ big_said setup start left old texts reached = record {
   text = [];
   written = Appends-nil old;
   report = told_as start left (λ octets rest. Reached stopped_at.TooLong octets rest texts)
-      (λ octets rest. Reports audited.TooLong setup octets rest []) (λ octets rest is. (is, refl)) reached;
+      (λ octets rest. Reports audited.TooLong setup octets rest []) (λ octets rest is. (is.0, refl)) reached;
 }

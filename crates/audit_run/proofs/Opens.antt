@@ -1,7 +1,6 @@
 -- The open counters of the active bearers.
-use Rattle.std.proofs.Common.{◌≡◌, ℕ, ◌==◌, Bool, true, false, cond, Some, List, [], ◌∷◌, map, find, inl, inr, refl, sym, ap, ◌∙◌, eq-eqb}
+use Rattle.std.proofs.Common.{◌≡◌, ℕ, List, [], ◌∷◌, map, inl, inr, refl, ap, ◌∙◌}
 use Rattle.std.specs.List.{cons_option, filter_map}
-use Rattle.std.proofs.lemmas.Bool.{eqb-true, false≢true}
 use Rattle.bearer_state.specs.declared.version.ActiveBearer.{ActiveBearer}
 use Rattle.charging_book.specs.Happenings.{Happening, lives_of, open_at, opens_of}
 use Rattle.charging_book.specs.Rows.{Counters}
@@ -11,24 +10,8 @@ use Rattle.gate_model.proofs.Members.{In, in_contains, in_map}
 use Rattle.gate_model.specs.SlotPast.{past_of, version_after}
 use Rattle.gate_model.specs.declared.event.Event.{Event}
 use Rattle.lawful_run.specs.Outcomes.{open_counters}
+use Rattle.lawful_run.proofs.OpenCounters.{found}
 use Rattle.audit_run.specs.Playing.{counters_of}
-
--- the counters of a life are among those of lives
-found : (happened : List Happening) (lives : List ℕ) (life : ℕ) → In life lives
-    → find (λ (counters : Counters). counters.life == life) (map (open_at happened) lives)
-    ≡ Some (open_at happened life)
-found happened [] life there = absurd there
-found happened (first ∷ lives) life there = by_test (first == life) refl there (found happened lives life)
-  where
-    by_test : (test : Bool) → (first == life) ≡ test → In life (first ∷ lives)
-        → (In life lives → find (λ (counters : Counters). counters.life == life) (map (open_at happened) lives)
-        ≡ Some (open_at happened life))
-        → cond test (Some (open_at happened first)) (find (λ (counters : Counters). counters.life == life)
-        (map (open_at happened) lives))
-        ≡ Some (open_at happened life)
-    by_test true is at rest = ap (λ l. Some (open_at happened l)) (eqb-true first life is)
-    by_test false is (inl here) rest = absurd (false≢true (sym is ∙ eq-eqb first life here))
-    by_test false is (inr later) rest = rest later
 
 -- so bearers whose lives are open have theirs
 each_open : (happened : List Happening) (bearers : List ActiveBearer)

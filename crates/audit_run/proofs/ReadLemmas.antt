@@ -165,10 +165,12 @@ pub ends_long : (start a left : Option (List ℕ)) (room after : ℕ) (line : Te
 ends_long start a left room after line last front done =
     told_next start a left room after read.LineLong line last front done
     (λ octets rest. Reached stopped_at.LineLong octets rest done)
-    (λ octets ahead rest before says. ap (λ (t : Texts). t.stop)
-    (stands octets ahead room done (stopped long) before
+    (λ octets ahead rest before says.
+    let whole : texts_of octets ≡ after_lines done (stopped long) =
+    stands octets ahead room done (stopped long) before
     (ap (texts_within room) says.1.parts
-    ∙ line_long room says.1.front says.1.rest says.1.no_newline says.1.long says.1.within)))
+    ∙ line_long room says.1.front says.1.rest says.1.no_newline says.1.long says.1.within) in
+    (ap (λ (t : Texts). t.stop) whole, ap (λ (t : Texts). t.lines) whole ∙ append-nil done))
 
 pub ends_big : (start a left : Option (List ℕ)) (room after : ℕ) (line : Text) (last : Bool) (front : List ℕ)
     (done : List Text)
@@ -178,11 +180,13 @@ pub ends_big : (start a left : Option (List ℕ)) (room after : ℕ) (line : Tex
 ends_big start a left room after line last front done =
     told_next start a left room after read.TooLong line last front done
     (λ octets rest. Reached stopped_at.TooLong octets rest done)
-    (λ octets ahead rest before says. ap (λ (t : Texts). t.stop)
-    (stands octets ahead room done (stopped big) before
+    (λ octets ahead rest before says.
+    let whole : texts_of octets ≡ after_lines done (stopped big) =
+    stands octets ahead room done (stopped big) before
     (ap (λ n. texts_within n ahead) (sym says.1.full)
     ∙ ap (texts_within (length says.1.front)) says.1.parts
-    ∙ input_big says.1.front says.1.rest says.1.no_newline says.1.short)))
+    ∙ input_big says.1.front says.1.rest says.1.no_newline says.1.short) in
+    (ap (λ (t : Texts). t.stop) whole, ap (λ (t : Texts). t.lines) whole ∙ append-nil done))
 
 pub ends_fault : (start a left : Option (List ℕ)) (room : ℕ) (now : Held) (line : Text) (last : Bool)
     (done : List Text) → IsUnfinished now

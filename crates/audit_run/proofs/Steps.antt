@@ -25,38 +25,12 @@ use Rattle.lawful_run.specs.Accepted as accepted
 use Rattle.lawful_run.specs.Order.{ordered}
 use Rattle.lawful_run.specs.Outcomes as made_of
 use Rattle.lawful_run.proofs.Counting.{commands-command, commands-packet, packets-packet, packets-command}
-use Rattle.lawful_run.proofs.Growing.{effects-append}
+use Rattle.lawful_run.proofs.Growing.{effects-append, replies-push, verdicts-push}
 use Rattle.audit_run.specs.Charged.{charged_after}
 use Rattle.audit_run.specs.Playing.{effects_made, CanGoOn, HasPlayed, IsBehind, IsLedTo, Notes, Plays}
 use Rattle.audit_run.specs.declared.player.Played.{Played}
 use Rattle.audit_run.specs.declared.player.Player.{Player}
 use Rattle.audit_run.proofs.ChargedMore.{hears_more}
-
-replies-push : (slot : ℕ) (before now : List Event) (e : Event)
-    → made_of.replies slot before (now ++ e ∷ []) ≡ made_of.replies slot before now
-    ++ made_of.replies slot (before ++ now) (e ∷ [])
-replies-push slot before [] e = ap (λ done. made_of.replies slot done (e ∷ [])) (sym (append-nil before))
-replies-push slot before (event.Command c ∷ now) e =
-    ap (λ rest. reply_after slot before c ∷ rest) (replies-push slot (before ++ event.Command c ∷ []) now e
-    ∙ ap (λ done. made_of.replies slot (before ++ event.Command c ∷ []) now ++ made_of.replies slot done (e ∷ []))
-    (append_assoc before (event.Command c ∷ []) now))
-replies-push slot before (event.Packet p ∷ now) e =
-    replies-push slot (before ++ event.Packet p ∷ []) now e
-    ∙ ap (λ done. made_of.replies slot (before ++ event.Packet p ∷ []) now ++ made_of.replies slot done (e ∷ []))
-    (append_assoc before (event.Packet p ∷ []) now)
-
-verdicts-push : (slot : ℕ) (before now : List Event) (e : Event)
-    → made_of.verdicts slot before (now ++ e ∷ []) ≡ made_of.verdicts slot before now
-    ++ made_of.verdicts slot (before ++ now) (e ∷ [])
-verdicts-push slot before [] e = ap (λ done. made_of.verdicts slot done (e ∷ [])) (sym (append-nil before))
-verdicts-push slot before (event.Command c ∷ now) e =
-    verdicts-push slot (before ++ event.Command c ∷ []) now e
-    ∙ ap (λ done. made_of.verdicts slot (before ++ event.Command c ∷ []) now ++ made_of.verdicts slot done (e ∷ []))
-    (append_assoc before (event.Command c ∷ []) now)
-verdicts-push slot before (event.Packet p ∷ now) e =
-    ap (λ rest. verdict_after slot before p ∷ rest) (verdicts-push slot (before ++ event.Packet p ∷ []) now e
-    ∙ ap (λ done. made_of.verdicts slot (before ++ event.Packet p ∷ []) now ++ made_of.verdicts slot done (e ∷ []))
-    (append_assoc before (event.Packet p ∷ []) now))
 
 -- few events leave room
 pub has_room : (player : Player) (slot : ℕ) (before now : List Event) → IsBehind player slot before now
@@ -194,21 +168,6 @@ stands_behind slot before now book postings posted taken few told is posts =
     subst (λ (happened : List Happening). StandsFor book happened taken)
     (ap (λ (ps : List Posting). base ++ map happening_of ps) whole ∙ follow.1)
     (posts (subst (λ (ps : List Posting). MayAllFollow base (map happening_of ps)) (sym whole) follow.0))
-
--- the events in order are as many as commands and packets
-pub ordered_length : (done next : ℕ) (commands : List CommandKind) (packets : List accepted.Placed)
-    → length (ordered done next commands packets) ≡ length commands + length packets
-ordered_length done next commands [] = length-map commands event.Command ∙ (omega arith)
-ordered_length done next commands (p ∷ packets) =
-    let k = p.commands - done in
-    let front : length (map event.Command (take k commands)) ≡ length (take k commands) =
-    length-map (take k commands) event.Command in
-    let both : length (take k commands) + length (drop k commands) ≡ length commands =
-    sym (length-append (take k commands) (drop k commands)) ∙ ap length (take-append-drop k commands) in
-    let later = ordered_length p.commands (next + 1) (drop k commands) packets in
-    length-append (map event.Command (take k commands))
-    (event.Packet (numbered next p.packet) ∷ ordered p.commands (next + 1) (drop k commands) packets)
-    ∙ omega (arith, front, both, later)
 
 -- each event is a command or a packet
 counted_events : (events : List Event) → length events ≡ length (commands_of events) + length (packets_of events)

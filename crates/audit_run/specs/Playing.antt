@@ -1,6 +1,5 @@
--- A player stands for the events of its slot.
+-- A player represents the events of its slot.
 use Rattle.std.specs.Prelude.{◌≡◌, ◌==◌, ℕ, ◌+◌, ◌<◌, ◌^◌, Option, List, ◌++◌, length, map, find}
-use Rattle.std.specs.Borrow.{Bor}
 use Rattle.pc_base.specs.declared.packet.Verdict.{Verdict}
 use Rattle.pc_base.specs.declared.reply.Reply.{Reply}
 use Rattle.report_lines.specs.Records.{Effected}
@@ -8,12 +7,12 @@ use Rattle.bearer_state.specs.declared.version.ActiveBearer.{ActiveBearer}
 use Rattle.charging_book.specs.Accounts.{StandsFor}
 use Rattle.charging_book.specs.Rows.{Counters}
 use Rattle.charging_book.specs.Happenings.{rows_of}
-use Rattle.control_steps.specs.declared.command.CommandKind.{CommandKind}
 use Rattle.gate_model.specs.Events.{commands_of, packets_of}
 use Rattle.gate_model.specs.SlotPast.{past_of}
 use Rattle.gate_model.specs.declared.event.Event.{Event}
 use Rattle.lawful_run.specs.Accepted as accepted
-use Rattle.lawful_run.specs.Order.{ordered}
+use Rattle.lawful_run.specs.Order.{CanGo}
+pub use Rattle.lawful_run.specs.Order.{commands_lent, events_of}
 use Rattle.lawful_run.specs.Outcomes as made_of
 use Rattle.audit_run.specs.Charged.{charged_after}
 use Rattle.audit_run.specs.declared.player.Done.{Done}
@@ -28,17 +27,14 @@ effected done = record { slot = done.slot; command = done.command; effect = done
 abbrev pub effects_made : List Done → List Effected
 effects_made effects = map effected effects
 
--- the commands that are lent, and the packets
-abbrev pub commands_lent : List (Bor CommandKind) → List CommandKind
-commands_lent commands = map (λ (command : Bor CommandKind). command.now) commands
-
+-- the packets, each with the count of commands before it
 abbrev pub placed_so : Placed → accepted.Placed
 placed_so placed = record { commands = placed.commands; packet = placed.packet.now }
 
 abbrev pub placed_lent : List Placed → List accepted.Placed
 placed_lent packets = map placed_so packets
 
--- Between epochs: the gateway stands for the slot's events, and the book for what they charge, all its records taken.
+-- Between epochs: the gateway represents the slot's events, and the book for what they charge, all its records taken.
 pub record HasPlayed (player : Player) (slot : ℕ) (before : List Event) : Type 0 where
   pub of_slot : player.slot ≡ slot
   pub gateway : player.gateway ≡ past_of slot before
@@ -67,29 +63,14 @@ pub record Plays (player : Player) (played : Played) (slot : ℕ) (before now : 
   pub led : IsLedTo played slot before now
 
 -- so few events, with so many more, that every count may rise
-pub record CanPlay (player : Player) (played : Played) (more : ℕ) : Type 0 where
-  pub slot : ℕ
-  pub before : List Event
-  pub now : List Event
-  pub plays : Plays player played slot before now
-  pub few : length (before ++ now) + more < 2 ^ 40
+abbrev pub CanPlay : Player → Played → ℕ → Type 0
+CanPlay player played more = CanGo (Plays player played) more
 
 pub record CanGoOn (player : Player) (more : ℕ) : Type 0 where
   pub slot : ℕ
   pub before : List Event
   pub played : HasPlayed player slot before
   pub few : length before + more < 2 ^ 40
-
--- the events of accepted commands and packets behind those before
-abbrev pub events_of : List Event → List CommandKind → List accepted.Placed → List Event
-events_of before commands packets = ordered (length (commands_of before)) (length (packets_of before)) commands packets
-
--- a loop over the packets: what was played so far, and the events that are left
-pub record Goes (player : Player) (played : Played) (slot : ℕ) (before all : List Event) (done : ℕ)
-    (left : List CommandKind) (packets : List accepted.Placed) : Type 0 where
-  pub now : List Event
-  pub plays : Plays player played slot before now
-  pub rest : now ++ ordered done (length (packets_of (before ++ now))) left packets ≡ all
 
 -- the open counters of a bearer's life
 abbrev pub counters_of : List Counters → ActiveBearer → Option Counters

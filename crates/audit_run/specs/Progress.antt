@@ -28,8 +28,8 @@ pub record Progress (start ahead : Option (List ℕ)) (room : ℕ) (heard : Hear
 abbrev pub Reached : Stopped → List ℕ → List ℕ → List Text → Type 0
 Reached stopped.Ended octets left done = IsReadWhole octets left × ((texts_of octets).lines ≡ done)
 Reached stopped.ReadFault octets left done = IsTaken octets left
-Reached stopped.LineLong octets left done = (texts_of octets).stop ≡ long
-Reached stopped.TooLong octets left done = (texts_of octets).stop ≡ big
+Reached stopped.LineLong octets left done = ((texts_of octets).stop ≡ long) × ((texts_of octets).lines ≡ done)
+Reached stopped.TooLong octets left done = ((texts_of octets).stop ≡ big) × ((texts_of octets).lines ≡ done)
 
 pub record Ends (stop : Stopped) (start left : Option (List ℕ)) (heard : Heard) : Type 0 where
   pub done : List Text

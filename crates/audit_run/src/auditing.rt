@@ -37,17 +37,21 @@ pub enum Audited {
     TooLong,
 }
 
-// Why no more lines come.
-#[derive(Clone, Copy)]
-enum Stopped {
+/// Why no more lines come.
+#[derive(Clone, Copy, Debug, PartialEq, Eq)]
+pub enum Stopped {
+    /// The input ended.
     Ended,
+    /// The source failed.
     ReadFault,
+    /// A line has more than 132,000 octets.
     LineLong,
+    /// The input has 2^40 octets or more.
     TooLong,
 }
 
-// Hears the lines of an input until no more come.
-fn hear<S: Source>(
+/// Hears the lines of a trace, and of the report behind it, until no more come.
+pub fn hear<S: Source>(
     alloc: Global,
     source: &mut S,
     buf: &mut LineBuf,

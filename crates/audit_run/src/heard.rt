@@ -11,13 +11,13 @@ const MARKER: &[u8] = b"REPORT";
 
 /// What was heard of a trace, and of the report behind it.
 #[derive(Drop)]
-pub(crate) struct Heard {
-    pub(crate) lines: Vec<TraceLine>,
+pub struct Heard {
+    pub lines: Vec<TraceLine>,
     /// The line at which the trace stops.
-    pub(crate) bad: Option<BadAt>,
-    pub(crate) entries: Vec<Entry>,
+    pub bad: Option<BadAt>,
+    pub entries: Vec<Entry>,
     /// Whether a line of the report is no entry. Then no more entries are kept.
-    pub(crate) outside: bool,
+    pub outside: bool,
     in_report: bool,
     least: Moment,
 }
@@ -30,7 +30,8 @@ impl Heard {
     ghost use Rattle.audit_run.specs.Said.{marker};
     ghost use Rattle.audit_run.specs.Texts.{Text};
 
-    pub(crate) fn new(alloc: Global) -> Heard
+    /// Nothing was heard yet.
+    pub fn new(alloc: Global) -> Heard
         ensures nothing { HasHeard result [] }
         ensures none { vec_len result.lines ≡ 0 }
     {

@@ -14,8 +14,9 @@ mod player;
 mod replaying;
 mod share;
 
-pub use auditing::{Audited, audit};
+pub use auditing::{Audited, Stopped, audit, hear};
 pub use finding::Finding;
+pub use heard::Heard;
 pub use laws::one_finding;
 pub use player::{Done, Placed, Played, Player};
 pub use replaying::finding_of;

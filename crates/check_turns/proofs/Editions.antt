@@ -2,7 +2,7 @@
 use Rattle.std.proofs.Common.{◌≡◌, ◌+◌, List, [], ◌∷◌, ◌++◌}
 use Rattle.control_half.specs.Consecutive.{IsNext}
 use Rattle.control_half.proofs.Runs.{next_after}
-use Rattle.check_batches.specs.declared.batching.Edition.{Edition}
+use Rattle.check_turns.specs.declared.batching.Edition.{Edition}
 
 pub edition_after : (editions : List Edition) (last next : Edition) → next.0 ≡ last.0 + 1
     → IsNext (λ (e : Edition). e.0) (editions ++ last ∷ []) next

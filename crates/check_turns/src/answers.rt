@@ -23,14 +23,32 @@ impl<T: Drop> From<AllocFailed<T>> for Stop {
     }
 }
 
+pub fn push_word(text: &mut Vec<u8>, word: &[u8]) -> Result<(), Stop> {
+    text.extend_from_slice(word)?;
+    Ok(())
+}
+
 pub fn word_of(alloc: Global, word: &[u8]) -> Result<Vec<u8>, Stop> {
     let mut text = Vec::new(alloc);
-    text.extend_from_slice(word)?;
+    push_word(&mut text, word)?;
     Ok(text)
 }
 
+pub fn push_yes(text: &mut Vec<u8>, is: bool) -> Result<(), Stop> {
+    push_word(text, if is { b"yes" } else { b"no" })
+}
+
 pub fn yes_or_no(alloc: Global, is: bool) -> Result<Vec<u8>, Stop> {
-    word_of(alloc, if is { b"yes" } else { b"no" })
+    let mut text = Vec::new(alloc);
+    push_yes(&mut text, is)?;
+    Ok(text)
+}
+
+/// A word, and a number behind a blank.
+pub fn push_counted(text: &mut Vec<u8>, word: &[u8], number: u64) -> Result<(), Stop> {
+    push_word(text, word)?;
+    push_number(text, number)?;
+    Ok(())
 }
 
 /// Numbers, each behind a blank.

@@ -1,9 +1,13 @@
-//! Plays scripts of turns with small halves of its own: a step a line, and the answer a line. What is played is a lane
-//! (L), a side of halves that travel (W), or one of halves to which items come (F), each with its workers; a line x
-//! closes it, and all come home. A line that begins with '#' is repeated.
+//! Plays scripts of turns: a step a line, and the answer a line. With small halves of its own it plays a lane (L), a side
+//! of halves that travel (W), or one of halves to which items come (F), each with its workers; of a subscriber a batch (B,
+//! with its first version and its floor), a control half (C, with the room of its lanes) or a counter half (P, with the
+//! room of its lane). A line x closes it, and all come home. A line that begins with '#' is repeated.
 #![tactic(auto)]
 
 mod answers;
+mod batching;
+mod controlling;
+mod counting;
 mod flowing;
 mod laning;
 mod pupil;
@@ -11,7 +15,10 @@ mod step;
 mod walker;
 mod walking;
 
-use answers::{Stop, word_of};
+use answers::{Stop, push_word, word_of};
+use batching::Shelf;
+use controlling::Desk;
+use counting::Bench;
 use flowing::Stream;
 use laning::Lane;
 use std::alloc::{AllocError, Global};
@@ -27,6 +34,9 @@ enum Stage {
     Lane(Lane),
     Walk(Walk),
     Stream(Stream),
+    Batch(Shelf),
+    Control(Desk),
+    Counter(Bench),
 }
 
 /// The stage that a step asks for.
@@ -34,7 +44,10 @@ fn opened(alloc: Global, step: Step) -> Result<Stage, Stop> {
     match step.letter {
         b'L' => Ok(Stage::Lane(Lane::new(alloc, step.one)?)),
         b'W' => Ok(Stage::Walk(Walk::new(alloc)?)),
-        _ => Ok(Stage::Stream(Stream::new(alloc, step.one, step.two)?)),
+        b'F' => Ok(Stage::Stream(Stream::new(alloc, step.one, step.two)?)),
+        b'B' => Ok(Stage::Batch(Shelf::new(alloc, step.one, step.two)?)),
+        b'C' => Ok(Stage::Control(Desk::new(alloc, step.one, step.two)?)),
+        _ => Ok(Stage::Counter(Bench::new(alloc, step.one)?)),
     }
 }
 
@@ -44,28 +57,38 @@ fn begin(alloc: Global, stage: &mut Stage, step: Step) -> Result<Vec<u8>, Stop> 
 }
 
 fn go_on<R: Wait>(rt: &R, alloc: Global, stage: &mut Stage, step: Step) -> Result<Vec<u8>, Stop> {
+    let mut text = Vec::new(alloc);
     match stage {
-        Stage::Nothing => Err(Stop::Step),
-        Stage::Lane(lane) => lane.play(rt, alloc, step),
-        Stage::Walk(walk) => walk.play(rt, alloc, step),
-        Stage::Stream(stream) => stream.play(rt, alloc, step),
+        Stage::Nothing => return Err(Stop::Step),
+        Stage::Lane(lane) => return lane.play(rt, alloc, step),
+        Stage::Walk(walk) => return walk.play(rt, alloc, step),
+        Stage::Stream(stream) => return stream.play(rt, alloc, step),
+        Stage::Batch(shelf) => shelf.play(step, &mut text)?,
+        Stage::Control(desk) => desk.play(rt, step, &mut text)?,
+        Stage::Counter(bench) => bench.play(rt, alloc, step, &mut text)?,
     }
+    Ok(text)
 }
 
 fn close<R: Wait>(rt: &R, alloc: Global, stage: Stage) -> Result<Vec<u8>, Stop> {
+    let mut text = Vec::new(alloc);
     match stage {
-        Stage::Nothing => Err(Stop::Step),
-        Stage::Lane(lane) => lane.end(rt, alloc),
-        Stage::Walk(walk) => walk.end(rt, alloc),
-        Stage::Stream(stream) => stream.end(rt, alloc),
+        Stage::Nothing => return Err(Stop::Step),
+        Stage::Lane(lane) => return lane.end(rt, alloc),
+        Stage::Walk(walk) => return walk.end(rt, alloc),
+        Stage::Stream(stream) => return stream.end(rt, alloc),
+        Stage::Batch(_) => push_word(&mut text, b"closed")?,
+        Stage::Control(desk) => desk.end(&mut text)?,
+        Stage::Counter(bench) => bench.end(&mut text)?,
     }
+    Ok(text)
 }
 
 fn answer<R: Wait>(rt: &R, alloc: Global, stage: &mut Stage, line: &[u8]) -> Result<Vec<u8>, Stop> {
     let step = Step::read(line);
     match step.letter {
         b'#' => word_of(alloc, line),
-        b'L' | b'W' | b'F' => begin(alloc, stage, step),
+        b'L' | b'W' | b'F' | b'B' | b'C' | b'P' => begin(alloc, stage, step),
         b'x' => close(rt, alloc, std::mem::replace(stage, Stage::Nothing)),
         _ => go_on(rt, alloc, stage, step),
     }

@@ -1,6 +1,6 @@
 use Rattle.std.proofs.Common.{◌≡◌, ◌+◌, ◌-◌, ◌++◌, length, min, arith}
-use Rattle.audit_run.specs.Playing.{commands_lent, events_of, placed_lent}
-use Rattle.audit_run.proofs.Loops.{all_counted, can_left, can_next, can_part, goes_over, goes_step}
+use Rattle.lawful_run.proofs.EventByEvent.{all_counted, goes_over, goes_step, packet_rises, part_rises, rest_rises}
+use Rattle.audit_run.specs.Playing.{Plays, commands_lent, events_of, placed_lent, placed_so}
 use Rattle.audit_run.proofs.Steps.{few_for, posted_within}
 use Rattle.audit_run.proofs.player.Player.play.Goals as goal
 
@@ -8,8 +8,8 @@ pub play_commands-requires : goal.play_commands-requires
 play_commands-requires c =
     let has = c.requires in
     let at = c.loop-placed in
-    can_part c.args.commands.now c.args.packets.now has.slot has.before at.self at.played at.done at.from
-    c.reached-to.result c.saturating_sub.result at.placed-index has.few c.reached-to.ensures
+    part_rises placed_so c.args.commands.now c.args.packets.now has.before (Plays at.self at.played) has.slot
+    at.done at.from c.reached-to.result c.saturating_sub.result at.placed-index has.few c.reached-to.ensures
     (at.invariant.goes has.slot has.before has.played)
 
 pub play_packet-requires : goal.play_packet-requires
@@ -20,9 +20,10 @@ play_packet-requires c =
     let packet = c.placed-item.result in
     let is : c.reached-to.result ≡ at.from + min (packet.commands - at.done) (length commands - at.from) =
     omega (arith, c.reached-to.ensures, c.saturating_sub.ensures) in
-    can_next commands c.args.packets.now has.slot has.before at.self c.play_commands.new.self at.played
-    c.play_commands.new.played at.done at.from c.reached-to.result at.placed-index packet has.few is
-    c.loop-placed-test.true c.placed-item.is (at.invariant.goes has.slot has.before has.played)
+    packet_rises placed_so commands c.args.packets.now has.before (Plays at.self at.played has.slot has.before)
+    (Plays c.play_commands.new.self c.play_commands.new.played) has.slot at.done at.from c.reached-to.result
+    at.placed-index packet has.few is c.loop-placed-test.true c.placed-item.is
+    (at.invariant.goes has.slot has.before has.played)
     (λ now plays. c.in_ok-play_commands.ensures has.slot has.before now plays)
 
 pub loop-placed-preserved : goal.loop-placed-preserved
@@ -35,19 +36,21 @@ loop-placed-preserved c =
     record {
       within = omega (arith, is, at.invariant.within);
       goes = λ slot before has.
-          goes_step commands c.args.packets.now slot before at.self c.play_commands.new.self c.play_packet.new.self
-          at.played c.play_commands.new.played c.play_packet.new.played at.done at.from c.reached-to.result
-          at.placed-index packet is c.loop-placed-test.true c.placed-item.is (at.invariant.goes slot before has)
+          goes_step placed_so commands c.args.packets.now before (Plays at.self at.played slot before)
+          (Plays c.play_commands.new.self c.play_commands.new.played slot before)
+          (Plays c.play_packet.new.self c.play_packet.new.played slot before) c.play_commands.new.self.packets at.done
+          at.from c.reached-to.result at.placed-index packet is c.loop-placed-test.true c.placed-item.is
+          (at.invariant.goes slot before has)
           (λ now plays. c.in_ok-play_commands.ensures slot before now plays)
-          (λ now plays. c.in_ok-play_packet.ensures slot before now plays);
+          (λ now plays. plays.behind.packets) (λ now plays. c.in_ok-play_packet.ensures slot before now plays);
     }
 
 pub play_commands-requires-2 : goal.play_commands-requires-2
 play_commands-requires-2 c =
     let has = c.requires in
     let at = c.loop-placed in
-    can_left c.args.commands.now c.args.packets.now has.slot has.before at.self at.played at.done at.from
-    at.placed-index has.few c.loop-placed-test.false (at.invariant.goes has.slot has.before has.played)
+    rest_rises placed_so c.args.commands.now c.args.packets.now has.before (Plays at.self at.played) has.slot at.done
+    at.from at.placed-index has.few c.loop-placed-test.false (at.invariant.goes has.slot has.before has.played)
 
 pub charged-requires : goal.charged-requires
 charged-requires c =
@@ -56,19 +59,19 @@ charged-requires c =
     let commands = c.args.commands.now in
     let packets = c.args.packets.now in
     let all = events_of has.before (commands_lent commands) (placed_lent packets) in
-    let plays = goes_over commands packets has.slot has.before at.self c.play_commands-2.new.self at.played
-    c.play_commands-2.new.played at.done at.from at.placed-index c.loop-placed-test.false
-    (at.invariant.goes has.slot has.before has.played)
+    let plays = goes_over placed_so commands packets has.before (Plays at.self at.played has.slot has.before)
+    (Plays c.play_commands-2.new.self c.play_commands-2.new.played has.slot has.before) at.done at.from at.placed-index
+    c.loop-placed-test.false (at.invariant.goes has.slot has.before has.played)
     (λ now plays. c.in_ok-play_commands-2.ensures has.slot has.before now plays) in
     posted_within c.play_commands-2.new.self has.slot has.before all plays.behind
-    (omega (arith, all_counted commands packets has.slot has.before, has.few))
+    (omega (arith, all_counted placed_so commands packets has.before, has.few))
 
 pub returns-clause-led : goal.returns-clause-led
 returns-clause-led c = λ slot before has.
     let at = c.loop-placed in
-    let plays = goes_over c.args.commands.now c.args.packets.now slot before at.self c.play_commands-2.new.self
-    at.played c.play_commands-2.new.played at.done at.from at.placed-index c.loop-placed-test.false
-    (at.invariant.goes slot before has)
+    let plays = goes_over placed_so c.args.commands.now c.args.packets.now before (Plays at.self at.played slot before)
+    (Plays c.play_commands-2.new.self c.play_commands-2.new.played slot before) at.done at.from at.placed-index
+    c.loop-placed-test.false (at.invariant.goes slot before has)
     (λ now plays. c.in_ok-play_commands-2.ensures slot before now plays) in
     record { replies = plays.led.replies; verdicts = plays.led.verdicts; effects = plays.led.effects }
 
@@ -78,13 +81,13 @@ returns-clause-rows c = λ slot before has.
     let commands = c.args.commands.now in
     let packets = c.args.packets.now in
     let all = events_of before (commands_lent commands) (placed_lent packets) in
-    let plays = goes_over commands packets slot before at.self c.play_commands-2.new.self
-    at.played c.play_commands-2.new.played at.done at.from at.placed-index c.loop-placed-test.false
-    (at.invariant.goes slot before has)
+    let plays = goes_over placed_so commands packets before (Plays at.self at.played slot before)
+    (Plays c.play_commands-2.new.self c.play_commands-2.new.played slot before) at.done at.from at.placed-index
+    c.loop-placed-test.false (at.invariant.goes slot before has)
     (λ now plays. c.in_ok-play_commands-2.ensures slot before now plays) in
     let few = few_for c.args.self.now slot before (length commands + length packets) has c.requires in
     c.in_ok-played.ensures.rows slot before all plays.behind
-    (omega (arith, all_counted commands packets slot before, few))
+    (omega (arith, all_counted placed_so commands packets before, few))
 
 pub returns-clause-stands : goal.returns-clause-stands
 returns-clause-stands c = λ slot before has.
@@ -92,13 +95,13 @@ returns-clause-stands c = λ slot before has.
     let commands = c.args.commands.now in
     let packets = c.args.packets.now in
     let all = events_of before (commands_lent commands) (placed_lent packets) in
-    let plays = goes_over commands packets slot before at.self c.play_commands-2.new.self
-    at.played c.play_commands-2.new.played at.done at.from at.placed-index c.loop-placed-test.false
-    (at.invariant.goes slot before has)
+    let plays = goes_over placed_so commands packets before (Plays at.self at.played slot before)
+    (Plays c.play_commands-2.new.self c.play_commands-2.new.played slot before) at.done at.from at.placed-index
+    c.loop-placed-test.false (at.invariant.goes slot before has)
     (λ now plays. c.in_ok-play_commands-2.ensures slot before now plays) in
     let few = few_for c.args.self.now slot before (length commands + length packets) has c.requires in
     c.in_ok-played.ensures.stands slot before all plays.behind
-    (omega (arith, all_counted commands packets slot before, few))
+    (omega (arith, all_counted placed_so commands packets before, few))
 
 pub returns-clause-goes_on : goal.returns-clause-goes_on
 returns-clause-goes_on c = λ more can.
@@ -109,11 +112,11 @@ returns-clause-goes_on c = λ more can.
     let commands = c.args.commands.now in
     let packets = c.args.packets.now in
     let all = events_of before (commands_lent commands) (placed_lent packets) in
-    let plays = goes_over commands packets slot before at.self c.play_commands-2.new.self
-    at.played c.play_commands-2.new.played at.done at.from at.placed-index c.loop-placed-test.false
-    (at.invariant.goes slot before has)
+    let plays = goes_over placed_so commands packets before (Plays at.self at.played slot before)
+    (Plays c.play_commands-2.new.self c.play_commands-2.new.played slot before) at.done at.from at.placed-index
+    c.loop-placed-test.false (at.invariant.goes slot before has)
     (λ now plays. c.in_ok-play_commands-2.ensures slot before now plays) in
-    let counted = all_counted commands packets slot before in
+    let counted = all_counted placed_so commands packets before in
     record {
       slot = slot;
       before = before ++ all;

@@ -8,12 +8,12 @@ use Rattle.audit_run.proofs.player.Player.play_command.Goals as goal
 pub command-requires : goal.command-requires
 command-requires c =
     let can = c.requires in
-    has_room c.args.self.now can.slot can.before can.now can.plays.behind (omega (arith, can.few))
+    has_room c.args.self.now can.slot can.before can.now can.holds.behind (omega (arith, can.few))
 
 pub overflow_add-self : goal.overflow_add-self
 overflow_add-self c =
     let can = c.requires in
-    omega (arith, few_commands (can.before ++ can.now), can.plays.behind.commands, can.few)
+    omega (arith, few_commands (can.before ++ can.now), can.holds.behind.commands, can.few)
 
 pub returns : goal.returns
 returns c = λ slot before now plays.

@@ -8,7 +8,7 @@ use Rattle.audit_run.proofs.player.Player.play_packet.Goals as goal
 pub overflow_add-self : goal.overflow_add-self
 overflow_add-self c =
     let can = c.requires in
-    omega (arith, few_packets (can.before ++ can.now), can.plays.behind.packets, can.few)
+    omega (arith, few_packets (can.before ++ can.now), can.holds.behind.packets, can.few)
 
 pub returns : goal.returns
 returns c = λ slot before now plays.
