@@ -1,9 +1,7 @@
 -- The open counters of a slot, bearer by bearer, and of all slots.
-use Rattle.std.proofs.Common.{◌≡◌, ℕ, zero, suc, ◌+◌, ◌==◌, Bool, true, false, cond, Some, List, [], ◌∷◌, ◌++◌, map, find, flat_map, inl, inr, refl, sym, ap, ◌∙◌, eq-eqb, arith, append_assoc, append-nil}
-use Rattle.std.proofs.lemmas.Bool.{eqb-true, false≢true}
+use Rattle.std.proofs.Common.{◌≡◌, ℕ, zero, suc, ◌+◌, Bool, List, [], ◌∷◌, ◌++◌, map, flat_map, inl, inr, refl, sym, ap, ◌∙◌, arith, append_assoc, append-nil}
 use Rattle.bearer_state.specs.declared.version.ActiveBearer.{ActiveBearer}
 use Rattle.charging_book.specs.Happenings.{Happening, lives_of, open_at, opens_of}
-use Rattle.charging_book.specs.Rows.{Counters}
 use Rattle.gate_model.proofs.BookSteps.{has_of, life_in}
 use Rattle.gate_model.proofs.Following.{open_are_active}
 use Rattle.gate_model.proofs.Members.{In, in_contains, in_map}
