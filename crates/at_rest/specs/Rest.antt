@@ -1,10 +1,11 @@
 -- The gateway between two epochs: what it keeps, and the events that its subscribers represent.
-use Rattle.std.specs.Prelude.{◌≡◌, ℕ, ◌^◌, ◌<◌, ◌≤◌, Option, Some, None, List, [], ◌∷◌}
+use Rattle.std.specs.Prelude.{◌≡◌, ℕ, ◌<◌, ◌≤◌, Option, Some, None, List, [], ◌∷◌}
 use Rattle.std.specs.Prelude.{length, get_or, slice_get, unwrap_or}
 use Rattle.trace_lines.specs.Line.{Line}
 use Rattle.demux.specs.Destinations.{home_slice}
 use Rattle.demux.specs.Trace.{book_of, destination_after}
 use Rattle.gate_model.specs.declared.event.Event.{Event}
+use Rattle.gate_model.specs.Events.{FewEvents}
 use Rattle.gate_model.specs.SlotPast.{records_after}
 use Rattle.lawful_run.specs.Order.{Histories}
 use Rattle.subscriber.specs.Standing.{SubscriberState, StandsFor, HasRoom, last_of}
@@ -78,9 +79,9 @@ pub record IsBehind (rest : Rest) (lines : List Line) : Type 0 where
   pub bounds : (slot : ℕ) → bound_at rest slot ≡ destination_after rest.slices slot lines
   pub count : rest.lines ≡ length lines
 
--- Where there were fewer than 2^40 lines, the counts of each subscriber may rise.
+-- Where there were few lines, the counts of each subscriber may rise.
 abbrev pub RestLeavesRoom : Type 0
-RestLeavesRoom = (slices lines latest slot : ℕ) (subscriber : SubscriberState) → lines < 2 ^ 40
+RestLeavesRoom = (slices lines latest slot : ℕ) (subscriber : SubscriberState) → FewEvents lines
     → IsAtRest slices lines latest slot subscriber → HasRoom subscriber
 
 -- A slot that is new to the book gets a subscriber without events.

@@ -22,6 +22,7 @@ use demux::{Decision, decide, home_slice, move_note};
 use pc_base::{LAST_SLOT, Octets, SliceNo, Slot};
 use std::alloc::Global;
 use std::mem;
+use text_fields::Text;
 use trace_lines::{LineBad, TraceLine, ends_epoch, push_text};
 
 /// What the lines of a trace mean, epoch by epoch, and how many slots there are behind them.
@@ -121,7 +122,7 @@ fn homes(alloc: Global, slices: u8) -> Result<Vec<SliceNo>, NoMemory>
 struct Extent {
     lines: u64,
     octets: u64,
-    text: Vec<u8>,
+    text: Text,
 }
 
 impl Extent {
@@ -131,7 +132,7 @@ impl Extent {
         Extent {
             lines: 0,
             octets: 0,
-            text: Vec::new(alloc),
+            text: Text::new(alloc),
         }
     }
 
@@ -144,7 +145,7 @@ impl Extent {
     {
         self.text.clear();
         push_text(&mut self.text, line)?;
-        Ok(self.text.len() as u64)
+        Ok(self.text.as_slice().len() as u64)
     }
 
     // Whether one line more ends the epoch; the next one begins behind it then.

@@ -7,3 +7,4 @@ pub mod LedgerSums
 pub mod Bounds
 pub mod PostingLemmas
 pub mod PartLemmas
+pub mod PostedLemmas

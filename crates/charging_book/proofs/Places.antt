@@ -33,7 +33,7 @@ distinct-filter p (x ∷ xs) distinct =
       | false ↦ distinct-filter p xs distinct.1
     ]
 
-none-at : (x : ℕ) (xs : List ℕ) (place : ℕ) → IsNone x xs → place < length xs → get_or xs place 0 ≢ x
+pub none-at : (x : ℕ) (xs : List ℕ) (place : ℕ) → IsNone x xs → place < length xs → get_or xs place 0 ≢ x
 none-at x [] place none within = absurd (omega arith)
 none-at x (y ∷ ys) zero none within = none.0
 none-at x (y ∷ ys) (suc place) none within = none-at x ys place none.1 (omega arith)

@@ -6,3 +6,4 @@ pub mod Accounts
 pub mod Postings
 pub mod Ledger
 pub mod Parts
+pub mod Posted

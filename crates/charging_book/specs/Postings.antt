@@ -34,3 +34,9 @@ pub record MayStart (book : Accounts) (life : ℕ) : Type 0 where
 pub record MayGoOn (book : Accounts) (life : ℕ) : Type 0 where
   pub is_open : Contains (lives_in book) life
   pub room : LifeHasRoom book life
+
+-- what may be posted to a book, by the book itself
+abbrev pub MayBePosted : Accounts → Happening → Type 0
+MayBePosted book (started life ebi qci) = MayStart book life
+MayBePosted book (forwarded life p) = MayGoOn book life
+MayBePosted book (closed life why) = MayGoOn book life

@@ -61,6 +61,7 @@ impl Book {
     ghost use Rattle.charging_book.specs.Happenings.{Happening, started, forwarded, closed, rows_of};
     ghost use Rattle.charging_book.specs.Accounts.{StandsFor, LifeHasRoom, lives_in};
     ghost use Rattle.charging_book.specs.Counters.{HasRoom};
+    ghost use Rattle.charging_book.specs.Posted.{GoesOn};
     ghost use Rattle.std.specs.List.{HoldsAt};
 
     /// A book of no life.
@@ -82,6 +83,7 @@ impl Book {
 
         ensures stands { (happened : List Happening) (taken : ℕ) → StandsFor self.old happened taken
             → OnOk result (StandsFor self.new (happened ++ started life ebi qci ∷ []) taken) }
+        ensures pieces { OnOk result (GoesOn self.old self.new (started life ebi qci)) }
         ensures unchanged { OnErr result (self.new ≡ self.old) }
     {
         self.opens.push(Open::new(life, ebi, qci))?;
@@ -102,6 +104,10 @@ impl Book {
         ensures stands { (happened : List Happening) (taken : ℕ) → StandsFor self.old happened taken
             → OnOk result (StandsFor self.new (happened ++ forwarded life
             (record { up = up; octets = octets; at = at }) ∷ []) taken) }
+
+        // The same by the pieces alone, also of a book that was made of some.
+        ensures pieces { OnOk result (GoesOn self.old self.new
+            (forwarded life (record { up = up; octets = octets; at = at }))) }
         ensures unchanged { OnErr result (self.new ≡ self.old) }
     {
         let place = place_of(&self.opens, life);
@@ -118,6 +124,9 @@ impl Book {
             → StandsFor self.old happened taken
             → OnOk result (StandsFor self.new
             (happened ++ forwarded life (record { up = up; octets = octets; at = at }) ∷ []) taken) }
+        ensures pieces { (life : ℕ) → slice_index (lives_in self.old) place ≡ life
+            → OnOk result (GoesOn self.old self.new
+            (forwarded life (record { up = up; octets = octets; at = at }))) }
         ensures unchanged { OnErr result (self.new ≡ self.old) }
     {
         let counted = self.opens[place].with(up, octets);
@@ -142,6 +151,7 @@ impl Book {
 
         ensures stands { (happened : List Happening) (taken : ℕ) → StandsFor self.old happened taken
             → OnOk result (StandsFor self.new (happened ++ closed life why ∷ []) taken) }
+        ensures pieces { OnOk result (GoesOn self.old self.new (closed life why)) }
         ensures unchanged { OnErr result (self.new ≡ self.old) }
     {
         let place = place_of(&self.opens, life);
@@ -193,6 +203,7 @@ impl Book {
         ensures rows { result.items ≡ self.old.rows }
         ensures stands { (happened : List Happening) (taken : ℕ) → StandsFor self.old happened taken
             → StandsFor self.new happened (length (rows_of happened)) }
+        ensures pieces { self.new ≡ record self.old { rows = [] } }
     {
         let alloc = *self.rows.allocator();
         std::mem::replace(&mut self.rows, Vec::new(alloc))

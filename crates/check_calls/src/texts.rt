@@ -5,8 +5,7 @@ use crate::shown::Line;
 use crate::stop::Stop;
 use std::alloc::Global;
 use text_fields::{
-    has_empty_field, next_piece, push_address, push_field, push_number, push_octets, read_address,
-    read_lower_octets, read_number, read_octets,
+    Text, has_empty_field, next_piece, read_address, read_lower_octets, read_number, read_octets,
 };
 
 pub fn answer(
@@ -74,11 +73,11 @@ fn pieces(alloc: Global, words: &mut Words<'_>, line: &mut Line) -> Result<(), S
 }
 
 fn fields(alloc: Global, words: &mut Words<'_>, line: &mut Line) -> Result<(), Stop> {
-    let mut text = Vec::new(alloc);
-    push_field(&mut text, words.word())?;
-    push_number(&mut text, words.number(u64::MAX)?)?;
-    push_address(&mut text, words.long()?)?;
-    push_octets(&mut text, &words.octets(alloc)?)?;
-    line.chars(&text);
+    let mut text = Text::new(alloc);
+    text.push_field(words.word())?;
+    text.push_number(words.number(u64::MAX)?)?;
+    text.push_address(words.long()?)?;
+    text.push_octets(&words.octets(alloc)?)?;
+    line.chars(text.as_slice());
     Ok(())
 }

@@ -13,7 +13,7 @@ use pc_base::{
 };
 use std::alloc::Global;
 use std::sync::Wait;
-use text_fields::{push_field, push_number, push_octets};
+use text_fields::{Text, push_field, push_number};
 
 // 28 octets of UDP from 203.0.113.9, port 5060, to 10.45.0.2.
 const DOWN: [u8; 28] = [
@@ -236,7 +236,9 @@ fn push_last(text: &mut Vec<u8>, state: &FlowState) -> Result<(), NoMemory> {
 fn push_down(text: &mut Vec<u8>, word: &[u8], life: u64, octets: &Octets) -> Result<(), NoMemory> {
     push_field(text, word)?;
     push_number(text, life)?;
-    push_octets(text, octets.as_slice())
+    let mut digits = Text::new(*text.allocator());
+    digits.push_octets(octets.as_slice())?;
+    text.extend_from_slice(digits.as_slice())
 }
 
 fn push_verdict(text: &mut Vec<u8>, verdict: &Verdict) -> Result<(), NoMemory> {

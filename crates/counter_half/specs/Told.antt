@@ -1,5 +1,5 @@
 -- What the half makes of commands' versions and of packets is what the one-thread gateway makes of them in that order.
-use Rattle.std.specs.Prelude.{◌≡◌, ℕ, ◌+◌, ◌<◌, ◌≤◌, ◌^◌, List, [], ◌∷◌, ◌++◌, length}
+use Rattle.std.specs.Prelude.{◌≡◌, ℕ, ◌+◌, ◌≤◌, List, [], ◌∷◌, ◌++◌, length}
 use Rattle.std.specs.Prelude.{map, Option, Some, unwrap_or, flat_map}
 use Rattle.bearer_state.specs.Session.{SessionState}
 use Rattle.bearer_state.specs.Version.{VersionState, version_of}
@@ -7,6 +7,7 @@ use Rattle.control_steps.specs.declared.command.CommandKind.{CommandKind}
 use Rattle.control_steps.specs.Table.{controlled}
 use Rattle.packet_steps.specs.Standing as counters
 use Rattle.gate_model.specs.declared.event.Event.{Event}
+use Rattle.gate_model.specs.Events.{FewEvents}
 use Rattle.gate_model.specs.SlotPast.{past_of, version_after}
 use Rattle.lawful_run.specs.Outcomes.{verdicts, effects, effect_entry}
 use Rattle.report_lines.specs.Records.{Effected}
@@ -65,7 +66,7 @@ pub record IsLawful (start : subscriber.SubscriberState) (slot : ℕ) (before : 
   pub stood : subscriber.StandsFor start slot before taken
   pub versions : versions_in learnt ≡ versions_behind (subscriber.commands_met start) start.session commands
   pub late : AreLate (unwrap_or (subscriber.last_of start) 0) (moments_in handled)
-  pub few : length before + length commands + length handled < 2 ^ 40
+  pub few : FewEvents (length before + length commands + length handled)
 
 abbrev pub TellsLawfully : subscriber.SubscriberState → List Published → List Handled → VersionState
     → counters.CountersState → List PacketDone → List VersionDone → Type 0

@@ -9,21 +9,23 @@ use gtpv2_msg::{CBad, refusal};
 use ipv4_packet::IpBad;
 use pc_base::{NoMemory, Octets, SliceNo, Slot};
 use std::alloc::Global;
-use text_fields::{push_field, push_number, push_octets};
+use text_fields::{Text, push_number};
 use tft_codec::TBad;
 
 /// A note that is these words.
 pub fn words(alloc: Global, text: &str) -> Result<Octets, NoMemory>
     ensures { IfOk result (λ note. note ≡ text.now) }
 {
-    Ok(Octets::of(begun(alloc, text)?))
+    Ok(Octets::of(Vec::from_slice(alloc, text.as_bytes())?))
 }
 
 // Words that more is appended to.
-fn begun(alloc: Global, text: &str) -> Result<Vec<u8>, NoMemory>
-    ensures { IfOk result (λ note. note.items ≡ text.now) }
+fn begun(alloc: Global, text: &str) -> Result<Text, NoMemory>
+    ensures { IfOk result (λ note. note ≡ text.now) }
 {
-    Vec::from_slice(alloc, text.as_bytes())
+    let mut note = Text::new(alloc);
+    note.extend_from_slice(text.as_bytes())?;
+    Ok(note)
 }
 
 /// Words, and octets.
@@ -31,17 +33,17 @@ pub fn told(alloc: Global, text: &str, octets: &[u8]) -> Result<Octets, NoMemory
     ensures { IfOk result (λ note. note ≡ told text.now octets.now) }
 {
     let mut note = begun(alloc, text)?;
-    push_octets(&mut note, octets)?;
-    Ok(Octets::of(note))
+    note.push_octets(octets)?;
+    Ok(Octets::of(note.into_octets()))
 }
 
 // Appends a reply, or a dash where there is none.
-fn push_reply(note: &mut Vec<u8>, reply: &Option<Vec<u8>>) -> Result<(), NoMemory>
-    ensures { OnOk result (note.new.items ≡ replied note.old.items (option_map (λ v. v.items) reply.now)) }
+fn push_reply(note: &mut Text, reply: &Option<Vec<u8>>) -> Result<(), NoMemory>
+    ensures { OnOk result (note.new ≡ replied note.old (option_map (λ v. v.items) reply.now)) }
 {
     match reply {
-        Some(octets) => push_octets(note, octets),
-        None => push_field(note, b"-"),
+        Some(octets) => note.push_octets(octets),
+        None => note.push_field(b"-"),
     }
 }
 
@@ -51,7 +53,7 @@ pub fn replied(alloc: Global, text: &str, reply: &Option<Vec<u8>>) -> Result<Oct
 {
     let mut note = begun(alloc, text)?;
     push_reply(&mut note, reply)?;
-    Ok(Octets::of(note))
+    Ok(Octets::of(note.into_octets()))
 }
 
 // Words, an element by its type and instance, and a reply or a dash.
@@ -65,10 +67,10 @@ fn element_note(
     ensures { IfOk result (λ note. note ≡ element_note text.now kind instance (option_map (λ v. v.items) reply.now)) }
 {
     let mut note = begun(alloc, text)?;
-    push_number(&mut note, u64::from(kind))?;
-    push_number(&mut note, u64::from(instance))?;
+    note.push_number(u64::from(kind))?;
+    note.push_number(u64::from(instance))?;
     push_reply(&mut note, reply)?;
-    Ok(Octets::of(note))
+    Ok(Octets::of(note.into_octets()))
 }
 
 /// The note on octets that are no message of GTPv2-C, with the reply to a request.
@@ -165,7 +167,7 @@ pub fn move_note(
 ) -> Result<Octets, NoMemory>
     ensures { IfOk result (λ note. note ≡ move_note destination slot slice) }
 {
-    let mut note = begun(alloc, move_word(destination, slice))?;
+    let mut note = Vec::from_slice(alloc, move_word(destination, slice).as_bytes())?;
     push_number(&mut note, u64::from(slot.0))?;
     push_number(&mut note, u64::from(slice.0))?;
     Ok(Octets::of(note))

@@ -9,13 +9,14 @@ use Rattle.report_lines.specs.declared.entry.LineEntry.{LineEntry}
 use Rattle.report_lines.specs.declared.entry.LineEntry.TheVariants as line
 use Rattle.epoch_join.specs.Filling.{Met, Mets, Replied, Replies, fill, filled, met_slot, others_of, replied_slot}
 use Rattle.slice_schedule.specs.Front.{Outcome}
+use Rattle.slot_replay.specs.Replaying.{AreShort}
 use Rattle.slot_replay.specs.declared.replayed.Judged.{Judged}
 use Rattle.slot_replay.specs.declared.replayed.Replied as told
 use Rattle.epoch_drive.specs.declared.epoch.Entry.{Entry}
 use Rattle.epoch_drive.specs.declared.epoch.Entry.TheVariants as entries
 use Rattle.epoch_drive.specs.declared.meant.Meant.{Meant}
 use Rattle.epoch_drive.specs.declared.replays.Answers.{Answers}
-use Rattle.epoch_drive.specs.Joins.{AreShort, AllShort, FillsNext, TakesPacket, TakesReply, met_so, mets_at, mets_of, next_met, next_reply, replied_so, replies_at, replies_of, told_of_command, told_of_packet}
+use Rattle.epoch_drive.specs.Joins.{AllShort, FillsNext, TakesPacket, TakesReply, met_so, mets_at, mets_of, next_met, next_reply, replied_so, replies_at, replies_of, told_of_command, told_of_packet}
 use Rattle.epoch_drive.specs.Meant.{meaning_of}
 use Rattle.epoch_drive.specs.Opened.{open_command, open_entries, open_entry, open_packet}
 use Rattle.epoch_drive.specs.Told.{IsShortEntry, line_told}

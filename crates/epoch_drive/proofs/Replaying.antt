@@ -1,14 +1,14 @@
 -- Subscribers that do their shares, one slot after another.
-use Rattle.std.proofs.Common.{◌≡◌, ◌≢◌, ℕ, zero, suc, ◌+◌, ◌<◌, ◌≤◌, List, [], ◌∷◌, ◌++◌, map, length, get_or, set, get_or-set_same, get_or-set_other, length-set, refl, sym, ap, subst, ◌∙◌, inl, inr, arith, length-append, append_assoc, append-nil, flat_map}
-use Rattle.std.proofs.lemmas.Bool.{cases_eq, cases_lt}
+use Rattle.std.proofs.Common.{◌≡◌, ◌≢◌, ℕ, zero, suc, ◌+◌, ◌<◌, List, [], ◌∷◌, ◌++◌, map, length, get_or, set, get_or-set_same, get_or-set_other, length-set, refl, sym, ap, subst, ◌∙◌, inl, inr, arith, length-append, append_assoc, append-nil, flat_map}
+use Rattle.std.specs.List.{All}
+use Rattle.std.proofs.lemmas.Bool.{cases_lt}
 use Rattle.std.proofs.lemmas.List.{get_or-map, get_or_append_left, get_or_at, get_or_default}
-use Rattle.control_steps.specs.declared.command.CommandKind.{CommandKind}
+use Rattle.std.proofs.lemmas.List.Elements.{All-push}
 use Rattle.gate_model.specs.declared.event.Event.{Event}
 use Rattle.report_lines.specs.Records.{Effected}
 use Rattle.report_lines.specs.declared.entry.ChargeEntry.{ChargeEntry}
 use Rattle.report_lines.specs.declared.entry.ChargeEntry.TheVariants.{R}
 use Rattle.lawful_run.specs.Accepted as accepted
-use Rattle.lawful_run.specs.Order.{Histories}
 use Rattle.lawful_run.specs.Outcomes as made_of
 use Rattle.lawful_run.specs.Run.{by_slot}
 use Rattle.lawful_run.specs.Telling.{counted}
@@ -17,8 +17,7 @@ use Rattle.at_rest.specs.Rest.{Represents}
 use Rattle.slot_replay.specs.Replaying.{counts_of, effects_told, events_of, latest_of, moment_of, placed_lent, places_of}
 use Rattle.slot_replay.specs.declared.placed.Placed.{Placed}
 use Rattle.slot_replay.specs.declared.replayed.Replayed.{Replayed}
-use Rattle.epoch_drive.specs.Meant.{AreStanding}
-use Rattle.epoch_drive.specs.Replays.{AllCanDo, CanDo, DoesShare, HasDone, HaveDone, IsTold, commands_at, commands_shared, events_shared, packets_at, packets_shared}
+use Rattle.epoch_drive.specs.Replays.{AreShortAnswers, DoesShare, HasDone, HaveDone, IsTold, commands_at, commands_shared, events_shared, packets_at, packets_shared}
 use Rattle.epoch_drive.specs.Told.{rows_told}
 use Rattle.epoch_drive.specs.declared.replays.Answers.{Answers}
 use Rattle.epoch_drive.specs.declared.replays.Replays.{Replays}
@@ -94,18 +93,6 @@ done_share old new shares share replayed slot low is does =
       destination = does.destination;
     }
 
--- before the first slot
-pub none_done : (old : List SubscriberState) (shares : List Share) (replays : Replays) → replays.answers.items ≡ []
-    → replays.effects.items ≡ [] → replays.rows.items ≡ [] → HaveDone old old shares replays 0
-none_done old shares replays answers effects rows = record {
-  many = refl;
-  answered = ap length answers;
-  each = λ slot none no_answers low. absurd (omega (arith, low));
-  later = λ slot none past. refl;
-  effects = λ before standing. ap effects_told effects;
-  rows = λ before standing. ap rows_told rows;
-}
-
 pub more_done : (old now new : List SubscriberState) (shares : List Share) (replays after : Replays) (i : ℕ)
     (subscriber did : SubscriberState) (share : Share) (replayed : Replayed)
     → HaveDone old now shares replays i → i < length old → length shares ≡ length old
@@ -170,13 +157,6 @@ more_done old now new shares replays after i subscriber did share replayed have 
           adds.rows ∙ ap (λ es. es ++ map (R i) replayed.rows.items) (have.rows before standing)
           ∙ ap (λ es. by_slot i has ++ es) (does.rows i (before i) represents ∙ ap (made_of.rows i (before i)) events)
           ∙ sym (by_slot-next has i);
+      short = subst (All AreShortAnswers) (sym adds.answers)
+          (All-push AreShortAnswers replays.answers.items answer have.short does.short);
     }
-
--- the next subscriber can do its share
-pub can_next : (old now : List SubscriberState) (shares : List Share) (replays : Replays) (i : ℕ)
-    (subscriber : SubscriberState) (share : Share) → HaveDone old now shares replays i → AllCanDo old shares
-    → i < length old → subscriber ≡ get_or now i subscriber → share ≡ get_or shares i share
-    → CanDo subscriber share
-can_next old now shares replays i subscriber share have can low is share_is =
-    subst (λ s. CanDo s share) (sym (is ∙ have.later i subscriber (omega arith)))
-    (subst (CanDo (get_or old i subscriber)) (sym share_is) (can i subscriber share low))

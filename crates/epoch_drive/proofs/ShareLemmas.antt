@@ -1,6 +1,6 @@
 -- What was taken of lines, one after another.
-use Rattle.std.proofs.Common.{◌≡◌, ◌≢◌, ℕ, zero, suc, ◌+◌, ◌==◌, ◌<◌, ◌≤◌, ◌^◌, Bool, true, false, cond, Option, Some, None, List, [], ◌∷◌, ◌++◌, map, length, take, drop, get_or, set, get_or-set_same, get_or-set_other, length-set, true≢false, refl, sym, ap, subst, ◌∙◌, inl, inr, arith, length-append, append-nil}
-use Rattle.std.specs.List.{All, filter_map, cons_option}
+use Rattle.std.proofs.Common.{◌≡◌, ℕ, zero, suc, ◌+◌, ◌==◌, ◌<◌, ◌≤◌, ◌^◌, Bool, true, false, cond, Option, Some, None, List, [], ◌∷◌, ◌++◌, map, length, take, drop, get_or, set, get_or-set_same, get_or-set_other, length-set, true≢false, refl, sym, ap, subst, ◌∙◌, inl, inr, arith, length-append, append-nil}
+use Rattle.std.specs.List.{All, cons_option}
 use Rattle.std.specs.Option.{option_map}
 use Rattle.std.proofs.lemmas.Bool.{cases_eq, eq-eqb, ne_eqb}
 use Rattle.std.proofs.lemmas.List.{get_or-map, length-map, map_push, take-append-drop, take_all, take_more}
@@ -8,8 +8,6 @@ use Rattle.std.proofs.lemmas.List.Elements.{filter_map-append, All-get_or}
 use Rattle.control_steps.specs.declared.command.CommandKind.{CommandKind}
 use Rattle.demux.specs.Trace.{Meaning, command, packet, move, note}
 use Rattle.demux.specs.declared.packet.LentPacket.{LentPacket}
-use Rattle.pc_base.specs.declared.packet.Place.{Place}
-use Rattle.report_lines.specs.declared.entry.LineEntry.{LineEntry}
 use Rattle.lawful_run.specs.Accepted as accepted
 use Rattle.lawful_run.specs.LinesTold.{LineTold}
 use Rattle.slice_schedule.specs.Front.{Outcome}
@@ -20,11 +18,10 @@ use Rattle.slot_replay.specs.declared.placed.Placed.{Placed}
 use Rattle.subscriber.specs.Standing.{SubscriberState, commands_met}
 use Rattle.epoch_drive.specs.Meant.{IsWithin, meaning_of}
 use Rattle.epoch_drive.specs.Opened.{open_command, open_entry, open_packet, opened}
-use Rattle.epoch_drive.specs.Shares.{AreMet, AreShares, base_at, GivesCommand, GivesPacket, HasMet, IsEmpty, IsShare, MayMeet, packets_alone, packets_lent}
+use Rattle.epoch_drive.specs.Shares.{AreMet, AreShares, base_at, GivesCommand, GivesPacket, HasMet, IsShare, MayMeet, packets_alone, packets_lent}
 use Rattle.epoch_drive.specs.declared.meant.Meant.{Meant}
 use Rattle.epoch_drive.specs.declared.meant.Meant.TheVariants as meant
 use Rattle.epoch_drive.specs.declared.sharing.Share.{Share}
-use Rattle.epoch_drive.proofs.Places.{AllAt, all_set}
 
 -- what a line brings a slot
 abbrev pub line_at : ℕ → Meaning → Outcome → LineTold
@@ -299,21 +296,6 @@ may_meet shares subscribers plan told i n own p o low many is_taken are met more
 
 -- the lines of an epoch, one after another
 module _ (shares : List Share) (subscribers : List SubscriberState) (plan : Plan) where
-  empty_is : (share : Share) (base : ℕ) (mets : List Met) (slot : ℕ) → IsEmpty share → IsShare share base mets [] slot
-  empty_is share base mets slot is = record {
-    commands = ap commands_lent is.0;
-    packets = ap packets_lent is.1;
-    counts = ap counts_of is.1
-        ∙ ap (λ ps. map (λ (m : Met). base + m.commands) (take (length ps) mets)) (sym is.1);
-    places = ap places_of is.1 ∙ ap (λ ps. map (λ (m : Met). m.place) (take (length ps) mets)) (sym is.1);
-  }
-
-  -- none of them yet
-  pub shares_none : All IsEmpty shares → AreShares shares subscribers plan []
-  shares_none all slot share low =
-      empty_is (get_or shares slot share) (base_at subscribers slot) (mets_of plan slot) slot
-      (All-get_or IsEmpty shares slot share low all)
-
   -- one that was refused
   pub shares_refused : (told : List LineTold) (n : ℕ) (m : Meaning) (o : Outcome) → o.taken ≡ false
       → AreShares shares subscribers plan told → AreShares shares subscribers plan (told ++ line_at n m o ∷ [])

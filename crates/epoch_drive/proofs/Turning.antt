@@ -1,5 +1,5 @@
 -- Lines that are decided one after another.
-use Rattle.std.proofs.Common.{◌≡◌, ◌≢◌, ℕ, zero, suc, ◌+◌, ◌==◌, ◌%◌, ◌<◌, ◌≤◌, Bool, true, false, cond, Option, Some, None, List, [], ◌∷◌, ◌++◌, map, length, take, get_or, set, slice_get, get_or-set_same, get_or-set_other, length-set, refl, sym, ap, subst, ◌∙◌, inl, inr, arith, length-append, append_assoc, append-nil}
+use Rattle.std.proofs.Common.{◌≡◌, ℕ, zero, suc, ◌+◌, ◌==◌, ◌<◌, ◌≤◌, Bool, true, false, cond, Some, List, [], ◌∷◌, ◌++◌, length, take, get_or, set, slice_get, get_or-set_same, get_or-set_other, length-set, refl, sym, ap, subst, ◌∙◌, inl, inr, arith, length-append, append_assoc, append-nil}
 use Rattle.std.specs.List.{All}
 use Rattle.std.proofs.lemmas.Bool.{cases_eq, cases_lt, eq-eqb, ne_eqb}
 use Rattle.std.proofs.lemmas.List.{map_push, take_all, take_more}
@@ -16,12 +16,11 @@ use Rattle.demux.specs.declared.packet.LentPacket.{LentPacket}
 use Rattle.demux.specs.Destinations.{bound_for, home_slice}
 use Rattle.demux.specs.Resolved.{IsDue, book_after, book_behind, book_with, decided, slot_of}
 use Rattle.demux.specs.Texts.{move_note}
-use Rattle.demux.specs.Trace.{Meaning, command, packet, move, note, book_of, decisions, destination_after, meaning, meant}
+use Rattle.demux.specs.Trace.{Meaning, command, move, note, book_of, decisions, destination_after, meant}
 use Rattle.demux.proofs.TraceLemmas.{book_of-push, destination_after-push}
 use Rattle.control_steps.specs.declared.command.CommandKind.{CommandKind}
 use Rattle.lawful_run.specs.Order.{Histories}
 use Rattle.lawful_run.specs.Trace.{meant_from, settled_by}
-use Rattle.gate_model.specs.SlotPast.{records_after}
 use Rattle.gate_model.specs.declared.event.Event.{Event}
 use Rattle.subscriber.specs.Standing.{SubscriberState, StandsFor}
 use Rattle.at_rest.specs.Rest.{AreAtRest, HasEvents, IsAtRest, NewOneIsAtRest, Represents, destination_or}

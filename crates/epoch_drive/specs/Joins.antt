@@ -4,10 +4,10 @@ use Rattle.std.specs.Prelude.{option_to_list}
 use Rattle.packet_steps.specs.Lent.{verdict_of}
 use Rattle.report_lines.specs.declared.entry.LineEntry.{LineEntry}
 use Rattle.epoch_join.specs.Filling.{Met, Mets, Replied, Replies, fill, met_slot, others_of, replied_slot}
-use Rattle.report_lines.specs.Lent.{IsShort}
 use Rattle.slot_replay.specs.declared.replayed.Judged.{Judged}
 use Rattle.slot_replay.specs.declared.replayed.Replied as told
 use Rattle.epoch_drive.specs.Opened.{open_command, open_packet}
+use Rattle.epoch_drive.specs.Replays.{AreShortAnswers}
 use Rattle.epoch_drive.specs.Told.{IsShortEntry, line_told}
 use Rattle.epoch_drive.specs.declared.epoch.Entry.{Entry}
 use Rattle.epoch_drive.specs.declared.replays.Answers.{Answers}
@@ -36,13 +36,9 @@ replies_at answers slot = get_or (map replies_of answers) slot []
 abbrev pub mets_at : List Answers → Mets
 mets_at answers slot = get_or (map mets_of answers) slot []
 
--- TEMP
-abbrev pub AreShort : List Judged → Type 0
-AreShort packets = All (λ (judged : Judged). IsShort judged.verdict) packets
-
 -- each verdict can be written
 abbrev pub AllShort : List Answers → Type 0
-AllShort answers = All (λ (a : Answers). AreShort a.packets.items) answers
+AllShort answers = All AreShortAnswers answers
 
 -- the entry of a command or packet that was taken, with what comes next of its slot
 abbrev pub next_reply : Option told.Replied → List Replied

@@ -1,8 +1,8 @@
 -- What lines mean to a book and the subscribers in it, and what they leave.
-use Rattle.std.specs.Prelude.{◌≡◌, ◌≢◌, ℕ, ◌≤◌, ◌<◌, ◌⊎◌, List, [], ◌∷◌, ◌++◌, length, map, All, None, get_or, set, slice_get}
+use Rattle.std.specs.Prelude.{◌≡◌, ◌≢◌, ℕ, ◌≤◌, ◌<◌, ◌⊎◌, List, [], ◌∷◌, ◌++◌, length, map}
+use Rattle.std.specs.Prelude.{All, None, get_or, set, slice_get}
 use Rattle.trace_lines.specs.Line.{Line}
 use Rattle.demux.specs.Destinations.{home_slice}
-use Rattle.demux.specs.Resolved.{book_with}
 use Rattle.demux.specs.Texts.{move_note}
 use Rattle.demux.specs.Trace.{Meaning, command, packet, move, note, book_of, destination_after, meaning}
 use Rattle.demux.specs.declared.decision.Whose.{Whose}

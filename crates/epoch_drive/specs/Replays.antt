@@ -1,5 +1,5 @@
 -- What the subscribers make of their shares.
-use Rattle.std.specs.Prelude.{◌≡◌, ℕ, ◌+◌, ◌≤◌, ◌<◌, List, [], ◌++◌, length, map, get_or}
+use Rattle.std.specs.Prelude.{◌≡◌, ℕ, ◌+◌, ◌≤◌, ◌<◌, List, [], ◌++◌, All, length, map, get_or}
 use Rattle.std.specs.Borrow.{Bor}
 use Rattle.control_steps.specs.declared.command.CommandKind.{CommandKind}
 use Rattle.gate_model.specs.Events.{commands_of, packets_of}
@@ -12,7 +12,10 @@ use Rattle.lawful_run.specs.Telling.{counted}
 use Rattle.report_lines.specs.declared.entry.ChargeEntry.TheVariants.{R}
 use Rattle.subscriber.specs.Standing.{SubscriberState}
 use Rattle.at_rest.specs.Rest.{Represents}
-use Rattle.slot_replay.specs.Replaying.{AreLate, CanReplay, IsLedTo, commands_lent, counts_in, counts_of, effects_told, events_of, latest_of, moment_of, numbers_in, packet_numbers_in, placed_lent, places_in, places_of, replies_in, verdicts_in}
+use Rattle.slot_replay.specs.Replaying.{AreLate, AreShort, CanReplay, IsLedTo, commands_lent, counts_in}
+use Rattle.slot_replay.specs.Replaying.{counts_of, effects_told, events_of, latest_of, moment_of}
+use Rattle.slot_replay.specs.Replaying.{numbers_in, packet_numbers_in, placed_lent, places_in, places_of}
+use Rattle.slot_replay.specs.Replaying.{replies_in, verdicts_in}
 use Rattle.slot_replay.specs.declared.placed.Placed.{Placed}
 use Rattle.slot_replay.specs.declared.replayed.Replayed.{Replayed}
 use Rattle.epoch_drive.specs.Meant.{AreStanding}
@@ -68,6 +71,7 @@ pub record DoesWith (old new : SubscriberState) (commands : List (Bor CommandKin
       ≡ made_of.rows slot before (events_of before (commands_lent commands) (placed_lent packets))
   pub counts : counts_in replayed.packets.items ≡ counts_of packets
   pub places : places_in replayed.packets.items ≡ places_of packets
+  pub short : AreShort replayed.packets.items
   pub represents : (slot : ℕ) (before : List Event) → Represents old slot before
       → Represents new slot (before ++ events_of before (commands_lent commands) (placed_lent packets))
   pub last : moment_of new ≡ latest_of (moment_of old) packets
@@ -76,6 +80,10 @@ pub record DoesWith (old new : SubscriberState) (commands : List (Bor CommandKin
 -- .. with a share
 abbrev pub DoesShare : (old new : SubscriberState) → Share → Replayed → Type 0
 DoesShare old new share replayed = DoesWith old new share.commands.items share.packets.items replayed
+
+-- verdicts on packets are short
+abbrev pub AreShortAnswers : Answers → Type 0
+AreShortAnswers answers = AreShort answers.packets.items
 
 -- the subscribers of the first slots did theirs
 pub record HaveDone (old new : List SubscriberState) (shares : List Share) (replays : Replays) (done : ℕ) :
@@ -89,6 +97,7 @@ pub record HaveDone (old new : List SubscriberState) (shares : List Share) (repl
       ≡ by_slot done (λ slot. made_of.effects slot (before slot) (events_shared shares slot (before slot)))
   pub rows : (before : Histories) → AreStanding old before → rows_told replays.rows.items
       ≡ by_slot done (λ slot. made_of.rows slot (before slot) (events_shared shares slot (before slot)))
+  pub short : All AreShortAnswers replays.answers.items
 
 -- each subscriber can do its share
 pub record CanDo (subscriber : SubscriberState) (share : Share) : Type 0 where

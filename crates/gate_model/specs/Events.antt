@@ -1,5 +1,5 @@
 -- The events of a slot.
-use Rattle.std.specs.Prelude.{List, Option, Some, None}
+use Rattle.std.specs.Prelude.{ℕ, ◌<◌, ◌^◌, List, Option, Some, None}
 use Rattle.std.specs.List.{filter_map}
 use Rattle.pc_base.specs.declared.packet.Packet.{Packet}
 use Rattle.control_steps.specs.declared.command.CommandKind.{CommandKind}
@@ -20,3 +20,8 @@ commands_of events = filter_map as_command events
 
 abbrev pub packets_of : List Event → List Packet
 packets_of events = filter_map as_packet events
+
+-- So many events of a slot are few: each count that they raise may rise once more. A trace has no more lines. Whatever
+-- bounds what comes to a slot asks for this.
+abbrev pub FewEvents : ℕ → Type 0
+FewEvents count = count < 2 ^ 40

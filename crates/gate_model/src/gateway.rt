@@ -56,7 +56,7 @@ impl Gateway {
         }
     }
 
-    /// Whether the counts of a slot may rise: they may where fewer than 2^61 - 20 events came.
+    /// Whether the counts of a slot may rise: they may where few events came (fewer than 2^40).
     pub fn has_room(&self) -> bool
         ensures { IsTrue result ↔ HasRoom self.now }
     {

@@ -48,7 +48,7 @@ pub fn each_packet_in_one_piece()
     ensures added { RecordsAreAdded }
 {}
 
-/// Where fewer than 2^61 - 20 events came, the counts may rise.
+/// Where few events came (fewer than 2^40), the counts may rise.
 pub fn few_events_leave_room()
     ensures { FewEventsLeaveRoom }
 {}

@@ -7,7 +7,7 @@ ghost use Rattle.gate_model.specs.Memory.{past_at};
 use crate::NoMemory;
 use bearer_state::{ActiveBearer, Version, is_guaranteed};
 use charging_book::Posting;
-use packet_steps::{Forwarded, HeldPacket, same_way};
+use packet_steps::{Forwarded, HeldPacket, copies_of, same_way};
 use pc_base::{Kbps, Moment};
 use rate_policer::{Cost, conforms};
 use std::alloc::Global;
@@ -64,7 +64,7 @@ impl Memory {
         let alloc = self.allocator();
         Ok(Memory {
             forwarded: Vec::from_slice(alloc, &self.forwarded)?,
-            held: copy_of(alloc, &self.held)?,
+            held: copies_of(alloc, &self.held)?,
             last: self.last,
             charged: Vec::from_slice(alloc, &self.charged)?,
         })
@@ -190,16 +190,6 @@ impl Memory {
         let rate = rate_for(version, bearer, up);
         Ok(conforms(rate, &passed, Cost::of(octets, self.moment())))
     }
-}
-
-fn copy_of(alloc: Global, held: &[HeldPacket]) -> Result<Vec<HeldPacket>, NoMemory>
-    ensures { IfOk result (λ copy. copy.items ≡ held.now) }
-{
-    let mut copy = Vec::new(alloc);
-    for row in held {
-        copy.push(row.try_clone()?)?;
-    }
-    Ok(copy)
 }
 
 /// The rate that polices a bearer one way.

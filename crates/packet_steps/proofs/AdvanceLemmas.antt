@@ -1,31 +1,28 @@
 -- What counters stand for behind a new version.
-use Rattle.std.proofs.Common.{◌≡◌, ◌≢◌, ℕ, ◌+◌, ◌-◌, ◌^◌, ◌≤◌, ◌↔◌, ◌==◌, nat_lt, Bool, true, false, cond, List, [], ◌∷◌, ◌++◌, length, map, filter, All, IsTrue, Option, Some, None, unwrap_or, refl, sym, ◌∙◌, ap, subst, append_assoc, le_trans, arith}
-use Rattle.std.specs.List.{Contains, AllByRecursion, fold, find}
-use Rattle.std.proofs.lemmas.Bool.{eqb-true}
-use Rattle.std.proofs.lemmas.List.{append-nil}
+use Rattle.std.proofs.Common.{◌≡◌, ℕ, ◌-◌, ◌^◌, ◌≤◌, ◌↔◌, ◌==◌, nat_lt, true, false, List, [], ◌∷◌, ◌++◌, length, map, filter, All, IsTrue, Option, Some, None, refl, sym, ◌∙◌, ap, subst, append_assoc, le_trans, arith}
+use Rattle.std.specs.List.{Contains, AllByRecursion, fold}
 use Rattle.std.proofs.lemmas.List.Elements.{All-push}
 use Rattle.pc_base.specs.declared.effect.Effect.{Effect}
 use Rattle.pc_base.specs.declared.packet.Peer.{Peer}
 use Rattle.charging_book.specs.Accounts as book
-use Rattle.charging_book.specs.Happenings.{Happening, forwarded, lives_of, AllMay}
+use Rattle.charging_book.specs.Happenings.{Happening, lives_of}
 use Rattle.charging_book.specs.Postings.{happening_of, IsInRange, MayAllFollow}
-use Rattle.charging_book.specs.declared.accounts.posting.Posting.{Posting}
 use Rattle.charging_book.proofs.Steps.{lives-push, may_from-push}
 use Rattle.bearer_state.specs.declared.version.ActiveBearer.{ActiveBearer}
 use Rattle.bearer_state.specs.Version.{VersionState, IsVersion}
 use Rattle.packet_steps.specs.declared.meters.Meters.{Meters}
 use Rattle.packet_steps.specs.declared.releasing.Release.{Release}
 use Rattle.packet_steps.specs.Rows.{ForwardedRow, HeldRow}
-use Rattle.packet_steps.specs.Past.{Past, moment_of, row_for, happening_for, with_row, with_held}
+use Rattle.packet_steps.specs.Past.{Past, row_for, happening_for, with_row, with_held}
 use Rattle.packet_steps.specs.Policing.{passes}
 use Rattle.packet_steps.specs.Change.{has_life, bearer_of, waits, released_to, released_by, released, marks, markers, marked, learnt}
 use Rattle.packet_steps.specs.Meters.{learnt_meters, MetersStand}
 use Rattle.packet_steps.specs.Releases.{Releases}
-use Rattle.packet_steps.specs.Standing.{CountersState, StandsFor, OpenAreActive, AreFew, Follows}
+use Rattle.packet_steps.specs.Standing.{CountersState, StandsFor, Follows}
 use Rattle.packet_steps.proofs.BearerLemmas.{find_found}
 use Rattle.packet_steps.proofs.StandingLemmas.{has_it}
 use Rattle.packet_steps.proofs.ListLemmas.{same_behind}
-use Rattle.packet_steps.proofs.FoldLemmas.{passed_or, version_kept, last_kept, held_all}
+use Rattle.packet_steps.proofs.FoldLemmas.{passed_or, last_kept, held_all}
 use Rattle.packet_steps.proofs.LearntMeters.{learnt_stand}
 use Rattle.packet_steps.proofs.LawfulMarks.{Going, marks_going, all_follow}
 

@@ -1,9 +1,9 @@
 -- The active bearers of a version are told apart by index and by life.
-use Rattle.std.proofs.Common.{◌≡◌, ◌≢◌, ℕ, ◌<◌, ◌≤◌, ◌==◌, Bool, true, false, List, [], ◌∷◌, Option, Some, None, ◌⊎◌, inl, inr, refl, sym, ◌∙◌, ap, subst, cond, arith, eq-eqb}
+use Rattle.std.proofs.Common.{◌≡◌, ◌≢◌, ℕ, ◌<◌, ◌==◌, Bool, true, false, List, [], ◌∷◌, Option, Some, None, ◌⊎◌, inl, inr, refl, sym, ◌∙◌, ap, subst, cond, arith, eq-eqb}
 use Rattle.std.proofs.Common.{Bor, IfSome}
 use Rattle.std.specs.Option.{option_copied}
-use Rattle.std.specs.List.{Contains, AllByRecursion, find, list_any}
-use Rattle.std.proofs.lemmas.Bool.{eqb-true, false≢true, ne_eqb}
+use Rattle.std.specs.List.{Contains, AllByRecursion, find}
+use Rattle.std.proofs.lemmas.Bool.{eqb-true, false≢true}
 use Rattle.std.proofs.lemmas.List.Elements.{Contains-append_left, Contains-append_right, Contains-append_cases, Contains-push_cases}
 use Rattle.bearer_state.specs.Bearer.{EachPair, IsEbi}
 use Rattle.bearer_state.specs.declared.version.ActiveBearer.{ActiveBearer}

@@ -1,5 +1,5 @@
 -- What looking at held packets leaves as it was, and which of them wait on.
-use Rattle.std.proofs.Common.{◌≡◌, ℕ, ◌&&◌, Bool, true, false, cond, List, [], ◌∷◌, ◌++◌, length, filter, Option, Some, None, is_none, is_some, unwrap_or, refl, sym, ◌∙◌, ap, subst, append_assoc}
+use Rattle.std.proofs.Common.{◌≡◌, ℕ, ◌&&◌, Bool, true, false, cond, List, [], ◌∷◌, ◌++◌, length, filter, Option, Some, None, is_none, is_some, unwrap_or, refl, sym, ◌∙◌, ap, append_assoc}
 use Rattle.std.specs.List.{fold}
 use Rattle.std.specs.Option.{option_and_then}
 use Rattle.std.proofs.lemmas.List.{append-nil}
@@ -12,7 +12,7 @@ use Rattle.packet_steps.specs.Rows.{HeldRow}
 use Rattle.packet_steps.specs.Messages.{gpdu}
 use Rattle.packet_steps.specs.Past.{Past, moment_of, row_for, with_row, with_held}
 use Rattle.packet_steps.specs.Policing.{passes}
-use Rattle.packet_steps.specs.Change.{bearer_of, enb_of, waits, fated, released_to, released_by, released}
+use Rattle.packet_steps.specs.Change.{bearer_of, waits, fated, released_to, released_by, released}
 
 -- one packet, by whether it passes
 abbrev pub passed_or : Bool → Past × List Effect → HeldRow → ActiveBearer → Peer → Past × List Effect

@@ -1,5 +1,5 @@
 -- What a bucket stands for behind octets that pass.
-use Rattle.std.proofs.Common.{◌≡◌, ℕ, ◌≤◌, ◌==◌, ◌&&◌, Bool, true, false, not, cond, List, [], ◌∷◌, ◌++◌, map, filter, MatchBool, IsTrue, Some, None, sym, ◌∙◌, ap, subst, refl, eq-eqb, le_trans, arith}
+use Rattle.std.proofs.Common.{◌≡◌, ℕ, ◌≤◌, ◌==◌, ◌&&◌, Bool, true, false, not, cond, List, [], ◌∷◌, ◌++◌, filter, MatchBool, Some, None, sym, ◌∙◌, ap, subst, refl, eq-eqb, le_trans, arith}
 use Rattle.std.specs.List.{Contains}
 use Rattle.std.proofs.lemmas.List.{map_push, append-nil}
 use Rattle.rate_policer.specs.declared.cost.Cost.{Cost}
@@ -8,14 +8,13 @@ use Rattle.rate_policer.specs.Buckets.{BucketState, rate_of, last_of, full_bucke
 use Rattle.rate_policer.specs.Buckets as buckets
 use Rattle.bearer_state.specs.declared.version.ActiveBearer.{ActiveBearer}
 use Rattle.bearer_state.specs.Qos.{is_guaranteed}
-use Rattle.bearer_state.specs.Version.{VersionState}
 use Rattle.packet_steps.specs.declared.meters.Meters.{Meters}
 use Rattle.packet_steps.specs.Rows.{ForwardedRow}
 use Rattle.packet_steps.specs.Past.{Past, moment_of, row_for}
 use Rattle.packet_steps.specs.Policing.{mbr, ambr, same_way, is_of_life, is_of_rates, is_policed_with, rate_for, history_for, costs, passes}
 use Rattle.packet_steps.specs.Verdicts.{at_moment}
 use Rattle.packet_steps.specs.Meters.{bucket_of, own_meter, bucket_for, Polices, MetersStand}
-use Rattle.packet_steps.specs.Plans.{PolicesBehind, Tries}
+use Rattle.packet_steps.specs.Plans.{Tries}
 
 -- a filter and one element more
 pub filter_push : {X : Type 0} (p : X → Bool) (xs : List X) (x : X)

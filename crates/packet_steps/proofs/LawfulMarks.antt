@@ -1,13 +1,13 @@
 -- What a change brings may happen to the book: lives that are over or cut are open, and those that begin are not.
-use Rattle.std.proofs.Common.{◌≡◌, ◌≢◌, ℕ, ◌+◌, ◌-◌, ◌^◌, ◌<◌, ◌≤◌, ◌↔◌, ◌==◌, ◌&&◌, ◌||◌, nat_lt, Bool, true, false, not, cond, List, [], ◌∷◌, ◌++◌, length, map, filter, All, IsTrue, ◌⊎◌, inl, inr, refl, sym, ◌∙◌, ap, subst, eq-eqb, append_assoc, length-append, arith}
+use Rattle.std.proofs.Common.{◌≡◌, ℕ, ◌-◌, ◌^◌, ◌≤◌, ◌↔◌, ◌==◌, ◌&&◌, ◌||◌, Bool, true, false, not, cond, List, [], ◌∷◌, ◌++◌, length, map, filter, IsTrue, ◌⊎◌, inl, inr, refl, sym, ◌∙◌, ap, subst, eq-eqb, append_assoc, length-append, arith}
 use Rattle.std.specs.List.{Contains, AllByRecursion}
 use Rattle.std.proofs.lemmas.Bool.{cases_eq, ne_eqb, eqb-true, false≢true, and_parts, and_from}
 use Rattle.std.proofs.lemmas.List.{append-nil, get_or_default}
 use Rattle.std.proofs.lemmas.List.Elements.{Contains-push, Contains-append_left, Contains-push_cases}
-use Rattle.charging_book.specs.declared.records.Why.TheVariants.{Volume, Qos, Gone}
-use Rattle.charging_book.specs.Happenings.{Happening, started, forwarded, closed, lives_step, lives_of, MayHappen, AllMay}
-use Rattle.charging_book.specs.Postings.{IsInRange, MayFollow, MayAllFollow}
-use Rattle.charging_book.proofs.Steps.{lives-push, may_from-push}
+use Rattle.charging_book.specs.declared.records.Why.TheVariants.{Qos, Gone}
+use Rattle.charging_book.specs.Happenings.{Happening, started, closed, lives_of, MayHappen, AllMay}
+use Rattle.charging_book.specs.Postings.{IsInRange, MayAllFollow}
+use Rattle.charging_book.proofs.Steps.{lives-push}
 use Rattle.bearer_state.specs.Bearer.{EachPair}
 use Rattle.bearer_state.specs.declared.version.ActiveBearer.{ActiveBearer}
 use Rattle.bearer_state.specs.Version.{VersionState, IsVersion, IsActiveBearer, IsActiveBefore}

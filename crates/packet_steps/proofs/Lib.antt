@@ -13,3 +13,4 @@ pub mod LearntMeters
 mod WorkedPasts
 pub mod LawfulMarks
 pub mod AdvanceLemmas
+pub mod PartLemmas

@@ -1,7 +1,6 @@
 -- What the book hears of a change, as postings.
-use Rattle.std.proofs.Common.{◌≡◌, Bool, true, false, cond, List, [], ◌∷◌, ◌++◌, map, filter, refl, sym, ◌∙◌, ap}
+use Rattle.std.proofs.Common.{◌≡◌, Bool, true, false, cond, List, [], ◌++◌, map, filter, refl, ◌∙◌, ap}
 use Rattle.std.proofs.lemmas.List.{map-append}
-use Rattle.charging_book.specs.Happenings.{Happening}
 use Rattle.charging_book.specs.Postings.{happening_of}
 use Rattle.charging_book.specs.declared.accounts.posting.Posting.{Posting}
 use Rattle.charging_book.specs.declared.accounts.posting.Posting.TheVariants.{Start, Close}

@@ -1,5 +1,5 @@
 -- The meters behind octets that pass stand for one row more.
-use Rattle.std.proofs.Common.{◌≡◌, ◌≢◌, ℕ, ◌<◌, ◌≤◌, ◌==◌, ◌&&◌, Bool, true, false, not, cond, List, [], ◌∷◌, ◌++◌, length, filter, set, IsTrue, Option, Some, None, ◌⊎◌, inl, inr, refl, sym, ◌∙◌, ap, subst, le_trans, arith}
+use Rattle.std.proofs.Common.{◌≡◌, ◌≢◌, ℕ, ◌<◌, ◌≤◌, ◌==◌, ◌&&◌, Bool, true, false, not, cond, List, [], ◌∷◌, ◌++◌, length, filter, set, ◌⊎◌, inl, inr, refl, sym, ◌∙◌, ap, subst, le_trans}
 use Rattle.std.specs.List.{Contains}
 use Rattle.std.proofs.lemmas.Bool.{cases_eq, ne_eqb, false≢true}
 use Rattle.std.proofs.lemmas.List.{get_or-set_same, get_or-set_other}
@@ -7,16 +7,16 @@ use Rattle.std.proofs.Math.ListN.{length-set}
 use Rattle.rate_policer.specs.Buckets.{BucketState}
 use Rattle.bearer_state.specs.declared.version.ActiveBearer.{ActiveBearer}
 use Rattle.bearer_state.specs.Qos.{is_guaranteed}
-use Rattle.bearer_state.specs.Version.{VersionState, IsVersion}
+use Rattle.bearer_state.specs.Version.{IsVersion}
 use Rattle.packet_steps.specs.declared.meters.Meter.{Meter}
 use Rattle.packet_steps.specs.declared.meters.Meters.{Meters}
 use Rattle.packet_steps.specs.Rows.{ForwardedRow}
 use Rattle.packet_steps.specs.Past.{Past, moment_of, row_for, with_row}
-use Rattle.packet_steps.specs.Policing.{mbr, ambr, same_way, is_of_life, is_of_rates, costs}
+use Rattle.packet_steps.specs.Policing.{mbr, ambr, same_way, is_of_life, is_of_rates}
 use Rattle.packet_steps.specs.Verdicts.{at_moment}
 use Rattle.packet_steps.specs.Meters.{bucket_of, with_bucket, new_meter, own_meter, put_bucket, Polices, MetersStand}
-use Rattle.packet_steps.specs.Plans.{PolicesBehind, Passes}
-use Rattle.packet_steps.proofs.HistoryLemmas.{filter_without, filter_with}
+use Rattle.packet_steps.specs.Plans.{PolicesBehind}
+use Rattle.packet_steps.proofs.HistoryLemmas.{filter_without}
 use Rattle.packet_steps.proofs.BearerLemmas.{same_by_index, same_by_life, index_in_range}
 
 -- a bucket polices the same rows at a later moment

@@ -1,10 +1,9 @@
 -- A packet, by the test of it, and its verdict by its way.
-use Rattle.std.proofs.Common.{◌≡◌, ℕ, ◌*◌, ◌<◌, ◌≤◌, ◌==◌, ◌&&◌, ◌||◌, Bool, true, false, not, nat_lt, List, length, Option, None, Some, is_none, cond, refl, sym, ◌∙◌, ap, subst, eq-eqb, arith}
+use Rattle.std.proofs.Common.{◌≡◌, ℕ, ◌≤◌, ◌==◌, ◌&&◌, ◌||◌, Bool, true, false, not, nat_lt, List, length, Option, None, Some, is_none, cond, refl, sym, ◌∙◌, ap, subst, eq-eqb, arith}
 use Rattle.std.specs.Prelude.{IsSomeAnd}
 use Rattle.std.proofs.lemmas.Bool.{eqb-true}
 use Rattle.std.proofs.lemmas.Bool.Decides.{nat_tests}
 use Rattle.pc_base.specs.declared.packet.Packet.{Packet}
-use Rattle.pc_base.specs.declared.packet.Way.{Way}
 use Rattle.pc_base.specs.declared.packet.Way.TheVariants.{Up, Down}
 use Rattle.pc_base.specs.declared.packet.Verdict.{Verdict}
 use Rattle.pc_base.specs.declared.packet.Verdict.TheVariants as verdict

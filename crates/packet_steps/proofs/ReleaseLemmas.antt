@@ -1,5 +1,5 @@
 -- What a new version has brought behind one held packet more.
-use Rattle.std.proofs.Common.{◌≡◌, ℕ, ◌≤◌, Bool, true, false, cond, List, [], ◌∷◌, ◌++◌, map, length, Option, Some, None, refl, sym, ◌∙◌, ap, subst, append_assoc}
+use Rattle.std.proofs.Common.{◌≡◌, ℕ, Bool, false, cond, List, [], ◌∷◌, ◌++◌, map, length, Option, Some, None, sym, ◌∙◌, ap, subst, append_assoc}
 use Rattle.std.specs.List.{Contains}
 use Rattle.std.proofs.lemmas.List.{map_push}
 use Rattle.pc_base.specs.declared.effect.Effect.{Effect}
@@ -9,21 +9,20 @@ use Rattle.pc_base.specs.declared.effect.Fate.TheVariants as fate
 use Rattle.pc_base.specs.declared.packet.Peer.{Peer}
 use Rattle.charging_book.specs.Happenings.{Happening, forwarded}
 use Rattle.charging_book.specs.Postings.{happening_of}
-use Rattle.charging_book.specs.declared.accounts.posting.Posting.{Posting}
 use Rattle.charging_book.specs.declared.accounts.posting.Posting.TheVariants.{Packet}
 use Rattle.rate_policer.specs.Buckets.{BucketState}
 use Rattle.bearer_state.specs.declared.version.ActiveBearer.{ActiveBearer}
-use Rattle.bearer_state.specs.Version.{VersionState, IsVersion}
+use Rattle.bearer_state.specs.Version.{IsVersion}
 use Rattle.packet_steps.specs.declared.meters.Meters.{Meters}
 use Rattle.packet_steps.specs.declared.releasing.Release.{Release}
 use Rattle.packet_steps.specs.Rows.{HeldRow}
 use Rattle.packet_steps.specs.Messages.{gpdu}
-use Rattle.packet_steps.specs.Past.{Past, moment_of, row_for, happening_for, with_row, with_held}
+use Rattle.packet_steps.specs.Past.{Past, moment_of, row_for, with_row, with_held}
 use Rattle.packet_steps.specs.Policing.{passes}
 use Rattle.packet_steps.specs.Verdicts.{at_moment}
-use Rattle.packet_steps.specs.Change.{bearer_of, fated, released_to, released_by, released}
+use Rattle.packet_steps.specs.Change.{fated, released_to}
 use Rattle.packet_steps.specs.Meters.{put_bucket, MetersStand}
-use Rattle.packet_steps.specs.Plans.{Tries, PolicesBehind}
+use Rattle.packet_steps.specs.Plans.{Tries}
 use Rattle.packet_steps.specs.Releases.{Releases}
 use Rattle.packet_steps.proofs.MeterLemmas.{put_stands}
 

@@ -1,22 +1,20 @@
 -- What counters stand for behind a packet.
-use Rattle.std.proofs.Common.{◌≡◌, ℕ, ◌≤◌, ◌↔◌, ◌==◌, ◌||◌, inl, inr, eq-eqb, Bool, true, false, List, [], ◌∷◌, ◌++◌, All, IsTrue, Option, Some, None, IfSome, unwrap_or, refl, sym, ◌∙◌, ap, subst, arith}
+use Rattle.std.proofs.Common.{◌≡◌, ℕ, ◌≤◌, ◌↔◌, ◌==◌, ◌||◌, inl, inr, eq-eqb, Bool, true, false, List, [], ◌∷◌, ◌++◌, IsTrue, Option, Some, None, IfSome, unwrap_or, refl, sym, ◌∙◌, ap, subst, arith}
 use Rattle.std.specs.List.{Contains}
 use Rattle.std.proofs.lemmas.List.Elements.{All-push}
 use Rattle.charging_book.specs.Accounts as book
-use Rattle.charging_book.specs.Happenings as happenings
 use Rattle.charging_book.specs.Postings.{MayFollow}
 use Rattle.charging_book.proofs.Steps.{lives-push}
 use Rattle.rate_policer.specs.Buckets.{BucketState}
 use Rattle.bearer_state.specs.declared.version.ActiveBearer.{ActiveBearer}
-use Rattle.bearer_state.specs.Version.{IsVersion}
 use Rattle.packet_steps.specs.declared.meters.Meters.{Meters}
 use Rattle.packet_steps.specs.Rows.{ForwardedRow, HeldRow}
 use Rattle.packet_steps.specs.Past.{Past, moment_of, row_for, happening_for, with_row, with_held}
 use Rattle.packet_steps.specs.Verdicts.{at_moment}
 use Rattle.packet_steps.specs.Change.{has_life}
 use Rattle.packet_steps.specs.Meters.{put_bucket, MetersStand}
-use Rattle.packet_steps.specs.Standing.{StandsFor, CountersState, OpenAreActive, AreFew, last_of}
-use Rattle.packet_steps.specs.Plans.{PolicesBehind, Passes}
+use Rattle.packet_steps.specs.Standing.{StandsFor, CountersState, AreFew, last_of}
+use Rattle.packet_steps.specs.Plans.{PolicesBehind}
 use Rattle.packet_steps.proofs.BearerLemmas.{none_in_nil, of_cons}
 use Rattle.packet_steps.proofs.MeterLemmas.{meters_later, put_stands}
 

@@ -9,3 +9,4 @@ pub mod Meters
 pub mod Standing
 pub mod Plans
 pub mod Releases
+pub mod Parts

@@ -1,6 +1,6 @@
 -- What running counters stand for.
-use Rattle.std.specs.Prelude.{◌≡◌, ◌≢◌, ℕ, ◌+◌, ◌-◌, ◌^◌, ◌<◌, ◌≤◌, ◌↔◌, false}
-use Rattle.std.specs.Prelude.{List, [], ◌∷◌, ◌++◌, length, Option, IsTrue, All}
+use Rattle.std.specs.Prelude.{◌≡◌, ◌≢◌, ℕ, ◌-◌, ◌^◌, ◌≤◌, ◌↔◌, false}
+use Rattle.std.specs.Prelude.{List, length, Option, IsTrue, All}
 use Rattle.std.specs.List.{Contains}
 use Rattle.charging_book.specs.Accounts as book
 use Rattle.charging_book.specs.Happenings as happenings

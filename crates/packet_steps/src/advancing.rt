@@ -45,7 +45,8 @@ pub fn advance(
     Ok(Effects::of(release.effects))
 }
 
-fn last_moment(last: Option<Moment>) -> Moment
+/// The moment of the last packet, 0 before the first.
+pub(crate) fn last_moment(last: Option<Moment>) -> Moment
     ensures { result ≡ unwrap_or last 0 }
 {
     match last {

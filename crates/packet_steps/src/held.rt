@@ -1,6 +1,9 @@
 //! A packet that waits for its bearer's eNodeB.
+ghost use Rattle.std.specs.Prelude.{◌≡◌, IfOk};
+
 use crate::NoMemory;
 use pc_base::Packet;
+use std::alloc::Global;
 use std::marker::Model;
 
 /// A downlink packet that is held, of fewer than 2^16 octets, and the life of the bearer that it waits for.
@@ -22,8 +25,6 @@ impl Model for HeldPacket {
 }
 
 impl HeldPacket {
-    ghost use Rattle.std.specs.Prelude.{◌≡◌, IfOk};
-
     /// A copy of the packet.
     pub fn try_clone(&self) -> Result<HeldPacket, NoMemory>
         ensures { IfOk result (λ copy. copy ≡ self.now) }
@@ -33,4 +34,15 @@ impl HeldPacket {
             life: self.life,
         })
     }
+}
+
+/// Copies of packets that are held.
+pub fn copies_of(alloc: Global, held: &[HeldPacket]) -> Result<Vec<HeldPacket>, NoMemory>
+    ensures { IfOk result (λ copies. copies.items ≡ held.now) }
+{
+    let mut copies = Vec::new(alloc);
+    for row in held {
+        copies.push(row.try_clone()?)?;
+    }
+    Ok(copies)
 }

@@ -1,6 +1,21 @@
 //! The edge between the program and its streams: octets read in pieces and given out as lines,
 //! and octets written whole. Sources and sinks over memory, for tests, tell their octets; those
 //! over the standard streams are the trusted edge. What a line means is left to others.
+//!
+//! ```
+//! use pc_outside::{LineBuf, LineRead, SureSource, read_line};
+//! use std::test::Fail;
+//!
+//! fn main(rt: HostRuntime) -> Result<(), Fail> {
+//!     let mut source = SureSource::new(Vec::from_slice(rt.alloc(), b"one\ntwo")?)?;
+//!     let mut buf = LineBuf::new(rt.alloc())?;
+//!     assert_eq!(rt; read_line(&mut source, &mut buf), LineRead::Line);
+//!     assert_eq!(rt; buf.line(), b"one".as_slice());
+//!     assert_eq!(rt; read_line(&mut source, &mut buf), LineRead::Line);
+//!     assert_eq!(rt; (buf.line(), buf.is_last()), (b"two".as_slice(), true));
+//!     Ok(())
+//! }
+//! ```
 #![tactic(auto)]
 
 mod line_buffer;

@@ -21,6 +21,7 @@ use crate::text::push_line;
 use pc_base::Moment;
 use pc_outside::{Sink, Source, write_whole};
 use std::alloc::{AllocError, Global};
+use text_fields::Text;
 
 /// How an import ended.
 #[derive(Clone, Copy, Debug, PartialEq, Eq)]
@@ -70,9 +71,9 @@ enum Stopped {
 }
 
 // Writes what waits of the trace, and empties it.
-fn write_out<K: Sink>(sink: &mut K, out: &mut Vec<u8>) -> Result<(), Unwritten>
-    ensures sent { OnOk result (IsSent (K.written sink.old) (K.written sink.new) out.old.items out.new.items) }
-    ensures cut { OnErr result (AppendsFront (K.written sink.old) (K.written sink.new) out.old.items) }
+fn write_out<K: Sink>(sink: &mut K, out: &mut Text) -> Result<(), Unwritten>
+    ensures sent { OnOk result (IsSent (K.written sink.old) (K.written sink.new) out.old out.new) }
+    ensures cut { OnErr result (AppendsFront (K.written sink.old) (K.written sink.new) out.old) }
     ensures no_other { OnErr result (result ≡ Err Unwritten.WriteFault) }
 
     ensures later { K.faults sink.old ≤ K.faults sink.new }
@@ -93,21 +94,21 @@ fn take_record<K: Sink>(
     held: &[u8],
     moment: Moment,
     sink: &mut K,
-    out: &mut Vec<u8>,
+    out: &mut Text,
 ) -> Result<(), Unwritten>
     requires { IsThere one head.now held.now }
 
     ensures taken { OnOk result (Takes (K.written sink.old) (K.written sink.new)
-        (out.old.items ++ text_of (stamped moment (record_in head.now held.now).said)) out.new.items) }
+        (out.old ++ text_of (stamped moment (record_in head.now held.now).said)) out.new) }
     ensures cut { result ≡ Err Unwritten.WriteFault → AppendsFront (K.written sink.old) (K.written sink.new)
-        (out.old.items ++ text_of (stamped moment (record_in head.now held.now).said)) }
+        (out.old ++ text_of (stamped moment (record_in head.now held.now).said)) }
     ensures kept { result ≡ Err Unwritten.NoMemory → sink.new ≡ sink.old }
 
     ensures later { K.faults sink.old ≤ K.faults sink.new }
     ensures fault { result ≡ Err Unwritten.WriteFault → Rises (K.faults sink.old) (K.faults sink.new) }
 {
     push_lent(out, moment, said_in(head, one, held))?;
-    if out.len() < PIECE_LEN {
+    if out.as_slice().len() < PIECE_LEN {
         return Ok(());
     }
     write_out(sink, out)
@@ -123,12 +124,8 @@ fn said_in<'a>(head: &CaptureHead, one: RecordHead, held: &'a [u8]) -> Option<Le
 }
 
 // Appends the line of a record, if it carries one.
-fn push_lent(
-    out: &mut Vec<u8>,
-    moment: Moment,
-    said: Option<LentKind<'_>>,
-) -> Result<(), AllocError>
-    ensures { OnOk result (out.new.items ≡ out.old.items ++ text_of (stamped moment (said_by said.entry))) }
+fn push_lent(out: &mut Text, moment: Moment, said: Option<LentKind<'_>>) -> Result<(), AllocError>
+    ensures { OnOk result (out.new ≡ out.old ++ text_of (stamped moment (said_by said.entry))) }
 {
     match said {
         Some(said) => push_line(out, moment, said),
@@ -152,13 +149,13 @@ fn import_records<S: Source, K: Sink>(
     source: &mut S,
     sink: &mut K,
     block: &mut Block,
-    out: &mut Vec<u8>,
+    out: &mut Text,
 ) -> Result<Stopped, Unwritten>
     requires fresh { block.old ≡ record { held = []; room = 2 ^ 40 } }
-    requires empty { out.old.items ≡ [] }
+    requires empty { out.old ≡ [] }
 
     ensures ended { IfOk result (λ stop. Ends stop (S.left source.old) (S.left source.new)
-        (K.written sink.old) (K.written sink.new) out.new.items) }
+        (K.written sink.old) (K.written sink.new) out.new) }
     ensures cut { IfErr result (λ why. Cuts why (S.left source.old) (S.left source.new)
         (K.written sink.old) (K.written sink.new)) }
 
@@ -226,8 +223,8 @@ fn imported_without(why: Unwritten) -> Imported
 }
 
 // Writes what still waits of the trace.
-fn end_import<K: Sink>(stop: Stopped, sink: &mut K, out: &mut Vec<u8>) -> Imported
-    ensures runs { (start left old : Option (List ℕ)) → Ends stop start left old (K.written sink.old) out.old.items
+fn end_import<K: Sink>(stop: Stopped, sink: &mut K, out: &mut Text) -> Imported
+    ensures runs { (start left old : Option (List ℕ)) → Ends stop start left old (K.written sink.old) out.old
         → Runs result start left old (K.written sink.new) }
     ensures read_fault { result ≡ Imported.ReadFault → stop ≡ Stopped.ReadFault }
 
@@ -255,7 +252,7 @@ pub fn import<S: Source, K: Sink>(alloc: Global, source: &mut S, sink: &mut K) -
         Ok(block) => block,
         Err(AllocError) => return Imported::NoMemory,
     };
-    let mut out = Vec::new(alloc);
+    let mut out = Text::new(alloc);
     match import_records(source, sink, &mut block, &mut out) {
         Ok(stop) => end_import(stop, sink, &mut out),
         Err(why) => imported_without(why),

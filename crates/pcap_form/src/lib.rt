@@ -4,9 +4,13 @@
 //! record by record, through a block of 640 KiB, and writes its trace.
 //!
 //! ```
-//! let head = CaptureHead { little: false, nanos: false, ethernet: false };
-//! let packet = [0x45, 0, 0, 0x14, 0, 0, 0, 0, 64, 253, 0, 0, 203, 0, 113, 9, 10, 45, 0, 2];
-//! assert_eq!(lent_kind(&head, &packet), Some(LentKind::Sgi(&packet)));
+//! use pcap_form::{CaptureHead, LentKind, lent_kind};
+//!
+//! fn main(rt: HostRuntime) {
+//!     let head = CaptureHead { little: false, nanos: false, ethernet: false };
+//!     let packet = [0x45, 0, 0, 0x14, 0, 0, 0, 0, 64, 253, 0, 0, 203, 0, 113, 9, 10, 45, 0, 2];
+//!     assert_eq!(rt; lent_kind(&head, &packet), Some(LentKind::Sgi(&packet)));
+//! }
 //! ```
 #![tactic(auto)]
 

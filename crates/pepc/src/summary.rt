@@ -33,7 +33,7 @@ pub fn counted(alloc: Global, seed: u64, subs: u32, lines: u32) -> Result<EntryC
     let mut maker = Maker::new(seed, subs, lines);
     let mut gateway = Solo::new(alloc);
     let mut size = Size::new();
-    let mut text = Vec::new(alloc);
+    let mut text = Text::new(alloc);
     let mut report = Text::new(alloc);
     let mut counts = EntryCounts::new();
     while let Some(line) = made_line(alloc, &mut maker)? {
@@ -58,7 +58,7 @@ fn spend_line(
     gateway: &mut Solo,
     size: &mut Size,
     line: TraceLine,
-    text: &mut Vec<u8>,
+    text: &mut Text,
     report: &mut Text,
     counts: &mut EntryCounts,
 ) -> Result<(), AllocError>
@@ -83,7 +83,7 @@ fn count_line(
     gateway: &mut Solo,
     size: &mut Size,
     line: &TraceLine,
-    text: &mut Vec<u8>,
+    text: &mut Text,
     report: &mut Text,
     counts: &mut EntryCounts,
 ) -> Result<(), AllocError>
@@ -102,7 +102,7 @@ fn count_line(
     text.clear();
     push_text(text, line)?;
     gateway.enter(alloc, line, report)?;
-    if !size.take(line, text.len() as u64) {
+    if !size.take(line, text.as_slice().len() as u64) {
         return Ok(());
     }
     end_epoch(gateway, report, counts)

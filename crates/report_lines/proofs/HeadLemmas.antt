@@ -1,7 +1,8 @@
 -- A head and the octets behind it are an entry's text.
 use Rattle.std.proofs.Common.{◌≡◌, ℕ, ◌/◌, ◌%◌, get_or, List, [], ◌∷◌, ◌++◌, refl, sym, ap, ◌∙◌, append_assoc, append-nil, Result, Ok, Err}
-use Rattle.std.specs.Prelude.{OnOk}
+use Rattle.std.specs.Prelude.{decimal, OnOk}
 use Rattle.std.specs.declared.alloc.AllocError.{AllocError}
+use Rattle.charging_book.specs.Rows.{Counters}
 use Rattle.hex.specs.Hex.{encode_lower, encode_with, lower_digits}
 use Rattle.gtpu_codec.specs.Text.{spelling}
 use Rattle.gtpu_codec.specs.declared.message.GtpU.TheVariants.{Gpdu}
@@ -59,9 +60,26 @@ all_in_head (Ok done) word fields out head new is appended =
     ∙ sym (joined-behind (word ∷ []) fields))
 all_in_head (Err why) word fields out head new is appended = tt
 
--- fields alone, behind what stands there
-pub fields_in_head : (answer : Result (Unit {0}) AllocError) (fields : List (List ℕ)) (out head new : List ℕ)
-    → head ≡ led fields [] → OnOk answer (new ≡ out ++ head) → OnOk answer (new ≡ out ++ behind fields)
-fields_in_head (Ok done) fields out head new is appended =
-    appended ∙ ap (λ text. out ++ text) (is ∙ led-behind fields [] ∙ append-nil (behind fields))
-fields_in_head (Err why) fields out head new is appended = tt
+-- the fields in two heads
+pub two_heads : (answer : Result (Unit {0}) AllocError) (word : ℕ) (fields more : List (List ℕ))
+    (out first second new : List ℕ)
+    → first ≡ word ∷ led fields [] → second ≡ led more [] → OnOk answer (new ≡ (out ++ first) ++ second)
+    → OnOk answer (new ≡ out ++ joined ((word ∷ []) ∷ (fields ++ more)))
+two_heads (Ok done) word fields more out first second new is also appended =
+    appended ∙ append_assoc out first second
+    ∙ ap (λ text. out ++ (text ++ second))
+    (is ∙ ap (λ text. word ∷ text) (led-behind fields [] ∙ append-nil (behind fields)))
+    ∙ ap (λ text. out ++ (word ∷ (behind fields ++ text))) (also ∙ led-behind more [] ∙ append-nil (behind more))
+    ∙ ap (λ text. out ++ (word ∷ text)) (sym (behind-append fields more))
+    ∙ ap (λ text. out ++ text) (sym (joined-behind (word ∷ []) (fields ++ more)))
+two_heads (Err why) word fields more out first second new is also appended = tt
+
+-- the fields of a charging record, or of open counters, in either head
+abbrev pub piece_fields : ℕ → Counters → List (List ℕ)
+piece_fields slot counters =
+    decimal slot ∷ decimal counters.life ∷ decimal counters.ebi ∷ decimal counters.qci ∷ decimal counters.seq ∷ []
+
+abbrev pub count_fields : Counters → List (List ℕ) → List (List ℕ)
+count_fields counters behind =
+    decimal counters.up_octets ∷ decimal counters.down_octets ∷ decimal counters.up_packets
+    ∷ decimal counters.down_packets ∷ behind

@@ -1,4 +1,4 @@
--- An answer that is what the fields are, or want of memory, in the words of entries and texts.
+-- An answer that is what the fields are, or out of memory, in the words of entries and texts.
 use Rattle.std.proofs.Common.{◌≡◌, ℕ, List, refl, sym, ap, ◌∙◌, Option, Some, None, Result, Ok, Err, inl, inr, alloc_error}
 use Rattle.std.specs.Prelude.{IfOk, IfSome}
 use Rattle.std.specs.declared.alloc.AllocError.{AllocError}

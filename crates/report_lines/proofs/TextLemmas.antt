@@ -1,11 +1,11 @@
 -- The text of an entry, and the entry that a text is.
-use Rattle.std.proofs.Common.{◌≡◌, ◌≢◌, ℕ, ◌^◌, ◌<◌, ◌==◌, Bool, true, false, List, [], ◌∷◌, ◌++◌, length, get_or, All, not, refl, sym, ap, ◌∙◌, arith, Option, Some, None, if◌then◌else◌}
+use Rattle.std.proofs.Common.{◌≡◌, ◌≢◌, ℕ, ◌^◌, ◌<◌, ◌≤◌, ◌==◌, ◌&&◌, nat_lt, nat_le, Bool, true, false, List, [], ◌∷◌, ◌++◌, length, get_or, All, refl, sym, ap, ◌∙◌, arith, Option, Some, None, if◌then◌else◌}
 use Rattle.std.specs.Prelude.{codes, decimal, IfSome}
 use Rattle.std.specs.List.{list_all}
 use Rattle.std.specs.Option.{option_map}
 use Rattle.std.specs.Str.{bytes_eq}
 use Rattle.std.proofs.lemmas.Bool.Decides.{nat_tests}
-use Rattle.std.proofs.lemmas.List.Elements.{All-cons}
+use Rattle.std.proofs.lemmas.List.Elements.{All-cons, All-append}
 use Rattle.std.proofs.lemmas.List.Splits.{slice_split_at}
 use Rattle.std.proofs.lemmas.List.Sums.{AllPass-from_list_all}
 use Rattle.std.proofs.lemmas.Slice.Eq.{bytes_eq-Decides}
@@ -26,7 +26,7 @@ use Rattle.pc_base.specs.declared.reply.Outcome.TheVariants.{Done, No, Again}
 use Rattle.text_fields.specs.Address.{dotted}
 use Rattle.text_fields.specs.Fields.{AllLack, space, joined, fields_of}
 use Rattle.text_fields.proofs.FieldLemmas.{pieces-joined, joined-pieces}
-use Rattle.text_fields.proofs.PlainLemmas.{IsField, field-decimal, field-dotted, field-encode_lower}
+use Rattle.text_fields.proofs.PlainLemmas.{IsLow, low_decimal, low_address, digits_between}
 use Rattle.report_lines.specs.declared.entry.Entry.{Entry}
 use Rattle.report_lines.specs.declared.entry.Entry.TheVariants as entry
 use Rattle.report_lines.specs.declared.entry.LineEntry.{LineEntry}
@@ -35,108 +35,141 @@ use Rattle.report_lines.specs.declared.entry.Refusal.{Refusal}
 use Rattle.report_lines.specs.declared.entry.ChargeEntry.{ChargeEntry}
 use Rattle.report_lines.specs.declared.entry.ChargeEntry.TheVariants as charge
 use Rattle.report_lines.specs.Ranges.{IsNumber, IsSlot, IsAnswered, IsJudged, IsOctets, IsVerdict, IsFate, IsPlace, IsMoment, AreCounters, IsLineEntry, IsEffect, IsChargeEntry, IsEntry}
-use Rattle.report_lines.specs.Records.{Noted, Answered, Judged, Effected}
+use Rattle.report_lines.specs.Records.{Noted, Answered, Judged, Effected, IsPrintable}
 use Rattle.report_lines.specs.Reading.{note_of, answered_of, judged_of, refusal_of, marker_of, settlement_of, slot_row, slot_open, entry_of_fields, entry_of}
 use Rattle.report_lines.specs.Text.{verdict_fields, fate_fields, place_fields, counters_fields, counters_of, row_fields, ending, line_fields, effect_fields, charge_fields, entry_text, line_shown, shown}
 use Rattle.report_lines.specs.Words.{outcome_word, why_word, message_word, moment_word, place_word, refused_word}
 use Rattle.report_lines.proofs.EntryLemmas.{answered_given, answered_taken, judged_given, judged_taken, refusal_given, refusal_taken, marker_given, marker_taken, settlement_given, settlement_taken, slot_row_given, slot_row_taken, slot_open_given, slot_open_taken, note_given, note_taken}
 
--- no field has a space
-abbrev Lacks : List ℕ → Type 0
-Lacks text = All (λ octet. octet ≢ 32) text
+-- an octet that prints and is no space; fields of these alone
+abbrev IsGraphic : ℕ → Type 0
+IsGraphic octet = (32 < octet) × (octet ≤ 0x7e)
 
-differs : (octet : ℕ) → not (octet == 32) ≡ true → octet ≢ 32
-differs octet test same = grind (arith, nat_tests)
+abbrev IsWord : List ℕ → Type 0
+IsWord text = All IsGraphic text
 
-word_lacks : (word : List ℕ) → list_all (λ octet. not (octet == 32)) word ≡ true → Lacks word
-word_lacks word test k d inside =
-    differs (get_or word k d) (AllPass-from_list_all (λ octet. not (octet == 32)) word test k d inside)
+abbrev AreWords : List (List ℕ) → Type 0
+AreWords [] = Unit {0}
+AreWords (text ∷ texts) = IsWord text × AreWords texts
 
-field_lacks : (text : List ℕ) → IsField text → Lacks text
-field_lacks text field k d inside = (field.plain k d inside).0
+abbrev is_graphic : ℕ → Bool
+is_graphic octet = nat_lt 32 octet && nat_le octet 0x7e
 
-number_lacks : (n : ℕ) → n < 2 ^ 64 → Lacks (decimal n)
-number_lacks n fits = field_lacks (decimal n) (field-decimal n fits)
+graphic : (octet : ℕ) → is_graphic octet ≡ true → IsGraphic octet
+graphic octet test = (grind (arith, nat_tests), grind (arith, nat_tests))
 
-octets_lack : (octets : List ℕ) → IsOctets octets → Lacks (encode_lower octets)
-octets_lack octets is = field_lacks (encode_lower octets) (field-encode_lower octets is.0 is.1)
+word_shown : (word : List ℕ) → list_all is_graphic word ≡ true → IsWord word
+word_shown word test k d inside =
+    graphic (get_or word k d) (AllPass-from_list_all is_graphic word test k d inside)
 
-address_lacks : (address : ℕ) → address < 2 ^ 32 → Lacks (dotted address)
-address_lacks address fits = field_lacks (dotted address) (field-dotted address fits)
+low_shown : (text : List ℕ) → All IsLow text → IsWord text
+low_shown text low k d inside = (omega (arith, (low k d inside).0), omega (arith, (low k d inside).1))
 
-outcome_lacks : (outcome : Outcome) → Lacks (outcome_word outcome)
-outcome_lacks Done = word_lacks (codes "ok") refl
-outcome_lacks No = word_lacks (codes "no") refl
-outcome_lacks Again = word_lacks (codes "again") refl
+number_shown : (n : ℕ) → n < 2 ^ 64 → IsWord (decimal n)
+number_shown n fits = low_shown (decimal n) (low_decimal n fits)
 
-why_lacks : (why : Why) → Lacks (why_word why)
-why_lacks Volume = word_lacks (codes "volume") refl
-why_lacks Qos = word_lacks (codes "qos") refl
-why_lacks Gone = word_lacks (codes "gone") refl
+octets_shown : (octets : List ℕ) → IsOctets octets → IsWord (encode_lower octets)
+octets_shown octets is k d inside =
+    let digit = digits_between octets is.1 k d inside in (omega (arith, digit.0), omega (arith, digit.1))
 
-message_lacks : (message : Option (List ℕ)) → IfSome message IsOctets → Lacks (message_word message)
-message_lacks None is = word_lacks (codes "-") refl
-message_lacks (Some octets) is = octets_lack octets is
+address_shown : (address : ℕ) → address < 2 ^ 32 → IsWord (dotted address)
+address_shown address fits = low_shown (dotted address) (low_address address fits)
 
-moment_lacks : (moment : Option ℕ) → IfSome moment IsMoment → Lacks (moment_word moment)
-moment_lacks None is = word_lacks (codes "-") refl
-moment_lacks (Some at) is = number_lacks at (omega (arith, is))
+-- such fields have no space
+word_lacks : (text : List ℕ) → IsWord text → All (λ octet. octet ≢ 32) text
+word_lacks text is k d inside same = omega (arith, (is k d inside).0, same)
 
-place_lacks : (place : Place) → IsPlace place → Lacks (place_word place)
-place_lacks (At slice) is =
-    All-cons (λ o. o ≢ 32) 64 (decimal slice) (λ same. omega (arith, same)) (number_lacks slice (omega (arith, is)))
-place_lacks Closing is = word_lacks (codes "@-") refl
+words_lack : (texts : List (List ℕ)) → AreWords texts → AllLack space texts
+words_lack [] are = tt
+words_lack (text ∷ texts) are = (word_lacks text are.0, words_lack texts are.1)
 
-refused_lacks : (packet : Bool) → Lacks (refused_word packet)
-refused_lacks true = word_lacks (codes "p") refl
-refused_lacks false = word_lacks (codes "c") refl
+-- and print, with a space between each two
+word_prints : (text : List ℕ) → IsWord text → All IsPrintable text
+word_prints text is k d inside = (omega (arith, (is k d inside).0), (is k d inside).1)
 
-places_lack : (place : Option Place) (parked : Bool) → IfSome place IsPlace → AllLack space (place_fields place parked)
-places_lack None parked is = tt
-places_lack (Some place) true is = (place_lacks place is, (word_lacks (codes "p") refl, tt))
-places_lack (Some place) false is = (place_lacks place is, tt)
+spaced : (first rest : List ℕ) → IsWord first → All IsPrintable rest → All IsPrintable (first ++ 32 ∷ rest)
+spaced first rest is prints =
+    All-append IsPrintable first (32 ∷ rest) (word_prints first is)
+    (All-cons IsPrintable 32 rest (omega arith, omega arith) prints)
 
-verdict_lacks : (told : Verdict) (rest : List (List ℕ)) → IsVerdict told → AllLack space rest
-    → AllLack space (verdict_fields told rest)
-verdict_lacks (verdict.Up life octets) rest is lack =
-    (word_lacks (codes "up") refl, (number_lacks life is.0, (octets_lack octets is.1, lack)))
-verdict_lacks (verdict.Down life peer octets) rest is lack = (
-  word_lacks (codes "down") refl,
+words_print : (first : List ℕ) (texts : List (List ℕ)) → IsWord first → AreWords texts
+    → All IsPrintable (joined (first ∷ texts))
+words_print first [] is are = word_prints first is
+words_print first (text ∷ texts) is are = spaced first (joined (text ∷ texts)) is (words_print text texts are.0 are.1)
+
+outcome_shown : (outcome : Outcome) → IsWord (outcome_word outcome)
+outcome_shown Done = word_shown (codes "ok") refl
+outcome_shown No = word_shown (codes "no") refl
+outcome_shown Again = word_shown (codes "again") refl
+
+why_shown : (why : Why) → IsWord (why_word why)
+why_shown Volume = word_shown (codes "volume") refl
+why_shown Qos = word_shown (codes "qos") refl
+why_shown Gone = word_shown (codes "gone") refl
+
+message_shown : (message : Option (List ℕ)) → IfSome message IsOctets → IsWord (message_word message)
+message_shown None is = word_shown (codes "-") refl
+message_shown (Some octets) is = octets_shown octets is
+
+moment_shown : (moment : Option ℕ) → IfSome moment IsMoment → IsWord (moment_word moment)
+moment_shown None is = word_shown (codes "-") refl
+moment_shown (Some at) is = number_shown at (omega (arith, is))
+
+place_shown : (place : Place) → IsPlace place → IsWord (place_word place)
+place_shown (At slice) is =
+    All-cons IsGraphic 64 (decimal slice) (omega arith, omega arith) (number_shown slice (omega (arith, is)))
+place_shown Closing is = word_shown (codes "@-") refl
+
+refused_shown : (packet : Bool) → IsWord (refused_word packet)
+refused_shown true = word_shown (codes "p") refl
+refused_shown false = word_shown (codes "c") refl
+
+places_shown : (place : Option Place) (parked : Bool) → IfSome place IsPlace → AreWords (place_fields place parked)
+places_shown None parked is = tt
+places_shown (Some place) true is = (place_shown place is, (word_shown (codes "p") refl, tt))
+places_shown (Some place) false is = (place_shown place is, tt)
+
+verdict_shown : (told : Verdict) (rest : List (List ℕ)) → IsVerdict told → AreWords rest
+    → AreWords (verdict_fields told rest)
+verdict_shown (verdict.Up life octets) rest is more =
+    (word_shown (codes "up") refl, (number_shown life is.0, (octets_shown octets is.1, more)))
+verdict_shown (verdict.Down life peer octets) rest is more = (
+  word_shown (codes "down") refl,
   (
-    number_lacks life is.0,
-    (address_lacks peer is.1, (octets_lack octets is.2, lack)),
+    number_shown life is.0,
+    (address_shown peer is.1, (octets_shown octets is.2, more)),
   ),
 )
-verdict_lacks verdict.NoBearer rest is lack = (word_lacks (codes "nobearer") refl, lack)
-verdict_lacks verdict.Spoof rest is lack = (word_lacks (codes "spoof") refl, lack)
-verdict_lacks (verdict.Idle life) rest is lack = (word_lacks (codes "idle") refl, (number_lacks life is, lack))
-verdict_lacks (verdict.Held life message) rest is lack =
-    (word_lacks (codes "held") refl, (number_lacks life is.0, (message_lacks message is.1, lack)))
-verdict_lacks (verdict.Policed life) rest is lack = (word_lacks (codes "policed") refl, (number_lacks life is, lack))
+verdict_shown verdict.NoBearer rest is more = (word_shown (codes "nobearer") refl, more)
+verdict_shown verdict.Spoof rest is more = (word_shown (codes "spoof") refl, more)
+verdict_shown (verdict.Idle life) rest is more = (word_shown (codes "idle") refl, (number_shown life is, more))
+verdict_shown (verdict.Held life message) rest is more =
+    (word_shown (codes "held") refl, (number_shown life is.0, (message_shown message is.1, more)))
+verdict_shown (verdict.Policed life) rest is more = (word_shown (codes "policed") refl, (number_shown life is, more))
 
-fate_lacks : (told : Fate) → IsFate told → AllLack space (fate_fields told)
-fate_lacks (fate.Down life peer octets) is =
-    (word_lacks (codes "down") refl, (number_lacks life is.0, (address_lacks peer is.1, (octets_lack octets is.2, tt))))
-fate_lacks (fate.Policed life) is = (word_lacks (codes "policed") refl, (number_lacks life is, tt))
-fate_lacks (fate.Gone life) is = (word_lacks (codes "gone") refl, (number_lacks life is, tt))
+fate_shown : (told : Fate) → IsFate told → AreWords (fate_fields told)
+fate_shown (fate.Down life peer octets) is =
+    (word_shown (codes "down") refl, (number_shown life is.0, (address_shown peer is.1, (octets_shown octets is.2, tt))))
+fate_shown (fate.Policed life) is = (word_shown (codes "policed") refl, (number_shown life is, tt))
+fate_shown (fate.Gone life) is = (word_shown (codes "gone") refl, (number_shown life is, tt))
 
-counters_lack : (counters : Counters) (rest : List (List ℕ)) → AreCounters counters → AllLack space rest
-    → AllLack space (counters_fields counters rest)
-counters_lack counters rest are lack = (
-  number_lacks counters.life (omega (arith, are.life)),
+counters_shown : (counters : Counters) (rest : List (List ℕ)) → AreCounters counters → AreWords rest
+    → AreWords (counters_fields counters rest)
+counters_shown counters rest are more = (
+  number_shown counters.life (omega (arith, are.life)),
   (
-    number_lacks counters.ebi (omega (arith, are.ebi)),
+    number_shown counters.ebi (omega (arith, are.ebi)),
     (
-      number_lacks counters.qci (omega (arith, are.qci)),
+      number_shown counters.qci (omega (arith, are.qci)),
       (
-        number_lacks counters.seq (omega (arith, are.seq)),
+        number_shown counters.seq (omega (arith, are.seq)),
         (
-          number_lacks counters.up_octets are.up_octets,
+          number_shown counters.up_octets are.up_octets,
           (
-            number_lacks counters.down_octets are.down_octets,
+            number_shown counters.down_octets are.down_octets,
             (
-              number_lacks counters.up_packets (omega (arith, are.up_packets)),
-              (number_lacks counters.down_packets (omega (arith, are.down_packets)), lack),
+              number_shown counters.up_packets (omega (arith, are.up_packets)),
+              (number_shown counters.down_packets (omega (arith, are.down_packets)), more),
             ),
           ),
         ),
@@ -145,104 +178,104 @@ counters_lack counters rest are lack = (
   ),
 )
 
-effect_lacks : (slot command : ℕ) (told : Effect) → IsSlot slot → IsNumber command → IsEffect told
-    → AllLack space (effect_fields slot command told)
-effect_lacks slot command (effect.Marker life peer octets) is_slot is_command is = (
-  word_lacks (codes "M") refl,
+effect_shown : (slot command : ℕ) (told : Effect) → IsSlot slot → IsNumber command → IsEffect told
+    → AreWords (effect_fields slot command told)
+effect_shown slot command (effect.Marker life peer octets) is_slot is_command is = (
+  word_shown (codes "M") refl,
   (
-    number_lacks slot (omega (arith, is_slot)),
+    number_shown slot (omega (arith, is_slot)),
     (
-      number_lacks life is.0,
+      number_shown life is.0,
       (
-        number_lacks command is_command,
-        (address_lacks peer is.1, (octets_lack octets is.2, tt)),
+        number_shown command is_command,
+        (address_shown peer is.1, (octets_shown octets is.2, tt)),
       ),
     ),
   ),
 )
-effect_lacks slot command (effect.Fate packet its_fate) is_slot is_command is = (
-  word_lacks (codes "H") refl,
+effect_shown slot command (effect.Fate packet its_fate) is_slot is_command is = (
+  word_shown (codes "H") refl,
   (
-    number_lacks slot (omega (arith, is_slot)),
-    (number_lacks packet is.0, (number_lacks command is_command, fate_lacks its_fate is.1)),
+    number_shown slot (omega (arith, is_slot)),
+    (number_shown packet is.0, (number_shown command is_command, fate_shown its_fate is.1)),
   ),
 )
 
-charge_lacks : (told : ChargeEntry) → IsChargeEntry told → AllLack space (charge_fields told)
-charge_lacks (charge.R slot row) is = (
-  word_lacks (codes "R") refl,
+charge_shown : (told : ChargeEntry) → IsChargeEntry told → AreWords (charge_fields told)
+charge_shown (charge.R slot row) is = (
+  word_shown (codes "R") refl,
   (
-    number_lacks slot (omega (arith, is.0)),
-    counters_lack (counters_of row) (ending row) is.1
-        (moment_lacks row.first is.2, (moment_lacks row.last is.3, (why_lacks row.why, tt))),
+    number_shown slot (omega (arith, is.0)),
+    counters_shown (counters_of row) (ending row) is.1
+        (moment_shown row.first is.2, (moment_shown row.last is.3, (why_shown row.why, tt))),
   ),
 )
-charge_lacks (charge.O slot counters) is =
-    (word_lacks (codes "O") refl, (number_lacks slot (omega (arith, is.0)), counters_lack counters [] is.1 tt))
+charge_shown (charge.O slot counters) is =
+    (word_shown (codes "O") refl, (number_shown slot (omega (arith, is.0)), counters_shown counters [] is.1 tt))
 
 -- fields come apart again
-apart : (first : List ℕ) (texts : List (List ℕ)) → AllLack space (first ∷ texts)
+apart : (first : List ℕ) (texts : List (List ℕ)) → AreWords (first ∷ texts)
     → entry_of (joined (first ∷ texts)) ≡ entry_of_fields (first ∷ texts)
-apart first texts lack = ap entry_of_fields (pieces-joined space first texts lack)
+apart first texts are = ap entry_of_fields (pieces-joined space first texts (words_lack (first ∷ texts) are))
 
 is_other : (octet : ℕ) → octet ≢ 32 → (octet == 32) ≡ false
 is_other octet other = grind (arith, nat_tests)
 
-pieces_front : (first rest : List ℕ) → Lacks first → fields_of (first ++ 32 ∷ rest) ≡ first ∷ fields_of rest
-pieces_front first rest lacks =
+pieces_front : (first rest : List ℕ) → IsWord first → fields_of (first ++ 32 ∷ rest) ≡ first ∷ fields_of rest
+pieces_front first rest is =
     slice_split_at (λ octet. octet == 32) first 32 rest
-    (λ k d inside. is_other (get_or first k d) (lacks k d inside)) refl
+    (λ k d inside. is_other (get_or first k d) (word_lacks first is k d inside)) refl
 
 note_read : (told : Noted) → IsEntry (entry.Line (line.N told))
     → entry_of (joined (line_fields (line.N told))) ≡ Some (entry.Line (line.N told))
 note_read told is =
     let rest = fields_of told.note in
-    let cut = pieces_front (codes "N") (joined (decimal told.line ∷ told.note ∷ [])) (word_lacks (codes "N") refl) in
-    let again = pieces_front (decimal told.line) told.note (number_lacks told.line is.0) in
+    let cut = pieces_front (codes "N") (joined (decimal told.line ∷ told.note ∷ [])) (word_shown (codes "N") refl) in
+    let again = pieces_front (decimal told.line) told.note (number_shown told.line is.0) in
     let fields : fields_of (joined (line_fields (line.N told))) ≡ codes "N" ∷ decimal told.line ∷ rest =
     cut ∙ ap (λ t. codes "N" ∷ t) again in
     ap entry_of_fields fields
     ∙ ap (λ noted. option_map (λ n. entry.Line (line.N n)) noted)
     (note_taken told.line rest told.note is.0 (joined-pieces space told.note) is.1)
 
-answer_lacks : (told : Answered) → IsAnswered told → AllLack space (line_fields (line.C told))
-answer_lacks told is = (
-  word_lacks (codes "C") refl,
+answer_shown : (told : Answered) → IsAnswered told → AreWords (line_fields (line.C told))
+answer_shown told is = (
+  word_shown (codes "C") refl,
   (
-    number_lacks told.line is.line,
+    number_shown told.line is.line,
     (
-      number_lacks told.slot (omega (arith, is.slot)),
+      number_shown told.slot (omega (arith, is.slot)),
       (
-        number_lacks told.number is.number,
-        (outcome_lacks told.reply.outcome, (message_lacks told.reply.message is.message, tt)),
+        number_shown told.number is.number,
+        (outcome_shown told.reply.outcome, (message_shown told.reply.message is.message, tt)),
       ),
     ),
   ),
 )
 
-judgement_lacks : (told : Judged) → IsJudged told → AllLack space (line_fields (line.P told))
-judgement_lacks told is = (
-  word_lacks (codes "P") refl,
+judgement_shown : (told : Judged) → IsJudged told → AreWords (line_fields (line.P told))
+judgement_shown told is = (
+  word_shown (codes "P") refl,
   (
-    number_lacks told.line is.line,
+    number_shown told.line is.line,
     (
-      number_lacks told.slot (omega (arith, is.slot)),
+      number_shown told.slot (omega (arith, is.slot)),
       (
-        number_lacks told.number is.number,
+        number_shown told.number is.number,
         (
-          number_lacks told.commands is.commands,
-          verdict_lacks told.verdict (place_fields told.place told.parked) is.verdict
-              (places_lack told.place told.parked is.place),
+          number_shown told.commands is.commands,
+          verdict_shown told.verdict (place_fields told.place told.parked) is.verdict
+              (places_shown told.place told.parked is.place),
         ),
       ),
     ),
   ),
 )
 
-refusal_lacks : (told : Refusal) → IsNumber told.line → IsSlot told.slot → AllLack space (line_fields (line.F told))
-refusal_lacks told is_line is_slot = (
-  word_lacks (codes "F") refl,
-  (number_lacks told.line is_line, (number_lacks told.slot (omega (arith, is_slot)), (refused_lacks told.packet, tt))),
+refusal_shown : (told : Refusal) → IsNumber told.line → IsSlot told.slot → AreWords (line_fields (line.F told))
+refusal_shown told is_line is_slot = (
+  word_shown (codes "F") refl,
+  (number_shown told.line is_line, (number_shown told.slot (omega (arith, is_slot)), (refused_shown told.packet, tt))),
 )
 
 effect_read : (its_slot command : ℕ) (told : Effect) → IsSlot its_slot → IsNumber command → IsEffect told
@@ -250,12 +283,12 @@ effect_read : (its_slot command : ℕ) (told : Effect) → IsSlot its_slot → I
     ≡ Some (entry.Effect (record { slot = its_slot; command = command; effect = told }))
 effect_read its_slot command (effect.Marker life peer octets) is_slot is_command is =
     apart (codes "M") (decimal its_slot ∷ decimal life ∷ decimal command ∷ dotted peer ∷ encode_lower octets ∷ [])
-    (effect_lacks its_slot command (effect.Marker life peer octets) is_slot is_command is)
+    (effect_shown its_slot command (effect.Marker life peer octets) is_slot is_command is)
     ∙ ap (λ read. option_map (λ (e : Effected). entry.Effect e) read)
     (marker_taken its_slot command life peer octets is_slot is_command is.0 is.1 is.2)
 effect_read its_slot command (effect.Fate packet its_fate) is_slot is_command is =
     apart (codes "H") (decimal its_slot ∷ decimal packet ∷ decimal command ∷ fate_fields its_fate)
-    (effect_lacks its_slot command (effect.Fate packet its_fate) is_slot is_command is)
+    (effect_shown its_slot command (effect.Fate packet its_fate) is_slot is_command is)
     ∙ ap (λ read. option_map (λ (e : Effected). entry.Effect e) read)
     (settlement_taken its_slot command packet its_fate is_slot is_command is.0 is.1)
 
@@ -265,24 +298,24 @@ entry_read (entry.Line (line.C told)) is =
     apart (codes "C")
     (decimal told.line ∷ decimal told.slot ∷ decimal told.number ∷ outcome_word told.reply.outcome
     ∷ message_word told.reply.message ∷ [])
-    (answer_lacks told is)
+    (answer_shown told is)
     ∙ ap (λ answered. option_map (λ a. entry.Line (line.C a)) answered) (answered_taken told is)
 entry_read (entry.Line (line.P told)) is =
     apart (codes "P")
     (decimal told.line ∷ decimal told.slot ∷ decimal told.number ∷ decimal told.commands
     ∷ verdict_fields told.verdict (place_fields told.place told.parked))
-    (judgement_lacks told is)
+    (judgement_shown told is)
     ∙ ap (λ judged. option_map (λ j. entry.Line (line.P j)) judged) (judged_taken told is)
 entry_read (entry.Line (line.F told)) is =
     apart (codes "F") (decimal told.line ∷ decimal told.slot ∷ refused_word told.packet ∷ [])
-    (refusal_lacks told is.0 is.1)
+    (refusal_shown told is.0 is.1)
     ∙ ap (λ refused. option_map (λ r. entry.Line (line.F r)) refused) (refusal_taken told is.0 is.1)
 entry_read (entry.Effect told) is = effect_read told.slot told.command told.effect is.slot is.command is.effect
 entry_read (entry.Charge (charge.R slot row)) is =
-    apart (codes "R") (decimal slot ∷ row_fields row) (charge_lacks (charge.R slot row) is)
+    apart (codes "R") (decimal slot ∷ row_fields row) (charge_shown (charge.R slot row) is)
     ∙ ap (λ both. option_map (λ r. entry.Charge (charge.R r.0 r.1)) both) (slot_row_taken slot row is)
 entry_read (entry.Charge (charge.O slot counters)) is =
-    apart (codes "O") (decimal slot ∷ counters_fields counters []) (charge_lacks (charge.O slot counters) is)
+    apart (codes "O") (decimal slot ∷ counters_fields counters []) (charge_shown (charge.O slot counters) is)
     ∙ ap (λ both. option_map (λ c. entry.Charge (charge.O c.0 c.1)) both) (slot_open_taken slot counters is)
 
 -- the other way round: a text that is read is the text of what was read
@@ -410,6 +443,48 @@ entry_given text told read =
 pub text_tells : (one other : Entry) → IsEntry one → IsEntry other → entry_text one ≡ entry_text other → one ≡ other
 text_tells one other is also same =
     same_entry one other (sym (entry_read one is) ∙ ap entry_of same ∙ entry_read other also)
+
+-- an entry's text prints
+line_prints : (told : LineEntry) → IsLineEntry told → All IsPrintable (joined (line_fields told))
+line_prints (line.N told) is =
+    spaced (codes "N") (joined (decimal told.line ∷ told.note ∷ [])) (word_shown (codes "N") refl)
+    (spaced (decimal told.line) told.note (number_shown told.line is.0) is.1.1)
+line_prints (line.C told) is =
+    let are = answer_shown told is in
+    words_print (codes "C")
+    (decimal told.line ∷ decimal told.slot ∷ decimal told.number ∷ outcome_word told.reply.outcome
+    ∷ message_word told.reply.message ∷ []) are.0 are.1
+line_prints (line.P told) is =
+    let are = judgement_shown told is in
+    words_print (codes "P")
+    (decimal told.line ∷ decimal told.slot ∷ decimal told.number ∷ decimal told.commands
+    ∷ verdict_fields told.verdict (place_fields told.place told.parked)) are.0 are.1
+line_prints (line.F told) is =
+    let are = refusal_shown told is.0 is.1 in
+    words_print (codes "F") (decimal told.line ∷ decimal told.slot ∷ refused_word told.packet ∷ []) are.0 are.1
+
+effect_prints : (slot command : ℕ) (told : Effect) → IsSlot slot → IsNumber command → IsEffect told
+    → All IsPrintable (joined (effect_fields slot command told))
+effect_prints slot command (effect.Marker life peer octets) is_slot is_command is =
+    let are = effect_shown slot command (effect.Marker life peer octets) is_slot is_command is in
+    words_print (codes "M") (decimal slot ∷ decimal life ∷ decimal command ∷ dotted peer ∷ encode_lower octets ∷ [])
+    are.0 are.1
+effect_prints slot command (effect.Fate packet its_fate) is_slot is_command is =
+    let are = effect_shown slot command (effect.Fate packet its_fate) is_slot is_command is in
+    words_print (codes "H") (decimal slot ∷ decimal packet ∷ decimal command ∷ fate_fields its_fate) are.0 are.1
+
+charge_prints : (told : ChargeEntry) → IsChargeEntry told → All IsPrintable (joined (charge_fields told))
+charge_prints (charge.R slot row) is =
+    let are = charge_shown (charge.R slot row) is in
+    words_print (codes "R") (decimal slot ∷ row_fields row) are.0 are.1
+charge_prints (charge.O slot counters) is =
+    let are = charge_shown (charge.O slot counters) is in
+    words_print (codes "O") (decimal slot ∷ counters_fields counters []) are.0 are.1
+
+pub entry_prints : (told : Entry) → IsEntry told → All IsPrintable (entry_text told)
+entry_prints (entry.Line told) is = line_prints told is
+entry_prints (entry.Effect told) is = effect_prints told.slot told.command told.effect is.slot is.command is.effect
+entry_prints (entry.Charge told) is = charge_prints told is
 
 -- an entry without its place
 line_shown_is : (told : LineEntry) (places : Bool) → IsLineEntry told → IsLineEntry (line_shown places told)

@@ -1,6 +1,7 @@
 -- Fields behind one another, as a writer appends them.
-use Rattle.std.proofs.Common.{◌≡◌, ℕ, Bool, true, false, List, [], ◌∷◌, ◌++◌, refl, sym, ap, ◌∙◌, append_assoc, append-nil, Result, Ok, Err}
-use Rattle.std.specs.Prelude.{decimal, codes, OnOk}
+use Rattle.std.proofs.Common.{◌≡◌, ℕ, Bool, true, false, List, [], ◌∷◌, ◌++◌, length, take, refl, sym, ap, ◌∙◌, append_assoc, append-nil, Result, Ok, Err}
+use Rattle.std.proofs.Math.Seq.{take-append_seam}
+use Rattle.std.specs.Prelude.{decimal, codes, OnOk, OnErr}
 use Rattle.std.specs.declared.alloc.AllocError.{AllocError}
 use Rattle.pc_base.specs.declared.packet.Verdict.{Verdict}
 use Rattle.pc_base.specs.declared.packet.Verdict.TheVariants as verdict
@@ -72,3 +73,17 @@ pub alone_by : (told : Judged) (places : Bool) (old new : List ℕ) → places �
     → new ≡ old ++ joined (line_fields (line.P (without_place told)))
     → new ≡ old ++ joined (line_fields (line_shown places (line.P told)))
 alone_by told places old new is front = front ∙ ap (λ text. old ++ text) (sym (judged_alone told places is))
+
+-- what was appended behind a judgement without its place
+pub placed_by : (told : Judged) (answer : Result (Unit {0}) AllocError) (old mid new : List ℕ)
+    → mid ≡ old ++ joined (line_fields (line.P (without_place told)))
+    → OnOk answer (new ≡ mid ++ behind (place_fields told.place told.parked))
+    → OnOk answer (new ≡ old ++ joined (line_fields (line.P told)))
+placed_by told answer old mid new front appended = shown_by told true answer old mid new _ refl front refl appended
+
+-- what is cut back to where it began
+pub cut_back : (answer : Result (Unit {0}) AllocError) (old mid new text : List ℕ) (start : ℕ)
+    → start ≡ length old → mid ≡ old ++ text → OnErr answer (new ≡ take start mid) → OnErr answer (new ≡ old)
+cut_back (Ok done) old mid new text start is front back = tt
+cut_back (Err why) old mid new text start is front back =
+    back ∙ ap (take start) front ∙ ap (λ n. take n (old ++ text)) is ∙ take-append_seam old text

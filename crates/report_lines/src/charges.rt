@@ -1,16 +1,18 @@
 //! Charging records and open counters, both ways.
-ghost use Rattle.std.specs.Prelude.{◌≡◌, ◌++◌, ◌∷◌, [], decimal, OnOk};
-ghost use Rattle.text_fields.specs.Fields.{space, pieces_left, behind};
+ghost use Rattle.std.specs.Prelude.{◌≡◌, ◌+◌, ◌≤◌, ◌++◌, ◌∷◌, decimal, length, OnOk, OnErr};
+ghost use Rattle.text_fields.specs.Fields.{space, pieces_left};
+ghost use Rattle.report_lines.specs.declared.entry.Entry.TheVariants as entry;
+ghost use Rattle.report_lines.specs.declared.entry.ChargeEntry.TheVariants as charge;
 ghost use Rattle.report_lines.specs.Reading.{Gives, counters_at, row_of, row_with, open_of};
-ghost use Rattle.report_lines.specs.Text.{counters_fields, row_fields, ending};
-ghost use Rattle.report_lines.specs.Words.{moment_word};
+ghost use Rattle.report_lines.specs.Text.{entry_text};
+ghost use Rattle.report_lines.specs.Words.{moment_word, why_word};
 
 use crate::NoMemory;
 use crate::fields::{next_count, next_moment, next_number, next_octet};
 use crate::heads::put_four;
 use crate::words::{read_why, why_word};
 use charging_book::{ChargeRow, Open, Why};
-use pc_base::Moment;
+use pc_base::{Moment, Slot};
 use text_fields::{Head, Text, next_piece};
 
 fn next_counters(left: Option<&[u8]>) -> Option<(Open, Option<&[u8]>)>
@@ -87,73 +89,82 @@ fn row(counters: Open, first: Option<Moment>, last: Option<Moment>, why: Why) ->
     }
 }
 
-pub(crate) fn push_counters(out: &mut Text, counters: &Open) -> Result<(), NoMemory>
-    ensures { OnOk result (out.new ≡ out.old ++ behind (counters_fields counters.now [])) }
+/// Appends the entry of a charging record of a slot.
+pub fn push_row(out: &mut Text, slot: Slot, row: &ChargeRow) -> Result<(), NoMemory>
+    ensures appended { OnOk result (out.new ≡ out.old ++ entry_text (entry.Charge (charge.R slot row.now))) }
+    ensures kept { OnErr result (out.new ≡ out.old) }
 {
-    push_piece(out, counters.life, counters.ebi, counters.qci, counters.seq)?;
-    push_counts(
-        out,
-        counters.up_octets,
-        counters.down_octets,
-        counters.up_packets,
-        counters.down_packets,
-    )
-}
-
-// Which piece of which bearer's life.
-fn push_piece(out: &mut Text, life: u64, ebi: u8, qci: u8, seq: u64) -> Result<(), NoMemory>
-    ensures { OnOk result (out.new
-        ≡ out.old ++ behind (decimal life ∷ decimal ebi ∷ decimal qci ∷ decimal seq ∷ [])) }
-{
-    let mut head = Head::new();
-    put_four(&mut head, life, u64::from(ebi), u64::from(qci), seq);
-    out.extend_from_slice(head.as_slice())
-}
-
-// How many octets and packets it has, each up and down.
-fn push_counts(
-    out: &mut Text,
-    up_octets: u64,
-    down_octets: u64,
-    up_packets: u64,
-    down_packets: u64,
-) -> Result<(), NoMemory>
-    ensures { OnOk result (out.new ≡ out.old
-        ++ behind (decimal up_octets ∷ decimal down_octets ∷ decimal up_packets ∷ decimal down_packets ∷ [])) }
-{
-    let mut head = Head::new();
-    put_four(&mut head, up_octets, down_octets, up_packets, down_packets);
-    out.extend_from_slice(head.as_slice())
-}
-
-pub(crate) fn push_row_fields(out: &mut Text, row: &ChargeRow) -> Result<(), NoMemory>
-    ensures { OnOk result (out.new ≡ out.old ++ behind (row_fields row.now)) }
-{
-    push_piece(out, row.life, row.ebi, row.qci, row.seq)?;
-    push_counts(
-        out,
+    let mut piece = Head::new();
+    put_piece(&mut piece, slot, row.life, row.ebi, row.qci, row.seq);
+    piece.put(b'R');
+    let mut counts = Head::new();
+    put_ending(&mut counts, row.first, row.last, row.why);
+    put_four(
+        &mut counts,
         row.up_octets,
         row.down_octets,
         row.up_packets,
         row.down_packets,
-    )?;
-    push_ending(out, row)
+    );
+    out.push_parts(piece.as_slice(), counts.as_slice())
+}
+
+/// Appends the entry of a slot's open counters.
+pub fn push_open(out: &mut Text, slot: Slot, counters: &Open) -> Result<(), NoMemory>
+    ensures appended { OnOk result (out.new ≡ out.old ++ entry_text (entry.Charge (charge.O slot counters.now))) }
+    ensures kept { OnErr result (out.new ≡ out.old) }
+{
+    let mut piece = Head::new();
+    put_piece(
+        &mut piece,
+        slot,
+        counters.life,
+        counters.ebi,
+        counters.qci,
+        counters.seq,
+    );
+    piece.put(b'O');
+    let mut counts = Head::new();
+    put_four(
+        &mut counts,
+        counters.up_octets,
+        counters.down_octets,
+        counters.up_packets,
+        counters.down_packets,
+    );
+    out.push_parts(piece.as_slice(), counts.as_slice())
+}
+
+// The slot, and which piece of which bearer's life.
+fn put_piece(head: &mut Head, slot: Slot, life: u64, ebi: u8, qci: u8, seq: u64)
+    requires { length head.old ≤ 1 }
+    ensures value { head.new ≡ 32 ∷ decimal slot ++ (32 ∷ decimal life ++ (32 ∷ decimal ebi ++ (32 ∷ decimal qci
+        ++ (32 ∷ decimal seq ++ head.old)))) }
+    ensures len { length head.new ≤ length head.old + 105 }
+{
+    put_four(head, life, u64::from(ebi), u64::from(qci), seq);
+    head.put_number(u64::from(slot.0));
 }
 
 // The moments of a piece, and why it was finished.
-fn push_ending(out: &mut Text, row: &ChargeRow) -> Result<(), NoMemory>
-    ensures { OnOk result (out.new ≡ out.old ++ behind (ending row.now)) }
+fn put_ending(head: &mut Head, first: Option<Moment>, last: Option<Moment>, why: Why)
+    requires { length head.old ≤ 1 }
+    ensures value { head.new ≡ 32 ∷ moment_word first ++ (32 ∷ moment_word last ++ (32 ∷ why_word why ++ head.old)) }
+    ensures len { length head.new ≤ length head.old + 49 }
 {
-    push_moment(out, row.first)?;
-    push_moment(out, row.last)?;
-    out.push_field(why_word(row.why).as_bytes())
+    head.put_word(why_word(why).as_bytes());
+    put_moment(head, last);
+    put_moment(head, first);
 }
 
-fn push_moment(out: &mut Text, moment: Option<Moment>) -> Result<(), NoMemory>
-    ensures { OnOk result (out.new ≡ out.old ++ 32 ∷ moment_word moment) }
+// A moment, or a dash for none.
+fn put_moment(head: &mut Head, moment: Option<Moment>)
+    requires { length head.old ≤ 100 }
+    ensures value { head.new ≡ 32 ∷ moment_word moment ++ head.old }
+    ensures len { length head.new ≤ length head.old + 21 }
 {
     match moment {
-        None => out.push_field(b"-"),
-        Some(moment) => out.push_number(moment.0),
+        None => head.put_word(b"-"),
+        Some(moment) => head.put_number(moment.0),
     }
 }

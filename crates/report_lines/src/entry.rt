@@ -1,4 +1,7 @@
 //! The entries of a report, by what they answer.
+ghost use Rattle.std.specs.Prelude.{◌≡◌, IfOk};
+
+use crate::NoMemory;
 use charging_book::{ChargeRow, Open};
 use pc_base::{Effect, Octets, Place, Reply, Slot, Verdict};
 use std::marker::Model;
@@ -9,6 +12,19 @@ pub enum Entry {
     Line(LineEntry),
     Effect(EffectEntry),
     Charge(ChargeEntry),
+}
+
+impl Entry {
+    /// A copy that owns its octets.
+    pub fn try_clone(&self) -> Result<Entry, NoMemory>
+        ensures { IfOk result (λ copy. copy ≡ self.now) }
+    {
+        Ok(match self {
+            Entry::Line(entry) => Entry::Line(entry.try_clone()?),
+            Entry::Effect(entry) => Entry::Effect(entry.try_clone()?),
+            Entry::Charge(entry) => Entry::Charge(*entry),
+        })
+    }
 }
 
 /// The answer to a line of the trace: each line has one.
@@ -24,8 +40,22 @@ pub enum LineEntry {
     F(Refusal),
 }
 
+impl LineEntry {
+    /// A copy that owns its octets.
+    pub fn try_clone(&self) -> Result<LineEntry, NoMemory>
+        ensures { IfOk result (λ copy. copy ≡ self.now) }
+    {
+        Ok(match self {
+            LineEntry::N(note) => LineEntry::N(note.try_clone()?),
+            LineEntry::C(answer) => LineEntry::C(answer.try_clone()?),
+            LineEntry::P(judgement) => LineEntry::P(judgement.try_clone()?),
+            LineEntry::F(refusal) => LineEntry::F(*refusal),
+        })
+    }
+}
+
 /// What is charged for a slot.
-#[derive(Debug, Drop, PartialEq, Eq)]
+#[derive(Clone, Copy, Debug, PartialEq, Eq)]
 pub enum ChargeEntry {
     /// A charging record.
     R { slot: Slot, row: ChargeRow },
@@ -52,6 +82,17 @@ impl Model for Note {
     ghost inverse = { λ noted. record { line = noted.line; note = noted.note } };
 }
 
+impl Note {
+    fn try_clone(&self) -> Result<Note, NoMemory>
+        ensures { IfOk result (λ copy. copy ≡ self.now) }
+    {
+        Ok(Note {
+            line: self.line,
+            note: self.note.try_clone()?,
+        })
+    }
+}
+
 /// The reply to the command of this number of a slot. A message has at least one octet.
 #[derive(Debug, Drop, PartialEq, Eq)]
 pub struct Answer {
@@ -71,6 +112,19 @@ impl Model for Answer {
     ghost invariant = { λ held. KeepsReply held.reply };
 
     ghost inverse = { λ told. record { line = told.line; slot = told.slot; number = told.number; reply = told.reply } };
+}
+
+impl Answer {
+    fn try_clone(&self) -> Result<Answer, NoMemory>
+        ensures { IfOk result (λ copy. copy ≡ self.now) }
+    {
+        Ok(Answer {
+            line: self.line,
+            slot: self.slot,
+            number: self.number,
+            reply: self.reply.try_clone()?,
+        })
+    }
 }
 
 /// The verdict on the packet of this number of a slot, judged behind so many of the slot's commands;
@@ -115,6 +169,22 @@ impl Model for Judgement {
     } };
 }
 
+impl Judgement {
+    fn try_clone(&self) -> Result<Judgement, NoMemory>
+        ensures { IfOk result (λ copy. copy ≡ self.now) }
+    {
+        Ok(Judgement {
+            line: self.line,
+            slot: self.slot,
+            number: self.number,
+            commands: self.commands,
+            verdict: self.verdict.try_clone()?,
+            place: self.place,
+            parked: self.parked,
+        })
+    }
+}
+
 /// What found its queue full.
 #[derive(Clone, Copy, Debug, PartialEq, Eq)]
 pub struct Refusal {
@@ -143,4 +213,17 @@ impl Model for EffectEntry {
     ghost invariant = { λ held. KeepsEffect held.effect };
 
     ghost inverse = { λ told. record { slot = told.slot; command = told.command; effect = told.effect } };
+}
+
+impl EffectEntry {
+    /// A copy that owns its octets.
+    pub fn try_clone(&self) -> Result<EffectEntry, NoMemory>
+        ensures { IfOk result (λ copy. copy ≡ self.now) }
+    {
+        Ok(EffectEntry {
+            slot: self.slot,
+            command: self.command,
+            effect: self.effect.try_clone()?,
+        })
+    }
 }

@@ -6,16 +6,12 @@ ghost use Rattle.text_fields.specs.Hexadecimal.{lower_octets_of};
 ghost use Rattle.report_lines.specs.Reading.{Gives, next, number, counted, slot, message_of, moment_of};
 ghost use Rattle.report_lines.specs.Records.{HasOctets};
 
-use pc_base::{Addr4, Moment, Octets, Slot};
+use pc_base::{Addr4, LAST_MOMENT, LAST_SLOT, Moment, Octets, Slot};
 use std::alloc::{AllocError as NoMemory, Global};
 use text_fields::{next_piece, read_lower_octets, read_number};
 
 // Lives, sequence numbers and packets are counted up to this one.
 const LAST_COUNT: u64 = 1 << 61;
-
-const LAST_SLOT: u64 = 65_532;
-
-const LAST_MOMENT: u64 = (1 << 50) - 1;
 
 pub(crate) fn next_number(left: Option<&[u8]>, last: u64) -> Option<(u64, Option<&[u8]>)>
     ensures given { Gives result (number last (pieces_left space left.entry)) }
@@ -43,7 +39,7 @@ pub(crate) fn next_octet(left: Option<&[u8]>) -> Option<(u8, Option<&[u8]>)>
 pub(crate) fn next_slot(left: Option<&[u8]>) -> Option<(Slot, Option<&[u8]>)>
     ensures given { Gives result (slot (pieces_left space left.entry)) }
 {
-    let (number, rest) = next_number(left, LAST_SLOT)?;
+    let (number, rest) = next_number(left, u64::from(LAST_SLOT))?;
     Some((Slot(number as u32), rest))
 }
 

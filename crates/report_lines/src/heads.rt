@@ -1,6 +1,6 @@
 //! The entries of packets, which most entries are: a head put together from its last field to its first, and the
 //! octets behind it.
-ghost use Rattle.std.specs.Prelude.{◌≡◌, ◌+◌, ◌≤◌, ◌<◌, ◌^◌, ◌++◌, ◌∷◌, [], codes, decimal, length, OnOk};
+ghost use Rattle.std.specs.Prelude.{◌≡◌, ◌+◌, ◌≤◌, ◌<◌, ◌^◌, ◌++◌, ◌∷◌, [], codes, decimal, length, OnOk, OnErr};
 ghost use Rattle.hex.specs.Hex.{encode_lower};
 ghost use Rattle.packet_steps.specs.Messages.{gpdu};
 ghost use Rattle.text_fields.specs.Address.{dotted};
@@ -8,9 +8,8 @@ ghost use Rattle.text_fields.specs.Fields.{joined};
 ghost use Rattle.report_lines.specs.Words.{message_word};
 
 use crate::NoMemory;
-use crate::packets::push_message;
 use gtpu_codec::gpdu_head;
-use pc_base::{Octets, Peer, Slot};
+use pc_base::{Addr4, Octets, Peer, Slot};
 use text_fields::{Head, Text};
 
 /// A slot's packet of this number, behind so many of its commands, on a line.
@@ -22,20 +21,25 @@ pub(crate) struct Which {
     pub commands: u64,
 }
 
-pub(crate) fn push_up(
+/// A word, a life and octets.
+#[inline(always)]
+pub(crate) fn push_octets(
     out: &mut Text,
     packet: Which,
+    word: &[u8],
     life: u64,
     octets: &[u8],
 ) -> Result<(), NoMemory>
-    ensures { OnOk result (out.new ≡ out.old ++ joined (codes "P" ∷ decimal packet.line ∷ decimal packet.slot
-        ∷ decimal packet.number ∷ decimal packet.commands ∷ codes "up" ∷ decimal life
+    requires { length word.now ≤ 8 }
+    ensures appended { OnOk result (out.new ≡ out.old ++ joined (codes "P" ∷ decimal packet.line ∷ decimal packet.slot
+        ∷ decimal packet.number ∷ decimal packet.commands ∷ word.now ∷ decimal life
         ∷ encode_lower octets.now ∷ [])) }
+    ensures kept { OnErr result (out.new ≡ out.old) }
 {
     let mut head = Head::new();
     head.put(b' ');
     head.put_number(life);
-    head.put_word(b"up");
+    head.put_word(word);
     put_counts(&mut head, packet);
     out.push_headed(head.as_slice(), octets)
 }
@@ -49,9 +53,10 @@ pub(crate) fn push_down(
     octets: &[u8],
 ) -> Result<(), NoMemory>
     requires { length octets.now < 2 ^ 16 }
-    ensures { OnOk result (out.new ≡ out.old ++ joined (codes "P" ∷ decimal packet.line ∷ decimal packet.slot
+    ensures appended { OnOk result (out.new ≡ out.old ++ joined (codes "P" ∷ decimal packet.line ∷ decimal packet.slot
         ∷ decimal packet.number ∷ decimal packet.commands ∷ codes "down" ∷ decimal life ∷ dotted peer.addr
         ∷ encode_lower (gpdu peer octets.now) ∷ [])) }
+    ensures kept { OnErr result (out.new ≡ out.old) }
 {
     let tunnel = gpdu_head(peer.teid, octets.len() as u16);
     let mut head = Head::new();
@@ -64,10 +69,33 @@ pub(crate) fn push_down(
     out.push_headed(head.as_slice(), octets)
 }
 
+/// A packet that went down, by the octets of its G-PDU.
+pub(crate) fn push_sent(
+    out: &mut Text,
+    packet: Which,
+    life: u64,
+    peer: Addr4,
+    octets: &[u8],
+) -> Result<(), NoMemory>
+    ensures appended { OnOk result (out.new ≡ out.old ++ joined (codes "P" ∷ decimal packet.line ∷ decimal packet.slot
+        ∷ decimal packet.number ∷ decimal packet.commands ∷ codes "down" ∷ decimal life ∷ dotted peer
+        ∷ encode_lower octets.now ∷ [])) }
+    ensures kept { OnErr result (out.new ≡ out.old) }
+{
+    let mut head = Head::new();
+    head.put(b' ');
+    head.put_address(peer.0);
+    head.put_number(life);
+    head.put_word(b"down");
+    put_counts(&mut head, packet);
+    out.push_headed(head.as_slice(), octets)
+}
+
 pub(crate) fn push_word(out: &mut Text, packet: Which, word: &[u8]) -> Result<(), NoMemory>
     requires { length word.now ≤ 8 }
-    ensures { OnOk result (out.new ≡ out.old ++ joined (codes "P" ∷ decimal packet.line ∷ decimal packet.slot
+    ensures appended { OnOk result (out.new ≡ out.old ++ joined (codes "P" ∷ decimal packet.line ∷ decimal packet.slot
         ∷ decimal packet.number ∷ decimal packet.commands ∷ word.now ∷ [])) }
+    ensures kept { OnErr result (out.new ≡ out.old) }
 {
     let mut head = Head::new();
     head.put_word(word);
@@ -82,8 +110,9 @@ pub(crate) fn push_life(
     life: u64,
 ) -> Result<(), NoMemory>
     requires { length word.now ≤ 8 }
-    ensures { OnOk result (out.new ≡ out.old ++ joined (codes "P" ∷ decimal packet.line ∷ decimal packet.slot
+    ensures appended { OnOk result (out.new ≡ out.old ++ joined (codes "P" ∷ decimal packet.line ∷ decimal packet.slot
         ∷ decimal packet.number ∷ decimal packet.commands ∷ word.now ∷ decimal life ∷ [])) }
+    ensures kept { OnErr result (out.new ≡ out.old) }
 {
     let mut head = Head::new();
     head.put_number(life);
@@ -98,12 +127,29 @@ pub(crate) fn push_held(
     life: u64,
     message: &Option<Octets>,
 ) -> Result<(), NoMemory>
-    ensures { OnOk result (out.new ≡ out.old ++ joined (codes "P" ∷ decimal packet.line ∷ decimal packet.slot
+    ensures appended { OnOk result (out.new ≡ out.old ++ joined (codes "P" ∷ decimal packet.line ∷ decimal packet.slot
         ∷ decimal packet.number ∷ decimal packet.commands ∷ codes "held" ∷ decimal life
         ∷ message_word message.now ∷ [])) }
+    ensures kept { OnErr result (out.new ≡ out.old) }
 {
-    push_life(out, packet, b"held", life)?;
-    push_message(out, message)
+    match message {
+        None => push_held_alone(out, packet, life),
+        Some(message) => push_octets(out, packet, b"held", life, message.as_slice()),
+    }
+}
+
+// Held without a message.
+fn push_held_alone(out: &mut Text, packet: Which, life: u64) -> Result<(), NoMemory>
+    ensures appended { OnOk result (out.new ≡ out.old ++ joined (codes "P" ∷ decimal packet.line ∷ decimal packet.slot
+        ∷ decimal packet.number ∷ decimal packet.commands ∷ codes "held" ∷ decimal life ∷ codes "-" ∷ [])) }
+    ensures kept { OnErr result (out.new ≡ out.old) }
+{
+    let mut head = Head::new();
+    head.put_word(b"-");
+    head.put_number(life);
+    head.put_word(b"held");
+    put_counts(&mut head, packet);
+    out.extend_from_slice(head.as_slice())
 }
 
 // The word of the entry, and the numbers in front of a verdict.

@@ -1,10 +1,8 @@
 //! Verdicts, fates and places, both ways.
-ghost use Rattle.std.specs.Prelude.{◌≡◌, ◌++◌, ◌∷◌, [], codes, decimal, IfOk, OnOk};
-ghost use Rattle.hex.specs.Hex.{encode_lower};
-ghost use Rattle.text_fields.specs.Address.{dotted};
+ghost use Rattle.std.specs.Prelude.{◌≡◌, ◌≤◌, ◌++◌, ◌∷◌, Some, length, take, IfOk, OnOk, OnErr};
 ghost use Rattle.text_fields.specs.Fields.{space, pieces_left, behind};
-ghost use Rattle.report_lines.specs.Text.{verdict_fields, fate_fields, place_fields};
-ghost use Rattle.report_lines.specs.Words.{message_word, place_word};
+ghost use Rattle.report_lines.specs.Text.{place_fields};
+ghost use Rattle.report_lines.specs.Words.{place_word};
 ghost use Rattle.report_lines.specs.Reading.{Gives, down_of, up_of};
 ghost use Rattle.report_lines.specs.Reading.{held_of, verdict_at, verdict_of as verdict_of_fields};
 ghost use Rattle.report_lines.specs.Reading.{fate_at, fate_of, slice_at, place_at, place_of};
@@ -13,7 +11,7 @@ use crate::NoMemory;
 use crate::fields::{next_address, next_message, next_number, next_octets};
 use pc_base::{Addr4, Fate, Octets, Place, SliceNo, Verdict};
 use std::alloc::Global;
-use text_fields::{Text, next_piece, read_number};
+use text_fields::{Head, Text, next_piece, read_number};
 
 // What goes to an eNodeB: the life, the address and the octets.
 fn next_down(
@@ -194,105 +192,59 @@ fn place_of_slice(text: &[u8]) -> Option<Place>
     Some(Place::At(SliceNo(slice as u8)))
 }
 
-pub(crate) fn push_verdict(out: &mut Text, verdict: &Verdict) -> Result<(), NoMemory>
-    ensures { OnOk result (out.new ≡ out.old ++ behind (verdict_fields verdict.now [])) }
+// Where a packet was handled, and whether it was parked.
+fn place_head(place: Place, parked: bool) -> Head
+    ensures { result ≡ behind (place_fields (Some place) parked) }
 {
-    match verdict {
-        Verdict::Up { life, octets } => push_up(out, *life, octets.as_slice()),
-        Verdict::Down { life, peer, octets } => push_down(out, *life, *peer, octets.as_slice()),
-        Verdict::NoBearer => out.push_field(b"nobearer"),
-        Verdict::Spoof => out.push_field(b"spoof"),
-        Verdict::Idle { life } => push_idle(out, *life),
-        Verdict::Held { life, message } => push_held(out, *life, message),
-        Verdict::Policed { life } => push_policed(out, *life),
+    let mut head = Head::new();
+    if parked {
+        head.put_word(b"p");
+        put_place(&mut head, place);
+        head
+    } else {
+        put_place(&mut head, place);
+        head
     }
 }
 
-fn push_up(out: &mut Text, life: u64, octets: &[u8]) -> Result<(), NoMemory>
-    ensures { OnOk result (out.new
-        ≡ out.old ++ behind (codes "up" ∷ decimal life ∷ encode_lower octets.now ∷ [])) }
-{
-    out.push_field(b"up")?;
-    out.push_number(life)?;
-    out.push_octets(octets)
-}
-
-fn push_idle(out: &mut Text, life: u64) -> Result<(), NoMemory>
-    ensures { OnOk result (out.new ≡ out.old ++ behind (codes "idle" ∷ decimal life ∷ [])) }
-{
-    out.push_field(b"idle")?;
-    out.push_number(life)
-}
-
-fn push_held(out: &mut Text, life: u64, message: &Option<Octets>) -> Result<(), NoMemory>
-    ensures { OnOk result (out.new
-        ≡ out.old ++ behind (codes "held" ∷ decimal life ∷ message_word message.now ∷ [])) }
-{
-    out.push_field(b"held")?;
-    out.push_number(life)?;
-    push_message(out, message)
-}
-
-fn push_down(out: &mut Text, life: u64, peer: Addr4, octets: &[u8]) -> Result<(), NoMemory>
-    ensures { OnOk result (out.new ≡ out.old
-        ++ behind (codes "down" ∷ decimal life ∷ dotted peer ∷ encode_lower octets.now ∷ [])) }
-{
-    out.push_field(b"down")?;
-    out.push_number(life)?;
-    out.push_address(peer.0)?;
-    out.push_octets(octets)
-}
-
-fn push_policed(out: &mut Text, life: u64) -> Result<(), NoMemory>
-    ensures { OnOk result (out.new ≡ out.old ++ behind (codes "policed" ∷ decimal life ∷ [])) }
-{
-    out.push_field(b"policed")?;
-    out.push_number(life)
-}
-
-// Octets in hexadecimal, or a dash for none.
-pub(crate) fn push_message(out: &mut Text, message: &Option<Octets>) -> Result<(), NoMemory>
-    ensures { OnOk result (out.new ≡ out.old ++ 32 ∷ message_word message.now) }
-{
-    match message {
-        None => out.push_field(b"-"),
-        Some(octets) => out.push_octets(octets.as_slice()),
-    }
-}
-
-pub(crate) fn push_fate(out: &mut Text, fate: &Fate) -> Result<(), NoMemory>
-    ensures { OnOk result (out.new ≡ out.old ++ behind (fate_fields fate.now)) }
-{
-    match fate {
-        Fate::Down { life, peer, octets } => push_down(out, *life, *peer, octets.as_slice()),
-        Fate::Policed { life } => push_policed(out, *life),
-        Fate::Gone { life } => {
-            out.push_field(b"gone")?;
-            out.push_number(*life)
-        }
-    }
-}
-
-pub(crate) fn push_place(out: &mut Text, place: Option<Place>, parked: bool) -> Result<(), NoMemory>
-    ensures { OnOk result (out.new ≡ out.old ++ behind (place_fields place parked)) }
-{
-    let Some(place) = place else {
-        return Ok(());
-    };
-    push_place_word(out, place)?;
-    if parked { out.push_field(b"p") } else { Ok(()) }
-}
-
-fn push_place_word(out: &mut Text, place: Place) -> Result<(), NoMemory>
-    ensures { OnOk result (out.new ≡ out.old ++ 32 ∷ place_word place) }
+fn put_place(head: &mut Head, place: Place)
+    requires { length head.old ≤ 8 }
+    ensures { head.new ≡ 32 ∷ place_word place ++ head.old }
 {
     match place {
         Place::At(slice) => {
-            let mut buffer = itoa::Buffer::new();
-            out.push_field(b"@")?;
-            out.extend_from_slice(buffer.format(slice.0).as_bytes())?;
-            Ok(())
+            head.put_part(b'@', slice.0);
+            head.put(b' ');
         }
-        Place::Closing => out.push_field(b"@-"),
+        Place::Closing => head.put_word(b"@-"),
+    }
+}
+
+fn push_place(out: &mut Text, place: Option<Place>, parked: bool) -> Result<(), NoMemory>
+    ensures appended { OnOk result (out.new ≡ out.old ++ behind (place_fields place parked)) }
+    ensures kept { OnErr result (out.new ≡ out.old) }
+{
+    match place {
+        Some(place) => out.extend_from_slice(place_head(place, parked).as_slice()),
+        None => Ok(()),
+    }
+}
+
+/// Appends a place behind an entry that begins at `start`; where memory runs out, the entry goes too.
+pub(crate) fn push_place_behind(
+    out: &mut Text,
+    start: usize,
+    place: Option<Place>,
+    parked: bool,
+) -> Result<(), NoMemory>
+    ensures appended { OnOk result (out.new ≡ out.old ++ behind (place_fields place parked)) }
+    ensures kept { OnErr result (out.new ≡ take start out.old) }
+{
+    match push_place(out, place, parked) {
+        Ok(()) => Ok(()),
+        Err(none) => {
+            out.truncate(start);
+            Err(none)
+        }
     }
 }

@@ -1,5 +1,5 @@
 //! The words of a report, both ways.
-ghost use Rattle.std.specs.Prelude.{◌≡◌, IfSome};
+ghost use Rattle.std.specs.Prelude.{◌≡◌, ◌≤◌, length};
 ghost use Rattle.report_lines.specs.Reading.{outcome_of, why_of, refused_of};
 ghost use Rattle.report_lines.specs.Words.{outcome_word, why_word, refused_word};
 
@@ -7,7 +7,8 @@ use charging_book::Why;
 use pc_base::Outcome;
 
 pub(crate) fn outcome_word(outcome: Outcome) -> &'static str
-    ensures { result.now ≡ outcome_word outcome }
+    ensures word { result.now ≡ outcome_word outcome }
+    ensures len { length result.now ≤ 6 }
 {
     match outcome {
         Outcome::Done => "ok",
@@ -31,7 +32,8 @@ pub(crate) fn read_outcome(text: &[u8]) -> Option<Outcome>
 }
 
 pub(crate) fn why_word(why: Why) -> &'static str
-    ensures { result.now ≡ why_word why }
+    ensures word { result.now ≡ why_word why }
+    ensures len { length result.now ≤ 6 }
 {
     match why {
         Why::Volume => "volume",
@@ -55,7 +57,8 @@ pub(crate) fn read_why(text: &[u8]) -> Option<Why>
 }
 
 pub(crate) fn refused_word(packet: bool) -> &'static str
-    ensures { result.now ≡ refused_word packet }
+    ensures word { result.now ≡ refused_word packet }
+    ensures len { length result.now ≤ 6 }
 {
     if packet { "p" } else { "c" }
 }

@@ -59,3 +59,8 @@ pub times_done : {X : Type 0} (step : X → X) (n i : ℕ) (x all : X) → n ≤
 times_done step n i x all past ahead =
     let none : n - i ≡ 0 = omega (arith, past) in
     sym (ap (λ m. times m step x) none) ∙ ahead
+
+-- a step that changes nothing
+pub times_stuck : {X : Type 0} (step : X → X) (n : ℕ) (x : X) → step x ≡ x → times n step x ≡ x
+times_stuck step zero x is = refl
+times_stuck step (suc n) x is = ap (times n step) is ∙ times_stuck step n x is

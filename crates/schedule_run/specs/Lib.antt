@@ -6,3 +6,4 @@ pub mod Parts
 pub mod Growing
 pub mod Setups
 pub mod Worlds
+pub mod Owing

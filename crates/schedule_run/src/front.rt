@@ -5,9 +5,11 @@ ghost use Rattle.slice_schedule.specs.Slots as slots;
 ghost use Rattle.slice_schedule.specs.Front as front;
 ghost use Rattle.schedule_run.specs.Lines.{asked};
 ghost use Rattle.schedule_run.specs.Numbers.{standing_of, control_order, flow_order};
+ghost use Rattle.schedule_run.specs.Owing.{IsOwing};
 ghost use Rattle.schedule_run.specs.Setups.{bounds_of};
 ghost use Rattle.schedule_run.specs.Worlds.{world_of};
 
+use crate::owing::{mark, mark_asked, settle};
 use crate::setup::Setup;
 use crate::sides::{
     clear_control_home, clear_flow_home, control_sent, flow_sent, lane_of, order_control,
@@ -41,6 +43,20 @@ fn control_back(numbers: &mut Numbers, slot: usize) -> Result<(), AllocError>
     set_control(numbers, slot, standing)
 }
 
+/// The control half of a slot is home: it may owe an order.
+fn control_at_home(
+    numbers: &mut Numbers,
+    owing: &mut Vec<usize>,
+    slot: usize,
+) -> Result<(), AllocError>
+    requires { IsOwing owing.old.items (world_of numbers.old) }
+    ensures world { OnOk result (world_of numbers.new ≡ front.control_back (world_of numbers.old) slot) }
+    ensures owing { OnOk result (IsOwing owing.new.items (world_of numbers.new)) }
+{
+    control_back(numbers, slot)?;
+    mark(numbers, owing, slot)
+}
+
 fn flow_back(numbers: &mut Numbers, slot: usize) -> Result<(), AllocError>
     ensures { OnOk result (world_of numbers.new ≡ front.flow_back (world_of numbers.old) slot) }
 {
@@ -48,28 +64,50 @@ fn flow_back(numbers: &mut Numbers, slot: usize) -> Result<(), AllocError>
     set_flow(numbers, slot, standing)
 }
 
+/// The counter half of a slot is home: it may owe an order.
+fn flow_at_home(
+    numbers: &mut Numbers,
+    owing: &mut Vec<usize>,
+    slot: usize,
+) -> Result<(), AllocError>
+    requires { IsOwing owing.old.items (world_of numbers.old) }
+    ensures world { OnOk result (world_of numbers.new ≡ front.flow_back (world_of numbers.old) slot) }
+    ensures owing { OnOk result (IsOwing owing.new.items (world_of numbers.new)) }
+{
+    flow_back(numbers, slot)?;
+    mark(numbers, owing, slot)
+}
+
 /// Takes the control halves home that a slice sent.
-fn control_home(numbers: &mut Numbers, slice: usize) -> Result<(), AllocError>
-    ensures { OnOk result (world_of numbers.new ≡ front.control_home (world_of numbers.old) slice) }
+fn control_home(
+    numbers: &mut Numbers,
+    owing: &mut Vec<usize>,
+    slice: usize,
+) -> Result<(), AllocError>
+    requires { IsOwing owing.old.items (world_of numbers.old) }
+    ensures world { OnOk result (world_of numbers.new ≡ front.control_home (world_of numbers.old) slice) }
+    ensures owing { OnOk result (IsOwing owing.new.items (world_of numbers.new)) }
 {
     let count = control_sent(numbers, slice).len();
     for place in 0..count {
         let home = control_sent(numbers, slice);
         let slot = home[place];
-        control_back(numbers, slot)?;
+        control_at_home(numbers, owing, slot)?;
     }
     clear_control_home(numbers, slice)
 }
 
 /// Takes the counter halves home that a slice sent.
-fn flow_home(numbers: &mut Numbers, slice: usize) -> Result<(), AllocError>
-    ensures { OnOk result (world_of numbers.new ≡ front.flow_home (world_of numbers.old) slice) }
+fn flow_home(numbers: &mut Numbers, owing: &mut Vec<usize>, slice: usize) -> Result<(), AllocError>
+    requires { IsOwing owing.old.items (world_of numbers.old) }
+    ensures world { OnOk result (world_of numbers.new ≡ front.flow_home (world_of numbers.old) slice) }
+    ensures owing { OnOk result (IsOwing owing.new.items (world_of numbers.new)) }
 {
     let count = flow_sent(numbers, slice).len();
     for place in 0..count {
         let home = flow_sent(numbers, slice);
         let slot = home[place];
-        flow_back(numbers, slot)?;
+        flow_at_home(numbers, owing, slot)?;
     }
     clear_flow_home(numbers, slice)
 }
@@ -206,62 +244,90 @@ fn drain(numbers: &mut Numbers, setup: &Setup<'_>, slot: usize) -> Result<(), Al
     }
 }
 
-fn controls_home(numbers: &mut Numbers) -> Result<(), AllocError>
-    ensures { OnOk result (world_of numbers.new ≡ front.controls_home (world_of numbers.old)) }
+fn controls_home(numbers: &mut Numbers, owing: &mut Vec<usize>) -> Result<(), AllocError>
+    requires { IsOwing owing.old.items (world_of numbers.old) }
+    ensures world { OnOk result (world_of numbers.new ≡ front.controls_home (world_of numbers.old)) }
+    ensures owing { OnOk result (IsOwing owing.new.items (world_of numbers.new)) }
 {
     for slice in 0..numbers.controls.len() {
-        control_home(numbers, slice)?;
+        control_home(numbers, owing, slice)?;
     }
     Ok(())
 }
 
-fn controls_offered(numbers: &mut Numbers, setup: &Setup<'_>) -> Result<(), AllocError>
-    ensures { OnOk result (world_of numbers.new ≡ front.controls_offered (bounds_of setup.now) (world_of numbers.old)) }
+fn controls_offered(
+    numbers: &mut Numbers,
+    setup: &Setup<'_>,
+    owing: &[usize],
+) -> Result<(), AllocError>
+    requires { IsOwing owing.now (world_of numbers.old) }
+    ensures world { OnOk result (world_of numbers.new
+        ≡ front.controls_offered (bounds_of setup.now) (world_of numbers.old)) }
+    ensures owing { OnOk result (IsOwing owing.now (world_of numbers.new)) }
 {
-    for slot in 0..numbers.slots.len() {
-        control_offer(numbers, setup, slot)?;
+    for slot in owing {
+        control_offer(numbers, setup, *slot)?;
     }
     Ok(())
 }
 
-fn flows_home(numbers: &mut Numbers) -> Result<(), AllocError>
-    ensures { OnOk result (world_of numbers.new ≡ front.flows_home (world_of numbers.old)) }
+fn flows_home(numbers: &mut Numbers, owing: &mut Vec<usize>) -> Result<(), AllocError>
+    requires { IsOwing owing.old.items (world_of numbers.old) }
+    ensures world { OnOk result (world_of numbers.new ≡ front.flows_home (world_of numbers.old)) }
+    ensures owing { OnOk result (IsOwing owing.new.items (world_of numbers.new)) }
 {
     for slice in 0..numbers.flows.len() {
-        flow_home(numbers, slice)?;
+        flow_home(numbers, owing, slice)?;
     }
     Ok(())
 }
 
-fn flows_offered(numbers: &mut Numbers, setup: &Setup<'_>) -> Result<(), AllocError>
-    ensures { OnOk result (world_of numbers.new
+fn flows_offered(
+    numbers: &mut Numbers,
+    setup: &Setup<'_>,
+    owing: &[usize],
+) -> Result<(), AllocError>
+    requires { IsOwing owing.now (world_of numbers.old) }
+    ensures world { OnOk result (world_of numbers.new
         ≡ front.flows_offered setup.now.rooms (bounds_of setup.now) (world_of numbers.old)) }
+    ensures owing { OnOk result (IsOwing owing.now (world_of numbers.new)) }
 {
-    for slot in 0..numbers.slots.len() {
-        flow_offer(numbers, setup, slot)?;
+    for slot in owing {
+        flow_offer(numbers, setup, *slot)?;
     }
     Ok(())
 }
 
-fn all_drained(numbers: &mut Numbers, setup: &Setup<'_>) -> Result<(), AllocError>
-    ensures { OnOk result (world_of numbers.new ≡ front.all_drained setup.now.rooms (world_of numbers.old)) }
+fn all_drained(numbers: &mut Numbers, setup: &Setup<'_>, owing: &[usize]) -> Result<(), AllocError>
+    requires { IsOwing owing.now (world_of numbers.old) }
+    ensures world { OnOk result (world_of numbers.new
+        ≡ front.all_drained setup.now.rooms (world_of numbers.old)) }
+    ensures owing { OnOk result (IsOwing owing.now (world_of numbers.new)) }
 {
-    for slot in 0..numbers.slots.len() {
-        drain(numbers, setup, slot)?;
+    for slot in owing {
+        drain(numbers, setup, *slot)?;
     }
     Ok(())
 }
 
-/// Before each line: the control side, then the data side.
-pub fn pump(numbers: &mut Numbers, setup: &Setup<'_>) -> Result<(), AllocError>
-    ensures { OnOk result (world_of numbers.new
+/// Before each line: the control side, then the data side. Slots that owe nothing are passed.
+pub fn pump(
+    numbers: &mut Numbers,
+    owing: &mut Vec<usize>,
+    setup: &Setup<'_>,
+) -> Result<(), AllocError>
+    requires { IsOwing owing.old.items (world_of numbers.old) }
+    ensures world { OnOk result (world_of numbers.new
         ≡ front.pumped setup.now.rooms (bounds_of setup.now) (world_of numbers.old)) }
+    ensures owing { OnOk result (IsOwing owing.new.items (world_of numbers.new)) }
 {
-    controls_home(numbers)?;
-    controls_offered(numbers, setup)?;
-    flows_home(numbers)?;
-    flows_offered(numbers, setup)?;
-    all_drained(numbers, setup)
+    controls_home(numbers, owing)?;
+    controls_offered(numbers, setup, owing.as_slice())?;
+    flows_home(numbers, owing)?;
+    flows_offered(numbers, setup, owing.as_slice())?;
+    all_drained(numbers, setup, owing.as_slice())?;
+    settle(numbers, owing);
+    Ok(())
 }
 
 /// Makes the halves of a slot.
@@ -447,7 +513,7 @@ fn move_slot(
 }
 
 /// What becomes of a line, behind the pump.
-pub fn line_done(numbers: &mut Numbers, setup: &Setup<'_>, ask: Ask) -> Result<Outcome, AllocError>
+fn line_asked(numbers: &mut Numbers, setup: &Setup<'_>, ask: Ask) -> Result<Outcome, AllocError>
     ensures { IfOk result (λ outcome. record { world = world_of numbers.new; outcome = outcome }
         ≡ front.line_done setup.now.rooms (bounds_of setup.now) (world_of numbers.old) (asked ask)) }
 {
@@ -466,4 +532,21 @@ pub fn line_done(numbers: &mut Numbers, setup: &Setup<'_>, ask: Ask) -> Result<O
             Ok(TAKEN)
         }
     }
+}
+
+/// What becomes of a line, behind the pump; its slot may owe something then.
+pub fn line_done(
+    numbers: &mut Numbers,
+    owing: &mut Vec<usize>,
+    setup: &Setup<'_>,
+    ask: Ask,
+) -> Result<Outcome, AllocError>
+    requires { IsOwing owing.old.items (world_of numbers.old) }
+    ensures done { IfOk result (λ outcome. record { world = world_of numbers.new; outcome = outcome }
+        ≡ front.line_done setup.now.rooms (bounds_of setup.now) (world_of numbers.old) (asked ask)) }
+    ensures owing { OnOk result (IsOwing owing.new.items (world_of numbers.new)) }
+{
+    let outcome = line_asked(numbers, setup, ask)?;
+    mark_asked(numbers, owing, ask)?;
+    Ok(outcome)
 }

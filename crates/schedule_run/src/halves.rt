@@ -2,13 +2,16 @@
 ghost use Rattle.std.specs.Prelude.{◌≡◌, ℕ, ◌+◌, ◌-◌, ◌==◌, ◌<◌, ◌≤◌, if◌then◌else◌, Some, None, ◌∷◌, [], ◌++◌};
 ghost use Rattle.std.specs.Prelude.{IfOk, OnOk, OnErr, length, min, get_or, nat_le};
 ghost use Rattle.slice_schedule.specs.Slots.{SlotNow};
+ghost use Rattle.std.specs.Bool.{OnTrue};
 ghost use Rattle.slice_schedule.specs.Halves as halves;
+ghost use Rattle.schedule_run.specs.Numbers.{standing_of};
+ghost use Rattle.schedule_run.specs.Owing as owed;
 ghost use Rattle.schedule_run.specs.Parts.{sent_behind, unsent_behind, all_learnt, met_behind};
 
 use crate::Met;
 use crate::met::SlotMets;
 use crate::slot::SlotNumbers;
-use crate::standing::CommandTags;
+use crate::standing::{CommandTags, Standing};
 use pc_base::Place;
 use std::alloc::AllocError;
 use std::collections::VecDeque;
@@ -83,6 +86,13 @@ fn send(
     Ok(Some(batch))
 }
 
+/// Whether an order is owed to a half that stands there.
+fn is_owed(standing: Standing) -> bool
+    ensures { result ≡ owed.is_owed (standing_of standing) }
+{
+    matches!(standing, Standing::Front | Standing::Recalled(_, _))
+}
+
 /// The packets that a command waits for.
 fn floor_at(commands: &[CommandTags], number: usize) -> usize
     ensures { result ≡ (get_or commands.now number (record { hop = 0; floor = 0 })).floor }
@@ -146,6 +156,29 @@ impl SlotNumbers {
         }
     }
 
+    /// Whether the control half has looked at the next command, if there is one.
+    fn has_looked(&self) -> bool
+        ensures { result ≡ (self.now.taken == min (self.now.applied + 1) (length self.now.commands)) }
+    {
+        if self.applied < self.commands.len() {
+            self.taken == self.applied + 1
+        } else {
+            self.taken == self.commands.len()
+        }
+    }
+
+    /// Whether the slot owes nothing, and a turn of its control half changes nothing.
+    pub fn is_quiet(&self) -> bool
+        ensures { OnTrue result (owed.IsQuiet self.now) }
+    {
+        !is_owed(self.control)
+            && !is_owed(self.flow)
+            && self.queued == 0
+            && self.unsent.is_none()
+            && self.has_looked()
+            && self.next_batch() == 0
+    }
+
     fn take_batch(&mut self)
         ensures { self.new ≡ halves.take_batch self.old self.old.batch self.old.sent }
     {
@@ -173,11 +206,27 @@ impl SlotNumbers {
         self.learn_taken();
     }
 
+    /// Whether nothing more may be learnt now.
+    fn is_stuck(&self) -> bool
+        ensures { OnTrue result (halves.learn_one self.now ≡ self.now) }
+    {
+        match self.batch {
+            None => self.sent.is_empty(),
+            Some(batch) => {
+                let last = (self.learnt + batch).saturating_sub(1);
+                floor_at(self.commands.as_slice(), last) > self.met.len()
+            }
+        }
+    }
+
     /// The counter half learns what it may.
     pub fn learn(&mut self)
         ensures { self.new ≡ halves.learn self.old }
     {
         for _ in 0..16u32 {
+            if self.is_stuck() {
+                return;
+            }
             self.learn_one();
         }
     }

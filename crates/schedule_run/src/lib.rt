@@ -7,6 +7,7 @@ mod front;
 mod grow;
 mod halves;
 mod met;
+mod owing;
 mod planning;
 mod setup;
 mod sides;

@@ -6,6 +6,7 @@ ghost use Rattle.slice_schedule.specs.World.{start};
 ghost use Rattle.slice_schedule.specs.Turns as draw;
 ghost use Rattle.slice_schedule.specs.Schedule as epoch;
 ghost use Rattle.schedule_run.specs.Lines.{asked, driven_by, bound_in};
+ghost use Rattle.schedule_run.specs.Owing.{IsOwing};
 ghost use Rattle.schedule_run.specs.Plan.{mets_of};
 ghost use Rattle.schedule_run.specs.Setups.{bounds_of};
 ghost use Rattle.schedule_run.specs.Told.{AreWorkers, turns_told, turns_behind, told_first, turns_after, lines_of};
@@ -125,6 +126,7 @@ fn turn_behind(
 /// A line, and the turns behind it.
 fn line(
     numbers: &mut Numbers,
+    owing: &mut Vec<usize>,
     setup: &Setup<'_>,
     slices: u8,
     ask: Ask,
@@ -132,14 +134,16 @@ fn line(
 ) -> Result<Outcome, AllocError>
     requires slices { (1 ≤ slices) × (slices ≤ 64) }
     requires workers { AreWorkers slices turns.old }
+    requires owing { IsOwing owing.old.items (world_of numbers.old) }
     ensures outcome { IfOk result (λ outcome. outcome ≡ (epoch.line_of setup.now.rooms (bounds_of setup.now)
         (world_of numbers.old) (record { asks = asked ask; turns = told_first turns.old slices })).outcome) }
     ensures world { OnOk result (world_of numbers.new ≡ epoch.behind_line setup.now.rooms (bounds_of setup.now)
         (world_of numbers.old) (record { asks = asked ask; turns = told_first turns.old slices })) }
     ensures turns { OnOk result (turns.new ≡ turns_after turns.old) }
+    ensures owing { OnOk result (IsOwing owing.new.items (world_of numbers.new)) }
 {
-    pump(numbers, setup)?;
-    let outcome = line_done(numbers, setup, ask)?;
+    pump(numbers, owing, setup)?;
+    let outcome = line_done(numbers, owing, setup, ask)?;
     turn_behind(numbers, setup, slices, turns)?;
     Ok(outcome)
 }
@@ -147,6 +151,7 @@ fn line(
 /// All lines.
 fn lines(
     numbers: &mut Numbers,
+    owing: &mut Vec<usize>,
     setup: &Setup<'_>,
     slices: u8,
     asks: &[Ask],
@@ -154,6 +159,7 @@ fn lines(
 ) -> Result<Vec<Outcome>, AllocError>
     requires slices { (1 ≤ slices) × (slices ≤ 64) }
     requires workers { AreWorkers slices turns.old }
+    requires owing { IsOwing owing.old.items (world_of numbers.old) }
     ensures outcomes { IfOk result (λ outcomes. outcomes.items ≡ epoch.outcomes setup.now.rooms (bounds_of setup.now)
         (world_of numbers.old) (lines_of turns.old slices asks.now)) }
     ensures world { OnOk result (world_of numbers.new ≡ epoch.behind_lines setup.now.rooms (bounds_of setup.now)
@@ -162,7 +168,7 @@ fn lines(
 {
     let mut outcomes = Vec::with_capacity(numbers.alloc, asks.len())?;
     for ask in asks {
-        let outcome = line(numbers, setup, slices, *ask, turns)?;
+        let outcome = line(numbers, owing, setup, slices, *ask, turns)?;
         outcomes.push(outcome)?;
     }
     Ok(outcomes)
@@ -209,7 +215,8 @@ pub fn schedule(
         controls: Vec::new(alloc),
         flows: Vec::new(alloc),
     };
-    let outcomes = lines(&mut numbers, &setup, slices, asks, turns)?;
+    let mut owing = Vec::new(alloc);
+    let outcomes = lines(&mut numbers, &mut owing, &setup, slices, asks, turns)?;
     let mets = close_all(alloc, numbers.slots)?;
     Ok(Scheduled { outcomes, mets })
 }

@@ -1,10 +1,11 @@
 -- What a clause says of a subscriber that is split, and of one that is whole again.
-use Rattle.std.specs.Prelude.{◌≡◌, ℕ, ◌+◌, ◌<◌, ◌^◌, List, [], ◌++◌, length, map, All, unwrap_or}
+use Rattle.std.specs.Prelude.{◌≡◌, ℕ, ◌+◌, ◌<◌, List, [], ◌++◌, length, map, All, unwrap_or}
 use Rattle.std.specs.Prelude.{Bool, ◌∷◌}
 use Rattle.lane_core.specs.Ends.{sender_lane, sent, full_answers}
 use Rattle.pc_base.specs.declared.packet.Packet.{Packet}
 use Rattle.control_steps.specs.declared.command.CommandKind.{CommandKind}
 use Rattle.gate_model.specs.declared.event.Event.{Event}
+use Rattle.gate_model.specs.Events.{FewEvents}
 use Rattle.subscriber.specs.Standing.{SubscriberState, StandsFor, commands_met, last_of}
 use Rattle.control_half.specs.declared.half.ControlHalf.{ControlHalf}
 use Rattle.control_half.specs.Half as control
@@ -50,7 +51,7 @@ pub record Finishes (start : SubscriberState) (commands : List CommandItem) (ite
     (finished : Finished) : Type 0 where
   pub notes : Notes start commands items finished.commands.items finished.packets.items
   pub comes : (slot : ℕ) (before : List Event) (taken : ℕ) → StandsFor start slot before taken
-      → length before + length commands + length items < 2 ^ 40
+      → FewEvents (length before + length commands + length items)
       → Comes start slot before taken commands items finished.record finished.commands.items finished.packets.items
       finished.effects.items finished.rows.items
   pub destination_is : finished.record.destination ≡ destination

@@ -1,12 +1,12 @@
 -- A subscriber at rest as contracts see it, and the events that it stands for.
-use Rattle.std.specs.Prelude.{◌≡◌, ℕ, ◌+◌, ◌<◌, ◌^◌, List, length, Option}
+use Rattle.std.specs.Prelude.{◌≡◌, ℕ, ◌+◌, List, length, Option}
 use Rattle.pc_base.specs.declared.packet.Packet.{Packet}
 use Rattle.pc_base.specs.declared.packet.Way.{Way}
 use Rattle.bearer_state.specs.Session.{SessionState}
 use Rattle.bearer_state.specs.Version.{VersionState}
 use Rattle.packet_steps.specs.Standing as counters
 use Rattle.gate_model.specs.declared.event.Event.{Event}
-use Rattle.gate_model.specs.Events.{commands_of, packets_of}
+use Rattle.gate_model.specs.Events.{FewEvents, commands_of, packets_of}
 use Rattle.gate_model.specs.SlotPast.{past_of, session_after, version_after}
 
 -- the session, the version that packets go by, the running counters, how many packets came, and the slice that the
@@ -42,14 +42,14 @@ StandsForPackets subscriber slot events taken =
 
 -- its counts may rise: how often its session's rates were set, its lives, and its commands and packets
 pub record HasRoom (subscriber : SubscriberState) : Type 0 where
-  pub rates : subscriber.session.rates < 2 ^ 40
-  pub lives : subscriber.session.lives < 2 ^ 40
-  pub few : commands_met subscriber + subscriber.packets < 2 ^ 40
+  pub rates : FewEvents subscriber.session.rates
+  pub lives : FewEvents subscriber.session.lives
+  pub few : FewEvents (commands_met subscriber + subscriber.packets)
 
--- where it stands for fewer than 2^40 events, they may
+-- where it represents few events, they may
 abbrev pub FewEventsLeaveRoom : Type 0
 FewEventsLeaveRoom = (subscriber : SubscriberState) (slot : ℕ) (events : List Event) (taken : ℕ)
-    → StandsFor subscriber slot events taken → length events < 2 ^ 40 → HasRoom subscriber
+    → StandsFor subscriber slot events taken → FewEvents (length events) → HasRoom subscriber
 
 -- a packet of these fields
 abbrev pub packet_of : ℕ → ℕ → Way → List ℕ → Packet

@@ -1,5 +1,5 @@
 -- Blocks of octets put behind each other, and the values of digits.
-use Rattle.std.proofs.Common.{◌≡◌, ℕ, zero, suc, ◌+◌, ◌-◌, ◌*◌, ◌<◌, ◌≤◌, ◌%◌, ◌&&◌, not, eqb, Bool, true, false, List, [], ◌∷◌, ◌++◌, length, map, take, drop, get_or, refl, sym, ap, ◌∙◌, arith, take-add, append-nil, Option, Some, None, Ok, is_some, unwrap_or}
+use Rattle.std.proofs.Common.{◌≡◌, ℕ, zero, suc, ◌+◌, ◌-◌, ◌*◌, ◌<◌, ◌≤◌, ◌%◌, ◌&&◌, not, eqb, Bool, true, false, List, [], ◌∷◌, ◌++◌, length, take, drop, get_or, refl, sym, ap, ◌∙◌, arith, take-add, append-nil, Option, Some, None, Ok, is_some, unwrap_or}
 use Rattle.std.proofs.Math.Bool.{and_assoc}
 use Rattle.std.proofs.lemmas.Bool.{agree_below_at, and_parts, eqb-true, ltb-true, not-false}
 use Rattle.std.proofs.lemmas.List.{take_all, drop_all, take_at, drop_at, take-append-drop, map-append, length-take-le, length-drop, length-append, length-map, take-map, drop-map}

@@ -1,5 +1,5 @@
 -- Blocks of digits put behind each other.
-use Rattle.std.proofs.Common.{◌≡◌, ℕ, zero, suc, ◌+◌, ◌*◌, ◌/◌, ◌%◌, ◌^◌, ◌<◌, ◌≤◌, List, [], ◌∷◌, ◌++◌, length, map, take, drop, get_or, slice_index, bit_and, refl, subst, append-nil, sym, ap, ◌∙◌, arith, take-add}
+use Rattle.std.proofs.Common.{◌≡◌, ℕ, zero, suc, ◌+◌, ◌*◌, ◌/◌, ◌%◌, ◌^◌, ◌<◌, ◌≤◌, List, [], ◌∷◌, ◌++◌, length, map, take, drop, get_or, bit_and, refl, subst, append-nil, sym, ap, ◌∙◌, arith, take-add}
 use Rattle.std.proofs.lemmas.List.{take_all, get_or-map, ext_get_or, length-map, length-take-le, length-drop, length-append, take_at, drop_all}
 use Rattle.std.proofs.lemmas.Nat.{and_mask}
 use Rattle.std.proofs.lemmas.Slice.{take-put_mid}

@@ -128,7 +128,7 @@ bytes_from_all octets all i =
       | inr past ↦ omega (arith, get_or_past octets i 0 past)
     ]
 
--- the default that stands for an octet past the end counts for none that is there
+-- the default for an octet past the end counts for none that is there
 all_from_bytes : (octets : List ℕ) → IsBytes octets → All (λ octet. octet < 256) octets
 all_from_bytes octets bytes k d inside = rw (get_or-default octets k d inside) (bytes k)
 
@@ -147,7 +147,7 @@ octets_only (digit ∷ text) octets is =
     let twice : length (digit ∷ text) ≡ 2 * length octets = good.2 in
     (pairs_lower 0 (digit ∷ text) octets pairs, omega arith, all_from_bytes octets good.3)
 
-read_some : (text octets : List ℕ) → 0 < length text → decode_of text ≡ Ok octets → octets_of text ≡ Some octets
+pub read_some : (text octets : List ℕ) → 0 < length text → decode_of text ≡ Ok octets → octets_of text ≡ Some octets
 read_some [] octets some decoded = absurd (omega arith)
 read_some (digit ∷ text) octets some decoded = ap result_ok decoded
 

@@ -102,6 +102,26 @@ plain_digits (octet ∷ octets) fits =
     (All-cons IsPlain second rest (plain_digit (octet % 16) (omega arith))
     (plain_digits octets (All-tail (λ o. o < 256) octet octets fits)))
 
+-- each is one of `0` to `f`
+digit_between : (value : ℕ) → value < 16
+    → (47 < slice_index lower_digits value) × (slice_index lower_digits value < 103)
+digit_between value small =
+    let computed = digit_computed value small in (grind (arith, nat_tests), grind (arith, nat_tests))
+
+pub digits_between : (octets : List ℕ) → All (λ octet. octet < 256) octets
+    → All (λ digit. (47 < digit) × (digit < 103)) (encode_with lower_digits octets)
+unfolding encode_with
+digits_between [] fits = All-nil (λ digit. (47 < digit) × (digit < 103))
+digits_between (octet ∷ octets) fits =
+    let Between : ℕ → Type 0 = λ digit. (47 < digit) × (digit < 103) in
+    let small : octet < 256 = fits 0 0 (omega arith) in
+    let first = slice_index lower_digits (octet / 16) in
+    let second = slice_index lower_digits (octet % 16) in
+    let rest = encode_with lower_digits octets in
+    All-cons Between first (second ∷ rest) (digit_between (octet / 16) (omega arith))
+    (All-cons Between second rest (digit_between (octet % 16) (omega arith))
+    (digits_between octets (All-tail (λ o. o < 256) octet octets fits)))
+
 pub field-encode_lower : (octets : List ℕ) → 0 < length octets → All (λ octet. octet < 256) octets
     → IsField (encode_lower octets)
 field-encode_lower octets some fits = record {

@@ -100,8 +100,9 @@ impl Head {
         self.from = eight_before(&mut self.octets, self.from, octets);
     }
 
+    /// Puts an octet and a number of eight bits at the front, 4 octets at most.
     #[inline(always)]
-    fn put_part(&mut self, octet: u8, part: u8)
+    pub fn put_part(&mut self, octet: u8, part: u8)
         requires { length self.old + 4 ≤ HEAD_LEN }
         ensures value { self.new ≡ octet ∷ decimal part ++ self.old }
         ensures len { length self.new ≤ length self.old + 4 }

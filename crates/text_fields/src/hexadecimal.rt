@@ -1,10 +1,10 @@
 //! Octets in hexadecimal: sixteen at a time, and one by one where they are fewer. No loop here branches on a
 //! digit: on digits in no order a guessed branch costs more than all else.
-ghost use Rattle.std.specs.Prelude.{◌≡◌, ◌*◌, ◌%◌, ◌<◌, Some, Ok, true, length, slice_index, IfOk, OnErr};
-ghost use Rattle.std.specs.List.{list_all, list_any};
+ghost use Rattle.std.specs.Prelude.{◌≡◌, ◌≢◌, ◌*◌, ◌%◌, ◌<◌, Some, None, Ok, true, length, slice_index, IfOk, OnErr};
+ghost use Rattle.std.specs.List.{list_all};
 ghost use Rattle.std.specs.Option.{option_map};
 ghost use Rattle.hex.specs.Hex.{decode_of, encode_lower, lower_digits, hex_digit_value, is_hex_digit};
-ghost use Rattle.text_fields.specs.Hexadecimal.{is_upper, octets_of, lower_octets_of};
+ghost use Rattle.text_fields.specs.Hexadecimal.{is_lower_digit, octets_of, lower_octets_of};
 
 use crate::blocks::decode_blocks;
 use crate::encoding::encode_blocks;
@@ -37,26 +37,36 @@ pub fn read_octets_into(room: Vec<u8>, text: &[u8]) -> Result<Option<Vec<u8>>, A
     }
 }
 
-/// The octets that the text is, where its digits are in lower case.
+/// The octets that the text is, where its digits are in lower case. The digits are tested before memory is
+/// asked for.
 pub fn read_lower_octets(alloc: Global, text: &[u8]) -> Result<Option<Vec<u8>>, AllocError>
     ensures value { IfOk result (λ octets. option_map (λ v. v.items) octets ≡ lower_octets_of text.now) }
+    // Memory runs out only where the text is octets.
+    ensures memory { OnErr result (lower_octets_of text.now ≢ None) }
 {
-    if has_upper(text) {
-        return Ok(None);
+    if are_lower_digits(text) {
+        read_octets(alloc, text)
+    } else {
+        Ok(None)
     }
-    read_octets(alloc, text)
 }
 
-fn has_upper(text: &[u8]) -> bool
-    ensures { result ≡ list_any is_upper text.now }
+fn are_lower_digits(text: &[u8]) -> bool
+    ensures { result ≡ list_all is_lower_digit text.now }
 {
-    text.iter().any(|digit| is_upper(*digit))
+    let mut all = true;
+    for digit in text {
+        all &= is_lower_digit(*digit);
+    }
+    all
 }
 
-fn is_upper(digit: u8) -> bool
-    ensures { result ≡ is_upper digit }
+fn is_lower_digit(octet: u8) -> bool
+    ensures { result ≡ is_lower_digit octet }
 {
-    b'A' <= digit && digit <= b'F'
+    let decimal = octet.wrapping_sub(b'0') < 10;
+    let lower = octet.wrapping_sub(b'a') < 6;
+    decimal | lower
 }
 
 /// Each two digits as an octet; whether all of them are digits. Tests and decodes in one pass.

@@ -1,5 +1,5 @@
 //! A text that is kept from line to line: its room is asked for once, and each part is written where it stands.
-ghost use Rattle.std.specs.Prelude.{◌≡◌, ◌+◌, ◌*◌, ◌≤◌, ◌++◌, ◌∷◌, [], length, take, decimal, IfOk, OnOk};
+ghost use Rattle.std.specs.Prelude.{◌≡◌, ◌+◌, ◌*◌, ◌≤◌, ◌++◌, ◌∷◌, [], length, take, decimal, IfOk, OnOk, OnErr};
 ghost use Rattle.std.specs.Vec.{vec_len};
 ghost use Rattle.hex.specs.Hex.{encode_lower};
 ghost use Rattle.text_fields.specs.Address.{dotted};
@@ -65,10 +65,20 @@ impl Text {
         octets
     }
 
-    /// Appends an octet.
+    /// Keeps the first octets alone.
+    pub fn truncate(&mut self, len: usize)
+        ensures { self.new ≡ take len self.old }
+    {
+        if len < self.len {
+            self.len = len;
+        }
+    }
+
+    /// Appends an octet. As with each call that appends, nothing is where memory runs out.
     #[inline(always)]
     pub fn push(&mut self, octet: u8) -> Result<(), AllocError>
-        ensures { OnOk result (self.new ≡ self.old ++ octet ∷ []) }
+        ensures appended { OnOk result (self.new ≡ self.old ++ octet ∷ []) }
+        ensures kept { OnErr result (self.new ≡ self.old) }
     {
         make_room(&mut self.room, self.len, 1)?;
         self.len = put(&mut self.room, self.len, &[octet]);
@@ -78,21 +88,38 @@ impl Text {
     /// Appends octets as they are.
     #[inline(always)]
     pub fn extend_from_slice(&mut self, octets: &[u8]) -> Result<(), AllocError>
-        ensures { OnOk result (self.new ≡ self.old ++ octets.now) }
+        ensures appended { OnOk result (self.new ≡ self.old ++ octets.now) }
+        ensures kept { OnErr result (self.new ≡ self.old) }
     {
         make_room(&mut self.room, self.len, octets.len())?;
         self.len = put(&mut self.room, self.len, octets);
         Ok(())
     }
 
-    /// Appends a head as it is, and behind it octets in hexadecimal, in lower case.
-    pub fn push_headed(&mut self, head: &[u8], octets: &[u8]) -> Result<(), AllocError>
-        ensures { OnOk result (self.new ≡ self.old ++ head.now ++ encode_lower octets.now) }
+    /// Appends two parts as they are, one behind the other.
+    pub fn push_parts(&mut self, first: &[u8], second: &[u8]) -> Result<(), AllocError>
+        ensures appended { OnOk result (self.new ≡ self.old ++ first.now ++ second.now) }
+        ensures kept { OnErr result (self.new ≡ self.old) }
     {
         make_room(
             &mut self.room,
             self.len,
-            room_for(head.len(), octets.len())?,
+            room_for(first.len(), second.len())?,
+        )?;
+        let at = put(&mut self.room, self.len, first);
+        self.len = put(&mut self.room, at, second);
+        Ok(())
+    }
+
+    /// Appends a head as it is, and behind it octets in hexadecimal, in lower case.
+    pub fn push_headed(&mut self, head: &[u8], octets: &[u8]) -> Result<(), AllocError>
+        ensures appended { OnOk result (self.new ≡ self.old ++ head.now ++ encode_lower octets.now) }
+        ensures kept { OnErr result (self.new ≡ self.old) }
+    {
+        make_room(
+            &mut self.room,
+            self.len,
+            room_for_digits(head.len(), octets.len())?,
         )?;
         let at = put(&mut self.room, self.len, head);
         self.len = put_digits(&mut self.room, at, octets);
@@ -101,15 +128,16 @@ impl Text {
 
     /// Appends a field of these octets.
     pub fn push_field(&mut self, field: &[u8]) -> Result<(), AllocError>
-        ensures { OnOk result (self.new ≡ self.old ++ 32 ∷ field.now) }
+        ensures appended { OnOk result (self.new ≡ self.old ++ 32 ∷ field.now) }
+        ensures kept { OnErr result (self.new ≡ self.old) }
     {
-        self.push(b' ')?;
-        self.extend_from_slice(field)
+        self.push_parts(b" ", field)
     }
 
     /// Appends a number in decimal.
     pub fn push_number(&mut self, number: u64) -> Result<(), AllocError>
-        ensures { OnOk result (self.new ≡ self.old ++ 32 ∷ decimal number) }
+        ensures appended { OnOk result (self.new ≡ self.old ++ 32 ∷ decimal number) }
+        ensures kept { OnErr result (self.new ≡ self.old) }
     {
         let mut head = Head::new();
         head.put_number(number);
@@ -118,41 +146,41 @@ impl Text {
 
     /// Appends an address, dotted.
     pub fn push_address(&mut self, address: u32) -> Result<(), AllocError>
-        ensures { OnOk result (self.new ≡ self.old ++ 32 ∷ dotted address) }
+        ensures appended { OnOk result (self.new ≡ self.old ++ 32 ∷ dotted address) }
+        ensures kept { OnErr result (self.new ≡ self.old) }
     {
-        let [first, second, third, fourth] = address.to_be_bytes();
-        self.push_number(u64::from(first))?;
-        self.push_part(second)?;
-        self.push_part(third)?;
-        self.push_part(fourth)
-    }
-
-    fn push_part(&mut self, part: u8) -> Result<(), AllocError>
-        ensures { OnOk result (self.new ≡ self.old ++ 46 ∷ decimal part) }
-    {
-        let mut buffer = itoa::Buffer::new();
-        self.push(b'.')?;
-        self.extend_from_slice(buffer.format(part).as_bytes())
+        let mut head = Head::new();
+        head.put_address(address);
+        self.extend_from_slice(head.as_slice())
     }
 
     /// Appends octets in hexadecimal, in lower case.
     pub fn push_octets(&mut self, octets: &[u8]) -> Result<(), AllocError>
-        ensures { OnOk result (self.new ≡ self.old ++ 32 ∷ encode_lower octets.now) }
+        ensures appended { OnOk result (self.new ≡ self.old ++ 32 ∷ encode_lower octets.now) }
+        ensures kept { OnErr result (self.new ≡ self.old) }
     {
         self.push_headed(b" ", octets)
     }
 }
 
+// How many octets two parts take.
+#[inline(always)]
+fn room_for(first: usize, second: usize) -> Result<usize, AllocError>
+    ensures { IfOk result (λ room. room ≡ first + second) }
+{
+    match first.checked_add(second) {
+        Some(room) => Ok(room),
+        None => Err(AllocError),
+    }
+}
+
 // How many octets a head of this length and so many octets in hexadecimal take.
 #[inline(always)]
-fn room_for(head: usize, octets: usize) -> Result<usize, AllocError>
+fn room_for_digits(head: usize, octets: usize) -> Result<usize, AllocError>
     ensures { IfOk result (λ room. room ≡ head + 2 * octets) }
 {
-    let Some(digits) = octets.checked_mul(2) else {
-        return Err(AllocError);
-    };
-    match digits.checked_add(head) {
-        Some(room) => Ok(room),
+    match octets.checked_mul(2) {
+        Some(digits) => room_for(head, digits),
         None => Err(AllocError),
     }
 }

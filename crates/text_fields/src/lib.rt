@@ -1,6 +1,21 @@
 //! Lines of text as fields with one space between each two, and the fields that a trace and a report
 //! share, both ways: decimal numbers, IPv4 addresses, octets in hexadecimal. Which fields a line has
 //! is left to the crates above.
+//!
+//! ```
+//! use std::test::Fail;
+//! use text_fields::{Text, cut, read_number};
+//!
+//! fn main(rt: HostRuntime) -> Result<(), Fail> {
+//!     let (first, _) = cut(b' ', b"70 0a2f");
+//!     assert_eq!(rt; read_number(first, 0, 255), Some(70));
+//!     let mut line = Text::new(rt.alloc());
+//!     line.push_number(70)?;
+//!     line.push_octets(&[0x0a, 0x2f])?;
+//!     assert_eq!(rt; line.as_slice(), b" 70 0a2f".as_slice());
+//!     Ok(())
+//! }
+//! ```
 #![tactic(auto)]
 
 mod address;
@@ -24,4 +39,4 @@ pub use laws::{
     one_text_of_octets,
 };
 pub use number::read_number;
-pub use writing::{push_address, push_field, push_number, push_octets};
+pub use writing::{push_field, push_number};

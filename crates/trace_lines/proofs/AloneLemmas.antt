@@ -1,9 +1,9 @@
 -- A line means the same under each least moment, but for the moment itself.
-use Rattle.std.proofs.Common.{◌≡◌, ℕ, ◌-◌, ◌^◌, Bool, true, false, List, [], ◌∷◌, refl, ap, arith, Result, Ok, Err, cond, nat_lt}
+use Rattle.std.proofs.Common.{◌≡◌, ℕ, ◌-◌, ◌^◌, Bool, true, false, List, [], ◌∷◌, refl, arith, Result, Ok, Err, cond}
 use Rattle.std.proofs.lemmas.Bool.{le-ltb}
 use Rattle.text_fields.specs.Fields.{fields_of, has_empty_field}
 use Rattle.trace_lines.specs.declared.bad.LineBad.{LineBad}
-use Rattle.trace_lines.specs.declared.bad.LineBad.TheVariants.{Field, MomentBack}
+use Rattle.trace_lines.specs.declared.bad.LineBad.TheVariants.{Field}
 use Rattle.trace_lines.specs.declared.line.LineKind.{LineKind}
 use Rattle.trace_lines.specs.Line.{Line}
 use Rattle.trace_lines.specs.Refused.{◌>>=◌}

@@ -7,3 +7,4 @@ pub mod ReadLemmas
 pub mod EpochLemmas
 pub mod InputLemmas
 pub mod AloneLemmas
+pub mod WriteLemmas

@@ -1,4 +1,4 @@
--- An answer that is what the text means, or want of memory, in the words of lines, texts and faults.
+-- An answer that is what the text means, or out of memory, in the words of lines, texts and faults.
 use Rattle.std.proofs.Common.{◌≡◌, ℕ, ◌≤◌, ◌⊎◌, List, length, refl, sym, ap, ◌∙◌, Option, Some, None, Result, Ok, Err, inl, inr, if◌then◌else◌, Bool, true, false}
 use Rattle.std.specs.Prelude.{IfOk, IfErr, IfSome}
 use Rattle.std.specs.Result.{result_err}

@@ -1,30 +1,51 @@
 //! The text of a line.
-ghost use Rattle.std.specs.Prelude.{◌≡◌, ◌++◌, ◌∷◌, decimal, IfOk, OnOk};
-ghost use Rattle.text_fields.specs.Fields.{behind};
+ghost use Rattle.std.specs.Prelude.{◌≡◌, ◌≤◌, ◌++◌, ◌∷◌, [], length, decimal, IfOk, OnOk, OnErr};
+ghost use Rattle.hex.specs.Hex.{encode_lower};
+ghost use Rattle.text_fields.specs.Fields.{behind, joined};
 ghost use Rattle.trace_lines.specs.Text.{arguments, kind_word, line_text};
 
 use crate::{LineKind, TraceLine};
-use pc_base::{Imsi, Kbps, Octets};
+use pc_base::{Moment, Octets};
 use std::alloc::{AllocError as NoMemory, Global};
-use text_fields::{push_address, push_field, push_number, push_octets};
+use text_fields::{Head, Text};
 
 /// The one text of the line, without a newline.
 pub fn text(alloc: Global, line: &TraceLine) -> Result<Octets, NoMemory>
     ensures { IfOk result (λ octets. octets ≡ line_text line.now) }
 {
-    let mut out = Vec::new(alloc);
+    let mut out = Text::new(alloc);
     push_text(&mut out, line)?;
-    Ok(Octets::of(out))
+    Ok(Octets::of(out.into_octets()))
 }
 
 /// Appends the text of the line.
-pub fn push_text(out: &mut Vec<u8>, line: &TraceLine) -> Result<(), NoMemory>
-    ensures { OnOk result (out.new.items ≡ out.old.items ++ line_text line.now) }
+pub fn push_text(out: &mut Text, line: &TraceLine) -> Result<(), NoMemory>
+    ensures { OnOk result (out.new ≡ out.old ++ line_text line.now) }
 {
     let mut buffer = itoa::Buffer::new();
     out.extend_from_slice(buffer.format(line.moment.0).as_bytes())?;
-    push_field(out, kind_word(&line.kind).as_bytes())?;
+    out.push_field(kind_word(&line.kind).as_bytes())?;
     push_arguments(out, &line.kind)
+}
+
+/// Appends the text of a line of this moment that says octets under this word.
+pub fn push_message(
+    out: &mut Text,
+    moment: Moment,
+    word: &[u8],
+    octets: &[u8],
+) -> Result<(), NoMemory>
+    requires { length word.now ≤ 8 }
+    ensures appended { OnOk result (out.new
+        ≡ out.old ++ joined (decimal moment ∷ word.now ∷ encode_lower octets.now ∷ [])) }
+    ensures kept { OnErr result (out.new ≡ out.old) }
+{
+    let mut head = Head::new();
+    head.put(b' ');
+    head.put_word(word);
+    head.put_number(moment.0);
+    // The first field has no space in front.
+    out.push_headed(&head.as_slice()[1..], octets)
 }
 
 fn kind_word(kind: &LineKind) -> &'static str
@@ -44,12 +65,12 @@ fn kind_word(kind: &LineKind) -> &'static str
     }
 }
 
-fn push_arguments(out: &mut Vec<u8>, kind: &LineKind) -> Result<(), NoMemory>
-    ensures { OnOk result (out.new.items ≡ out.old.items ++ behind (arguments kind.now)) }
+fn push_arguments(out: &mut Text, kind: &LineKind) -> Result<(), NoMemory>
+    ensures { OnOk result (out.new ≡ out.old ++ behind (arguments kind.now)) }
 {
     match kind {
         LineKind::S11(octets) | LineKind::S1u(octets) | LineKind::Sgi(octets) => {
-            push_octets(out, octets.as_slice())
+            out.push_octets(octets.as_slice())
         }
         LineKind::Attach {
             imsi,
@@ -57,11 +78,11 @@ fn push_arguments(out: &mut Vec<u8>, kind: &LineKind) -> Result<(), NoMemory>
             up,
             down,
         } => {
-            push_field(out, imsi.digits())?;
-            push_address(out, enb.addr.0)?;
-            push_octets(out, &enb.teid.0.to_be_bytes())?;
-            push_number(out, up.0)?;
-            push_number(out, down.0)
+            out.push_field(imsi.digits())?;
+            out.push_address(enb.addr.0)?;
+            out.push_octets(&enb.teid.0.to_be_bytes())?;
+            out.push_number(up.0)?;
+            out.push_number(down.0)
         }
         LineKind::Bearer {
             imsi,
@@ -72,31 +93,31 @@ fn push_arguments(out: &mut Vec<u8>, kind: &LineKind) -> Result<(), NoMemory>
             gbr_down,
             tft,
         } => {
-            push_field(out, imsi.digits())?;
-            push_number(out, u64::from(*qci))?;
-            push_number(out, mbr_up.0)?;
-            push_number(out, mbr_down.0)?;
-            push_number(out, gbr_up.0)?;
-            push_number(out, gbr_down.0)?;
-            push_octets(out, tft.as_slice())
+            out.push_field(imsi.digits())?;
+            out.push_number(u64::from(*qci))?;
+            out.push_number(mbr_up.0)?;
+            out.push_number(mbr_down.0)?;
+            out.push_number(gbr_up.0)?;
+            out.push_number(gbr_down.0)?;
+            out.push_octets(tft.as_slice())
         }
         LineKind::Filters { imsi, ebi, tft } => {
-            push_field(out, imsi.digits())?;
-            push_number(out, u64::from(*ebi))?;
-            push_octets(out, tft.as_slice())
+            out.push_field(imsi.digits())?;
+            out.push_number(u64::from(*ebi))?;
+            out.push_octets(tft.as_slice())
         }
         LineKind::Drop { imsi, ebi } => {
-            push_field(out, imsi.digits())?;
-            push_number(out, u64::from(*ebi))
+            out.push_field(imsi.digits())?;
+            out.push_number(u64::from(*ebi))
         }
         LineKind::Ambr { imsi, up, down } => {
-            push_field(out, imsi.digits())?;
-            push_number(out, up.0)?;
-            push_number(out, down.0)
+            out.push_field(imsi.digits())?;
+            out.push_number(up.0)?;
+            out.push_number(down.0)
         }
         LineKind::Move { imsi, slice } => {
-            push_field(out, imsi.digits())?;
-            push_number(out, u64::from(slice.0))
+            out.push_field(imsi.digits())?;
+            out.push_number(u64::from(slice.0))
         }
         LineKind::Fence => Ok(()),
     }

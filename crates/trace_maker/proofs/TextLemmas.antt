@@ -16,8 +16,7 @@ use Rattle.pc_base.specs.Imsi.{IsImsi}
 use Rattle.pc_outside.specs.Line.{NoNewline}
 use Rattle.text_fields.specs.Address.{dot, dotted}
 use Rattle.text_fields.specs.Fields.{joined}
-use Rattle.text_fields.proofs.HexadecimalLemmas.{digit_computed}
-use Rattle.text_fields.proofs.PlainLemmas.{IsLow, low_decimal, low_address}
+use Rattle.text_fields.proofs.PlainLemmas.{IsLow, low_decimal, low_address, digits_between}
 use Rattle.trace_lines.specs.Line.{IsOctets}
 use Rattle.trace_lines.specs.Text.{arguments, kind_word}
 use Rattle.trace_lines.proofs.FormLemmas.{are_octets}
@@ -89,25 +88,10 @@ address n fits = record {
   within = parts _ _ _ _ (omega arith) (omega arith) (omega arith) (omega arith);
 }
 
-digit_shown : (value : ℕ) → value < 16 → IsShown (slice_index lower_digits value)
-digit_shown value small = let computed = digit_computed value small in grind (arith, nat_tests)
-
-octets_shown : (octets : List ℕ) → All (λ octet. octet < 256) octets → All IsShown (encode_with lower_digits octets)
-unfolding encode_with
-octets_shown [] fits = All-nil IsShown
-octets_shown (octet ∷ octets) fits =
-    let small : octet < 256 = fits 0 0 (omega arith) in
-    let high = slice_index lower_digits (octet / 16) in
-    let low = slice_index lower_digits (octet % 16) in
-    let rest = encode_with lower_digits octets in
-    All-cons IsShown high (low ∷ rest) (digit_shown (octet / 16) (omega arith))
-    (All-cons IsShown low rest (digit_shown (octet % 16) (omega arith))
-    (octets_shown octets (All-tail (λ o. o < 256) octet octets fits)))
-
 hexadecimal : (most : ℕ) (octets : List ℕ) → IsOctets octets → length octets ≤ most
     → IsText (2 * most) (encode_lower octets)
 hexadecimal most octets fits short = record {
-  shown = octets_shown octets fits.1;
+  shown = λ k d inside. omega (arith, (digits_between octets fits.1 k d inside).0);
   within = omega (arith, short, length-encode_with lower_digits octets);
 }
 

@@ -78,7 +78,7 @@ whole old mid new text left all made none sent =
     sym (append-nil (made.front ++ made.waiting)) ∙ ap (λ lines. made.front ++ made.waiting ++ lines) (sym none) ∙ sym made.parts
     in subst (λ lines. Appends old new (text_of lines)) is_all (both old mid new text left all made sent)
 
--- a front of the rest was written
+-- a prefix of the rest was written
 pub cut : (old mid new : Option (List ℕ)) (text : List ℕ) (left all : List Line) → IsMade old mid text left all
     → AppendsFront mid new text → AppendsFront old new (text_of all)
 cut old mid new text left all made sent = record {

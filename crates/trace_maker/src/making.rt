@@ -1,9 +1,8 @@
 //! A whole trace, written.
 ghost use Rattle.std.specs.Prelude.{◌≡◌, ◌++◌, ◌∷◌, ◌<◌, ◌≤◌, [], Ok, Err, true, false, length};
-ghost use Rattle.std.specs.Prelude.{decimal, IfOk, IfSome, OnOk, OnErr};
+ghost use Rattle.std.specs.Prelude.{IfOk, IfSome, OnOk, OnErr};
 ghost use Rattle.std.specs.Io.KnownBytes.{Appends};
 ghost use Rattle.hex.specs.Hex.{encode_lower};
-ghost use Rattle.text_fields.specs.Fields.{joined};
 ghost use Rattle.pc_outside.specs.Faults.{Rises};
 ghost use Rattle.pc_outside.specs.Fronts.{AppendsFront};
 ghost use Rattle.trace_lines.specs.Text.{arguments, kind_word, line_text};
@@ -15,11 +14,11 @@ ghost use Rattle.trace_maker.specs.Written.{AppendsLines, PushesLine};
 use crate::maker::{Maker, Plan, line_of};
 use crate::packets::{push_downlink, push_uplink};
 use crate::said::Said;
-use pc_base::{Moment, NoMemory};
+use pc_base::NoMemory;
 use pc_outside::{Sink, write_whole};
 use std::alloc::Global;
-use text_fields::{push_field, push_octets};
-use trace_lines::push_text;
+use text_fields::Text;
+use trace_lines::{push_message, push_text};
 
 /// Why a trace isn't written whole.
 #[derive(Clone, Copy, Debug, PartialEq, Eq)]
@@ -68,10 +67,10 @@ pub fn make<K: Sink>(
     ensures fault { result ≡ Err MakeNo.WriteFault → Rises (K.faults sink.old) (K.faults sink.new) }
 {
     let mut maker = Maker::new(seed, subscribers, lines);
-    let mut text = Vec::new(alloc);
+    let mut text = Text::new(alloc);
     let mut octets = Vec::new(alloc);
     while push_line(alloc, &mut text, &mut octets, &mut maker)? {
-        if text.len() >= BLOCK {
+        if text.as_slice().len() >= BLOCK {
             write_text(sink, &mut text)?;
         }
     }
@@ -79,10 +78,10 @@ pub fn make<K: Sink>(
 }
 
 // Writes the text, and empties it.
-fn write_text<K: Sink>(sink: &mut K, text: &mut Vec<u8>) -> Result<(), MakeNo>
-    ensures whole { OnOk result (Appends (K.written sink.old) (K.written sink.new) text.old.items) }
-    ensures emptied { OnOk result (text.new.items ≡ []) }
-    ensures cut { OnErr result (AppendsFront (K.written sink.old) (K.written sink.new) text.old.items) }
+fn write_text<K: Sink>(sink: &mut K, text: &mut Text) -> Result<(), MakeNo>
+    ensures whole { OnOk result (Appends (K.written sink.old) (K.written sink.new) text.old) }
+    ensures emptied { OnOk result (text.new ≡ []) }
+    ensures cut { OnErr result (AppendsFront (K.written sink.old) (K.written sink.new) text.old) }
     ensures no_other { OnErr result (result ≡ Err MakeNo.WriteFault) }
 
     ensures later { K.faults sink.old ≤ K.faults sink.new }
@@ -98,12 +97,12 @@ fn write_text<K: Sink>(sink: &mut K, text: &mut Vec<u8>) -> Result<(), MakeNo>
 // Appends the next line; whether there was one. The octets are used again for each packet.
 fn push_line(
     alloc: Global,
-    text: &mut Vec<u8>,
+    text: &mut Text,
     octets: &mut Vec<u8>,
     maker: &mut Maker,
 ) -> Result<bool, NoMemory>
-    ensures more { result ≡ Ok true → PushesLine text.old.items text.new.items maker.old maker.new }
-    ensures none { result ≡ Ok false → (maker.old ≡ []) × (text.new.items ≡ text.old.items) }
+    ensures more { result ≡ Ok true → PushesLine text.old text.new maker.old maker.new }
+    ensures none { result ≡ Ok false → (maker.old ≡ []) × (text.new ≡ text.old) }
     ensures unchanged { OnErr result (maker.new ≡ maker.old) }
     ensures some { OnErr result (0 < length maker.old) }
 {
@@ -119,12 +118,12 @@ fn push_line(
 // Appends the text of a line, without a newline.
 fn push_plan(
     alloc: Global,
-    text: &mut Vec<u8>,
+    text: &mut Text,
     octets: &mut Vec<u8>,
     plan: Plan,
 ) -> Result<(), NoMemory>
     requires { IsSaid plan.said }
-    ensures { OnOk result (text.new.items ≡ text.old.items ++ line_text (line_of plan)) }
+    ensures { OnOk result (text.new ≡ text.old ++ line_text (line_of plan)) }
 {
     if let Some(word) = packet_of(octets, plan.said)? {
         push_message(text, plan.moment, word, octets.as_slice())
@@ -137,8 +136,9 @@ fn push_plan(
 // The word and the octets of a line with a packet; None where the line has none.
 fn packet_of(octets: &mut Vec<u8>, said: Said) -> Result<Option<&'static [u8]>, NoMemory>
     requires { IsSaid said }
-    ensures { IfOk result (λ word. IfSome word (λ word. (kind_word (kind_of said) ≡ word.now)
+    ensures said { IfOk result (λ word. IfSome word (λ word. (kind_word (kind_of said) ≡ word.now)
         × (arguments (kind_of said) ≡ encode_lower octets.new.items ∷ []))) }
+    ensures short { IfOk result (λ word. IfSome word (λ word. length word.now ≤ 8)) }
 {
     octets.clear();
     match said {
@@ -152,20 +152,4 @@ fn packet_of(octets: &mut Vec<u8>, said: Said) -> Result<Option<&'static [u8]>, 
         }
         _ => Ok(None),
     }
-}
-
-// Appends the text of a line that says octets under this word.
-fn push_message(
-    text: &mut Vec<u8>,
-    moment: Moment,
-    word: &[u8],
-    octets: &[u8],
-) -> Result<(), NoMemory>
-    ensures { OnOk result (text.new.items
-        ≡ text.old.items ++ joined (decimal moment ∷ word.now ∷ encode_lower octets.now ∷ [])) }
-{
-    let mut buffer = itoa::Buffer::new();
-    text.extend_from_slice(buffer.format(moment.0).as_bytes())?;
-    push_field(text, word)?;
-    push_octets(text, octets)
 }

@@ -37,7 +37,8 @@ pub enum Posting {
 impl Book {
     ghost use Rattle.std.specs.Prelude.{[], ◌∷◌, ◌↔◌, length, IsTrue, IfOk};
     ghost use Rattle.charging_book.specs.Happenings.{rows_of};
-    ghost use Rattle.charging_book.specs.Postings.{MayStart, MayGoOn};
+    ghost use Rattle.charging_book.specs.Postings.{MayStart, MayGoOn, MayBePosted};
+    ghost use Rattle.charging_book.specs.Posted.{GoesOn, GoesFar};
 
     /// Posts these, one after another, or nothing when out of memory. One that may not happen
     /// by then is passed over.
@@ -45,6 +46,9 @@ impl Book {
         ensures stands { (happened : List Happening) (taken : ℕ) → StandsFor self.old happened taken
             → MayAllFollow happened (map happening_of postings.now)
             → OnOk result (StandsFor self.new (happened ++ map happening_of postings.now) taken) }
+
+        // The same by the pieces alone, also of a book that was made of some.
+        ensures pieces { OnOk result (GoesFar self.old self.new (map happening_of postings.now)) }
         ensures unchanged { OnErr result (self.new ≡ self.old) }
     {
         if postings.is_empty() {
@@ -65,6 +69,10 @@ impl Book {
         ensures stands { (happened : List Happening) (taken : ℕ) → StandsFor self.old happened taken
             → MayFollow happened (happening_of posting.now)
             → OnOk result (StandsFor self.new (happened ++ happening_of posting.now ∷ []) taken) }
+
+        // The same by the pieces alone.
+        ensures pieces { MayBePosted self.old (happening_of posting.now)
+            → OnOk result (GoesOn self.old self.new (happening_of posting.now)) }
         ensures unchanged { OnErr result (self.new ≡ self.old) }
     {
         match *posting {
@@ -113,8 +121,9 @@ impl Book {
 
     // The open counters, as a book that all rows were taken out of.
     fn without_rows(&self) -> Result<Book, NoMemory>
-        ensures { (happened : List Happening) (taken : ℕ) → StandsFor self.now happened taken
+        ensures stands { (happened : List Happening) (taken : ℕ) → StandsFor self.now happened taken
             → IfOk result (λ copy. StandsFor copy happened (length (rows_of happened))) }
+        ensures pieces { IfOk result (λ copy. copy ≡ record self.now { rows = [] }) }
     {
         let alloc = *self.rows.allocator();
         Ok(Book {

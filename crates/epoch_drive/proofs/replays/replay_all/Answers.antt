@@ -1,5 +1,5 @@
-use Rattle.std.proofs.Common.{◌≡◌, ◌<◌, length, refl, arith}
-use Rattle.epoch_drive.proofs.Replaying.{can_next, more_done, none_done}
+use Rattle.std.proofs.Common.{◌<◌, length, refl, arith}
+use Rattle.epoch_drive.proofs.Replaying.{more_done}
 use Rattle.epoch_drive.proofs.replays.replay_all.Goals as goal
 
 pub loop-i-preserved : goal.loop-i-preserved

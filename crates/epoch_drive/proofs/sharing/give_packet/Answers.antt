@@ -5,7 +5,7 @@ use Rattle.slice_schedule.specs.Slots.{Met}
 use Rattle.schedule_run.specs.Plan.{mets_of}
 use Rattle.slot_replay.specs.Replaying.{counts_of, places_of}
 use Rattle.slot_replay.specs.declared.placed.Placed.{Placed}
-use Rattle.subscriber.specs.Standing.{SubscriberState, commands_met}
+use Rattle.subscriber.specs.Standing.{SubscriberState}
 use Rattle.epoch_drive.specs.Shares.{packets_lent}
 use Rattle.epoch_drive.specs.declared.sharing.Share.{Share}
 use Rattle.epoch_drive.proofs.sharing.give_packet.Goals as goal

@@ -2,8 +2,7 @@ use Rattle.std.proofs.Common.{◌+◌, List, map, take, get_or, ap, ◌∙◌, a
 use Rattle.lawful_run.specs.LinesTold.{LineTold}
 use Rattle.epoch_drive.specs.Meant.{meaning_of}
 use Rattle.epoch_drive.specs.Opened.{opened}
-use Rattle.epoch_drive.specs.declared.sharing.Share.{Share}
-use Rattle.epoch_drive.proofs.ShareLemmas.{has_met, shares_next, shares_none, shares_over}
+use Rattle.epoch_drive.proofs.ShareLemmas.{has_met, shares_next, shares_over}
 use Rattle.epoch_drive.proofs.sharing.shares_of.Goals as goal
 
 pub share_line-requires-clause-met : goal.share_line-requires-clause-met
@@ -12,7 +11,7 @@ share_line-requires-clause-met c =
     let plan = c.args.scheduled.now in
     has_met at.shares.items c.args.subscribers.now plan c.args.meant.now at.i c.requires.outcomes c.index-meant-i.result
     c.index-outcomes-i.result (omega (arith, at.invariant.many, at.shares.ok.0)) c.requires.within c.loop-i-test.true c.index-meant-i.is
-          (c.index-outcomes-i.is ∙ ap (λ l. get_or l at.i c.index-outcomes-i.result) c.outcomes-outcomes.ensures)
+    (c.index-outcomes-i.is ∙ ap (λ l. get_or l at.i c.index-outcomes-i.result) c.outcomes-outcomes.ensures)
     (at.invariant.shares 0) c.requires.met
 
 pub loop-i-preserved : goal.loop-i-preserved

@@ -1,4 +1,4 @@
-use Rattle.std.proofs.Common.{List, ◌<◌, length, sym, subst}
+use Rattle.std.proofs.Common.{List, sym, subst}
 use Rattle.std.specs.List.{Contains}
 use Rattle.bearer_state.specs.declared.version.ActiveBearer.{ActiveBearer}
 use Rattle.packet_steps.proofs.BearerLemmas.{found_there, found_in_range, found_ebi, index_found}

@@ -1,11 +1,10 @@
-use Rattle.std.proofs.Common.{◌≡◌, ℕ, ◌+◌, ◌<◌, ◌^◌, ◌%◌, [], ◌∷◌, true, List, length, subst, sym, ◌∙◌, ap, refl, arith, lit<, rules}
+use Rattle.std.proofs.Common.{◌≡◌, ℕ, ◌+◌, ◌<◌, ◌^◌, [], ◌∷◌, true, List, length, subst, sym, ◌∙◌, refl, arith, lit<, rules}
 use Rattle.std.proofs.lemmas.Slice.{pushed}
 use Rattle.gtpv2_ie.specs.declared.value.IeValue.TheVariants.{Ebi}
 use Rattle.gtpv2_ie.specs.Element.{Element}
 use Rattle.gtpv2_ie.specs.Spelling.{spellings}
 use Rattle.gtpv2_msg.specs.Header.{header_len}
 use Rattle.gtpv2_msg.specs.Kinds.{is_kind, is_request}
-use Rattle.gtpv2_msg.specs.Validity.{IsMessage}
 use Rattle.packet_steps.proofs.messages.notification.Goals as goal
 
 -- one EBI fits any message

@@ -1,4 +1,4 @@
-use Rattle.std.proofs.Common.{take, sym, ◌∙◌, ap, subst}
+use Rattle.std.proofs.Common.{take, sym, ◌∙◌, subst}
 use Rattle.std.specs.List.{fold}
 use Rattle.std.proofs.lemmas.List.{take_all}
 use Rattle.packet_steps.specs.Change.{released}

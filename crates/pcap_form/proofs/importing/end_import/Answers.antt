@@ -7,11 +7,11 @@ pub returns-in-Ok-clause-runs : goal.returns-in-Ok-clause-runs
 returns-in-Ok-clause-runs g c = λ start left old ends.
     rw c.imported_at.ensures
     (ends_whole c.args.stop start left old (g.K.Sink.written c.args.sink.now) (g.K.Sink.written c.write_out.new.sink)
-    c.args.out.now.items c.write_out.new.out.items ends c.in-Ok.ensures.sent)
+    c.args.out.now c.write_out.new.out ends c.in-Ok.ensures.sent)
 
 pub returns-in-Err-clause-runs : goal.returns-in-Err-clause-runs
 returns-in-Err-clause-runs g c = λ start left old ends.
     let why_is : c.in-Err.why ≡ WriteFault = cc (c.in-Err.ensures.no_other) in
     rw (c.imported_without.ensures, why_is)
     (ends_cut c.args.stop start left old (g.K.Sink.written c.args.sink.now) (g.K.Sink.written c.write_out.new.sink)
-    c.args.out.now.items ends c.in-Err.ensures.cut)
+    c.args.out.now ends c.in-Err.ensures.cut)

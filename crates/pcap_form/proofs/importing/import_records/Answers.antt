@@ -106,7 +106,7 @@ loop-one-preserved g c =
     let moment : c.moment_of-moment.result ≡ moment_of (unwrap_or c.loop-one.first one.time) c.loop-one.least one.time =
     c.moment_of-moment.ensures ∙ ap (λ f. moment_of f c.loop-one.least one.time) first
     in
-    let text = c.loop-one.out.items ++ text_of (stamped c.moment_of-moment.result
+    let text = c.loop-one.out ++ text_of (stamped c.moment_of-moment.result
     (record_in c.in-Some.head c.held-in-Record.result.now).said) in
     record {
       progress = (
@@ -114,9 +114,9 @@ loop-one-preserved g c =
         named _ _ _ _ c.in-Some.head _ _ _ _ c.pass-in-Record.new.self.room _ _ _ _ first moment
             c.pass-in-Record.ensures.held
             (goes_on _ _ _ _ _ c.in-Some.head c.loop-one.first c.loop-one.least now.room c.pass-in-Record.new.self.room
-            c.loop-one.out.items text _ p.0 one now.held c.in-Record.ensures.finds.0 c.pass-in-Record.ensures.room
+            c.loop-one.out text _ p.0 one now.held c.in-Record.ensures.finds.0 c.pass-in-Record.ensures.room
             (gained _ _ _ _ _ c.loop-one.block now c.in-Some.head _ _ _ p.0 c.next_record.ensures.gains p.1)
-            (text_named c.loop-one.out.items _ _ c.in-Some.head _ _ moment c.held-in-Record.ensures)
+            (text_named c.loop-one.out _ _ c.in-Some.head _ _ moment c.held-in-Record.ensures)
             c.in_ok-take_record-in-Record.ensures.taken),
       );
       source_later = omega (arith, c.loop-one.invariant.source_later, c.next_record.ensures.later);
@@ -132,14 +132,14 @@ returns-in_err-take_record-in-Record-clause-cut g c =
     let moment : c.moment_of-moment.result ≡ moment_of (unwrap_or c.loop-one.first one.time) c.loop-one.least one.time =
     c.moment_of-moment.ensures ∙ ap (λ f. moment_of f c.loop-one.least one.time) c.first_time-start.ensures
     in
-    let text = c.loop-one.out.items ++ text_of (stamped c.moment_of-moment.result
+    let text = c.loop-one.out ++ text_of (stamped c.moment_of-moment.result
     (record_in c.in-Some.head c.held-in-Record.result.now).said) in
     if_err (λ why. why ≡ c.in_err-take_record-in-Record.field-0.0) _ c.from_residual.result
     (λ why is. cut_at why _ _ _ _ _ c.in-Some.head c.loop-one.first c.loop-one.least now.room (now.room - n)
-    c.loop-one.out.items text p.0 one now.held c.in-Record.ensures.finds.0
+    c.loop-one.out text p.0 one now.held c.in-Record.ensures.finds.0
     (omega (arith, c.in-Record.ensures.finds.0.all, c.in-Record.ensures.finds.1))
     (gained _ _ _ _ _ c.loop-one.block now c.in-Some.head _ _ _ p.0 c.next_record.ensures.gains p.1)
-    (text_named c.loop-one.out.items _ _ c.in-Some.head _ _ moment c.held-in-Record.ensures)
+    (text_named c.loop-one.out _ _ c.in-Some.head _ _ moment c.held-in-Record.ensures)
     (λ w. c.take_record.ensures.cut (c.in_err-take_record-in-Record.was ∙ ap Err (sym is ∙ w)))
     (λ w. ap g.K.Sink.written (c.take_record.ensures.kept (c.in_err-take_record-in-Record.was ∙ ap Err (sym is ∙ w)))))
     c.from_residual.ensures.1

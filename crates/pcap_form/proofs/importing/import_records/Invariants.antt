@@ -8,7 +8,7 @@ abbrev pub invariant-loop-one : goal.invariant-loop-one
 invariant-loop-one g l = record {
   progress : (done : List Record) × Progress (g.S.Source.left l.fn.source)
       (prepend_known l.block.held (g.S.Source.left l.source)) (g.K.Sink.written l.fn.sink) (g.K.Sink.written l.sink)
-      l.head l.first l.least l.block.room l.out.items done;
+      l.head l.first l.least l.block.room l.out done;
   source_later : g.S.Source.faults l.fn.source ≤ g.S.Source.faults l.source;
   sink_later : g.K.Sink.faults l.fn.sink ≤ g.K.Sink.faults l.sink;
 }

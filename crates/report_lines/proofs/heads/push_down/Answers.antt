@@ -9,8 +9,8 @@ use Rattle.text_fields.specs.Address.{dotted}
 use Rattle.report_lines.proofs.HeadLemmas.{headed, led, encode-append, tunnelled}
 use Rattle.report_lines.proofs.heads.push_down.Goals as goal
 
-pub returns : goal.returns
-returns c =
+pub returns-clause-appended : goal.returns-clause-appended
+returns-clause-appended c =
     let packet = c.args.packet in
     let peer = c.args.peer in
     let octets = c.args.octets.now in
@@ -35,4 +35,4 @@ returns c =
     (subst (λ (p : Peer). spelling (Gpdu p.teid octets) ≡ tunnel ++ octets) c.peer.view_is
     (c.gpdu_head-tunnel.ensures.text octets refl))) ∙ encode-append tunnel octets
     ∙ ap (λ text. text ++ encode_lower octets) (sym (append-nil (encode_lower tunnel))))
-    c.push_headed.ensures
+    c.push_headed.ensures.appended

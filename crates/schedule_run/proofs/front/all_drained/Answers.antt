@@ -1,15 +1,25 @@
-use Rattle.std.proofs.Common.{rules, length}
-use Rattle.slice_schedule.specs.Front.{drain}
+use Rattle.std.proofs.Common.{rules, subst, sym, ◌∙◌}
+use Rattle.slice_schedule.specs.World.{World}
+use Rattle.schedule_run.specs.Owing.{IsOwing}
+use Rattle.schedule_run.specs.Setups.{bounds_of}
 use Rattle.schedule_run.specs.Worlds.{world_of}
-use Rattle.schedule_run.proofs.Loops.{each_more, each_done}
+use Rattle.schedule_run.proofs.Loops.{fold_done}
+use Rattle.schedule_run.proofs.Owed.{drains_same, drains_owe}
 use Rattle.schedule_run.proofs.front.all_drained.Goals as goal
 
-pub loop-slot-preserved : goal.loop-slot-preserved
-loop-slot-preserved c =
-    each_more (drain c.args.setup.now.rooms) (length c.args.numbers.now.slots.items) c.loop-slot.slot
-    (world_of c.loop-slot.numbers) _ _ (search rules) c.in_ok-drain.ensures c.loop-slot.invariant
+pub returns-clause-world : goal.returns-clause-world
+returns-clause-world c =
+    fold_done _ c.args.owing.now c.loop-slot.slot-index (world_of c.loop-slot.numbers) _ (search rules)
+    c.loop-slot.invariant
+    ∙ drains_same c.args.owing.now c.args.setup.now.rooms (bounds_of c.args.setup.now) (world_of c.args.numbers.now)
+    c.requires
 
-pub returns : goal.returns
-returns c =
-    each_done (drain c.args.setup.now.rooms) (length c.args.numbers.now.slots.items) c.loop-slot.slot
-    (world_of c.loop-slot.numbers) _ (search rules) c.loop-slot.invariant
+pub returns-clause-owing : goal.returns-clause-owing
+returns-clause-owing c =
+    let rooms = c.args.setup.now.rooms in
+    let bounds = bounds_of c.args.setup.now in
+    let world = world_of c.args.numbers.now in
+    subst (λ (w : World). IsOwing c.args.owing.now w)
+    (sym (fold_done _ c.args.owing.now c.loop-slot.slot-index (world_of c.loop-slot.numbers) _ (search rules)
+    c.loop-slot.invariant ∙ drains_same c.args.owing.now rooms bounds world c.requires))
+    (drains_owe c.args.owing.now rooms bounds world c.requires)

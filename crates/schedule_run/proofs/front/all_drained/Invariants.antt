@@ -1,10 +1,9 @@
-use Rattle.std.proofs.Common.{◌≡◌, ◌-◌, length}
-use Rattle.slice_schedule.specs.Numbers.{for_each}
+use Rattle.std.proofs.Common.{◌≡◌, drop, fold}
 use Rattle.slice_schedule.specs.Front.{drain}
 use Rattle.schedule_run.specs.Worlds.{world_of}
 use Rattle.schedule_run.proofs.front.all_drained.Given as goal
 
 abbrev pub invariant-loop-slot : goal.invariant-loop-slot
 invariant-loop-slot l =
-    for_each (drain l.setup.rooms) (world_of l.numbers) l.slot (length l.fn.numbers.slots.items - l.slot)
-    ≡ for_each (drain l.setup.rooms) (world_of l.fn.numbers) 0 (length l.fn.numbers.slots.items)
+    fold (drain l.setup.rooms) (world_of l.numbers) (drop l.slot-index l.owing)
+    ≡ fold (drain l.setup.rooms) (world_of l.fn.numbers) l.owing

@@ -1,6 +1,7 @@
 use Rattle.std.proofs.Common.{◌≡◌, drop, fold}
 use Rattle.slice_schedule.specs.World.{control_at}
 use Rattle.slice_schedule.specs.Front.{control_back}
+use Rattle.schedule_run.specs.Owing.{IsOwing}
 use Rattle.schedule_run.specs.Worlds.{world_of}
 use Rattle.schedule_run.proofs.front.control_home.Given as goal
 
@@ -9,4 +10,5 @@ invariant-loop-place l = record {
   kept : l.numbers.controls.items ≡ l.fn.numbers.controls.items;
   ahead : fold control_back (world_of l.numbers) (drop l.place (control_at (world_of l.fn.numbers) l.slice).home)
       ≡ fold control_back (world_of l.fn.numbers) (control_at (world_of l.fn.numbers) l.slice).home;
+  owing : IsOwing l.owing.items (world_of l.numbers);
 }

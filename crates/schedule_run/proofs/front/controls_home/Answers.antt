@@ -5,11 +5,13 @@ use Rattle.schedule_run.proofs.Loops.{each_more, each_done}
 use Rattle.schedule_run.proofs.front.controls_home.Goals as goal
 
 pub loop-slice-preserved : goal.loop-slice-preserved
-loop-slice-preserved c =
-    each_more (control_home) (length c.args.numbers.now.controls.items) c.loop-slice.slice
-    (world_of c.loop-slice.numbers) _ _ (search rules) c.in_ok-control_home.ensures c.loop-slice.invariant
+loop-slice-preserved c = record {
+  ahead = each_more (control_home) (length c.args.numbers.now.controls.items) c.loop-slice.slice
+      (world_of c.loop-slice.numbers) _ _ (search rules) c.in_ok-control_home.ensures.world c.loop-slice.invariant.ahead;
+  owing = c.in_ok-control_home.ensures.owing;
+}
 
-pub returns : goal.returns
-returns c =
+pub returns-clause-world : goal.returns-clause-world
+returns-clause-world c =
     each_done (control_home) (length c.args.numbers.now.controls.items) c.loop-slice.slice
-    (world_of c.loop-slice.numbers) _ (search rules) c.loop-slice.invariant
+    (world_of c.loop-slice.numbers) _ (search rules) c.loop-slice.invariant.ahead

@@ -1,10 +1,13 @@
 use Rattle.std.proofs.Common.{◌≡◌, ◌-◌, length}
 use Rattle.slice_schedule.specs.Numbers.{for_each}
 use Rattle.slice_schedule.specs.Front.{control_home}
+use Rattle.schedule_run.specs.Owing.{IsOwing}
 use Rattle.schedule_run.specs.Worlds.{world_of}
 use Rattle.schedule_run.proofs.front.controls_home.Given as goal
 
 abbrev pub invariant-loop-slice : goal.invariant-loop-slice
-invariant-loop-slice l =
-    for_each (control_home) (world_of l.numbers) l.slice (length l.fn.numbers.controls.items - l.slice)
-    ≡ for_each (control_home) (world_of l.fn.numbers) 0 (length l.fn.numbers.controls.items)
+invariant-loop-slice l = record {
+  ahead : for_each (control_home) (world_of l.numbers) l.slice (length l.fn.numbers.controls.items - l.slice)
+      ≡ for_each (control_home) (world_of l.fn.numbers) 0 (length l.fn.numbers.controls.items);
+  owing : IsOwing l.owing.items (world_of l.numbers);
+}

@@ -1,6 +1,7 @@
 use Rattle.std.proofs.Common.{◌≡◌, drop, fold}
 use Rattle.slice_schedule.specs.World.{flow_at}
 use Rattle.slice_schedule.specs.Front.{flow_back}
+use Rattle.schedule_run.specs.Owing.{IsOwing}
 use Rattle.schedule_run.specs.Worlds.{world_of}
 use Rattle.schedule_run.proofs.front.flow_home.Given as goal
 
@@ -9,4 +10,5 @@ invariant-loop-place l = record {
   kept : l.numbers.flows.items ≡ l.fn.numbers.flows.items;
   ahead : fold flow_back (world_of l.numbers) (drop l.place (flow_at (world_of l.fn.numbers) l.slice).home)
       ≡ fold flow_back (world_of l.fn.numbers) (flow_at (world_of l.fn.numbers) l.slice).home;
+  owing : IsOwing l.owing.items (world_of l.numbers);
 }

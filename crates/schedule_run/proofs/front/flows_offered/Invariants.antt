@@ -1,5 +1,4 @@
-use Rattle.std.proofs.Common.{◌≡◌, ◌-◌, length}
-use Rattle.slice_schedule.specs.Numbers.{for_each}
+use Rattle.std.proofs.Common.{◌≡◌, drop, fold}
 use Rattle.slice_schedule.specs.Front.{flow_offer}
 use Rattle.schedule_run.specs.Setups.{bounds_of}
 use Rattle.schedule_run.specs.Worlds.{world_of}
@@ -7,7 +6,5 @@ use Rattle.schedule_run.proofs.front.flows_offered.Given as goal
 
 abbrev pub invariant-loop-slot : goal.invariant-loop-slot
 invariant-loop-slot l =
-    for_each (flow_offer l.setup.rooms (bounds_of l.setup)) (world_of l.numbers) l.slot
-    (length l.fn.numbers.slots.items - l.slot)
-    ≡ for_each (flow_offer l.setup.rooms (bounds_of l.setup)) (world_of l.fn.numbers) 0
-    (length l.fn.numbers.slots.items)
+    fold (flow_offer l.setup.rooms (bounds_of l.setup)) (world_of l.numbers) (drop l.slot-index l.owing)
+    ≡ fold (flow_offer l.setup.rooms (bounds_of l.setup)) (world_of l.fn.numbers) l.owing

@@ -5,9 +5,11 @@ use Rattle.schedule_run.proofs.Epochs.{so_far_more}
 use Rattle.schedule_run.proofs.planning.lines.Goals as goal
 
 pub loop-ask-preserved : goal.loop-ask-preserved
-loop-ask-preserved c =
-    so_far_more c.args.setup.now.rooms (bounds_of c.args.setup.now) c.args.slices c.args.asks.now
-    (world_of c.args.numbers.now) (world_of c.loop-ask.numbers) (world_of c.line.new.numbers) c.args.turns.now
-    c.loop-ask.turns c.line.new.turns c.loop-ask.outcomes.items c.push.new.self.items c.in_ok-outcome.outcome
-    c.loop-ask.ask-index _ (search rules) c.in_ok-outcome.ensures.outcome c.in_ok-outcome.ensures.world
-    c.in_ok-outcome.ensures.turns c.in_ok-push.ensures.items c.loop-ask.invariant
+loop-ask-preserved c = record {
+  so_far = so_far_more c.args.setup.now.rooms (bounds_of c.args.setup.now) c.args.slices c.args.asks.now
+      (world_of c.args.numbers.now) (world_of c.loop-ask.numbers) (world_of c.line.new.numbers) c.args.turns.now
+      c.loop-ask.turns c.line.new.turns c.loop-ask.outcomes.items c.push.new.self.items c.in_ok-outcome.outcome
+      c.loop-ask.ask-index _ (search rules) c.in_ok-outcome.ensures.outcome c.in_ok-outcome.ensures.world
+      c.in_ok-outcome.ensures.turns c.in_ok-push.ensures.items c.loop-ask.invariant.so_far;
+  owing = c.in_ok-outcome.ensures.owing;
+}

@@ -1,6 +1,4 @@
 use Rattle.std.proofs.lemmas.Simd.{zip2_splat}
-use Rattle.text_fields.proofs.LaneLemmas.{least_is, with_is, tested, small_both}
-use Rattle.text_fields.proofs.BlockLemmas.{covered}
 use Rattle.text_fields.proofs.blocks.plus.Goals as goal
 
 pub returns : goal.returns

@@ -1,4 +1,4 @@
-use Rattle.std.proofs.Common.{◌≡◌, ℕ, ◌+◌, ◌-◌, ◌%◌, min, map, bit_and, ap, ◌∙◌}
+use Rattle.std.proofs.Common.{◌∙◌}
 use Rattle.std.proofs.lemmas.Simd.{map-map, zip2-map}
 use Rattle.text_fields.proofs.LaneLemmas.{least_is}
 use Rattle.text_fields.proofs.blocks.values.Goals as goal

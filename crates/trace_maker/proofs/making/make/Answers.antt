@@ -6,8 +6,8 @@ use Rattle.trace_maker.proofs.making.make.Goals as goal
 pub loop-octets-init : goal.loop-octets-init
 loop-octets-init g c = record {
   made = subst (λ all. IsMade (g.K.Sink.written c.args.sink.now) (g.K.Sink.written c.args.sink.now)
-      c.new-text.result.items c.new-maker.result all) c.new-maker.ensures
-      (begins (g.K.Sink.written c.args.sink.now) c.new-text.result.items c.new-maker.result c.new-text.ensures.items);
+      c.new-text.result c.new-maker.result all) c.new-maker.ensures
+      (begins (g.K.Sink.written c.args.sink.now) c.new-text.result c.new-maker.result c.new-text.ensures);
   later = omega arith;
 }
 
@@ -58,7 +58,7 @@ returns-clause-whole g c =
     let none = c.in_ok-push_line.ensures.none (ap Ok c.if-branch.false) in
     on_ok c.write_text-2.result
     (λ sent. whole _ (g.K.Sink.written c.loop-octets.sink) (g.K.Sink.written c.write_text-2.new.sink)
-    c.push_line.new.text.items c.loop-octets.maker (made c.args.seed c.args.subscribers c.args.lines)
+    c.push_line.new.text c.loop-octets.maker (made c.args.seed c.args.subscribers c.args.lines)
     (stays _ _ _ _ _ _ c.loop-octets.invariant.made none.1) none.0 sent)
     c.write_text-2.ensures.whole
 
@@ -66,6 +66,6 @@ pub returns-clause-cut : goal.returns-clause-cut
 returns-clause-cut g c = λ failed.
     let none = c.in_ok-push_line.ensures.none (ap Ok c.if-branch.false) in
     cut _ (g.K.Sink.written c.loop-octets.sink) (g.K.Sink.written c.write_text-2.new.sink)
-    c.push_line.new.text.items c.loop-octets.maker (made c.args.seed c.args.subscribers c.args.lines)
+    c.push_line.new.text c.loop-octets.maker (made c.args.seed c.args.subscribers c.args.lines)
     (stays _ _ _ _ _ _ c.loop-octets.invariant.made none.1)
     (on_err c.write_text-2.result failed c.write_text-2.ensures.cut)

@@ -5,7 +5,7 @@ use Rattle.trace_maker.proofs.making.make.Given as goal
 
 abbrev pub invariant-loop-octets : goal.invariant-loop-octets
 invariant-loop-octets g l = record {
-  made : IsMade (g.K.Sink.written l.fn.sink) (g.K.Sink.written l.sink) l.text.items l.maker
+  made : IsMade (g.K.Sink.written l.fn.sink) (g.K.Sink.written l.sink) l.text l.maker
       (made l.seed l.subscribers l.lines);
   later : g.K.Sink.faults l.fn.sink ≤ g.K.Sink.faults l.sink;
 }

@@ -1,10 +1,12 @@
-use Rattle.std.proofs.Common.{[], ◌∷◌, ◌++◌, set, ap, ◌∙◌, rules}
+use Rattle.std.proofs.Common.{[], ◌∷◌, ◌++◌, set, ap, subst, ◌∙◌, rules}
 use Rattle.std.specs.List.{remove}
 use Rattle.std.proofs.lemmas.Slice.{pushed}
 use Rattle.charging_book.specs.Counters.{row_from}
 use Rattle.charging_book.proofs.Standing.{is-at, stands-marked, stands-gone, lives-marked}
 use Rattle.charging_book.specs.Happenings.{lives_of}
-use Rattle.charging_book.proofs.PartLemmas.{distinct_set, distinct_after}
+use Rattle.charging_book.proofs.PartLemmas.{lives_in, distinct_set, distinct_after}
+use Rattle.charging_book.proofs.PostedLemmas.{goes-marked, goes-gone}
+use Rattle.charging_book.specs.Accounts.{AreDistinct}
 use Rattle.charging_book.proofs.accounts.Book.close_one.Goals as goal
 
 pub returns-in-Gone-clause-stands : goal.returns-in-Gone-clause-stands
@@ -41,6 +43,46 @@ returns-in_default-clause-stands c = λ happened taken stands.
     c.index.ensures c.index-2.ensures in
     stands-marked old _ happened taken c.args.life place c.args.why counters moments stands at c.requires.is_open
     (lives-marked (lives_of happened) c.args.life c.args.why c.in_default.not-Gone)
+    (ap (λ xs. set xs place c.next.result) opens ∙ ap (set old.opens place) c.next.ensures)
+    (ap (λ xs. set xs place c.new-in_default.result) spans ∙ ap (set old.moments place) c.new-in_default.ensures)
+    (pushed (c.new.result ∷ []) (ap (λ book. book.rows) c.self.view_is) c.in_ok-push.was c.push.ensures.items
+    ∙ ap (λ row. old.rows ++ row ∷ []) c.new.ensures)
+
+pub returns-in-Gone-clause-pieces : goal.returns-in-Gone-clause-pieces
+returns-in-Gone-clause-pieces c =
+    let old = c.args.self.now in
+    let place = c.place_of-place.result in
+    let counters = c.index.result.now in
+    let moments = c.index-2.result.now in
+    let opens = ap (λ book. book.opens) c.self.view_is in
+    let spans = ap (λ book. book.moments) c.self.view_is in
+    let at = is-at old c.self.inside.opens.items c.self.inside.spans.items place c.args.life counters moments opens
+    spans
+    (rw c.deref.ensures.value at c.place_of-place.ensures.within)
+    (rw c.deref.ensures.value at c.place_of-place.ensures.found)
+    c.index.ensures c.index-2.ensures in
+    let distinct = subst (λ xs. AreDistinct (lives_in xs)) opens c.self.invariant.2 in
+    rw c.in-Gone.is (goes-gone old _ c.args.life place counters moments distinct at
+    (c.remove.ensures.items ∙ ap (λ xs. remove xs place) opens)
+    (c.remove-in-Gone.ensures.items ∙ ap (λ xs. remove xs place) spans)
+    (pushed (c.new.result ∷ []) (ap (λ book. book.rows) c.self.view_is) c.in_ok-push.was c.push.ensures.items
+    ∙ ap (λ row. old.rows ++ row ∷ []) (c.new.ensures ∙ ap (row_from counters moments) c.in-Gone.is)))
+
+pub returns-in_default-clause-pieces : goal.returns-in_default-clause-pieces
+returns-in_default-clause-pieces c =
+    let old = c.args.self.now in
+    let place = c.place_of-place.result in
+    let counters = c.index.result.now in
+    let moments = c.index-2.result.now in
+    let opens = ap (λ book. book.opens) c.self.view_is in
+    let spans = ap (λ book. book.moments) c.self.view_is in
+    let at = is-at old c.self.inside.opens.items c.self.inside.spans.items place c.args.life counters moments opens
+    spans
+    (rw c.deref.ensures.value at c.place_of-place.ensures.within)
+    (rw c.deref.ensures.value at c.place_of-place.ensures.found)
+    c.index.ensures c.index-2.ensures in
+    let distinct = subst (λ xs. AreDistinct (lives_in xs)) opens c.self.invariant.2 in
+    goes-marked old _ c.args.life place c.args.why counters moments distinct at c.in_default.not-Gone
     (ap (λ xs. set xs place c.next.result) opens ∙ ap (set old.opens place) c.next.ensures)
     (ap (λ xs. set xs place c.new-in_default.result) spans ∙ ap (set old.moments place) c.new-in_default.ensures)
     (pushed (c.new.result ∷ []) (ap (λ book. book.rows) c.self.view_is) c.in_ok-push.was c.push.ensures.items

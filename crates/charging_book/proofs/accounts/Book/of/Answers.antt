@@ -1,4 +1,4 @@
-use Rattle.std.proofs.Common.{sym, ◌∙◌, subst, true, rules}
+use Rattle.std.proofs.Common.{sym, ◌∙◌, subst}
 use Rattle.charging_book.specs.Accounts.{AreCounting, AreDistinct}
 use Rattle.charging_book.proofs.PartLemmas.{lives_in, parts_counting, parts_distinct}
 use Rattle.charging_book.proofs.accounts.Book.of.Goals as goal

@@ -1,6 +1,7 @@
 use Rattle.std.proofs.Common.{[], ◌∷◌, ◌++◌, ap, sym, subst, ◌∙◌, rules}
 use Rattle.std.proofs.lemmas.Slice.{pushed}
 use Rattle.charging_book.proofs.Standing.{stands-started}
+use Rattle.charging_book.proofs.PostedLemmas.{goes-started}
 use Rattle.charging_book.specs.Accounts.{IsNone}
 use Rattle.charging_book.proofs.Places.{none_of_all}
 use Rattle.charging_book.proofs.PartLemmas.{lives_in, distinct_behind}
@@ -10,6 +11,16 @@ pub returns-in-Ok-clause-stands : goal.returns-in-Ok-clause-stands
 returns-in-Ok-clause-stands c = λ happened taken stands.
     let old = c.args.self.now in
     stands-started old _ happened taken c.args.life c.args.ebi c.args.qci stands c.requires.closed
+    (pushed (c.new.result ∷ []) (ap (λ book. book.opens) c.self.view_is) c.in_ok-push.was c.push.ensures.items
+    ∙ ap (λ counters. old.opens ++ counters ∷ []) c.new.ensures)
+    (c.in-Ok.ensures.items ∙ ap (λ xs. xs ++ c.new-2.result ∷ []) (ap (λ book. book.moments) c.self.view_is)
+    ∙ ap (λ moments. old.moments ++ moments ∷ []) c.new-2.ensures)
+    (ap (λ book. book.rows) c.self.view_is)
+
+pub returns-in-Ok-clause-pieces : goal.returns-in-Ok-clause-pieces
+returns-in-Ok-clause-pieces c =
+    let old = c.args.self.now in
+    goes-started old _ c.args.life c.args.ebi c.args.qci
     (pushed (c.new.result ∷ []) (ap (λ book. book.opens) c.self.view_is) c.in_ok-push.was c.push.ensures.items
     ∙ ap (λ counters. old.opens ++ counters ∷ []) c.new.ensures)
     (c.in-Ok.ensures.items ∙ ap (λ xs. xs ++ c.new-2.result ∷ []) (ap (λ book. book.moments) c.self.view_is)

@@ -1,7 +1,5 @@
 use Rattle.std.proofs.Common.{sym, ◌∙◌, ap, subst, refl}
 use Rattle.charging_book.specs.Accounts as book
-use Rattle.packet_steps.specs.Past.{happening_for, row_for}
-use Rattle.packet_steps.specs.Verdicts.{at_moment}
 use Rattle.packet_steps.specs.Meters.{put_bucket}
 use Rattle.packet_steps.proofs.StandingLemmas.{may_charge, passes_stand}
 use Rattle.packet_steps.proofs.counters.Counters.pass.Goals as goal

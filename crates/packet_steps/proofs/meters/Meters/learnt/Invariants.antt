@@ -1,6 +1,6 @@
-use Rattle.std.proofs.Common.{◌≡◌, nat_lt, cond, take}
+use Rattle.std.proofs.Common.{◌≡◌, take}
 use Rattle.std.specs.List.{fold}
-use Rattle.packet_steps.specs.Meters.{new_meter, with_begun}
+use Rattle.packet_steps.specs.Meters.{with_begun}
 use Rattle.packet_steps.proofs.meters.Meters.learnt.Given as goal
 
 -- the meters with those bearers begun that were seen

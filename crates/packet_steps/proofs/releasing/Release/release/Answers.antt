@@ -1,4 +1,4 @@
-use Rattle.std.proofs.Common.{ℕ, List, [], ◌∷◌, ◌++◌, false, length, refl, ◌∙◌, ap, subst, arith}
+use Rattle.std.proofs.Common.{ℕ, List, [], ◌∷◌, ◌++◌, false, length, refl, ◌∙◌, ap, arith}
 use Rattle.std.proofs.lemmas.Slice.{pushed}
 use Rattle.pc_base.specs.declared.effect.Effect.TheVariants as effect
 use Rattle.pc_base.specs.declared.effect.Fate.TheVariants as fate

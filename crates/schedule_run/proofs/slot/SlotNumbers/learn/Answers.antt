@@ -1,7 +1,7 @@
 use Rattle.std.proofs.Common.{◌≡◌, ◌+◌, ◌-◌, refl, sym, ap, ◌∙◌, arith}
 use Rattle.slice_schedule.specs.Numbers.{times}
 use Rattle.slice_schedule.specs.Halves.{learn_one, learn}
-use Rattle.schedule_run.proofs.Loops.{times_less}
+use Rattle.schedule_run.proofs.Loops.{times_less, times_stuck}
 use Rattle.schedule_run.proofs.slot.SlotNumbers.learn.Goals as goal
 
 pub loop-init : goal.loop-init
@@ -19,3 +19,8 @@ returns c =
     let test = c.loop-test.false in
     let none : 16 - c.loop.counter ≡ 0 = omega (arith, test) in
     sym (ap (λ n. times n learn_one c.loop.self) none) ∙ c.loop.invariant
+
+pub returns-then-is_stuck : goal.returns-then-is_stuck
+returns-then-is_stuck c =
+    sym (times_stuck learn_one (16 - c.loop.counter) c.loop.self c.if-is_stuck.ensures)
+    ∙ c.loop.invariant

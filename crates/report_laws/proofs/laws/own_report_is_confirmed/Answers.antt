@@ -1,0 +1,8 @@
+use Rattle.report_laws.proofs.Confirmed.{own_confirmed, own_never_refuted}
+use Rattle.report_laws.proofs.laws.own_report_is_confirmed.Goals as goal
+
+pub returns-clause-yes : goal.returns-clause-yes
+returns-clause-yes c = own_confirmed
+
+pub returns-clause-only : goal.returns-clause-only
+returns-clause-only c = own_never_refuted

@@ -1,0 +1,4 @@
+pub mod Shown
+pub mod Confirming
+pub mod Held
+pub mod Octets
