@@ -106,7 +106,8 @@ pub fn push_placed(
       parked = parked;
     })))) }
 {
-    Err(AllocError)
+    report_lines::push_placed(report, line, slot, number, commands, verdict, place, parked)?;
+    end_line(report)
 }
 
 /// Appends the line of a slot's command or packet that was refused.
@@ -119,7 +120,8 @@ pub fn push_refusal(
     ensures { OnOk result (report.new ≡ report.old
         ++ line_of (entry.Line (line_entry.F (record { line = line; slot = slot; packet = packet })))) }
 {
-    Err(AllocError)
+    report_lines::push_refusal(report, line, slot, packet)?;
+    end_line(report)
 }
 
 fn push_effect(
