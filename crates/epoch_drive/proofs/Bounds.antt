@@ -1,5 +1,5 @@
 -- Where slots are bound for behind an epoch.
-use Rattle.std.proofs.Common.{◌≡◌, ℕ, ◌==◌, Bool, true, false, cond, List, [], ◌∷◌, ◌++◌, length, get_or, map, slice_get, zero, suc, refl, sym, ap, ◌∙◌, append_assoc, append-nil}
+use Rattle.std.proofs.Common.{◌≡◌, ℕ, ◌==◌, Bool, true, false, cond, List, [], ◌∷◌, ◌++◌, get_or, map, slice_get, zero, suc, refl, sym, ap, ◌∙◌, append_assoc, append-nil}
 use Rattle.std.proofs.lemmas.Bool.{eqb-true}
 use Rattle.trace_lines.specs.Line.{Line}
 use Rattle.demux.specs.declared.decision.Decision.{Decision}
@@ -7,7 +7,7 @@ use Rattle.demux.specs.declared.decision.Decision.TheVariants as decision
 use Rattle.demux.specs.Destinations.{bound_for}
 use Rattle.demux.specs.Resolved.{decided}
 use Rattle.demux.specs.Texts.{move_note}
-use Rattle.demux.specs.Trace.{Meaning, command, packet, move, note, book_of, destination_after}
+use Rattle.demux.specs.Trace.{move, note, book_of, destination_after}
 use Rattle.demux.proofs.TraceLemmas.{destination_after-push}
 use Rattle.lawful_run.specs.Trace.{meant_from}
 use Rattle.driven_run.specs.Runs.{bound_by, bounds_behind}

@@ -1,26 +1,23 @@
 -- The epoch is the driven one.
-use Rattle.std.proofs.Common.{◌≡◌, ℕ, zero, suc, ◌+◌, ◌-◌, ◌<◌, ◌≤◌, Option, Some, None, List, [], ◌∷◌, ◌++◌, map, length, take, drop, get_or, refl, sym, ap, subst, ◌∙◌, inl, inr, arith, append-nil}
+use Rattle.std.proofs.Common.{◌≡◌, ℕ, zero, suc, ◌+◌, ◌-◌, ◌<◌, ◌≤◌, List, [], ◌∷◌, ◌++◌, map, length, take, drop, get_or, refl, sym, ap, subst, ◌∙◌, inl, inr, arith, append-nil}
 use Rattle.std.proofs.lemmas.Bool.{cases_lt}
 use Rattle.std.proofs.lemmas.List.{drop_all, get_or-map, get_or_past, length-map, take_all}
-use Rattle.control_steps.specs.declared.command.CommandKind.{CommandKind}
 use Rattle.demux.specs.Trace.{Meaning}
 use Rattle.gate_model.specs.Events.{commands_of, packets_of}
 use Rattle.gate_model.specs.SlotPast.{records_after}
 use Rattle.gate_model.specs.declared.event.Event.{Event}
-use Rattle.report_lines.specs.Records.{Effected}
 use Rattle.report_lines.specs.declared.entry.ChargeEntry.TheVariants.{R}
 use Rattle.report_lines.specs.declared.entry.LineEntry.{LineEntry}
 use Rattle.lawful_run.specs.Accepted as accepted
 use Rattle.lawful_run.specs.Bounds.{count_before}
 use Rattle.lawful_run.specs.LinesTold.{LineTold, lines_told}
-use Rattle.lawful_run.specs.Order.{Histories, behind, events_in, ordered}
+use Rattle.lawful_run.specs.Order.{Histories, events_in, ordered}
 use Rattle.lawful_run.specs.Outcomes as made_of
 use Rattle.lawful_run.specs.Report.{EpochReport}
 use Rattle.lawful_run.specs.Run.{by_slot, told_in}
 use Rattle.epoch_join.specs.Filling as fill
-use Rattle.epoch_join.specs.Joined.{counts_met, epoch_of, events_joined, with_counts}
+use Rattle.epoch_join.specs.Joined.{epoch_of, events_joined, with_counts}
 use Rattle.epoch_join.proofs.Joining.{events_same, pieces_join}
-use Rattle.slice_schedule.specs.Front.{Outcome}
 use Rattle.slice_schedule.specs.Schedule.{outcomes}
 use Rattle.slice_schedule.specs.Slots.{Met}
 use Rattle.slice_schedule.specs.Tallies.{no_tally, AreDue}
@@ -33,7 +30,7 @@ use Rattle.driven_run.proofs.Forms.{filled_tell}
 use Rattle.driven_run.proofs.Owing.{lines_lawful, untold}
 use Rattle.driven_run.proofs.There as there
 use Rattle.subscriber.specs.Standing.{SubscriberState, commands_met}
-use Rattle.slot_replay.specs.Replaying.{commands_lent, counts_in, counts_of, effects_told, placed_lent, places_in, places_of, replies_in, verdicts_in}
+use Rattle.slot_replay.specs.Replaying.{counts_in, counts_of, effects_told, places_of}
 use Rattle.slot_replay.specs.declared.placed.Placed.{Placed}
 use Rattle.epoch_drive.specs.Joins as joins
 use Rattle.epoch_drive.specs.Meant.{AreStanding}
@@ -47,7 +44,7 @@ use Rattle.epoch_drive.specs.declared.replays.Replays.{Replays}
 use Rattle.epoch_drive.specs.declared.sharing.Share.{Share}
 use Rattle.epoch_drive.proofs.Events.{mets_list, opened_lines, opens_same, packets_counted, replies_list, with_none}
 use Rattle.epoch_drive.proofs.Replaying.{by_slot-next, counts_so}
-use Rattle.epoch_drive.proofs.Scheduled.{as_many, counts_at, each, entries, outs, tell}
+use Rattle.epoch_drive.proofs.Scheduled.{as_many, counts_at, each, entries, tell}
 
 -- a value of a list, at a place within it
 pub some_at : {X : Type 0} (xs : List X) (i : ℕ) → i < length xs → (x : X) × (x ≡ get_or xs i x)

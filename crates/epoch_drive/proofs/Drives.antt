@@ -1,5 +1,5 @@
 -- The epoch as the code makes it.
-use Rattle.std.proofs.Common.{◌≡◌, ◌≢◌, ℕ, zero, suc, ◌+◌, ◌==◌, ◌%◌, ◌<◌, ◌≤◌, ◌^◌, Bool, true, false, cond, Option, Some, None, List, [], ◌∷◌, ◌++◌, map, length, get_or, refl, sym, ap, subst, ◌∙◌, inl, inr, arith}
+use Rattle.std.proofs.Common.{◌≡◌, ℕ, ◌+◌, ◌%◌, ◌≤◌, ◌^◌, Bool, true, false, cond, Some, None, List, [], ◌∷◌, map, length, get_or, refl, sym, ap, subst, ◌∙◌, arith}
 use Rattle.std.specs.List.{All, cons_option}
 use Rattle.std.proofs.Math.Logic.{∥∥₁_elim}
 use Rattle.std.proofs.Props.{props}
@@ -8,13 +8,12 @@ use Rattle.std.proofs.lemmas.List.{length-map}
 use Rattle.std.proofs.lemmas.List.Elements.{All-head, All-tail, All-weaker}
 use Rattle.control_steps.specs.declared.command.CommandKind.{CommandKind}
 use Rattle.trace_lines.specs.Line.{Line}
-use Rattle.demux.specs.Trace.{Meaning, command, packet, move, note}
+use Rattle.demux.specs.Trace.{Meaning, command, packet}
 use Rattle.demux.specs.declared.packet.LentPacket.{LentPacket}
-use Rattle.gate_model.specs.Events.{commands_of}
 use Rattle.lawful_run.specs.Accepted as accepted
 use Rattle.lawful_run.specs.LinesTold.{lines_told}
 use Rattle.lawful_run.specs.Run.{no_events}
-use Rattle.slice_schedule.specs.Front.{Asks, Outcome}
+use Rattle.slice_schedule.specs.Front.{Outcome}
 use Rattle.slice_schedule.specs.Schedule.{Driven, outcomes, mets}
 use Rattle.slice_schedule.specs.Slots.{Met}
 use Rattle.slice_schedule.specs.World.{Rooms, start}
@@ -29,7 +28,7 @@ use Rattle.subscriber.specs.Standing.{SubscriberState, commands_met}
 use Rattle.subscriber.proofs.CountLemmas.{all_counted}
 use Rattle.at_rest.specs.Rest.{AreAtRest, HasEvents, IsAtRest}
 use Rattle.epoch_drive.specs.Meant.{IsWithin, TurnedAll, bound_of, meaning_of}
-use Rattle.epoch_drive.specs.Opened.{open_command, open_entry, open_packet, opened}
+use Rattle.epoch_drive.specs.Opened.{open_command, open_packet, opened}
 use Rattle.epoch_drive.specs.Shares.{AreMet}
 use Rattle.epoch_drive.specs.declared.meant.Meant.{Meant}
 use Rattle.epoch_drive.specs.declared.meant.Meant.TheVariants as now
@@ -180,20 +179,20 @@ pub planned : (rooms : Rooms) (slices : ℕ) (book book_now : List (List ℕ)) (
     → Planned rooms slices subscribers lines (turns_told turns slices (length lines)) meants plan
 planned rooms slices book book_now subscribers between lines bounds asks meants turns plan turned bounds_is asks_are
     outs_are mets_are =
-      let counted : length meants ≡ length lines = length-moments lines meants turned.moments in
-      let same : turns_told turns slices (length asks) ≡ turns_told turns slices (length lines) =
-      ap (turns_told turns slices) (length-asks asks meants asks_are ∙ counted) in
-      let outs : plan.outcomes ≡ outcomes rooms (bound_of slices subscribers) start
-      (driven (map meaning_of meants) (turns_told turns slices (length lines))) =
-      outs_are ∙ plan_outcomes rooms slices subscribers bounds asks meants (turns_told turns slices (length lines))
-      (turns_told turns slices (length asks)) bounds_is asks_are same in
-      record {
-        outcomes_are = outs;
-        mets_are = λ slot. mets_are slot
-            ∙ plan_mets rooms slices subscribers bounds asks meants (turns_told turns slices (length lines))
-            (turns_told turns slices (length asks)) bounds_is asks_are same slot;
-        long = ap length outs
-            ∙ length-outcomes rooms (bound_of slices subscribers) (map meaning_of meants)
-            (turns_told turns slices (length lines)) ∙ length-map meants meaning_of;
-        counted = counted;
-      }
+    let counted : length meants ≡ length lines = length-moments lines meants turned.moments in
+    let same : turns_told turns slices (length asks) ≡ turns_told turns slices (length lines) =
+    ap (turns_told turns slices) (length-asks asks meants asks_are ∙ counted) in
+    let outs : plan.outcomes ≡ outcomes rooms (bound_of slices subscribers) start
+    (driven (map meaning_of meants) (turns_told turns slices (length lines))) =
+    outs_are ∙ plan_outcomes rooms slices subscribers bounds asks meants (turns_told turns slices (length lines))
+    (turns_told turns slices (length asks)) bounds_is asks_are same in
+    record {
+      outcomes_are = outs;
+      mets_are = λ slot. mets_are slot
+          ∙ plan_mets rooms slices subscribers bounds asks meants (turns_told turns slices (length lines))
+          (turns_told turns slices (length asks)) bounds_is asks_are same slot;
+      long = ap length outs
+          ∙ length-outcomes rooms (bound_of slices subscribers) (map meaning_of meants)
+          (turns_told turns slices (length lines)) ∙ length-map meants meaning_of;
+      counted = counted;
+    }

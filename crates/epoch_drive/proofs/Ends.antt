@@ -1,8 +1,7 @@
 -- Subscribers can do their shares, and are at rest behind them.
-use Rattle.std.proofs.Common.{◌≡◌, ℕ, zero, suc, ◌+◌, ◌-◌, ◌<◌, ◌≤◌, ◌^◌, List, [], ◌∷◌, ◌++◌, map, length, take, drop, get_or, refl, sym, ap, subst, ◌∙◌, inl, inr, arith, length-append}
+use Rattle.std.proofs.Common.{◌≡◌, ℕ, suc, ◌+◌, ◌-◌, ◌<◌, ◌≤◌, ◌^◌, List, [], ◌∷◌, ◌++◌, map, length, take, drop, get_or, refl, sym, ap, subst, ◌∙◌, arith, length-append}
 use Rattle.std.proofs.Math.Logic.{∥∥₁_elim, ∥∥₁_map}
 use Rattle.std.proofs.Props.{props}
-use Rattle.std.proofs.lemmas.Bool.{cases_lt}
 use Rattle.std.proofs.lemmas.List.{get_or-map, length-map, take-append-drop}
 use Rattle.std.specs.Borrow.{Bor}
 use Rattle.trace_lines.specs.Line.{Line}
@@ -20,14 +19,14 @@ use Rattle.lawful_run.specs.LinesTold.{LineTold}
 use Rattle.slice_schedule.specs.Front.{Outcome}
 use Rattle.schedule_run.specs.Plan.{Plan, mets_of}
 use Rattle.subscriber.specs.Standing.{SubscriberState}
-use Rattle.at_rest.specs.Rest.{AreAtRest, HasEvents, IsAtRest}
+use Rattle.at_rest.specs.Rest.{AreAtRest, HasEvents}
 use Rattle.slot_replay.specs.Replaying.{AreLate, latest_of, moment_of}
 use Rattle.slot_replay.specs.declared.placed.Placed.{Placed}
 use Rattle.epoch_drive.specs.Lines.{AreLater, latest_behind}
 use Rattle.epoch_drive.specs.Meant.{HaveMoments, meaning_of}
 use Rattle.epoch_drive.specs.Opened.{opened}
 use Rattle.epoch_drive.specs.Replays.{AllCanDo, HasDone, HaveDone, commands_at, commands_shared, events_shared, packets_at, packets_shared}
-use Rattle.epoch_drive.specs.Shares.{AreShares, IsShare, base_at, packets_alone, packets_lent}
+use Rattle.epoch_drive.specs.Shares.{AreShares, IsShare, base_at}
 use Rattle.epoch_drive.specs.declared.meant.Meant.{Meant}
 use Rattle.epoch_drive.specs.declared.replays.Answers.{Answers}
 use Rattle.epoch_drive.specs.declared.replays.Replays.{Replays}

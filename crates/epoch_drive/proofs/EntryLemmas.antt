@@ -1,5 +1,5 @@
 -- Entries that are filled one after another.
-use Rattle.std.proofs.Common.{◌≡◌, ℕ, zero, suc, ◌+◌, ◌==◌, ◌<◌, ◌≤◌, Bool, true, false, cond, Option, Some, None, IfSome, List, [], ◌∷◌, ◌++◌, map, length, drop, get_or, set, get_or-set_same, get_or-set_other, length-set, refl, sym, ap, subst, ◌∙◌, inl, inr, arith, append_assoc, append-nil}
+use Rattle.std.proofs.Common.{◌≡◌, ℕ, ◌+◌, ◌==◌, ◌<◌, Bool, true, false, cond, Option, Some, None, IfSome, List, [], ◌∷◌, ◌++◌, map, length, drop, get_or, set, get_or-set_same, get_or-set_other, length-set, refl, sym, ap, subst, ◌∙◌, inl, inr, arith, append_assoc, append-nil}
 use Rattle.std.specs.Prelude.{option_to_list}
 use Rattle.std.proofs.lemmas.Bool.{cases_eq, cases_lt, eq-eqb, eqb-true, ne_eqb}
 use Rattle.std.proofs.lemmas.List.{drop-map, drop_more, get_or-map, get_or_past, length-map, map_push, nil_from_length, length-drop}
@@ -7,7 +7,7 @@ use Rattle.std.proofs.lemmas.List.Elements.{All-drop, All-head, All-set}
 use Rattle.report_lines.specs.Lent.{IsShort}
 use Rattle.report_lines.specs.declared.entry.LineEntry.{LineEntry}
 use Rattle.report_lines.specs.declared.entry.LineEntry.TheVariants as line
-use Rattle.epoch_join.specs.Filling.{Met, Mets, Replied, Replies, fill, filled, met_slot, others_of, replied_slot}
+use Rattle.epoch_join.specs.Filling.{Mets, Replies, fill, filled, met_slot, others_of, replied_slot}
 use Rattle.slice_schedule.specs.Front.{Outcome}
 use Rattle.slot_replay.specs.Replaying.{AreShort}
 use Rattle.slot_replay.specs.declared.replayed.Judged.{Judged}
@@ -16,7 +16,7 @@ use Rattle.epoch_drive.specs.declared.epoch.Entry.{Entry}
 use Rattle.epoch_drive.specs.declared.epoch.Entry.TheVariants as entries
 use Rattle.epoch_drive.specs.declared.meant.Meant.{Meant}
 use Rattle.epoch_drive.specs.declared.replays.Answers.{Answers}
-use Rattle.epoch_drive.specs.Joins.{AllShort, FillsNext, TakesPacket, TakesReply, met_so, mets_at, mets_of, next_met, next_reply, replied_so, replies_at, replies_of, told_of_command, told_of_packet}
+use Rattle.epoch_drive.specs.Joins.{AllShort, FillsNext, TakesPacket, TakesReply, met_so, mets_at, mets_of, replied_so, replies_at, replies_of, told_of_command, told_of_packet}
 use Rattle.epoch_drive.specs.Meant.{meaning_of}
 use Rattle.epoch_drive.specs.Opened.{open_command, open_entries, open_entry, open_packet}
 use Rattle.epoch_drive.specs.Told.{IsShortEntry, line_told}

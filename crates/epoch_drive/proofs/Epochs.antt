@@ -1,5 +1,5 @@
 -- An epoch of lines, from what each step of the code ensures.
-use Rattle.std.proofs.Common.{◌≡◌, ℕ, ◌+◌, ◌<◌, ◌≤◌, ◌^◌, List, [], ◌∷◌, ◌++◌, map, length, sym, ap, subst, ◌∙◌, arith, length-append}
+use Rattle.std.proofs.Common.{◌≡◌, ℕ, ◌+◌, ◌≤◌, ◌^◌, List, ◌++◌, map, length, sym, subst, arith, length-append}
 use Rattle.trace_lines.specs.Line.{Line}
 use Rattle.demux.specs.Trace.{Meaning}
 use Rattle.gate_model.specs.Versions.{SessionsKeepTheirSlot}
@@ -7,21 +7,13 @@ use Rattle.lawful_run.specs.Order.{Histories, behind}
 use Rattle.lawful_run.specs.Report.{EpochReport}
 use Rattle.lawful_run.specs.Run.{told_in}
 use Rattle.lawful_run.specs.Trace.{meant_from}
-use Rattle.epoch_join.specs.Filling.{filled}
-use Rattle.slice_schedule.specs.Schedule.{outcomes}
-use Rattle.slice_schedule.specs.World.{start}
 use Rattle.schedule_run.specs.Plan as plans
-use Rattle.driven_run.specs.Driven.{IsDriven, driven, mets_driven}
-use Rattle.driven_run.specs.Runs.{bounds_behind}
+use Rattle.driven_run.specs.Driven.{IsDriven}
 use Rattle.subscriber.specs.Standing.{SubscriberState}
 use Rattle.at_rest.specs.Rest.{AreAtRest, IsBehind, RepresentsAll, Rest, bound_at}
 use Rattle.slot_replay.specs.Replaying.{effects_told}
-use Rattle.epoch_drive.specs.Joins.{mets_at, replies_at}
 use Rattle.epoch_drive.specs.Lines.{AreLater, latest_behind, rooms_of}
-use Rattle.epoch_drive.specs.Meant.{AreStanding, Stand, TurnedAll, meaning_of}
-use Rattle.epoch_drive.specs.Opened.{open_entries, opened}
-use Rattle.epoch_drive.specs.Replays.{HaveDone}
-use Rattle.epoch_drive.specs.Shares.{AreShares}
+use Rattle.epoch_drive.specs.Meant.{AreStanding, meaning_of}
 use Rattle.epoch_drive.specs.Steps.{DoesLines}
 use Rattle.epoch_drive.specs.Told.{line_told, rows_told, told_by}
 use Rattle.epoch_drive.specs.declared.epoch.Entry.{Entry}

@@ -1,28 +1,21 @@
 -- What is told of each slot is what the schedule asks for.
-use Rattle.std.proofs.Common.{◌≡◌, ◌≢◌, ℕ, zero, suc, ◌+◌, ◌==◌, ◌<◌, ◌≤◌, Bool, true, false, cond, Option, Some, None, List, [], ◌∷◌, ◌++◌, map, length, take, get_or, refl, sym, ap, subst, ◌∙◌, inl, inr, arith, length-append}
-use Rattle.std.specs.List.{All, filter_map, cons_option}
+use Rattle.std.proofs.Common.{◌≡◌, ℕ, zero, suc, ◌+◌, ◌==◌, ◌≤◌, Bool, true, false, cond, Option, Some, None, List, [], ◌∷◌, map, length, refl, sym, ap, ◌∙◌, arith}
+use Rattle.std.specs.List.{cons_option}
 use Rattle.std.specs.Option.{option_map}
-use Rattle.std.proofs.lemmas.Bool.{cases_lt}
-use Rattle.std.proofs.lemmas.List.{get_or-map, get_or_past, length-map, nil_from_length}
+use Rattle.std.proofs.lemmas.List.{length-map, nil_from_length}
 use Rattle.control_steps.specs.declared.command.CommandKind.{CommandKind}
 use Rattle.demux.specs.Trace.{Meaning, command, packet, move, note}
 use Rattle.demux.specs.declared.packet.LentPacket.{LentPacket}
-use Rattle.pc_base.specs.declared.packet.Place.{Place}
-use Rattle.pc_base.specs.declared.packet.Verdict.{Verdict}
-use Rattle.pc_base.specs.declared.reply.Reply.{Reply}
-use Rattle.gate_model.specs.Events.{commands_of, packets_of}
-use Rattle.gate_model.specs.declared.event.Event.{Event}
 use Rattle.report_lines.specs.declared.entry.LineEntry.{LineEntry}
 use Rattle.lawful_run.specs.Accepted as accepted
 use Rattle.lawful_run.specs.LinesTold.{LineTold, lines_told}
 use Rattle.lawful_run.specs.Telling.{counted}
-use Rattle.epoch_join.specs.Filling as fill
 use Rattle.epoch_join.specs.Joined.{with_counts}
 use Rattle.slice_schedule.specs.Front.{Outcome}
 use Rattle.slice_schedule.specs.Slots.{Met}
 use Rattle.driven_run.proofs.Forms as forms
 use Rattle.driven_run.proofs.There.{met_list, reply_list}
-use Rattle.slot_replay.specs.Replaying.{counts_in, counts_of, numbers_in, packet_numbers_in, placed_lent, placed_so, places_in, replies_in, verdicts_in}
+use Rattle.slot_replay.specs.Replaying.{counts_in, counts_of, numbers_in, packet_numbers_in, placed_lent, places_in, replies_in, verdicts_in}
 use Rattle.slot_replay.specs.declared.placed.Placed.{Placed}
 use Rattle.slot_replay.specs.declared.replayed.Judged.{Judged}
 use Rattle.slot_replay.specs.declared.replayed.Replied as told

@@ -1,11 +1,10 @@
 -- The gateway behind an epoch.
-use Rattle.std.proofs.Common.{◌≡◌, ℕ, ◌+◌, ◌<◌, ◌≤◌, Option, Some, None, List, [], ◌∷◌, ◌++◌, length, get_or, slice_get, refl, sym, ap, subst, ◌∙◌, inl, inr, arith, append-nil, length-append}
+use Rattle.std.proofs.Common.{◌≡◌, ℕ, ◌+◌, ◌<◌, ◌≤◌, List, [], ◌++◌, length, get_or, sym, ap, subst, ◌∙◌, inl, inr, arith, append-nil}
 use Rattle.std.proofs.lemmas.Bool.{cases_lt}
 use Rattle.std.proofs.lemmas.Option.{slice_get-get_or, slice_get_past}
 use Rattle.trace_lines.specs.Line.{Line}
 use Rattle.demux.specs.Destinations.{home_slice}
-use Rattle.demux.specs.Trace.{Meaning, destination_after}
-use Rattle.gate_model.specs.declared.event.Event.{Event}
+use Rattle.demux.specs.Trace.{destination_after}
 use Rattle.lawful_run.specs.LinesTold.{LineTold}
 use Rattle.lawful_run.specs.Order.{Histories, behind, events_in}
 use Rattle.lawful_run.specs.Trace.{meant_from}
@@ -13,9 +12,8 @@ use Rattle.driven_run.specs.Runs.{bounds_behind}
 use Rattle.subscriber.specs.Standing.{SubscriberState}
 use Rattle.at_rest.specs.Rest.{IsBehind, Represents, RepresentsAll, Rest, bound_at, destination_or}
 use Rattle.epoch_drive.specs.Meant.{AreStanding, Stand, bound_of}
-use Rattle.epoch_drive.specs.Replays.{HasDone, HaveDone, events_shared}
+use Rattle.epoch_drive.specs.Replays.{HasDone, events_shared}
 use Rattle.epoch_drive.specs.declared.replays.Answers.{Answers}
-use Rattle.epoch_drive.specs.declared.replays.Replays.{Replays}
 use Rattle.epoch_drive.specs.declared.sharing.Share.{Share}
 use Rattle.epoch_drive.proofs.Bounds.{bounds_on}
 use Rattle.epoch_drive.proofs.Driven.{some_at}

@@ -1,23 +1,22 @@
 -- What the schedule of an epoch says of its packets.
-use Rattle.std.proofs.Common.{◌≡◌, ℕ, ◌+◌, ◌<◌, ◌≤◌, ◌^◌, Option, Some, None, List, [], ◌∷◌, ◌++◌, map, length, refl, sym, ap, subst, ◌∙◌, arith}
-use Rattle.std.specs.List.{All, filter_map, cons_option}
+use Rattle.std.proofs.Common.{◌≡◌, ℕ, ◌+◌, ◌≤◌, Option, Some, None, List, [], ◌∷◌, ◌++◌, map, length, refl, sym, ap, subst, ◌∙◌, arith}
+use Rattle.std.specs.List.{All, cons_option}
 use Rattle.std.proofs.lemmas.List.{get_or-map, length-map}
 use Rattle.std.proofs.lemmas.List.Elements.{All-map, All-weaker}
 use Rattle.demux.specs.Trace.{Meaning}
-use Rattle.gate_model.specs.Events.{commands_of, packets_of}
+use Rattle.gate_model.specs.Events.{packets_of}
 use Rattle.report_lines.specs.declared.entry.LineEntry.{LineEntry}
-use Rattle.lawful_run.specs.Accepted.{accepted_command, commands_accepted, packets_accepted}
+use Rattle.lawful_run.specs.Accepted.{accepted_command, packets_accepted}
 use Rattle.lawful_run.specs.Answers.{AnswersAll}
 use Rattle.lawful_run.specs.Bounds.{count_before}
 use Rattle.lawful_run.specs.LinesTold.{LineTold, lines_told}
 use Rattle.lawful_run.specs.Order.{Histories}
 use Rattle.lawful_run.specs.Run.{no_events}
-use Rattle.lawful_run.specs.Telling.{packet_number, commands_told}
 use Rattle.epoch_join.specs.Filling as fill
 use Rattle.epoch_join.specs.Floors.{command_floor, command_floors, floor_for}
 use Rattle.epoch_join.specs.Joined.{MeetsFloors, counts_met}
 use Rattle.epoch_join.proofs.Fillings.{counts_told, packets_counted}
-use Rattle.slice_schedule.specs.Front.{Asks, Outcome}
+use Rattle.slice_schedule.specs.Front.{Outcome}
 use Rattle.slice_schedule.specs.Schedule.{Driven, behind_line, outcomes}
 use Rattle.slice_schedule.specs.Slots.{Met}
 use Rattle.slice_schedule.specs.World.{Rooms, World, start}

@@ -27,8 +27,7 @@ invariant_of-driven-inside c =
     subst (λ (r : Rest). AreAtRest r.slices (r.lines + length lines) (latest_behind r.latest lines) new)
     (sym c.rest.view_is)
     (rests_so rest lines (turns_told turns rest.slices (length lines)) book new epoch steps at_rest c.requires.later c.requires.few
-    c.sessions_keep_their_slot.ensures) in
-    (
+    c.sessions_keep_their_slot.ensures) in (
       c.rest.inside.slices_few,
       (
         c.rest.inside.roomy,

@@ -1,4 +1,4 @@
-use Rattle.std.proofs.Common.{◌≡◌, ◌+◌, ◌++◌, ◌∷◌, [], length, List, map, drop, subst, sym, ap, ◌∙◌, arith}
+use Rattle.std.proofs.Common.{◌+◌, length, List, map, drop, subst, sym, ap, ◌∙◌, arith}
 use Rattle.std.proofs.lemmas.List.Elements.{All-push, All-rest}
 use Rattle.report_lines.specs.declared.entry.LineEntry.{LineEntry}
 use Rattle.epoch_join.specs.Filling.{filled}
@@ -7,7 +7,7 @@ use Rattle.epoch_drive.specs.Meant.{IsWithin, meaning_of}
 use Rattle.epoch_drive.specs.Opened.{open_entries}
 use Rattle.epoch_drive.specs.Told.{AreShort, IsShortEntry}
 use Rattle.epoch_drive.specs.declared.epoch.Entry.{Entry}
-use Rattle.epoch_drive.proofs.EntryLemmas.{Joins, joins_next, joins_over}
+use Rattle.epoch_drive.proofs.EntryLemmas.{Joins, joins_next}
 use Rattle.epoch_drive.proofs.joining.join.Goals as goal
 
 pub loop-now-preserved : goal.loop-now-preserved

@@ -1,4 +1,4 @@
-use Rattle.std.proofs.Common.{◌≡◌, ℕ, get_or, set, refl, ap, ◌∙◌}
+use Rattle.std.proofs.Common.{ℕ, get_or, set, refl, ap, ◌∙◌}
 use Rattle.epoch_drive.specs.declared.replays.Answers.{Answers}
 use Rattle.epoch_drive.proofs.joining.next_reply.Goals as goal
 
