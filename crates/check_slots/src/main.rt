@@ -1,9 +1,9 @@
 //! Plays events of slots, a line each, through the plain gateway and through a subscriber with its running
 //! counters, and prints the entries of a report that both of them lead to. Each slot ends with its charging
 //! records and open counters. Besides, s begins a slot and e ends it; t takes the charging records, q asks for
-//! the open counters, h for what the subscriber says of itself; j binds it for a slice; w plays a packet up so
-//! often, with so many octets, and counts those that pass; and l and k ask whether a list is one of bearers, and
-//! one of asks.
+//! the open counters, h for what the subscriber says of itself; j binds it for a slice; p makes its counters again
+//! of their parts; w plays a packet up so often, with so many octets, and counts those that pass; and l and k ask
+//! whether a list is one of bearers, and one of asks.
 #![tactic(auto)]
 
 mod fields;
@@ -51,6 +51,7 @@ fn go_on(alloc: Global, player: &mut Player, row: Fields, text: &mut Text) -> Re
         b'e' => player.finish(text),
         b't' => player.take(text),
         b'q' => player.opens(text),
+        b'p' => Ok(push_yes(text, player.remake()?)?),
         b'h' => Ok(push_told(alloc, text, player.tell())?),
         b'j' => {
             player.go(row.octet(0));

@@ -3,7 +3,7 @@ use crate::printing::{end_line, push_effects, push_opens, push_verdict};
 use crate::stop::Stop;
 use gate_model::{Command, Effects, Event, Gateway, Happened, Packet, Reply, Slot, Verdict};
 use ipv4_packet::Ip4;
-use packet_steps::{LentVerdict, gpdu};
+use packet_steps::{Counters, LentVerdict, gpdu};
 use pc_base::{LAST_MOMENT, Moment, Octets, SliceNo};
 use report_lines::{push_answer, push_row};
 use std::alloc::Global;
@@ -207,6 +207,22 @@ impl Player {
             subscriber.packets(),
             last,
         )
+    }
+
+    /// Makes the subscriber's counters again, of the parts that they have. Tells whether they fit; none is made
+    /// where charging records weren't taken, as parts have none.
+    pub fn remake(&mut self) -> Result<bool, Stop> {
+        if !self.subscriber.counters.book().closed().is_empty() {
+            return Err(Stop::Line);
+        }
+        let parts = self.subscriber.counters.parts(&self.subscriber.version)?;
+        match Counters::of(&self.subscriber.version, parts)? {
+            Some(counters) => {
+                self.subscriber.counters = counters;
+                Ok(true)
+            }
+            None => Ok(false),
+        }
     }
 
     /// Appends the charging records, and the open counters by index.

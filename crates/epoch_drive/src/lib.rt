@@ -1,6 +1,36 @@
 //! An epoch under a schedule, on one thread: its lines are decided, its schedule is made, each subscriber
 //! does its commands and packets in the order that the schedule tells, and what becomes of them is
-//! joined, line by line. The entries are those of the driven epoch, and no others.
+//! joined, line by line. The entries are those of the driven epoch, and no others. Epochs of a run, and
+//! texts of entries, are left to the caller.
+//!
+//! ```
+//! use at_rest::AtRest;
+//! use epoch_drive::{Entry, drive_epoch};
+//! use pc_base::{Moment, Slot};
+//! use schedule_run::Turns;
+//! use std::test::Fail;
+//! use trace_lines::read_line;
+//!
+//! fn main(rt: HostRuntime) -> Result<(), Fail> {
+//!     let alloc = rt.alloc();
+//!     let attach = b"0 ATTACH 001010000000001 198.51.100.7 00000a01 1000 1000";
+//!     let Ok(line) = read_line(alloc, attach, 1, Moment(0)) else {
+//!         return Err("a line".into());
+//!     };
+//!     let rest = AtRest::new(alloc, 2, 256, 16384);
+//!     let mut turns = Turns::List([0, 1, 2, 3].to_vec(alloc)?);
+//!     let lines = [line];
+//!     let (rest, epoch) = drive_epoch(alloc, rest, &lines, &mut turns)?;
+//!     assert_eq!(rt; (rest.lines, epoch.lines.len(), epoch.effects.len()), (1, 1, 0));
+//!     match &epoch.lines[0] {
+//!         Entry::Answer { line, slot, number, .. } => {
+//!             assert_eq!(rt; (*line, *slot, *number), (1, Slot(0), 0));
+//!             Ok(())
+//!         }
+//!         _ => Err("an answer".into()),
+//!     }
+//! }
+//! ```
 #![tactic(auto)]
 
 mod deciding;

@@ -1,10 +1,9 @@
 -- What an export wrote, by its status.
 use Rattle.std.proofs.Common.{◌≡◌, ℕ, inl, inr, ◌+◌, List, [], ◌++◌, length, flat_map, Option, None, Some, refl, sym, ap, ◌∙◌, subst, append_assoc, append-nil}
 use Rattle.std.specs.Io.KnownBytes.{Appends}
-use Rattle.std.proofs.KnownBytes.{Appends-nil, Appends-trans}
+use Rattle.std.proofs.KnownBytes.{Appends-nil}
 use Rattle.std.proofs.lemmas.Grind.{flat_map-append}
-use Rattle.pc_outside.specs.Fronts.{AppendsFront}
-use Rattle.trace_lines.specs.Input.{Input, Stop, bad, big, ended, input_of, long, stopped}
+use Rattle.trace_lines.specs.Input.{Input, Stop, bad, big, ended, input_of, long}
 use Rattle.trace_lines.specs.Line.{Line}
 use Rattle.pcap_form.specs.Export.{export_of, header, record_of}
 use Rattle.trace_run.specs.declared.ending.Ending.{Ending}
@@ -13,12 +12,14 @@ use Rattle.trace_run.specs.declared.ending.Unwritten.{Unwritten}
 use Rattle.trace_run.specs.declared.ending.Unwritten.TheVariants as unwritten
 use Rattle.trace_run.specs.declared.status.Status.{Status}
 use Rattle.trace_run.specs.declared.status.Status.TheVariants as status
-use Rattle.pepc.specs.Export.{ExportReports, Exports, IsCutExport, input_export}
-use Rattle.pepc.specs.ExportProgress.{CutAt, ExportCuts, ExportEnds}
+use Rattle.pepc.specs.Export.{ExportReports, Exports, IsCutExport, IsFirstExport, input_export}
+use Rattle.pepc.specs.ExportProgress.{BreaksOff, Captures, IsFirst}
 use Rattle.trace_run.specs.Lines.{Begins, Reached, Stops}
 use Rattle.trace_run.specs.Status.{status_at, status_without}
 use Rattle.trace_run.specs.Report.{IsBad, IsDone, IsLong}
+use Rattle.trace_run.specs.Takers.{LinesCut}
 use Rattle.trace_run.specs.Told.{WhereTold}
+use Rattle.trace_run.proofs.EndingLemmas.{stop_is}
 use Rattle.trace_run.proofs.ToldLemmas.{told_map}
 
 -- the capture of first lines is a prefix of that of all
@@ -37,26 +38,10 @@ cut_export octets text more done begins parts =
           ∙ ap (λ t. t ++ rest) parts ∙ append_assoc text more rest;
     }
 
-whole_begins : (octets : List ℕ) (done : List Line) (stop : Stop) → Stops octets done stop → Begins octets done
-whole_begins octets done stop stops =
-    (stopped stop, stops ∙ ap (λ lines. record { lines = lines; stop = stop }) (sym (append-nil done)))
-
--- however the lines ended, the input begins with them
-begins_at : (ending : Ending) (octets left : List ℕ) (done : List Line) → Reached ending octets left done
-    → Begins octets done
-begins_at Ended octets left done reached = whole_begins octets done ended reached.0
-begins_at ReadFault octets left done reached = reached.begins
-begins_at (BadLine why) octets left done reached = whole_begins octets done (bad (length done + 1) why) reached
-begins_at LineLong octets left done reached = whole_begins octets done (long (length done + 1)) reached
-begins_at TooLong octets left done reached = whole_begins octets done big reached
-
 lines_are : (octets : List ℕ) (done : List Line) (stop : Stop) (text : List ℕ) → Stops octets done stop
     → text ≡ export_of done
     → text ≡ input_export octets
 lines_are octets done stop text stops is = is ∙ ap (λ (i : Input). export_of i.lines) (sym stops)
-
-stop_is : (octets : List ℕ) (done : List Line) (stop : Stop) → Stops octets done stop → (input_of octets).stop ≡ stop
-stop_is octets done stop stops = ap (λ (i : Input). i.stop) stops
 
 reports_at : (ending : Ending) (octets left text : List ℕ) (done : List Line) → text ≡ export_of done
     → Reached ending octets left done → ExportReports (status_at ending) octets left text
@@ -77,53 +62,52 @@ reports_at TooLong octets left text done is reached =
     (stop_is octets done big reached, lines_are octets done big text reached is)
 
 -- what waited is written
-pub ends_whole : (ending : Ending) (failed : Type 0) (start left old mid new : Option (List ℕ)) (waiting now : List ℕ)
-    → ExportEnds ending start left old mid waiting → Appends mid new waiting
-    → Exports (status_at ending) failed start left old new
-ends_whole ending failed start left old mid new waiting now ends sent = record {
-  text = export_of ends.done;
-  written = subst (λ t. Appends old new t) (sym ends.waits) (Appends-trans old mid new ends.sent waiting ends.written
-      sent);
-  report = told_map start left (λ octets rest. Reached ending octets rest ends.done)
-      (λ octets rest. ExportReports (status_at ending) octets rest (export_of ends.done))
-      (λ octets rest reached. reports_at ending octets rest (export_of ends.done) ends.done refl reached) ends.reached;
+pub ends_whole : (ending : Ending) (failed : Type 0) (start left old new : Option (List ℕ)) (now : List ℕ)
+    (done : List Line) → WhereTold start left (λ octets rest. Reached ending octets rest done) → now ≡ []
+    → Captures now done old new → Exports (status_at ending) failed start left old new
+ends_whole ending failed start left old new now done reached emptied captures = record {
+  text = export_of done;
+  written = subst (Appends old new) (sym (captures.waits ∙ ap (λ t. captures.sent ++ t) emptied
+      ∙ append-nil captures.sent)) captures.written;
+  report = told_map start left (λ octets rest. Reached ending octets rest done)
+      (λ octets rest. ExportReports (status_at ending) octets rest (export_of done))
+      (λ octets rest is. reports_at ending octets rest (export_of done) done refl is) reached;
 }
 
--- or a prefix of it
-pub ends_cut : (ending : Ending) (failed : Type 0) (start left old mid new : Option (List ℕ)) (waiting : List ℕ)
-    → ExportEnds ending start left old mid waiting → AppendsFront mid new waiting
+-- or a prefix of the capture
+pub ends_cut : (failed : Type 0) (start left old new : Option (List ℕ)) (done : List Line)
+    → WhereTold start left (λ octets rest. Begins octets done) → BreaksOff done old new
     → Exports status.WriteFault failed start left old new
-ends_cut ending failed start left old mid new waiting ends cut = record {
-  text = ends.sent ++ cut.front;
-  written = Appends-trans old mid new ends.sent cut.front ends.written cut.appended;
-  report = told_map start left (λ octets rest. Reached ending octets rest ends.done)
-      (λ octets rest. IsCutExport octets (ends.sent ++ cut.front))
-      (λ octets rest reached. cut_export octets (ends.sent ++ cut.front) cut.rest ends.done
-      (begins_at ending octets rest ends.done reached)
-      (ends.waits ∙ ap (λ t. ends.sent ++ t) cut.parts ∙ sym (append_assoc ends.sent cut.front cut.rest))) ends.reached;
+ends_cut failed start left old new done reached cut = record {
+  text = cut.sent;
+  written = cut.written;
+  report = told_map start left (λ octets rest. Begins octets done) (λ octets rest. IsCutExport octets cut.sent)
+      (λ octets rest begins. cut_export octets cut.sent cut.more done begins cut.parts) reached;
 }
 
-reports_without : (why : Unwritten) (octets left text : List ℕ) (done : List Line) → Begins octets done
-    → CutAt why done text
-    → ExportReports (status_without why) octets left text
-reports_without unwritten.WriteFault octets left text done begins cut = cut_export octets text cut.0 done begins cut.1
-reports_without unwritten.NoMemory octets left text done begins cut = record {
-  first = cut.closed;
-  rest = cut.open_ ++ begins.0.lines;
-  parts = ap (λ (i : Input). i.lines) begins.1 ∙ ap (λ lines. lines ++ begins.0.lines) cut.cut
-      ∙ append_assoc cut.closed cut.open_ begins.0.lines;
-  capture = cut.capture;
+-- memory ran out
+first_export : (octets sent : List ℕ) (done : List Line) → Begins octets done → IsFirst sent done
+    → IsFirstExport octets sent
+first_export octets sent done begins first = record {
+  first = first.closed;
+  rest = first.open_ ++ begins.0.lines;
+  parts = ap (λ (i : Input). i.lines) begins.1 ∙ ap (λ lines. lines ++ begins.0.lines) first.cut
+      ∙ append_assoc first.closed first.open_ begins.0.lines;
+  capture = first.capture;
 }
 
-pub cuts_export : (why : Unwritten) (failed : Type 0) (start left old new : Option (List ℕ))
-    → ExportCuts why start left old new
+pub cuts_export : {T : Type 0} (waiting : T → List ℕ) (why : Unwritten) (failed : Type 0)
+    (start left old new : Option (List ℕ))
+    → LinesCut (λ taker done latest. Captures (waiting taker) done) BreaksOff why start left old new
     → Exports (status_without why) failed start left old new
-cuts_export why failed start left old new cuts = record {
-  text = cuts.text;
-  written = cuts.written;
+cuts_export waiting unwritten.WriteFault failed start left old new cuts =
+    ends_cut failed start left old new cuts.done cuts.reached cuts.cut
+cuts_export waiting unwritten.NoMemory failed start left old new cuts = record {
+  text = cuts.cut.2.sent;
+  written = cuts.cut.2.written;
   report = told_map start left (λ octets rest. Begins octets cuts.done)
-      (λ octets rest. ExportReports (status_without why) octets rest cuts.text)
-      (λ octets rest begins. reports_without why octets rest cuts.text cuts.done begins cuts.cut) cuts.reached;
+      (λ octets rest. IsFirstExport octets cuts.cut.2.sent)
+      (λ octets rest begins. first_export octets cuts.cut.2.sent cuts.done begins cuts.cut.2.first) cuts.reached;
 }
 
 -- memory ran out before anything was read

@@ -8,7 +8,6 @@ pub mod ShortLemmas
 pub mod LineLemmas
 pub mod TextLemmas
 pub mod RunLemmas
-pub mod EndLemmas
 pub mod ReportLemmas
 pub mod OneReport
 pub mod SummaryLemmas

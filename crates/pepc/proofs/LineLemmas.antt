@@ -71,7 +71,6 @@ story_is done line book made before means after bound is after_is bound_is =
 pub stands_later : (solo : Solo) (story : Story) (moment : ℕ) → story.latest ≤ moment → Stands solo story
     → Stands solo (record story { latest = moment })
 stands_later solo story moment le stands = record {
-  counted = stands.counted;
   same_book = stands.same_book;
   places = stands.places;
   each = λ slot within.

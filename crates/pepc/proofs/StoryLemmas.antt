@@ -27,11 +27,11 @@ use Rattle.lawful_run.proofs.EveryTrace.{with_brought}
 use Rattle.lawful_run.proofs.Growing.{events_after-push}
 use Rattle.pepc.specs.declared.gathered.Gathered.{Gathered}
 use Rattle.pepc.specs.declared.solo.Solo.{Solo}
-use Rattle.pepc.specs.Gathering.{AddsEffects, AddsRows, CausedBelow, ClosedBelow, Gathers, IsEmpty, effects_for, rows_for}
+use Rattle.pepc.specs.Gathering.{AddsEffects, AddsRows, CausedBelow, ClosedBelow, Gathers, effects_for, rows_for}
 use Rattle.pepc.specs.Places.{HasAt}
 use Rattle.pepc.specs.Report.{slices}
-use Rattle.pepc.specs.Standing.{BringsNothing, SlotStands, Stands, Story, entry_line, events_of, with_book, with_end, with_meaning}
-use Rattle.pepc.proofs.GatherLemmas.{gathers_more, gathers_none, gathers_nothing, gathers_wider, no_rows}
+use Rattle.pepc.specs.Standing.{BringsNothing, SlotStands, Stands, Story, entry_line, events_of, with_book, with_meaning}
+use Rattle.pepc.proofs.GatherLemmas.{gathers_more, gathers_none, gathers_wider, no_rows}
 use Rattle.pepc.proofs.PlaceLemmas.{value_at, has_at_set, has_at_other, has_at_more, has_at_last, has_at_map}
 
 -- the events of a slot behind one line more
@@ -88,11 +88,10 @@ slot_later held slot bound other latest moment events more same bound_same le st
 
 -- a line that brings no event, while nothing else changes
 pub stands_noted : (solo new : Solo) (story : Story) (now : Meaning) → Stands solo story → BringsNothing now
-    → new.lines ≡ solo.lines + 1 → new.book ≡ solo.book → new.subscribers.items ≡ solo.subscribers.items
+    → new.book ≡ solo.book → new.subscribers.items ≡ solo.subscribers.items
     → new.gathered ≡ solo.gathered
     → Stands new (with_meaning story now)
-stands_noted solo new story now stands nothing lines book same gathered = record {
-  counted = lines ∙ ap (λ n. n + 1) stands.counted;
+stands_noted solo new story now stands nothing book same gathered = record {
   same_book = book ∙ stands.same_book;
   places = ap length same ∙ stands.places;
   each = λ slot within.
@@ -109,19 +108,18 @@ stands_noted solo new story now stands nothing lines book same gathered = record
 pub stands_next : (solo new : Solo) (story : Story) (now : Meaning) (bound : ℕ
     → ℕ) (latest own place : ℕ) (held : subscribers.SubscriberState)
     → Stands solo story → own < length story.book → place ≡ own
-    → new.lines ≡ solo.lines + 1 → new.book ≡ solo.book → new.subscribers.items ≡ set solo.subscribers.items place held
+    → new.book ≡ solo.book → new.subscribers.items ≡ set solo.subscribers.items place held
     → SlotStands held own (bound own) latest (events_of (with_meaning story now) own)
     → ((slot : ℕ) → slot ≢ own → bound slot ≡ story.bound slot)
     → ((slot : ℕ) → slot ≢ own → brings slot (events_of story slot) now ≡ [])
     → story.latest ≤ latest
     → Gathers new.gathered (length story.book) story.before (story.made ++ now ∷ [])
     → Stands new (record (with_meaning story now) { bound = bound; latest = latest })
-stands_next solo new story now bound latest own place held stands within at lines book written holds bound_other
+stands_next solo new story now bound latest own place held stands within at book written holds bound_other
     other_none le gathers =
     let items : new.subscribers.items ≡ set solo.subscribers.items own held =
     written ∙ ap (λ k. set solo.subscribers.items k held) at in
     record {
-      counted = lines ∙ ap (λ n. n + 1) stands.counted;
       same_book = book ∙ stands.same_book;
       places = ap length items ∙ length-set solo.subscribers.items own held ∙ stands.places;
       each = λ slot inside.
@@ -156,11 +154,11 @@ stands_next solo new story now bound latest own place held stands within at line
 -- a new subscriber has the next slot
 pub stands_admitted : (solo new : Solo) (story : Story) (imsi : List ℕ) (own : ℕ)
     (held : subscribers.SubscriberState) → Stands solo story
-    → new.lines ≡ solo.lines → new.book ≡ story.book ++ imsi ∷ [] → own ≡ length story.book
+    → new.book ≡ story.book ++ imsi ∷ [] → own ≡ length story.book
     → new.subscribers.items ≡ solo.subscribers.items ++ held ∷ [] → new.gathered ≡ solo.gathered
     → subscribers.StandsFor held own [] 0 → held.destination ≡ home_slice slices own → subscribers.last_of held ≡ None
     → Stands new (with_book story (story.book ++ imsi ∷ []))
-stands_admitted solo new story imsi own held stands lines book last added gathered holds bound none =
+stands_admitted solo new story imsi own held stands book last added gathered holds bound none =
     let more : length (story.book ++ imsi ∷ []) ≡ length story.book + 1 = length-append story.book (imsi ∷ []) in
     let new_holds : SlotStands held own (story.bound own) story.latest [] = record {
       stands = holds;
@@ -168,7 +166,6 @@ stands_admitted solo new story imsi own held stands lines book last added gather
       in_order = subst (λ l. IfSome l (λ x. x ≤ story.latest)) (sym none) tt;
     } in
     record {
-      counted = lines ∙ stands.counted;
       same_book = book;
       places = omega (arith, ap length added, length-append solo.subscribers.items (held ∷ []), stands.places, more);
       each = λ slot within.
@@ -191,22 +188,6 @@ stands_admitted solo new story imsi own held stands lines book last added gather
       gathered = rw gathered (gathers_wider solo.gathered (length story.book)
           (length (story.book ++ imsi ∷ [])) story.before story.made (omega (arith, more)) stands.gathered);
     }
-
--- the epoch ends
-pub stands_closed : (solo new : Solo) (story : Story) → Stands solo story
-    → new.lines ≡ solo.lines → new.book ≡ solo.book → new.subscribers.items ≡ solo.subscribers.items
-    → IsEmpty new.gathered
-    → Stands new (with_end story)
-stands_closed solo new story stands lines book same empty = record {
-  counted = lines ∙ stands.counted;
-  same_book = book ∙ stands.same_book;
-  places = ap length same ∙ stands.places;
-  each = λ slot within. rw same (stands.each slot within);
-  none_beyond = stands.none_beyond;
-  at_home = stands.at_home;
-  few = stands.few;
-  gathered = gathers_nothing new.gathered (length story.book) (events_of story) empty;
-}
 
 -- the subscriber that is found at a slot's place
 pub held_at : (solo : Solo) (story : Story) (own place : ℕ) (held : subscribers.SubscriberState)

@@ -66,7 +66,6 @@ NoneBeyond story = (slot : ℕ) → length story.book ≤ slot → events_of sto
 
 -- the gateway has a subscriber for each slot of the book, and each represents its slot's events
 pub record Stands (solo : Solo) (story : Story) : Type 0 where
-  pub counted : solo.lines ≡ story.lines
   pub same_book : solo.book ≡ story.book
   pub places : length solo.subscribers.items ≡ length story.book
   pub each : (slot : ℕ) → slot < length story.book

@@ -1,5 +1,5 @@
 //! The gateway on one thread: each line is answered at once.
-ghost use Rattle.std.specs.Prelude.{◌≡◌, ℕ, ◌≤◌, ◌<◌, ◌^◌, ◌==◌, ◌∷◌, ◌++◌, [], List};
+ghost use Rattle.std.specs.Prelude.{◌≡◌, ℕ, ◌≤◌, ◌<◌, ◌^◌, ◌==◌, ◌+◌, ◌∷◌, ◌++◌, [], List};
 ghost use Rattle.std.specs.Prelude.{flat_map, length, map, find, None, OnOk, IfOk};
 ghost use Rattle.std.specs.Option.{option_copied};
 ghost use Rattle.bearer_state.specs.declared.version.ActiveBearer.{ActiveBearer};
@@ -34,11 +34,9 @@ use trace_lines::TraceLine;
 /// How many slices there are for an order to move.
 const SLICES: u8 = 64;
 
-/// The lines so far, the book, a subscriber for each slot in it, and what waits for the end of the
-/// epoch.
+/// The book, a subscriber for each slot in it, and what waits for the end of the epoch.
 #[derive(Drop)]
 pub struct Solo {
-    lines: u64,
     book: AddressBook,
     subscribers: Vec<Subscriber>,
     gathered: Gathered,
@@ -50,7 +48,6 @@ impl Solo {
         ensures { Stands result (story_of [] 0 no_events []) }
     {
         Solo {
-            lines: 0,
             book: AddressBook::new(alloc),
             subscribers: Vec::new(alloc),
             gathered: Gathered::new(alloc),
@@ -69,7 +66,7 @@ impl Solo {
         requires late { IsLate self.old line.now }
 
         ensures told { (done : List Line) (latest : ℕ) (before : Histories) (made : List Meaning)
-            → Stands self.old (story_of done latest before made)
+            → Stands self.old (story_of done latest before made) → line.now.number ≡ length done + 1
             → OnOk result (report.new ≡ report.old
             ++ entry_line (story_of done latest before made) (meant_next done line.now)) }
         ensures stands { (done : List Line) (latest : ℕ) (before : Histories) (made : List Meaning)
@@ -78,16 +75,19 @@ impl Solo {
             → OnOk result (Stands self.new (story_of (done ++ line.now ∷ []) line.now.moment before
             (made ++ meant_next done line.now ∷ []))) }
     {
+        let number = line.number;
         match decide(alloc, &self.book, SLICES, line)? {
-            Decision::Packet { slot, packet } => self.packet(slot, &packet, report),
-            Decision::Command { whose, command } => self.command(alloc, whose, &command, report),
-            Decision::Move { slot, slice } => self.move_to(slot, slice, report),
-            Decision::Note(text) => self.note(text.as_slice(), report),
+            Decision::Packet { slot, packet } => self.packet(number, slot, &packet, report),
+            Decision::Command { whose, command } => {
+                self.command(alloc, number, whose, &command, report)
+            }
+            Decision::Move { slot, slice } => self.move_to(number, slot, slice, report),
+            Decision::Note(text) => push_note(report, number, text.as_slice()),
         }
     }
 
     /// Ends an epoch: its effects are appended by slot, and then its charging records.
-    pub fn close(&mut self, report: &mut Text) -> Result<(), AllocError>
+    pub fn end_epoch(&mut self, report: &mut Text) -> Result<(), AllocError>
         ensures told { (story : Story) → Stands self.old story
             → OnOk result (report.new ≡ report.old
             ++ closing_text (length story.book) story.before story.made) }
@@ -109,47 +109,35 @@ impl Solo {
         Ok(())
     }
 
-    // A line that comes to a note alone.
-    #[inline(never)]
-    fn note(&mut self, text: &[u8], report: &mut Text) -> Result<(), AllocError>
-        requires { HasRoom self.old }
-
-        ensures told { (story : Story) → Stands self.old story
-            → OnOk result (report.new ≡ report.old
-            ++ entry_line story (noted text.now)) }
-        ensures stands { (story : Story) → Stands self.old story
-            → OnOk result (Stands self.new (with_meaning story (noted text.now))) }
-    {
-        let line = self.lines + 1;
-        push_note(report, line, text)?;
-        self.lines = line;
-        Ok(())
-    }
-
     // An order that a subscriber goes to a slice.
     #[inline(never)]
-    fn move_to(&mut self, slot: Slot, slice: SliceNo, report: &mut Text) -> Result<(), AllocError>
+    fn move_to(
+        &mut self,
+        number: u64,
+        slot: Slot,
+        slice: SliceNo,
+        report: &mut Text,
+    ) -> Result<(), AllocError>
         requires room { HasRoom self.old }
         requires known { IsInBook self.old slot }
 
         ensures told { (story : Story) → Stands self.old story
-            → OnOk result (report.new ≡ report.old
+            → number ≡ story.lines + 1 → OnOk result (report.new ≡ report.old
             ++ entry_line story (noted (move_note (story.bound slot) slot slice))) }
         ensures stands { (story : Story) (now : Meaning) → Stands self.old story → BringsNothing now
             → OnOk result (Stands self.new (with_move story now slot slice)) }
     {
-        let line = self.lines + 1;
         let place = slot.0 as usize;
         let subscriber = &mut self.subscribers[place];
-        push_move(report, line, subscriber.destination(), slot, slice)?;
+        push_move(report, number, subscriber.destination(), slot, slice)?;
         subscriber.set_destination(slice);
-        self.lines = line;
         Ok(())
     }
 
     // A packet of a slot in the book.
     fn packet(
         &mut self,
+        number: u64,
         slot: Slot,
         packet: &LentPacket<'_>,
         report: &mut Text,
@@ -160,22 +148,20 @@ impl Solo {
             × (story.latest ≤ packet.now.moment) }
 
         ensures told { (story : Story) → Stands self.old story
-            → OnOk result (report.new ≡ report.old
+            → number ≡ story.lines + 1 → OnOk result (report.new ≡ report.old
             ++ entry_line story (carried slot packet.now)) }
         ensures stands { (story : Story) → Stands self.old story → story.latest ≤ packet.now.moment
             → OnOk result (Stands self.new (with_packet story (carried slot packet.now)
             packet.now.moment)) }
     {
-        let line = self.lines + 1;
         let place = slot.0 as usize;
         let subscriber = &mut self.subscribers[place];
         // Below 2^16, as a G-PDU asks.
         let _len = packet.ip.total_len();
         few_events_leave_room();
         let handled = subscriber.judge(packet.moment, packet.way, &packet.ip)?;
-        push_handled(report, line, slot, handled)?;
+        push_handled(report, number, slot, handled)?;
         self.gathered.add_rows(slot, subscriber.take_closed())?;
-        self.lines = line;
         Ok(())
     }
 
@@ -184,6 +170,7 @@ impl Solo {
     fn command(
         &mut self,
         alloc: Global,
+        number: u64,
         whose: Whose,
         command: &Command,
         report: &mut Text,
@@ -192,7 +179,7 @@ impl Solo {
         requires due { IsDue self.old.book whose }
 
         ensures told { (story : Story) → Stands self.old story
-            → OnOk result (report.new ≡ report.old
+            → number ≡ story.lines + 1 → OnOk result (report.new ≡ report.old
             ++ entry_line story (commanded (slot_of story.book whose) command.now)) }
         ensures stands { (story : Story) → Stands self.old story
             → OnOk result (Stands self.new (with_book
@@ -200,10 +187,10 @@ impl Solo {
             (book_with story.book whose))) }
     {
         match whose {
-            Whose::Known(slot) => self.answer(alloc, slot, command, report),
+            Whose::Known(slot) => self.answer(alloc, number, slot, command, report),
             Whose::New(imsi) => {
                 let slot = self.admit(alloc, imsi)?;
-                self.answer(alloc, slot, command, report)
+                self.answer(alloc, number, slot, command, report)
             }
         }
     }
@@ -212,6 +199,7 @@ impl Solo {
     fn answer(
         &mut self,
         alloc: Global,
+        number: u64,
         slot: Slot,
         command: &Command,
         report: &mut Text,
@@ -220,21 +208,19 @@ impl Solo {
         requires known { IsInBook self.old slot }
 
         ensures told { (story : Story) → Stands self.old story
-            → OnOk result (report.new ≡ report.old
+            → number ≡ story.lines + 1 → OnOk result (report.new ≡ report.old
             ++ entry_line story (commanded slot command.now)) }
         ensures stands { (story : Story) → Stands self.old story
             → OnOk result (Stands self.new (with_meaning story (commanded slot command.now))) }
     {
-        let line = self.lines + 1;
         let place = slot.0 as usize;
         let subscriber = &mut self.subscribers[place];
-        let number = subscriber.commands();
+        let count = subscriber.commands();
         few_events_leave_room();
         let (reply, effects) = subscriber.command(alloc, command)?;
-        push_answer(report, line, slot, number, &reply)?;
-        self.gathered.add_effects(slot, number, effects)?;
+        push_answer(report, number, slot, count, &reply)?;
+        self.gathered.add_effects(slot, count, effects)?;
         self.gathered.add_rows(slot, subscriber.take_closed())?;
-        self.lines = line;
         Ok(())
     }
 

@@ -11,3 +11,4 @@ pub mod Passed
 pub mod LineMarked
 pub mod Owed
 pub mod Listed
+pub mod Skipped

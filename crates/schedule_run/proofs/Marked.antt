@@ -54,7 +54,7 @@ module _ (W : World → Type 0) (steps : TurnSteps W) where
       (steps.controls world slice (λ worker. sent_home worker (place_done world worker.held)) all) works)
       works
 
-  control_turn_by_keeps : (rooms : Rooms) (slice : ℕ) (world : World) (orders : List ControlOrder) → W world
+  pub control_turn_by_keeps : (rooms : Rooms) (slice : ℕ) (world : World) (orders : List ControlOrder) → W world
       → W (control_turn_by rooms slice world orders)
   control_turn_by_keeps rooms slice world [] all = go_or_work_keeps rooms slice world all
   control_turn_by_keeps rooms slice world (order ∷ orders) all =
@@ -125,7 +125,7 @@ module _ (W : World → Type 0) (steps : TurnSteps W) where
   turn_end_keeps slice world more all = learn_next_keeps slice world (flow_at world slice).held all
   turn_end_keeps slice world round all = learn_next_keeps slice world (flow_at world slice).held all
 
-  flow_turn_keeps : (slice : ℕ) (world : World) → W world → W (flow_turn slice world)
+  pub flow_turn_keeps : (slice : ℕ) (world : World) → W world → W (flow_turn slice world)
   flow_turn_keeps slice world all =
       let now = take_orders slice (go_home slice world (flow_at world slice).waiting) in
       turn_end_keeps slice now.world now.going

@@ -3,14 +3,13 @@ use Rattle.std.proofs.Common.{◌≡◌, ℕ, zero, suc, ◌+◌, ◌<◌, ◌�
 use Rattle.std.specs.List.{remove}
 use Rattle.std.proofs.lemmas.Bool.{cases_eq, eq-eqb, ne_eqb}
 use Rattle.slice_schedule.specs.Numbers.{for_each}
-use Rattle.slice_schedule.specs.World.{World, Rooms, ControlNow, FlowNow, start, slot_at, on_control, on_flow}
+use Rattle.slice_schedule.specs.World.{World, Rooms, ControlNow, FlowNow, start, slot_at, control_at, on_control, on_flow}
 use Rattle.slice_schedule.specs.Front.{Asks, nothing, command, packet, move, control_back, flow_back, control_offer, flow_offer, drain, controls_offered, flows_offered, all_drained, line_done}
-use Rattle.slice_schedule.specs.ControlTurns.{without}
-use Rattle.slice_schedule.specs.Schedule.{turned, turned_all}
-use Rattle.slice_schedule.proofs.Keeping.{fold_keeps}
+use Rattle.slice_schedule.specs.ControlTurns.{without, half_turned, control_turn}
+use Rattle.slice_schedule.specs.FlowTurns.{flow_turn}
 use Rattle.schedule_run.specs.Owing.{IsQuiet, OnlyMarked, is_in, Ascend, IsOwing, MayOwe, slot_asked, MayOweBy}
 use Rattle.schedule_run.proofs.Edited.{remove_is}
-use Rattle.schedule_run.proofs.Marked.{turned_keeps}
+use Rattle.schedule_run.proofs.Marked.{control_turn_by_keeps, flow_turn_keeps}
 use Rattle.schedule_run.proofs.Passed.{turns_marked, Passes, walked, only_if, controls_pass, flows_pass, drains_pass}
 use Rattle.schedule_run.proofs.LineMarked.{control_back_marked, flow_back_marked, line_marked}
 
@@ -141,13 +140,24 @@ flow_still_owes xs world slice change owing =
     owing_on xs world (on_flow world slice change) owing
     ((turns_marked (is_in xs) (length world.slots)).flows world slice change owing.only)
 
-pub turns_still_owe : (xs : List ℕ) (rooms : Rooms) (world : World) (workers : List ℕ) → IsOwing xs world
-    → IsOwing xs (turned_all rooms world workers)
-turns_still_owe xs rooms world workers owing =
-    owing_on xs world (turned_all rooms world workers) owing
-    (fold_keeps (OnlyMarked (is_in xs) (length world.slots)) (turned rooms)
-    (turned_keeps (OnlyMarked (is_in xs) (length world.slots)) (turns_marked (is_in xs) (length world.slots)) rooms)
-    world workers owing.only)
+pub half_still_owes : (xs : List ℕ) (rooms : Rooms) (world : World) (s : ℕ) → IsOwing xs world
+    → IsOwing xs (half_turned rooms world s)
+half_still_owes xs rooms world s owing =
+    owing_on xs world (half_turned rooms world s) owing
+    ((turns_marked (is_in xs) (length world.slots)).works rooms.room world s owing.only)
+
+pub control_turn_owes : (xs : List ℕ) (rooms : Rooms) (slice : ℕ) (world : World) → IsOwing xs world
+    → IsOwing xs (control_turn rooms slice world)
+control_turn_owes xs rooms slice world owing =
+    owing_on xs world (control_turn rooms slice world) owing
+    (control_turn_by_keeps (OnlyMarked (is_in xs) (length world.slots)) (turns_marked (is_in xs) (length world.slots))
+    rooms slice world (control_at world slice).orders owing.only)
+
+pub flow_turn_owes : (xs : List ℕ) (slice : ℕ) (world : World) → IsOwing xs world → IsOwing xs (flow_turn slice world)
+flow_turn_owes xs slice world owing =
+    owing_on xs world (flow_turn slice world) owing
+    (flow_turn_keeps (OnlyMarked (is_in xs) (length world.slots)) (turns_marked (is_in xs) (length world.slots))
+    slice world owing.only)
 
 pub line_owes : (xs : List ℕ) (rooms : Rooms) (bounds : ℕ → ℕ) (world : World) (asks : Asks) → IsOwing xs world
     → MayOweBy (slot_asked asks) xs (line_done rooms bounds world asks).world

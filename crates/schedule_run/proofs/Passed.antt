@@ -21,7 +21,7 @@ length_put fresh (y ∷ ys) zero x = (omega arith, omega arith)
 length_put fresh (y ∷ ys) (suc n) x =
     let more = length_put fresh ys n x in (omega (arith, more.0), omega (arith, more.1))
 
-put_same : {X : Type 0} (fresh : X) (xs : List X) (n : ℕ) → n < length xs → put_at fresh xs n (value_at fresh xs n) ≡ xs
+pub put_same : {X : Type 0} (fresh : X) (xs : List X) (n : ℕ) → n < length xs → put_at fresh xs n (value_at fresh xs n) ≡ xs
 put_same fresh [] n within = absurd (omega (arith, within))
 put_same fresh (x ∷ xs) zero within = refl
 put_same fresh (x ∷ xs) (suc n) within = ap (λ ys. x ∷ ys) (put_same fresh xs n (omega (arith, within)))

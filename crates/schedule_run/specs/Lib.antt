@@ -7,3 +7,4 @@ pub mod Growing
 pub mod Setups
 pub mod Worlds
 pub mod Owing
+pub mod Rounds

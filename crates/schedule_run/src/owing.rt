@@ -13,7 +13,7 @@ use crate::world::Numbers;
 use std::alloc::AllocError;
 
 /// Whether a slot owes nothing, and a turn of its control half changes nothing.
-fn is_quiet(numbers: &Numbers, slot: usize) -> bool
+pub fn is_quiet(numbers: &Numbers, slot: usize) -> bool
     ensures quiet { OnTrue result (IsQuiet (world.slot_at (world_of numbers.now) slot)) }
     ensures within { OnFalse result (slot < length (world_of numbers.now).slots) }
 {

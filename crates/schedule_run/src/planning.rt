@@ -81,22 +81,25 @@ fn drawn(limit: u64, state: u64) -> u32
 /// Draws so many workers, of which each has its turn, and returns the state behind them.
 fn draw_turns(
     numbers: &mut Numbers,
+    owing: &[usize],
     setup: &Setup<'_>,
     slices: u8,
     state: u64,
     count: u32,
 ) -> Result<u64, AllocError>
-    requires { (1 ≤ slices) × (slices ≤ 64) }
+    requires slices { (1 ≤ slices) × (slices ≤ 64) }
+    requires owing { IsOwing owing.now (world_of numbers.old) }
     ensures world { OnOk result (world_of numbers.new ≡ epoch.turned_all setup.now.rooms (world_of numbers.old)
         (draw.draws (2 * slices) state count)) }
     ensures state { IfOk result (λ behind. behind ≡ draw.state_behind state count) }
+    ensures owing { OnOk result (IsOwing owing.now (world_of numbers.new)) }
 {
     let limit = 2 * u64::from(slices);
     let mut behind = state;
     for _ in 0..count {
         behind = next_state(behind);
         let worker = drawn(limit, behind);
-        turn(numbers, setup, worker)?;
+        turn(numbers, owing, setup, worker)?;
     }
     Ok(behind)
 }
@@ -104,20 +107,23 @@ fn draw_turns(
 /// The turns behind a line.
 fn turn_behind(
     numbers: &mut Numbers,
+    owing: &[usize],
     setup: &Setup<'_>,
     slices: u8,
     turns: &mut Turns,
 ) -> Result<(), AllocError>
     requires slices { (1 ≤ slices) × (slices ≤ 64) }
     requires workers { AreWorkers slices turns.old }
+    requires owing { IsOwing owing.now (world_of numbers.old) }
     ensures world { OnOk result (world_of numbers.new ≡ epoch.turned_all setup.now.rooms (world_of numbers.old)
         (told_first turns.old slices)) }
     ensures turns { OnOk result (turns.new ≡ turns_after turns.old) }
+    ensures owing { OnOk result (IsOwing owing.now (world_of numbers.new)) }
 {
     match turns {
-        Turns::List(listed) => turn_all(numbers, setup, listed.as_slice()),
+        Turns::List(listed) => turn_all(numbers, owing, setup, listed.as_slice()),
         Turns::Drawn { state, per } => {
-            *state = draw_turns(numbers, setup, slices, *state, *per)?;
+            *state = draw_turns(numbers, owing, setup, slices, *state, *per)?;
             Ok(())
         }
     }
@@ -144,7 +150,7 @@ fn line(
 {
     pump(numbers, owing, setup)?;
     let outcome = line_done(numbers, owing, setup, ask)?;
-    turn_behind(numbers, setup, slices, turns)?;
+    turn_behind(numbers, owing.as_slice(), setup, slices, turns)?;
     Ok(outcome)
 }
 

@@ -4,6 +4,8 @@ ghost use Rattle.slice_schedule.specs.World as world;
 ghost use Rattle.slice_schedule.specs.ControlTurns as control;
 ghost use Rattle.slice_schedule.specs.FlowTurns as flow;
 ghost use Rattle.schedule_run.specs.Numbers.{control_order, flow_order};
+ghost use Rattle.std.specs.Bool.{OnTrue};
+ghost use Rattle.schedule_run.specs.Rounds.{EachOnce, slots_held, CalledIf};
 ghost use Rattle.schedule_run.specs.Worlds.{world_of};
 
 use crate::grow::{reach_control, reach_flow};
@@ -70,6 +72,31 @@ pub fn control_held(numbers: &Numbers, slice: usize) -> &[HeldControl]
         worker.held()
     } else {
         &[]
+    }
+}
+
+/// Whether each half that a control worker holds surely is of a slot of its own, and of one that had a line.
+pub fn is_orderly(numbers: &Numbers, slice: usize) -> bool
+    ensures { OnTrue result (EachOnce (length (world_of numbers.now).slots)
+        (slots_held (world.control_at (world_of numbers.now) slice).held)) }
+{
+    if slice < numbers.controls.len() {
+        let worker = &numbers.controls[slice];
+        worker.is_orderly(numbers.slots.len())
+    } else {
+        true
+    }
+}
+
+/// Whether a half of a control worker may be marked.
+pub fn has_called(numbers: &Numbers, slice: usize) -> bool
+    ensures { CalledIf result (world.control_at (world_of numbers.now) slice).held }
+{
+    if slice < numbers.controls.len() {
+        let worker = &numbers.controls[slice];
+        worker.has_called()
+    } else {
+        false
     }
 }
 

@@ -1,10 +1,13 @@
 //! The numbers of the workers of a slice.
-ghost use Rattle.std.specs.Prelude.{◌≡◌, ℕ, ◌<◌, ◌++◌, ◌∷◌, [], None, OnOk, IfNone, IfSome, length, drop};
-ghost use Rattle.std.specs.Prelude.{replicate};
+ghost use Rattle.std.specs.Prelude.{◌≡◌, ℕ, ◌<◌, ◌≤◌, ◌++◌, ◌∷◌, [], None, OnOk, IfNone, IfSome, length, drop};
+ghost use Rattle.std.specs.Prelude.{true, false, map, replicate};
 ghost use Rattle.slice_schedule.specs.World as world;
 ghost use Rattle.slice_schedule.specs.ControlTurns as control;
 ghost use Rattle.slice_schedule.specs.FlowTurns as flow;
+ghost use Rattle.std.specs.Bool.{OnTrue};
 ghost use Rattle.schedule_run.specs.Numbers.{control_order, flow_order};
+ghost use Rattle.schedule_run.specs.Owing.{is_in};
+ghost use Rattle.schedule_run.specs.Rounds as rounds;
 
 use crate::standing::{ControlOrder, FlowOrder, HeldControl};
 use std::alloc::{AllocError, Global};
@@ -48,6 +51,52 @@ fn place_of(slot: usize, held: &[usize]) -> usize
     place
 }
 
+/// The place of the half of a slot in a list, or its length.
+pub fn place_held(slot: usize, held: &[HeldControl]) -> usize
+    ensures { result ≡ rounds.place_held slot held.now }
+{
+    let mut place: usize = 0;
+    for half in held {
+        if half.slot == slot {
+            return place;
+        }
+        place += 1;
+    }
+    place
+}
+
+/// Whether a half may be marked.
+fn any_called(held: &[HeldControl]) -> bool
+    ensures { rounds.CalledIf result held.now }
+{
+    for half in held {
+        if half.until.is_some() {
+            return true;
+        }
+    }
+    false
+}
+
+/// Whether each half surely is of a slot of its own, also where that of this slot comes.
+fn still_once(once: bool, held: &[HeldControl], slot: usize) -> bool
+    ensures { OnTrue result ((once ≡ true) × (is_in (rounds.slots_held held.now) slot ≡ false)) }
+{
+    if !once {
+        return false;
+    }
+    if place_held(slot, held) < held.len() {
+        return false;
+    }
+    true
+}
+
+/// The higher of two numbers.
+fn higher(one: usize, other: usize) -> usize
+    ensures { (one ≤ result) × (other ≤ result) }
+{
+    if one < other { other } else { one }
+}
+
 /// Marks this half, if it is that of the slot.
 fn mark(half: &mut HeldControl, slot: usize, until: usize)
     ensures { half.new ≡ control.marked slot until half.old }
@@ -57,20 +106,35 @@ fn mark(half: &mut HeldControl, slot: usize, until: usize)
     }
 }
 
+/// Marks each half of a slot.
+fn mark_all(held: &mut Vec<HeldControl>, slot: usize, until: usize)
+    ensures { held.new.items ≡ map (control.marked slot until) held.old.items }
+{
+    for half in held.iter_mut() {
+        mark(half, slot, until);
+    }
+}
+
 /// The control worker of a slice: its orders, the halves that it holds, those that it sent home, and the half whose
-/// turn is next.
+/// turn is next. While `once` stands each half is of a slot of its own, at most `last`; while `called` doesn't stand none
+/// is marked.
 #[derive(Drop)]
 pub struct ControlNumbers {
     orders: VecDeque<ControlOrder>,
     held: Vec<HeldControl>,
     home: Vec<usize>,
     cursor: usize,
+    once: bool,
+    last: usize,
+    called: bool,
 }
 
 impl Model for ControlNumbers {
     ghost use Rattle.std.specs.Prelude.{map};
     ghost use Rattle.slice_schedule.specs.World.{ControlNow};
+    ghost use Rattle.std.specs.Prelude.{suc};
     ghost use Rattle.schedule_run.specs.Numbers.{control_order};
+    ghost use Rattle.schedule_run.specs.Rounds.{slots_held, OnceIf, CalledIf};
 
     ghost Value = { ControlNow };
 
@@ -80,6 +144,9 @@ impl Model for ControlNumbers {
       home = worker.home.items;
       cursor = worker.cursor;
     } };
+
+    ghost invariant = { λ worker. OnceIf worker.once (suc worker.last) (slots_held worker.held.items)
+        × CalledIf worker.called worker.held.items };
 }
 
 impl ControlNumbers {
@@ -91,7 +158,24 @@ impl ControlNumbers {
             held: Vec::new(alloc),
             home: Vec::new(alloc),
             cursor: 0,
+            once: true,
+            last: 0,
+            called: false,
         }
+    }
+
+    /// Whether each half that it holds surely is of a slot of its own, below this number.
+    pub fn is_orderly(&self, slots: usize) -> bool
+        ensures { OnTrue result (rounds.EachOnce slots (rounds.slots_held self.now.held)) }
+    {
+        self.once && self.last < slots
+    }
+
+    /// Whether a half may be marked.
+    pub fn has_called(&self) -> bool
+        ensures { rounds.CalledIf result self.now.held }
+    {
+        self.called
     }
 
     /// How many orders wait.
@@ -153,6 +237,8 @@ impl ControlNumbers {
     pub fn hold(&mut self, slot: usize) -> Result<(), AllocError>
         ensures { OnOk result (self.new ≡ control.told self.old (world.come slot)) }
     {
+        self.once = still_once(self.once, self.held.as_slice(), slot);
+        self.last = higher(self.last, slot);
         self.held.push(HeldControl { slot, until: None })?;
         Ok(())
     }
@@ -161,9 +247,8 @@ impl ControlNumbers {
     pub fn mark(&mut self, slot: usize, until: usize)
         ensures { self.new ≡ control.told self.old (world.go slot until) }
     {
-        for half in self.held.iter_mut() {
-            mark(half, slot, until);
-        }
+        self.called = true;
+        mark_all(&mut self.held, slot, until);
     }
 
     /// The half at a place goes home.
@@ -175,6 +260,7 @@ impl ControlNumbers {
         let slot = self.held[place].slot;
         self.home.push(slot)?;
         self.held.remove(place);
+        self.called = any_called(self.held.as_slice());
         self.cursor = cursor_behind(place, self.cursor, self.held.len());
         Ok(())
     }

@@ -7,7 +7,7 @@ use Rattle.trace_lines.specs.Epochs.{ends_epoch, octets_in}
 use Rattle.trace_lines.specs.Input.{Input}
 use Rattle.trace_lines.specs.Line.{Line}
 use Rattle.lawful_run.specs.Report.{Report}
-use Rattle.lawful_run.proofs.CutLines.{cut_open, cut_whole}
+use Rattle.lawful_run.proofs.CutLines.{cut_open, cut_whole, short_open}
 use Rattle.trace_run.specs.declared.ending.Ending.{Ending}
 use Rattle.trace_run.specs.declared.ending.Ending.TheVariants.{ReadFault}
 use Rattle.trace_run.specs.declared.ending.Unwritten.{Unwritten}
@@ -21,7 +21,6 @@ use Rattle.trace_run.specs.Reporting.{AnsweredAs, BreaksOff, HasWritten, IsDue, 
 use Rattle.trace_run.specs.Status.{status_at, status_without}
 use Rattle.trace_run.specs.Takers.{IsNextOf, LinesCut}
 use Rattle.trace_run.specs.Told.{WhereTold}
-use Rattle.trace_run.proofs.CutLemmas.{short_open}
 use Rattle.trace_run.proofs.EndingLemmas.{begins_of, runs_cut, runs_epochs_cut, runs_unwritten, runs_whole}
 use Rattle.trace_run.proofs.ToldLemmas.{told_map}
 
@@ -92,7 +91,15 @@ ends_open may_have places before behind size later waiting text done sent latest
       said = said;
     }
 
--- the text of the epoch that ended waits whole
+-- the epoch is open, or its text waits whole
+pub answered_open : (ends : Bool) (may_have : Input → Report → Type 0) (places : Bool)
+    (represents : List (List Line) → List Line → List ℕ → List ℕ → Type 0) (size : Size) (text : List ℕ)
+    (done : List Line) (sent : List ℕ) → ends ≡ false
+    → AnsweredAs ends may_have places represents size text done sent
+    → Standing may_have places represents size text done sent
+answered_open ends may_have places represents size text done sent is answered =
+    subst (λ test. AnsweredAs test may_have places represents size text done sent) is answered
+
 pub answered_whole : (ends : Bool) (may_have : Input → Report → Type 0) (places : Bool)
     (represents : List (List Line) → List Line → List ℕ → List ℕ → Type 0) (size : Size) (text : List ℕ)
     (done : List Line) (sent : List ℕ) → ends ≡ true

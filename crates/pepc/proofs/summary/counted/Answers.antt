@@ -1,56 +1,66 @@
-use Rattle.std.proofs.Common.{◌≡◌, [], ◌∷◌, sym, subst, arith}
+use Rattle.std.proofs.Common.{◌≡◌, ◌+◌, [], ◌∷◌, length, ap, sym, subst, arith}
 use Rattle.trace_maker.specs.Generated.{made}
+use Rattle.trace_maker.proofs.ReadLemmas.{length-made}
 use Rattle.pepc.specs.Counting.{Counting, CountsMore}
-use Rattle.pepc.proofs.EndLemmas.{sized_so}
-use Rattle.pepc.proofs.SummaryLemmas.{at_none, counting_begins, counting_ends, counting_goes_on, next_in_order, next_is}
+use Rattle.pepc.proofs.ReportLemmas.{says_nothing}
+use Rattle.pepc.proofs.RunLemmas.{begins}
+use Rattle.pepc.proofs.SummaryLemmas.{all_done, at_none, counting_begins, counting_ends, counting_goes_on, next_in_order, next_is}
 use Rattle.pepc.proofs.summary.counted.Goals as goal
 
-pub loop-report-init : goal.loop-report-init
-loop-report-init c =
-    subst (Counting c.new-gateway.result c.new-size.result c.new-counts.result c.new-report.result
+pub loop-room-init : goal.loop-room-init
+loop-room-init c =
+    subst (Counting c.new-epochs.result.reporter c.new-epochs.result.size c.new-epochs.result.text c.new-counts.result
     (made c.args.seed c.args.subs c.args.lines)) (sym c.new-maker.ensures)
-    (counting_begins c.new-gateway.result c.new-size.result c.new-counts.result c.new-report.result c.args.seed
-    c.args.subs c.args.lines c.requires.some c.requires.slots c.requires.most c.new-gateway.ensures
-    c.new-size.ensures c.new-report.ensures c.new-counts.ensures)
+    (counting_begins c.new-epochs.result.reporter c.new-epochs.result.size c.new-epochs.result.text
+    c.new-counts.result c.args.seed c.args.subs c.args.lines c.requires.some c.requires.slots c.requires.most
+    (c.new-epochs.ensures.stands (begins c.new.result c.new.ensures) says_nothing) c.new-counts.ensures)
 
-pub spend_line-requires-clause-room : goal.spend_line-requires-clause-room
-spend_line-requires-clause-room c =
-    let so_far = c.loop-report.invariant in
-    (_, so_far.so_far.stands, omega (arith, so_far.few))
-
-pub spend_line-requires-clause-late : goal.spend_line-requires-clause-late
-spend_line-requires-clause-late c =
-    let so_far = c.loop-report.invariant in
-    let in_order = next_in_order so_far (next_is c.in-Some.is c.in_ok-line.ensures.made) in
-    (so_far.done, so_far.least, _, _, so_far.so_far.stands, in_order.1)
-
-pub spend_line-requires-clause-sized : goal.spend_line-requires-clause-sized
-spend_line-requires-clause-sized c = sized_so c.loop-report.invariant.so_far
-
-pub spend_line-requires-clause-short : goal.spend_line-requires-clause-short
-spend_line-requires-clause-short c =
-    let in_order = next_in_order c.loop-report.invariant (next_is c.in-Some.is c.in_ok-line.ensures.made) in
-    omega (arith, in_order.2.short)
-
-pub loop-report-preserved : goal.loop-report-preserved
-loop-report-preserved c =
-    let so_far = c.loop-report.invariant in
-    let is_next : c.loop-report.maker ≡ c.in-Some.line ∷ c.made_line.new.maker =
+pub loop-room-preserved : goal.loop-room-preserved
+loop-room-preserved c =
+    let so_far = c.loop-room.invariant in
+    let is : c.loop-room.maker ≡ c.in-Some.line ∷ c.made_line.new.maker =
     next_is c.in-Some.is c.in_ok-line.ensures.made in
-    let in_order = next_in_order so_far is_next in
-    counting_goes_on c.loop-report.gateway c.spend_line.new.gateway c.loop-report.size c.spend_line.new.size
-    c.loop-report.counts c.spend_line.new.counts c.loop-report.report c.spend_line.new.report
-    (made c.args.seed c.args.subs c.args.lines) c.loop-report.maker c.made_line.new.maker c.in-Some.line so_far is_next
-    (c.in_ok-spend_line.ensures.taken so_far.done so_far.so_far.open_ so_far.least _ _ so_far.so_far.stands in_order.1
-    so_far.so_far.sized)
+    let next = next_in_order so_far is in
+    counting_goes_on c.loop-room.epochs.reporter c.count_line.new.epochs.reporter c.loop-room.epochs.size
+    c.count_line.new.epochs.size c.loop-room.epochs.text c.count_line.new.epochs.text c.loop-room.counts
+    c.count_line.new.counts (made c.args.seed c.args.subs c.args.lines) c.loop-room.maker c.made_line.new.maker
+    c.in-Some.line so_far is next.1 (c.in_ok-count_line.ensures so_far.done so_far.latest so_far.so_far next.0)
+
+pub finish-requires-clause-reported : goal.finish-requires-clause-reported
+finish-requires-clause-reported c =
+    let so_far = c.loop-room.invariant in
+    let none : c.loop-room.maker ≡ [] =
+    (at_none ((c.loop-room.maker ≡ []) × (c.made_line.new.maker ≡ []))
+    (λ line. c.loop-room.maker ≡ line ∷ c.made_line.new.maker) c.in_ok-line.field-0 c.in_default.not-Some
+    c.in_ok-line.ensures.made).0 in
+    let counted : c.from.result + c.from-2.result ≡ length so_far.done =
+    omega (
+      arith,
+      c.from.ensures,
+      c.from-2.ensures,
+      length-made c.args.seed c.args.subs c.args.lines,
+      ap length (all_done _ _ _ _ (made c.args.seed c.args.subs c.args.lines) c.loop-room.maker so_far none),
+    ) in
+    (c.loop-room.epochs.reporter, so_far.done, so_far.latest, so_far.so_far.sent, so_far.so_far.standing, counted)
 
 pub returns : goal.returns
 returns c =
-    let none : c.loop-report.maker ≡ [] =
-    (at_none ((c.loop-report.maker ≡ []) × (c.made_line.new.maker ≡ []))
-    (λ line. c.loop-report.maker ≡ line ∷ c.made_line.new.maker) c.in_ok-line.field-0 c.in_default.not-Some
+    let so_far = c.loop-room.invariant in
+    let none : c.loop-room.maker ≡ [] =
+    (at_none ((c.loop-room.maker ≡ []) × (c.made_line.new.maker ≡ []))
+    (λ line. c.loop-room.maker ≡ line ∷ c.made_line.new.maker) c.in_ok-line.field-0 c.in_default.not-Some
     c.in_ok-line.ensures.made).0 in
-    counting_ends c.loop-report.gateway c.loop-report.size c.loop-report.counts c.add.new.self
-    c.loop-report.report c.push_rest.new.report c.args.seed c.args.subs c.args.lines c.loop-report.maker
-    c.requires.some c.requires.slots c.requires.most c.loop-report.invariant none c.in_ok-push_rest.ensures
-    (subst (CountsMore c.loop-report.counts c.add.new.self) c.as_slice.ensures c.add.ensures)
+    let counted : c.from.result + c.from-2.result ≡ length so_far.done =
+    omega (
+      arith,
+      c.from.ensures,
+      c.from-2.ensures,
+      length-made c.args.seed c.args.subs c.args.lines,
+      ap length (all_done _ _ _ _ (made c.args.seed c.args.subs c.args.lines) c.loop-room.maker so_far none),
+    ) in
+    counting_ends c.loop-room.epochs.reporter c.loop-room.epochs.size c.loop-room.epochs.text c.finish.new.self.text
+    c.loop-room.counts c.add.new.self c.args.seed c.args.subs c.args.lines c.loop-room.maker c.requires.some
+    c.requires.slots c.requires.most so_far none
+    (c.in_ok-finish.ensures c.loop-room.epochs.reporter so_far.done so_far.latest so_far.so_far.sent
+    so_far.so_far.standing counted)
+    (subst (CountsMore c.loop-room.counts c.add.new.self) c.as_slice.ensures c.add.ensures)

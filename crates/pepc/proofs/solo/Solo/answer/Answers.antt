@@ -1,4 +1,4 @@
-use Rattle.std.proofs.Common.{◌<◌, ◌≤◌, ◌+◌, ◌++◌, ◌∷◌, [], List, ℕ, IfSome, refl, sym, ap, subst, ◌∙◌, arith, length}
+use Rattle.std.proofs.Common.{◌<◌, ◌≤◌, ◌++◌, ◌∷◌, [], List, ℕ, IfSome, refl, sym, ap, subst, ◌∙◌, arith, length}
 use Rattle.gate_model.specs.declared.event.Event.TheVariants as event
 use Rattle.demux.specs.Trace.{command as commanded}
 use Rattle.gate_model.specs.SlotPast.{records_after}
@@ -18,16 +18,15 @@ command-requires c =
     (omega (arith, stands.few c.args.slot, c.requires.room.2))
 
 pub returns-clause-told : goal.returns-clause-told
-returns-clause-told c = λ story stands.
+returns-clause-told c = λ story stands numbered.
     let within = subst (λ (b : List (List ℕ)). c.args.slot < length b) stands.same_book c.requires.known in
     let held = held_at c.args.self.now story c.args.slot c.slot.inside.0 c.index_mut-subscriber.result.now stands
     within c.slot.view_is c.index_mut-subscriber.ensures.value in
     let events = events_of story c.args.slot in
     c.in_ok-push_answer.ensures
     ∙ ap (λ text. c.args.report.now ++ text)
-    (told_command story c.args.slot c.args.command.now (c.args.self.now.lines
-    + 1) c.commands-number.result c.in_ok-reply.reply
-    (ap (λ n. n + 1) stands.counted) (c.commands-number.ensures ∙ held.stands.commands)
+    (told_command story c.args.slot c.args.command.now c.args.number c.commands-count.result c.in_ok-reply.reply
+    numbered (c.commands-count.ensures ∙ held.stands.commands)
     (c.in_ok-reply.ensures.reply c.args.slot events (length (records_after c.args.slot events)) held.stands))
 
 pub returns-clause-stands : goal.returns-clause-stands
@@ -43,7 +42,7 @@ returns-clause-stands c = λ story stands.
     let closed = c.take_closed.ensures.stands own more taken after in
     stands_next c.args.self.now _ story (commanded own c.args.command.now) story.bound story.latest own
     c.slot.inside.0 c.take_closed.new.self
-    stands within c.slot.view_is refl refl refl
+    stands within c.slot.view_is refl refl
     (command_holds story own c.args.command.now c.index_mut-subscriber.result.now c.take_closed.new.self
     (story.bound own) story.latest closed
     (c.take_closed.ensures.destination ∙ c.in_ok-reply.ensures.destination ∙ held.bound_for)
@@ -53,6 +52,6 @@ returns-clause-stands c = λ story stands.
     (omega arith)
     (gathers_command c.args.self.now.gathered c.add_effects.new.self c.add_rows.new.self
     (length story.book) story.before story.made own
-    c.commands-number.result c.args.command.now c.in_ok-reply.effects c.take_closed.result.items stands.gathered within
-    (c.commands-number.ensures ∙ held.stands.commands) (c.in_ok-reply.ensures.effects own events taken held.stands)
+    c.commands-count.result c.args.command.now c.in_ok-reply.effects c.take_closed.result.items stands.gathered within
+    (c.commands-count.ensures ∙ held.stands.commands) (c.in_ok-reply.ensures.effects own events taken held.stands)
     (c.take_closed.ensures.rows own more taken after) c.in_ok-add_effects.ensures c.in_ok-add_rows.ensures)

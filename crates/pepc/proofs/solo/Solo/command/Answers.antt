@@ -5,12 +5,12 @@ use Rattle.pepc.specs.Standing.{Stands, entry_line, with_book, with_meaning}
 use Rattle.pepc.proofs.solo.Solo.command.Goals as goal
 
 pub returns-in_ok-slot-in-New-clause-told : goal.returns-in_ok-slot-in-New-clause-told
-returns-in_ok-slot-in-New-clause-told c = λ story stands.
+returns-in_ok-slot-in-New-clause-told c = λ story stands numbered.
     let own = c.in_ok-slot-in-New.ensures.slot story stands ∙ ap (slot_of story.book) (sym c.in-New.is) in
     subst (λ slot. OnOk c.answer-in-New.result (c.answer-in-New.new.report ≡ c.args.report.now
     ++ entry_line story (commanded slot c.args.command.now))) own
     (c.answer-in-New.ensures.told (with_book story (story.book ++ c.in-New.imsi ∷ []))
-    (c.in_ok-slot-in-New.ensures.stands story stands))
+    (c.in_ok-slot-in-New.ensures.stands story stands) numbered)
 
 pub returns-in_ok-slot-in-New-clause-stands : goal.returns-in_ok-slot-in-New-clause-stands
 returns-in_ok-slot-in-New-clause-stands c = λ story stands.

@@ -1,11 +1,13 @@
-use Rattle.std.proofs.Common.{◌==◌, ◌++◌, if◌then◌else◌, OnOk, refl, sym, ap, subst, ◌∙◌, arith}
+use Rattle.std.proofs.Common.{◌==◌, ◌++◌, if◌then◌else◌, refl, sym, ap, subst, ◌∙◌, arith}
+use Rattle.trace_lines.specs.Line.{Line}
 use Rattle.demux.specs.declared.decision.Decision.TheVariants as decision
 use Rattle.demux.specs.Resolved.{HasMoment, book_behind, book_with}
 use Rattle.demux.specs.Trace.{book_of, destination_after, note as noted}
 use Rattle.pepc.specs.Report.{slices}
-use Rattle.pepc.specs.Standing.{Stands, story_of, with_meaning}
-use Rattle.pepc.proofs.Answered.{on_ok}
+use Rattle.pepc.specs.Standing.{story_of}
+use Rattle.pepc.proofs.Answered.{always_ok, on_ok}
 use Rattle.pepc.proofs.LineLemmas.{IsDecided, meant_by, move_line, move_nothing, stands_so, told_so}
+use Rattle.pepc.proofs.StoryLemmas.{stands_noted, told_note}
 use Rattle.pepc.proofs.solo.Solo.enter.Goals as goal
 
 pub packet-requires-clause-late : goal.packet-requires-clause-late
@@ -16,7 +18,8 @@ packet-requires-clause-late c =
     (story_of late.0 late.1 late.2 late.3, late.4, omega (arith, late.5, moment))
 
 pub returns-in-Packet-clause-told : goal.returns-in-Packet-clause-told
-returns-in-Packet-clause-told c = λ done latest before made stands.
+returns-in-Packet-clause-told c = λ done latest before made stands same.
+    let numbered = ap (λ (l : Line). l.number) c.line.view_is ∙ same in
     let is : IsDecided done c.args.line.now c.args.self.now.book
     (decision.Packet c.in-Packet.slot c.in-Packet.packet) = record {
       decision = sym c.in-Packet.is ∙ c.in_ok-slot.ensures.decision;
@@ -25,7 +28,7 @@ returns-in-Packet-clause-told c = λ done latest before made stands.
     } in
     on_ok c.packet.result (λ told. told_so done c.args.line.now c.args.self.now.book
     (decision.Packet c.in-Packet.slot c.in-Packet.packet) (story_of done latest before made) c.args.report.now
-    c.packet.new.report is (told)) (c.packet.ensures.told (story_of done latest before made) stands)
+    c.packet.new.report is (told)) (c.packet.ensures.told (story_of done latest before made) stands numbered)
 
 pub returns-in-Packet-clause-stands : goal.returns-in-Packet-clause-stands
 returns-in-Packet-clause-stands c = λ done latest before made stands late.
@@ -44,7 +47,8 @@ returns-in-Packet-clause-stands c = λ done latest before made stands late.
     (c.packet.ensures.stands (story_of done latest before made) stands (omega (arith, late, moment)))
 
 pub returns-in-Command-clause-told : goal.returns-in-Command-clause-told
-returns-in-Command-clause-told c = λ done latest before made stands.
+returns-in-Command-clause-told c = λ done latest before made stands same.
+    let numbered = ap (λ (l : Line). l.number) c.line.view_is ∙ same in
     let is : IsDecided done c.args.line.now c.args.self.now.book
     (decision.Command c.in-Command.whose c.in-Command.command) = record {
       decision = sym c.in-Command.is ∙ c.in_ok-slot.ensures.decision;
@@ -55,7 +59,7 @@ returns-in-Command-clause-told c = λ done latest before made stands.
     (decision.Command c.in-Command.whose c.in-Command.command)
     (story_of done latest before made) c.args.report.now
     c.command-in-Command.new.report is (told)) (c.command-in-Command.ensures.told
-    (story_of done latest before made) stands)
+    (story_of done latest before made) stands numbered)
 
 pub returns-in-Command-clause-stands : goal.returns-in-Command-clause-stands
 returns-in-Command-clause-stands c = λ done latest before made stands late.
@@ -73,7 +77,8 @@ returns-in-Command-clause-stands c = λ done latest before made stands late.
     (c.command-in-Command.ensures.stands (story_of done latest before made) stands)
 
 pub returns-in-Move-clause-told : goal.returns-in-Move-clause-told
-returns-in-Move-clause-told c = λ done latest before made stands.
+returns-in-Move-clause-told c = λ done latest before made stands same.
+    let numbered = ap (λ (l : Line). l.number) c.line.view_is ∙ same in
     let is : IsDecided done c.args.line.now c.args.self.now.book (decision.Move c.in-Move.slot c.in-Move.slice) =
     record {
       decision = sym c.in-Move.is ∙ c.in_ok-slot.ensures.decision;
@@ -84,7 +89,7 @@ returns-in-Move-clause-told c = λ done latest before made stands.
     (decision.Move c.in-Move.slot c.in-Move.slice) (story_of done latest before made) c.args.report.now
     c.move_to.new.report is (told ∙ ap (λ text. c.args.report.now ++ text)
     (move_line (story_of done latest before made) done c.in-Move.slot c.in-Move.slice)))
-    (c.move_to.ensures.told (story_of done latest before made) stands)
+    (c.move_to.ensures.told (story_of done latest before made) stands numbered)
 
 pub returns-in-Move-clause-stands : goal.returns-in-Move-clause-stands
 returns-in-Move-clause-stands c = λ done latest before made stands late.
@@ -102,6 +107,21 @@ returns-in-Move-clause-stands c = λ done latest before made stands late.
     (meant_by done (decision.Move c.in-Move.slot c.in-Move.slice)) stands
     (move_nothing done c.in-Move.slot c.in-Move.slice))
 
+pub returns-in-Note-clause-told : goal.returns-in-Note-clause-told
+returns-in-Note-clause-told c = λ done latest before made stands same.
+    let numbered = ap (λ (l : Line). l.number) c.line.view_is ∙ same in
+    let is : IsDecided done c.args.line.now c.args.self.now.book (decision.Note c.in-Note.text) = record {
+      decision = sym c.in-Note.is ∙ c.in_ok-slot.ensures.decision;
+      behind = ap (book_behind c.args.self.now.book) (sym c.in-Note.is) ∙ c.in_ok-slot.ensures.book;
+      same = stands.same_book;
+    } in
+    let story = story_of done latest before made in
+    on_ok c.push_note.result
+    (λ told. told_so done c.args.line.now c.args.self.now.book (decision.Note c.in-Note.text) story c.args.report.now
+    c.push_note.new.report is (told ∙ ap (λ text. c.args.report.now ++ text)
+    (told_note story c.as_slice.result.now c.in-Note.text c.line.inside.number numbered c.as_slice.ensures)))
+    c.push_note.ensures
+
 pub returns-in-Note-clause-stands : goal.returns-in-Note-clause-stands
 returns-in-Note-clause-stands c = λ done latest before made stands late.
     let is : IsDecided done c.args.line.now c.args.self.now.book (decision.Note c.in-Note.text) = record {
@@ -109,9 +129,9 @@ returns-in-Note-clause-stands c = λ done latest before made stands late.
       behind = ap (book_behind c.args.self.now.book) (sym c.in-Note.is) ∙ c.in_ok-slot.ensures.book;
       same = stands.same_book;
     } in
-    on_ok c.note.result (stands_so done c.args.line.now c.args.self.now.book
-    (decision.Note c.in-Note.text) latest before made (book_of done)
-    (λ slot. destination_after slices slot done) c.note.new.self is (sym stands.same_book) (λ slot. refl) late)
-    (subst (λ text. OnOk c.note.result (Stands c.note.new.self
-    (with_meaning (story_of done latest before made) (noted text)))) c.as_slice.ensures
-    (c.note.ensures.stands (story_of done latest before made) stands))
+    always_ok c.push_note.result
+    (stands_so done c.args.line.now c.args.self.now.book (decision.Note c.in-Note.text) latest before made
+    (book_of done) (λ slot. destination_after slices slot done) c.args.self.now is (sym stands.same_book)
+    (λ slot. refl) late
+    (stands_noted c.args.self.now c.args.self.now (story_of done latest before made) (noted c.in-Note.text) stands
+    (λ slot events. refl) refl refl refl))

@@ -4,7 +4,6 @@ use Rattle.pepc.proofs.solo.Solo.new.Goals as goal
 
 pub returns : goal.returns
 returns c = record {
-  counted = refl;
   same_book = c.new.ensures;
   places = ap length c.new-2.ensures.items;
   each = λ slot within. absurd (omega (arith, within));

@@ -1,4 +1,4 @@
-use Rattle.std.proofs.Common.{◌<◌, ◌≤◌, ◌+◌, ◌++◌, ◌∷◌, [], List, ℕ, IfSome, refl, sym, ap, subst, ◌∙◌, arith, length}
+use Rattle.std.proofs.Common.{◌<◌, ◌≤◌, ◌++◌, ◌∷◌, [], List, ℕ, IfSome, refl, sym, ap, subst, ◌∙◌, arith, length}
 use Rattle.gate_model.specs.declared.event.Event.TheVariants as event
 use Rattle.demux.specs.Trace.{packet as carried}
 use Rattle.gate_model.specs.SlotPast.{past_of, records_after, verdict_after}
@@ -45,7 +45,7 @@ push_handled-requires c =
     (omega (arith, c.total_len-len.ensures.len, c.total_len-len.type_inv))
 
 pub returns-clause-told : goal.returns-clause-told
-returns-clause-told c = λ story stands.
+returns-clause-told c = λ story stands numbered.
     let within = subst (λ (b : List (List ℕ)). c.args.slot < length b) stands.same_book c.requires.known in
     let held = held_at c.args.self.now story c.args.slot c.slot.inside.0 c.index_mut-subscriber.result.now stands
     within c.slot.view_is c.index_mut-subscriber.ensures.value in
@@ -54,9 +54,8 @@ returns-clause-told c = λ story stands.
     let counted = held.stands.packets in
     c.in_ok-push_handled.ensures
     ∙ ap (λ text. c.args.report.now ++ text)
-    (told_packet story own c.args.packet.now (c.args.self.now.lines
-    + 1) c.in_ok-handled.handled.number c.in_ok-handled.handled.commands _
-    (ap (λ n. n + 1) stands.counted) (c.in_ok-handled.ensures.number ∙ counted) (c.in_ok-handled.ensures.commands
+    (told_packet story own c.args.packet.now c.args.number c.in_ok-handled.handled.number
+    c.in_ok-handled.handled.commands _ numbered (c.in_ok-handled.ensures.number ∙ counted) (c.in_ok-handled.ensures.commands
     ∙ held.stands.commands)
     (c.in_ok-handled.ensures.verdict own events (length (records_after own events)) held.stands
     ∙ ap (λ n. verdict_after own events (packet_of n c.args.packet.now.moment c.args.packet.now.way
@@ -79,7 +78,7 @@ returns-clause-stands c = λ story stands late.
     c.args.packet.now.ip)) held.stands.packets in
     stands_next c.args.self.now _ story (carried own c.args.packet.now) story.bound c.args.packet.now.moment own
     c.slot.inside.0 c.take_closed.new.self
-    stands within c.slot.view_is refl refl refl
+    stands within c.slot.view_is refl refl
     (packet_holds story own c.args.packet.now e c.take_closed.new.self
     (story.bound own) c.args.packet.now.moment is closed
     (c.take_closed.ensures.destination ∙ c.in_ok-handled.ensures.destination ∙ held.bound_for)

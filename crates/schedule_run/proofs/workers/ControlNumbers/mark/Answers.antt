@@ -1,14 +1,12 @@
-use Rattle.std.proofs.Common.{length, set, ap, ◌∙◌, arith}
-use Rattle.slice_schedule.specs.World.{ControlNow}
-use Rattle.slice_schedule.specs.ControlTurns.{marked}
-use Rattle.schedule_run.proofs.Edited.{mapped_more}
+use Rattle.std.proofs.Common.{suc, subst, sym, ap, ◌∙◌}
+use Rattle.schedule_run.specs.Rounds.{slots_held, OnceIf}
+use Rattle.schedule_run.proofs.Skipped.{slots_marked}
 use Rattle.schedule_run.proofs.workers.ControlNumbers.mark.Goals as goal
 
-pub loop-half-preserved : goal.loop-half-preserved
-loop-half-preserved c =
-    let test = c.loop-half-test.true in
-    let value = ap length c.deref_mut-half-items.ensures.value in
-    let view = ap (λ (worker : ControlNow). length worker.held) c.self.view_is in
-    ap (set c.loop-half.half-items c.loop-half.half-index) c.mark.ensures
-    ∙ mapped_more (marked c.args.slot c.args.until) c.args.self.now.held c.loop-half.half-items c.loop-half.half-index
-    c.half-item.result (omega (arith, test, value, view)) c.loop-half.invariant
+pub invariant_of-self : goal.invariant_of-self
+invariant_of-self c = (
+  subst (OnceIf c.self.inside.once (suc c.self.inside.last))
+      (sym (ap slots_held c.mark_all.ensures ∙ slots_marked c.args.slot c.args.until c.self.inside.held.items))
+      c.self.invariant.0,
+  tt,
+)

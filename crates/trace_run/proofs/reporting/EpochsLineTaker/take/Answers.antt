@@ -1,15 +1,11 @@
-use Rattle.std.proofs.Common.{◌∷◌, ◌++◌, [], subst}
-use Rattle.trace_run.specs.Reporting.{AnsweredAs}
-use Rattle.trace_run.proofs.ReportingLemmas.{answered_whole, breaks_off, written_more}
+use Rattle.trace_run.proofs.ReportingLemmas.{answered_open, answered_whole, breaks_off, written_more}
 use Rattle.trace_run.proofs.reporting.EpochsLineTaker.take.Goals as goal
 
 pub returns-then-not-branch-clause-taken : goal.returns-then-not-branch-clause-taken
 returns-then-not-branch-clause-taken g c = λ first done latest old has due. record {
   sent = has.sent;
   written = has.written;
-  standing = subst (λ test. AnsweredAs test (g.R.Reporter.may_have first.reporter) (g.R.Reporter.places first.reporter)
-      (g.R.Reporter.represents first.reporter c.answer.new.self.reporter (done ++ c.args.line ∷ []) c.args.line.moment)
-      c.answer.new.self.size c.answer.new.self.text (done ++ c.args.line ∷ []) has.sent) c.if-not-branch.true
+  standing = answered_open c.in_ok-answer.field-0 _ _ _ _ _ _ _ c.if-not-branch.true
       (c.in_ok-answer.ensures first.reporter done latest has.sent has.standing due);
 }
 
