@@ -18,25 +18,9 @@ use Rattle.lawful_run.specs.Outcomes.{opens}
 use Rattle.lawful_run.specs.Report.{texts_of}
 use Rattle.lawful_run.specs.Run.{by_slot}
 use Rattle.lawful_run.specs.Telling.{counted}
+use Rattle.lawful_run.proofs.OpenCounters.{found}
 use Rattle.pepc.specs.Entries.{text_line}
 use Rattle.pepc.specs.Gathering.{charges_text, open_entry, open_for}
-
--- the counters of a life are among those of lives
-found : (happened : List Happening) (lives : List ℕ) (life : ℕ) → In life lives
-    → find (λ (counters : Counters). counters.life == life) (map (open_at happened) lives)
-    ≡ Some (open_at happened life)
-found happened [] life there = absurd there
-found happened (first ∷ lives) life there = by_test (first == life) refl there (found happened lives life)
-  where
-    by_test : (test : Bool) → (first == life) ≡ test → In life (first ∷ lives)
-        → (In life lives → find (λ (counters : Counters). counters.life == life) (map (open_at happened) lives)
-        ≡ Some (open_at happened life))
-        → cond test (Some (open_at happened first)) (find (λ (counters : Counters). counters.life == life)
-        (map (open_at happened) lives))
-        ≡ Some (open_at happened life)
-    by_test true is at rest = ap (λ l. Some (open_at happened l)) (eqb-true first life is)
-    by_test false is (inl here) rest = absurd (false≢true (sym is ∙ eq-eqb first life here))
-    by_test false is (inr later) rest = rest later
 
 -- those of bearers
 each_open : (slot : ℕ) (happened : List Happening) (bearers : List ActiveBearer)

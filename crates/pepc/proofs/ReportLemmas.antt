@@ -10,6 +10,7 @@ use Rattle.lawful_run.specs.Report.{epoch_entries, report_text, texts_of}
 use Rattle.lawful_run.specs.Run.{by_slot}
 use Rattle.lawful_run.specs.Setup.{solo}
 use Rattle.lawful_run.specs.Trace.{answered_report, epochs_from, epochs_told, meant_epochs, slots_of}
+use Rattle.lawful_run.proofs.BookGrows.{book_grows_all}
 use Rattle.lawful_run.proofs.CutEpochs.{cut_means}
 use Rattle.lawful_run.proofs.CutLines.{cut_nothing, epochs_are}
 use Rattle.lawful_run.proofs.EveryTrace.{answered_is_run, answered_run_at_once}
@@ -25,7 +26,7 @@ use Rattle.pepc.specs.Progress.{HasAnswered, SaysClosed, closed_events, end_text
 use Rattle.pepc.specs.Report.{IsSoloReport, slices}
 use Rattle.pepc.specs.Standing.{events_of, story_of}
 use Rattle.pepc.proofs.RunLemmas.{ending_waits}
-use Rattle.pepc.proofs.TextLemmas.{book_grows_all, whole_text}
+use Rattle.pepc.proofs.TextLemmas.{whole_text}
 
 -- the report of a gateway that answers at once
 text_of : (input : Input) (text : List ℕ) → text ≡ report_text false (answered_report solo input)

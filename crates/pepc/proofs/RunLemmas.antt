@@ -10,6 +10,7 @@ use Rattle.lawful_run.specs.AnsweredRun.{behind_epochs, behind_lines, entries_fr
 use Rattle.lawful_run.specs.Cut.{lines_in}
 use Rattle.lawful_run.specs.Run.{no_events}
 use Rattle.lawful_run.specs.Trace.{meant_epochs, stop_noted}
+use Rattle.lawful_run.proofs.BookGrows.{book_grows_all}
 use Rattle.lawful_run.proofs.CutEpochs.{meant_from-append}
 use Rattle.lawful_run.proofs.CutLines.{length-meant_from, lines_in-push, meant_epochs-push}
 use Rattle.lawful_run.proofs.Growing.{behind_epochs-push}
@@ -22,7 +23,7 @@ use Rattle.pepc.specs.Gathering.{closing_text}
 use Rattle.pepc.specs.Progress.{HasAnswered, SaysClosed, closed_events, closed_text, end_text, ending_text, entries_text, open_entries, open_meant}
 use Rattle.pepc.specs.Report.{slices}
 use Rattle.pepc.specs.Standing.{Stands, entry_line, meant_next, story_of, with_end}
-use Rattle.pepc.proofs.TextLemmas.{book_grows_all, closed_text-push, closing_wider, entries_text-push}
+use Rattle.pepc.proofs.TextLemmas.{closed_text-push, closing_wider, entries_text-push}
 
 -- the open epoch's lines mean one thing more
 open_meant-push : (done : List Line) (closed : List (List Line)) (open_ : List Line) (line : Line)

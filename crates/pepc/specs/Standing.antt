@@ -4,6 +4,7 @@ use Rattle.std.specs.Prelude.{◌∷◌, ◌++◌, length, IfSome}
 use Rattle.trace_lines.specs.Line.{Line}
 use Rattle.demux.specs.Destinations.{home_slice}
 use Rattle.demux.specs.Trace.{Meaning, book_of, destination_after, meaning}
+use Rattle.gate_model.specs.Events.{FewEvents}
 use Rattle.gate_model.specs.SlotPast.{records_after}
 use Rattle.gate_model.specs.declared.event.Event.{Event}
 use Rattle.report_lines.specs.declared.entry.Entry.TheVariants as entry
@@ -78,7 +79,7 @@ pub record Stands (solo : Solo) (story : Story) : Type 0 where
 
 -- so few lines that the next one has a number, and its slot room for an event
 abbrev pub HasRoom : Solo → Type 0
-HasRoom solo = (story : Story) × Stands solo story × (story.lines < 2 ^ 40)
+HasRoom solo = (story : Story) × Stands solo story × FewEvents story.lines
 
 -- a slot of the book
 abbrev pub IsInBook : Solo → ℕ → Type 0

@@ -38,7 +38,6 @@ pub fn make<K: Sink>(
     }
 }
 
-#[tactic(auto, using(crate::proofs::MakeLemmas::trace_whole, crate::proofs::MakeLemmas::trace_cut, crate::proofs::MakeLemmas::trace_front))]
 fn write_trace<K: Sink>(alloc: Global, seed: u64, subs: u32, lines: u32, sink: &mut K) -> Status
     requires some { 1 ≤ subs }
     requires slots { subs ≤ 65533 }
@@ -58,7 +57,6 @@ fn write_trace<K: Sink>(alloc: Global, seed: u64, subs: u32, lines: u32, sink: &
     }
 }
 
-#[tactic(auto, using(crate::proofs::MakeLemmas::is_summary, crate::proofs::MakeLemmas::summary_whole, crate::proofs::MakeLemmas::summary_cut, crate::proofs::MakeLemmas::no_summary))]
 fn write_summary<K: Sink>(alloc: Global, seed: u64, subs: u32, lines: u32, sink: &mut K) -> Status
     requires some { 1 ≤ subs }
     requires slots { subs ≤ 65533 }
