@@ -1,15 +1,10 @@
 -- The texts of epochs, one behind another, and of the whole report.
-use Rattle.std.proofs.Common.{◌≡◌, ℕ, ◌+◌, ◌-◌, ◌≤◌, nat_lt, Bool, true, false, if◌then◌else◌, is_some, List, [], ◌∷◌, ◌++◌, length, map, flat_map, refl, sym, ap, ◌∙◌, arith, append_assoc, append-nil, length-append}
+use Rattle.std.proofs.Common.{◌≡◌, ℕ, ◌+◌, ◌-◌, ◌≤◌, false, List, [], ◌∷◌, ◌++◌, length, map, flat_map, refl, sym, ap, ◌∙◌, arith, append_assoc, append-nil}
 use Rattle.std.proofs.lemmas.Grind.{flat_map-append}
 use Rattle.std.proofs.lemmas.List.{map-append}
 use Rattle.trace_lines.specs.Input.{Stop, bad, long, big, ended}
 use Rattle.trace_lines.specs.Line.{Line}
-use Rattle.address_book.specs.Book.{admitted, slot_in}
-use Rattle.demux.specs.Asked.{Asked, note as asked_note, admission, of}
-use Rattle.demux.specs.Line.{asked}
-use Rattle.demux.specs.Resolved.{booked}
 use Rattle.demux.specs.Trace.{Meaning, book_of, note}
-use Rattle.demux.proofs.TraceLemmas.{book_of-push}
 use Rattle.gate_model.specs.declared.event.Event.{Event}
 use Rattle.report_lines.specs.declared.entry.Entry.{Entry}
 use Rattle.report_lines.specs.declared.entry.Entry.TheVariants as entry

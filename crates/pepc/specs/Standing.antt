@@ -1,5 +1,5 @@
 -- What a gateway on one thread represents: the lines that it answered, epoch by epoch.
-use Rattle.std.specs.Prelude.{◌≡◌, ℕ, ◌+◌, ◌^◌, ◌<◌, ◌≤◌, ◌==◌, if◌then◌else◌, List, []}
+use Rattle.std.specs.Prelude.{◌≡◌, ℕ, ◌+◌, ◌<◌, ◌≤◌, ◌==◌, if◌then◌else◌, List, []}
 use Rattle.std.specs.Prelude.{◌∷◌, ◌++◌, length, IfSome}
 use Rattle.trace_lines.specs.Line.{Line}
 use Rattle.demux.specs.Destinations.{home_slice}
