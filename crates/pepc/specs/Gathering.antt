@@ -1,12 +1,10 @@
 -- What waits for the end of an epoch, as entries by slot.
-use Rattle.std.specs.Prelude.{◌≡◌, ℕ, ◌<◌, ◌==◌, if◌then◌else◌, false, All, Option, Some, None, List}
-use Rattle.std.specs.Prelude.{[], ◌∷◌, ◌++◌, map, flat_map, find}
+use Rattle.std.specs.Prelude.{◌≡◌, ℕ, ◌<◌, ◌==◌, if◌then◌else◌, false, All, List}
+use Rattle.std.specs.Prelude.{[], ◌++◌, map, flat_map}
 use Rattle.demux.specs.Trace.{Meaning}
-use Rattle.charging_book.specs.Rows.{Counters}
 use Rattle.report_lines.specs.Records.{Effected}
 use Rattle.report_lines.specs.declared.entry.ChargeEntry.{ChargeEntry}
-use Rattle.report_lines.specs.declared.entry.ChargeEntry.TheVariants.{R, O}
-use Rattle.report_lines.specs.declared.entry.Entry.TheVariants as entry
+use Rattle.report_lines.specs.declared.entry.ChargeEntry.TheVariants.{R}
 use Rattle.lawful_run.specs.AnsweredRun.{brought}
 use Rattle.lawful_run.specs.Order.{Histories}
 use Rattle.lawful_run.specs.Outcomes.{effects, rows, effect_entry}

@@ -1,4 +1,4 @@
-use Rattle.std.proofs.Common.{◌≡◌, ◌++◌, ◌<◌, ℕ, false, List, get_or, length, ap, sym, subst, ◌∙◌}
+use Rattle.std.proofs.Common.{◌++◌, ◌<◌, ℕ, false, List, get_or, length, ap, sym, subst, ◌∙◌}
 use Rattle.at_rest.specs.Rest.{Represents}
 use Rattle.subscriber.specs.Standing.{SubscriberState}
 use Rattle.lawful_run.specs.Outcomes.{opens}
