@@ -99,7 +99,8 @@ fn mark(marks: &mut [bool], slice: Option<SliceNo>)
     requires { length marks.old ≡ 64 }
     ensures marked { (at : ℕ) → slice ≡ Some at → slice_index_or marks.new at false ≡ true }
     ensures kept { (at : ℕ) → slice_index_or marks.old at false ≡ true → slice_index_or marks.new at false ≡ true }
-    ensures others { (at : ℕ) → slice ≢ Some at → slice_index_or marks.new at false ≡ slice_index_or marks.old at false }
+    ensures others { (at : ℕ) → slice ≢ Some at
+        → slice_index_or marks.new at false ≡ slice_index_or marks.old at false }
 {
     if let Some(at) = slice {
         marks[at.0 as usize] = true;
