@@ -2,7 +2,7 @@
 use crate::call::Call;
 use crate::ends::push_octets;
 use crate::telling::push_told;
-use command_words::{Job, job};
+use command_words::{Job, Lanes, TurnList, Turns, job};
 use entry_counts::{EntryCounts, push_summary};
 use pepc::{Status, fault_text};
 use std::alloc::{AllocError, Global};
@@ -15,6 +15,19 @@ pub fn words(alloc: Global, row: &Call, text: &mut String) -> Result<(), AllocEr
     match job(alloc, words.as_slice())? {
         None => text.push_str("none\n"),
         Some(Job::Solo) => text.push_str("solo\n"),
+        Some(Job::Drive {
+            lanes,
+            turns,
+            places,
+        }) => {
+            let Lanes { slices, room, lane } = lanes;
+            push_told(text, "drive: ", &slices)?;
+            push_told(text, " slices, room ", &room)?;
+            push_told(text, ", lane ", &lane)?;
+            push_turns(turns, text)?;
+            push_told(text, ", places ", &places)?;
+            text.push('\n')
+        }
         Some(Job::Import) => text.push_str("import\n"),
         Some(Job::Export) => text.push_str("export\n"),
         Some(
@@ -46,6 +59,25 @@ pub fn words(alloc: Global, row: &Call, text: &mut String) -> Result<(), AllocEr
             text.push('\n')
         }
     }
+}
+
+fn push_turns(turns: Turns, text: &mut String) -> Result<(), AllocError> {
+    match turns {
+        Turns::NoTurns => text.push_str(", no turns"),
+        Turns::Listed(list) => push_list(list, text),
+        Turns::Drawn { seed, per } => {
+            push_told(text, ", ", &per)?;
+            push_told(text, " turns drawn from ", &seed)
+        }
+    }
+}
+
+fn push_list(list: TurnList, text: &mut String) -> Result<(), AllocError> {
+    text.push_str(", turns")?;
+    for turn in list.into_vec() {
+        push_told(text, " ", &turn)?;
+    }
+    Ok(())
 }
 
 /// `draws SEED`: the first three draws below 2^31 − 1.

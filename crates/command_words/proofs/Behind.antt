@@ -13,7 +13,7 @@ use Rattle.command_words.proofs.Forms.{Formed, unknown, valued, flagged, formed,
 use Rattle.command_words.proofs.Looks.{Look, dashes, is_named, is_paired, is_plain, is_stray, look}
 use Rattle.command_words.proofs.Options.{fresh, fresh_with, options_flag, options_missing, options_pair, options_pair_flag, options_pair_unknown, options_unknown, options_value, rows_behind, is_plain as is_plain_next}
 use Rattle.command_words.proofs.Rows.{given_rows, used_value}
-use Rattle.command_words.proofs.Turns.{at_rest, expect_end, expect_option, expect_plain, expecting, flag_turn, holding, id_some, leaf, long_none, long_some, outcome, pair_flag, pair_turn, plain_turn, unknown_turn, value_turn}
+use Rattle.command_words.proofs.Walks.{at_rest, expect_end, expect_option, expect_plain, expecting, flag_turn, holding, id_some, leaf, long_none, long_some, outcome, pair_flag, pair_turn, plain_turn, unknown_turn, value_turn}
 
 abbrev pub has_stray : List Text → Bool
 has_stray words = list_any (λ word. stray_word (word_of word)) words

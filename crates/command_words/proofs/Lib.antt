@@ -2,7 +2,7 @@ pub mod Emptiness
 pub mod Looks
 pub mod Rows
 pub mod Forms
-pub mod Turns
+pub mod Walks
 pub mod Options
 pub mod Behind
 pub mod Parsed

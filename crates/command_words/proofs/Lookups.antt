@@ -4,7 +4,7 @@ use Rattle.std.specs.List.{list_all, list_any}
 use Rattle.std.specs.Option.{option_map_or}
 use Rattle.std.specs.Str.{bytes_eq}
 use Rattle.text_fields.specs.Number.{number_in}
-use Rattle.command_words.specs.Job.{number_of}
+use Rattle.command_words.specs.Job.{lanes_by, lanes_of, number_of}
 use Rattle.std.proofs.lemmas.Slice.Eq.{bytes_eq-Decides}
 use Rattle.clap.proofs.WalkLemmas.{first_value-rows, one_text-rows}
 use Rattle.clap.specs.Matches.{first_value, found_of, one_text}
@@ -292,3 +292,14 @@ flag_is matches forms given name read gives takes all some on off =
     go : (b : Bool) → one_text (found_of matches) name ≡ Some (cond b (codes "true") (codes "false")) → b ≡ read
     go true found = sym (on found)
     go false found = sym (off found)
+
+pub lanes_are : (matches : ArgMatches) (forms : List Form) (given : List Given) → Gives matches forms given
+    → takes_value forms (codes "slices") ≡ true → all_values (codes "slices") forms ≡ true
+    → takes_value forms (codes "room") ≡ true → all_values (codes "room") forms ≡ true
+    → takes_value forms (codes "lane") ≡ true → all_values (codes "lane") forms ≡ true
+    → lanes_by (first_value (found_of matches) (codes "slices")) (first_value (found_of matches) (codes "room"))
+    (first_value (found_of matches) (codes "lane")) ≡ lanes_of given
+lanes_are matches forms given gives slices slices_all room room_all lane lane_all =
+    λ i. lanes_by (value_found matches forms given (codes "slices") gives slices slices_all i)
+    (value_found matches forms given (codes "room") gives room room_all i)
+    (value_found matches forms given (codes "lane") gives lane lane_all i)

@@ -24,7 +24,7 @@ use Rattle.command_words.proofs.Behind.{finds, found, has_stray, no_stray, rest_
 use Rattle.command_words.proofs.Emptiness.{both, and-false, and-nothing, guard, map-guard, none, none-or_else}
 use Rattle.command_words.proofs.Looks.{Look, dashes, is_named, is_paired, is_plain, is_stray, look}
 use Rattle.command_words.proofs.Options.{fresh, options_fit, options_stray}
-use Rattle.command_words.proofs.Turns.{end_of, leaf, outcome_is}
+use Rattle.command_words.proofs.Walks.{end_of, leaf, outcome_is}
 
 -- ---- behind the walk over a command's options nothing fails
 

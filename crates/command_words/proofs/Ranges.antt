@@ -1,15 +1,24 @@
 -- The numbers of a job are in the ranges of its options.
-use Rattle.std.proofs.Common.{◌≡◌, ◌≤◌, ◌&&◌, ℕ, Bool, true, false, cond, refl, sym, subst, List, [], ◌∷◌, Option, Some, None, IfSome, find, nat_le, leb-true, option_and_then, option_map, codes, lit≤}
+use Rattle.std.proofs.Common.{◌≡◌, ◌*◌, ◌<◌, ◌≤◌, ◌&&◌, ℕ, suc, ap, arith, All, length, Bool, true, false, cond, refl, sym, subst, List, [], ◌∷◌, Option, Some, None, IfSome, find, nat_le, leb-true, option_and_then, option_map, codes, lit≤}
+use Rattle.std.proofs.lemmas.List.Elements.{All-cons, All-nil, All-weaker}
 use Rattle.std.specs.Option.{option_map_or}
 use Rattle.std.specs.Str.Parse.{digits_value}
+use Rattle.text_fields.specs.Fields.{pieces}
 use Rattle.text_fields.specs.Number.{is_decimal, number_in}
-use Rattle.command_words.specs.Job.{Command, IsInRange, audit_job, commands, has_number, job_of, lanes_audit, make_job, number_of, solo_audit}
+use Rattle.command_words.specs.Job.{Command, IsInRange, LanesInRange, TurnsInRange, audit_job, commands, drive_job, has_number, job_of, lanes_audit, lanes_by, lanes_of, make_job, number_of, number_or, solo_audit, turns_of}
 use Rattle.command_words.specs.Options.{Given, given_once, has_flag, value_of}
+use Rattle.command_words.specs.Turns.{comma, last_worker, most_turns, numbers_in, turns_asked, turns_in}
 use Rattle.command_words.specs.Words.{Text}
+use Rattle.command_words.specs.declared.jobs.Lanes.{Lanes}
+use Rattle.command_words.specs.declared.turns.Turns.{Turns}
+use Rattle.command_words.specs.declared.turns.Turns.TheVariants as asked
 use Rattle.command_words.specs.declared.jobs.Job.{Job}
 use Rattle.command_words.specs.declared.jobs.Job.TheVariants as job
 use Rattle.command_words.proofs.Emptiness.{both}
 use Rattle.command_words.proofs.Parsed.{named_so}
+
+abbrev the_lanes : ℕ → ℕ → ℕ → Lanes
+the_lanes slices room lane = record { slices = slices; room = room; lane = lane }
 
 abbrev IsWithin : ℕ → ℕ → ℕ → Type 0
 IsWithin least last n = (least ≤ n) × (n ≤ last)
@@ -68,33 +77,147 @@ solo_keeps given asked is = go (has_number given) is
         let same : job.Audit true 64 64 1024 ≡ asked = cc in
         subst IsInRange same (lit≤ tt, lit≤ tt, (λ yes. refl), lit≤ tt, lit≤ tt, lit≤ tt, lit≤ tt)
 
-lanes_keep : (given : List Given) (asked : Job) → lanes_audit given ≡ Some asked → IsInRange asked
-lanes_keep given asked is =
-    go (number_of (codes "slices") 1 64 2 given) (number_of (codes "room") 1 256 64 given)
-    (number_of (codes "lane") 1 16384 1024 given)
-    (λ n e. number_within (codes "slices") 1 64 2 given n (lit≤ tt, lit≤ tt) e)
-    (λ n e. number_within (codes "room") 1 256 64 given n (lit≤ tt, lit≤ tt) e)
-    (λ n e. number_within (codes "lane") 1 16384 1024 given n (lit≤ tt, lit≤ tt) e) is
+number_or_within : (least last default : ℕ) (text : Option Text) (n : ℕ) → IsWithin least last default
+    → number_or least last default text ≡ Some n → IsWithin least last n
+number_or_within least last default None n own e = let same : default ≡ n = cc in subst (IsWithin least last) same own
+number_or_within least last default (Some text) n own e = text_within least last text n e
+
+pub lanes_within : (slices room lane : Option Text) (lanes : Lanes) → lanes_by slices room lane ≡ Some lanes
+    → LanesInRange lanes
+lanes_within slices room lane lanes is =
+    go (number_or 1 64 2 slices) (number_or 1 256 64 room) (number_or 1 16384 1024 lane)
+    (λ n e. number_or_within 1 64 2 slices n (lit≤ tt, lit≤ tt) e)
+    (λ n e. number_or_within 1 256 64 room n (lit≤ tt, lit≤ tt) e)
+    (λ n e. number_or_within 1 16384 1024 lane n (lit≤ tt, lit≤ tt) e) is
   where
-    go : (slices room lane : Option ℕ) → ((n : ℕ) → slices ≡ Some n → IsWithin 1 64 n)
-        → ((n : ℕ) → room ≡ Some n → IsWithin 1 256 n)
-        → ((n : ℕ) → lane ≡ Some n → IsWithin 1 16384 n)
-        → option_and_then (λ s. option_and_then (λ r. option_map (λ l. job.Audit false s r l) lane) room) slices
-        ≡ Some asked → IsInRange asked
-    go None room lane few small short e = absurd (cc)
-    go (Some s) None lane few small short e = absurd (cc)
+    go : (s r l : Option ℕ) → ((n : ℕ) → s ≡ Some n → IsWithin 1 64 n) → ((n : ℕ) → r ≡ Some n → IsWithin 1 256 n)
+        → ((n : ℕ) → l ≡ Some n → IsWithin 1 16384 n)
+        → option_and_then (λ s. option_and_then (λ r. option_map (λ l. the_lanes s r l) l) r) s ≡ Some lanes
+        → LanesInRange lanes
+    go None r l few small short e = absurd (cc)
+    go (Some s) None l few small short e = absurd (cc)
     go (Some s) (Some r) None few small short e = absurd (cc)
     go (Some s) (Some r) (Some l) few small short e =
-        let same : job.Audit false s r l ≡ asked = cc in
+        let same : the_lanes s r l ≡ lanes = cc in
+        subst LanesInRange same ((few s refl).0, (few s refl).1, (small r refl).0, (small r refl).1, (short l refl).0, (short l refl).1)
+
+lanes_keep : (given : List Given) (asked : Job) → lanes_audit given ≡ Some asked → IsInRange asked
+lanes_keep given asked is = go (lanes_of given) refl is
+  where
+    go : (found : Option Lanes) → lanes_of given ≡ found
+        → option_map (λ (lanes : Lanes). job.Audit false lanes.slices lanes.room lanes.lane) found ≡ Some asked
+        → IsInRange asked
+    go None known e = absurd (cc)
+    go (Some lanes) known e =
+        let range = lanes_within (value_of (codes "slices") given) (value_of (codes "room") given)
+        (value_of (codes "lane") given) lanes known in
+        let same : job.Audit false lanes.slices lanes.room lanes.lane ≡ asked = cc in
         subst IsInRange same (
-          (few s refl).0,
-          (few s refl).1,
+          range.0,
+          range.1,
           (λ is. absurd (cc)),
-          (small r refl).0,
-          (small r refl).1,
-          (short l refl).0,
-          (short l refl).1,
+          range.2,
+          range.3,
+          range.4,
+          range.5,
         )
+
+-- ---- turns
+
+-- so many numbers, none above the last
+record AreNumbers (last many : ℕ) (turns : List ℕ) : Type 0 where
+  pub counted : length turns ≡ many
+  pub low : All (λ turn. turn ≤ last) turns
+
+numbers_are : (last : ℕ) (texts : List Text) (turns : List ℕ) → numbers_in last texts ≡ Some turns
+    → AreNumbers last (length texts) turns
+numbers_are last [] turns is = let same : [] ≡ turns = cc in subst (AreNumbers last 0) same (record { counted = refl; low = All-nil (λ turn. turn ≤ last) })
+numbers_are last (text ∷ texts) turns is =
+    go (number_in 0 last text) (numbers_in last texts) refl (numbers_are last texts) is
+  where
+    go : (first : Option ℕ) (more : Option (List ℕ)) → number_in 0 last text ≡ first
+        → ((turns : List ℕ) → more ≡ Some turns → AreNumbers last (length texts) turns)
+        → option_and_then (λ number. option_map (λ more. number ∷ more) more) first ≡ Some turns
+        → AreNumbers last (length (text ∷ texts)) turns
+    go None more first_is more_are e = absurd (cc)
+    go (Some number) None first_is more_are e = absurd (cc)
+    go (Some number) (Some more) first_is more_are e =
+        let same : number ∷ more ≡ turns = cc in
+        let others = more_are more refl in
+        subst (AreNumbers last (length (text ∷ texts))) same (record {
+          counted = ap suc others.counted;
+          low = All-cons (λ turn. turn ≤ last) number more (text_within 0 last text number first_is).1 others.low;
+        })
+
+below_twice : (slices : ℕ) (turns : List ℕ) → 1 ≤ slices → All (λ turn. turn ≤ last_worker slices) turns
+    → All (λ turn. turn < 2 * slices) turns
+below_twice slices turns some =
+    All-weaker (λ turn. turn ≤ last_worker slices) (λ turn. turn < 2 * slices) (λ turn low. omega arith) turns
+
+listed_range : (slices : ℕ) (text : Text) (turns : List ℕ) → 1 ≤ slices → turns_in (last_worker slices) text ≡ Some turns
+    → TurnsInRange slices (asked.Listed turns)
+listed_range slices text turns some is = go (nat_le (length (pieces comma text)) most_turns) refl is
+  where
+    go : (few : Bool) → nat_le (length (pieces comma text)) most_turns ≡ few
+        → cond few (numbers_in (last_worker slices) (pieces comma text)) None ≡ Some turns
+        → TurnsInRange slices (asked.Listed turns)
+    go false few e = absurd (cc)
+    go true few e =
+        let are = numbers_are (last_worker slices) (pieces comma text) turns e in
+        let most : length (pieces comma text) ≤ 1024 = leb-true (length (pieces comma text)) 1024 few in
+        let many : length turns ≡ length (pieces comma text) = are.counted in
+        (omega arith, below_twice slices turns some are.low)
+
+turns_range : (slices : ℕ) (turns seed per : Option Text) (found : Turns) → 1 ≤ slices
+    → turns_asked slices turns seed per ≡ Some found → TurnsInRange slices found
+turns_range slices None None None found some is =
+    let same : asked.NoTurns ≡ found = cc in subst (TurnsInRange slices) same tt
+turns_range slices None None (Some per) found some is = absurd (cc)
+turns_range slices None (Some seed) None found some is = absurd (cc)
+turns_range slices None (Some seed) (Some per) found some is =
+    go (number_in 0 18446744073709551615 seed) (number_in 0 64 per) (λ n e. text_within 0 64 per n e) is
+  where
+    go : (from each : Option ℕ) → ((n : ℕ) → each ≡ Some n → IsWithin 0 64 n)
+        → option_and_then (λ from. option_map (λ each. asked.Drawn from each) each) from ≡ Some found
+        → TurnsInRange slices found
+    go None each few e = absurd (cc)
+    go (Some from) None few e = absurd (cc)
+    go (Some from) (Some each) few e =
+        let same : asked.Drawn from each ≡ found = cc in subst (TurnsInRange slices) same (few each refl).1
+turns_range slices (Some turns) None None found some is = go (turns_in (last_worker slices) turns) refl is
+  where
+    go : (listed : Option (List ℕ)) → turns_in (last_worker slices) turns ≡ listed
+        → option_map asked.Listed listed ≡ Some found → TurnsInRange slices found
+    go None known e = absurd (cc)
+    go (Some list) known e =
+        let same : asked.Listed list ≡ found = cc in
+        subst (TurnsInRange slices) same (listed_range slices turns list some known)
+turns_range slices (Some turns) None (Some per) found some is = absurd (cc)
+turns_range slices (Some turns) (Some seed) None found some is = absurd (cc)
+turns_range slices (Some turns) (Some seed) (Some per) found some is = absurd (cc)
+
+drive_keeps : (given : List Given) (asked : Job) → drive_job given ≡ Some asked → IsInRange asked
+drive_keeps given asked is = go (lanes_of given) refl is
+  where
+    by_turns : (lanes : Lanes) (turns : Option Turns) → LanesInRange lanes → turns_of lanes.slices given ≡ turns
+        → option_map (λ turns. job.Drive lanes turns (has_flag (codes "places") given)) turns ≡ Some asked
+        → IsInRange asked
+    by_turns lanes None range known e = absurd (cc)
+    by_turns lanes (Some turns) range known e =
+        let same : job.Drive lanes turns (has_flag (codes "places") given) ≡ asked = cc in
+        subst IsInRange same (
+          range,
+          turns_range lanes.slices (value_of (codes "turns") given)
+              (value_of (codes "seed") given) (value_of (codes "per") given) turns range.0 known,
+        )
+
+    go : (found : Option Lanes) → lanes_of given ≡ found
+        → option_and_then (λ (lanes : Lanes). option_map (λ turns. job.Drive lanes turns (has_flag (codes "places") given))
+        (turns_of lanes.slices given)) found ≡ Some asked → IsInRange asked
+    go None known e = absurd (cc)
+    go (Some lanes) known e =
+        by_turns lanes (turns_of lanes.slices given) (lanes_within (value_of (codes "slices") given)
+        (value_of (codes "room") given) (value_of (codes "lane") given) lanes known) refl e
 
 audit_keeps : (given : List Given) (asked : Job) → audit_job given ≡ Some asked → IsInRange asked
 audit_keeps given asked is = go (has_flag (codes "solo") given) is
@@ -113,7 +236,7 @@ bare_keeps is range given asked e = let same : is ≡ asked = cc in subst IsInRa
 all_keep : AllKeep commands
 all_keep = (
   bare_keeps job.Solo tt,
-  (make_keeps, (bare_keeps job.Import tt, (bare_keeps job.Export tt, (audit_keeps, tt)))),
+  (drive_keeps, (make_keeps, (bare_keeps job.Import tt, (bare_keeps job.Export tt, (audit_keeps, tt))))),
 )
 
 found_keeps : (of : List Command) (word : Text) (command : Command) → AllKeep of

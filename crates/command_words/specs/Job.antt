@@ -1,11 +1,15 @@
 -- The job that words ask for.
-use Rattle.std.specs.Prelude.{◌≡◌, ℕ, ◌≤◌, Bool, true, false, IsTrue, List, [], ◌∷◌, find, Option, Some}
-use Rattle.std.specs.Prelude.{None, is_some, ◌||◌, option_and_then, option_map, if◌then◌else◌, codes}
+use Rattle.std.specs.Prelude.{◌≡◌, ℕ, ◌<◌, ◌≤◌, ◌*◌, Bool, true, false, IsTrue, List, [], ◌∷◌, length, All, find}
+use Rattle.std.specs.Prelude.{Option, Some, None, is_some, ◌||◌, option_and_then, option_map, if◌then◌else◌, codes}
 use Rattle.std.specs.Option.{option_map_or}
 use Rattle.std.specs.Str.{bytes_eq}
 use Rattle.text_fields.specs.Number.{number_in}
 use Rattle.command_words.specs.Options.{Form, Given, given_once, has_flag, value_of, with_value, without_value}
+use Rattle.command_words.specs.Turns.{turns_asked}
 use Rattle.command_words.specs.Words.{Text}
+use Rattle.command_words.specs.declared.turns.Turns.{Turns}
+use Rattle.command_words.specs.declared.turns.Turns.TheVariants as asked
+use Rattle.command_words.specs.declared.jobs.Lanes.{Lanes}
 use Rattle.command_words.specs.declared.jobs.Job.{Job}
 use Rattle.command_words.specs.declared.jobs.Job.TheVariants as job
 
@@ -18,6 +22,35 @@ pub record Command : Type 0 where
 -- the number of an option, from `least` to `last`; what it is where the option isn't given
 abbrev pub number_of : Text → ℕ → ℕ → ℕ → List Given → Option ℕ
 number_of name least last default given = option_map_or (number_in least last) (value_of name given) (Some default)
+
+-- the number that a text is, from `least` to `last`; what it is where there is no text
+abbrev pub number_or : ℕ → ℕ → ℕ → Option Text → Option ℕ
+number_or least last default text = option_map_or (number_in least last) text (Some default)
+
+-- lanes, by the texts of `slices`, `room` and `lane`
+abbrev pub lanes_by : Option Text → Option Text → Option Text → Option Lanes
+lanes_by slices room lane =
+    option_and_then (λ slices. option_and_then (λ room. option_map (λ lane.
+    record { slices = slices; room = room; lane = lane })
+    (number_or 1 16384 1024 lane))
+    (number_or 1 256 64 room))
+    (number_or 1 64 2 slices)
+
+abbrev pub lanes_of : List Given → Option Lanes
+lanes_of given = lanes_by (value_of (codes "slices") given) (value_of (codes "room") given)
+    (value_of (codes "lane") given)
+
+-- the turns of `drive`
+abbrev pub turns_of : ℕ → List Given → Option Turns
+turns_of slices given = turns_asked slices (value_of (codes "turns") given) (value_of (codes "seed") given)
+    (value_of (codes "per") given)
+
+-- the lanes of `drive` and its turns, and whether places are told
+abbrev pub drive_job : List Given → Option Job
+drive_job given =
+    option_and_then (λ (lanes : Lanes). option_map (λ turns. job.Drive lanes turns (has_flag (codes "places") given))
+    (turns_of lanes.slices given))
+    (lanes_of given)
 
 -- each number of `make`, and whether it sums up
 abbrev pub make_job : List Given → Option Job
@@ -38,12 +71,7 @@ abbrev pub solo_audit : List Given → Option Job
 solo_audit given = if has_number given then None else Some (job.Audit true 64 64 1024)
 
 abbrev pub lanes_audit : List Given → Option Job
-lanes_audit given =
-    option_and_then (λ slices. option_and_then (λ room. option_map (λ lane.
-    job.Audit false slices room lane)
-    (number_of (codes "lane") 1 16384 1024 given))
-    (number_of (codes "room") 1 256 64 given))
-    (number_of (codes "slices") 1 64 2 given)
+lanes_audit given = option_map (λ (lanes : Lanes). job.Audit false lanes.slices lanes.room lanes.lane) (lanes_of given)
 
 abbrev pub audit_job : List Given → Option Job
 audit_job given = if has_flag (codes "solo") given then solo_audit given else lanes_audit given
@@ -52,6 +80,11 @@ audit_job given = if has_flag (codes "solo") given then solo_audit given else la
 abbrev pub bare : Text → Job → Command
 bare name is = record { name = name; forms = []; job = λ given. Some is }
 
+abbrev pub drive_forms : List Form
+drive_forms = with_value (codes "slices") ∷ with_value (codes "room") ∷ with_value (codes "lane")
+    ∷ with_value (codes "turns") ∷ with_value (codes "seed") ∷ with_value (codes "per")
+    ∷ without_value (codes "places") ∷ []
+
 abbrev pub make_forms : List Form
 make_forms = with_value (codes "seed") ∷ with_value (codes "subs") ∷ with_value (codes "lines") ∷ without_value
     (codes "summary") ∷ []
@@ -59,6 +92,9 @@ make_forms = with_value (codes "seed") ∷ with_value (codes "subs") ∷ with_va
 abbrev pub audit_forms : List Form
 audit_forms = without_value (codes "solo") ∷ with_value (codes "slices") ∷ with_value (codes "room")
     ∷ with_value (codes "lane") ∷ []
+
+abbrev pub drive_command : Command
+drive_command = record { name = codes "drive"; forms = drive_forms; job = drive_job }
 
 abbrev pub make_command : Command
 make_command = record { name = codes "make"; forms = make_forms; job = make_job }
@@ -69,6 +105,7 @@ audit_command = record { name = codes "audit"; forms = audit_forms; job = audit_
 -- The commands of the program.
 abbrev pub commands : List Command
 commands = bare (codes "solo") job.Solo
+    ∷ drive_command
     ∷ make_command
     ∷ bare (codes "import") job.Import
     ∷ bare (codes "export") job.Export
@@ -86,9 +123,21 @@ asked_of of (name ∷ rest) = option_and_then (λ (command : Command). option_ma
 abbrev pub job_of : List Text → Option Job
 job_of words = option_and_then (λ asking. asking.0.job asking.1) (asked_of commands words)
 
+-- listed turns are some workers', and not too many; few are drawn behind each line
+abbrev pub TurnsInRange : ℕ → Turns → Type 0
+TurnsInRange slices asked.NoTurns = Unit {0}
+TurnsInRange slices (asked.Listed turns) = (length turns ≤ 1024) × All (λ turn. turn < 2 * slices) turns
+TurnsInRange slices (asked.Drawn seed per) = per ≤ 64
+
+abbrev pub LanesInRange : Lanes → Type 0
+LanesInRange lanes =
+    (1 ≤ lanes.slices) × (lanes.slices ≤ 64) × (1 ≤ lanes.room) × (lanes.room ≤ 256) × (1 ≤ lanes.lane)
+    × (lanes.lane ≤ 16384)
+
 -- the numbers of a job are in the ranges of its options
 abbrev pub IsInRange : Job → Type 0
 IsInRange job.Solo = Unit {0}
+IsInRange (job.Drive lanes turns places) = LanesInRange lanes × TurnsInRange lanes.slices turns
 IsInRange (job.Make seed subs lines summary) = (1 ≤ subs) × (subs ≤ 65533) × (lines ≤ 100000)
 IsInRange job.Import = Unit {0}
 IsInRange job.Export = Unit {0}

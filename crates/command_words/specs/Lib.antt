@@ -1,4 +1,5 @@
 pub mod Words
 pub mod Options
+pub mod Turns
 pub mod Job
 pub mod Program

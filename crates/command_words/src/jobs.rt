@@ -1,10 +1,26 @@
 //! What the program may be asked to do.
 
-/// A job of the program, with each option's number or what stands for it.
+use crate::turns::Turns;
+
+/// Lanes between workers: 1 to 64 slices, room for 1 to 256 items of a subscriber, and for 1 to 16,384 of a slice.
 #[derive(Clone, Copy, Debug, PartialEq, Eq)]
+pub struct Lanes {
+    pub slices: u8,
+    pub room: u32,
+    pub lane: u32,
+}
+
+/// A job of the program, with each option's number or what stands for it.
+#[derive(Drop)]
 pub enum Job {
     /// `solo`: replay a trace on one thread.
     Solo,
+    /// `drive`: replay a trace under a schedule, on one thread, with the places of packets in the report or without.
+    Drive {
+        lanes: Lanes,
+        turns: Turns,
+        places: bool,
+    },
     /// `make`: write a generated trace of so many further lines for so many subscribers (1 to 65,533;
     /// at most 100,000 lines), or the counts of its report.
     Make {

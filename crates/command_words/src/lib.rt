@@ -4,7 +4,9 @@
 
 mod jobs;
 mod program;
+mod turns;
 mod words;
 
-pub use crate::jobs::Job;
+pub use crate::jobs::{Job, Lanes};
+pub use crate::turns::{TurnList, Turns};
 pub use crate::words::job;

@@ -1,8 +1,8 @@
 //! The program's commands and their options, as clap takes them.
-ghost use Rattle.std.specs.Prelude.{◌≡◌, IfOk, false};
+ghost use Rattle.std.specs.Prelude.{◌≡◌, IfOk, false, take};
 ghost use Rattle.clap.specs.Words.{app_of, rule_of, shape_of};
 ghost use Rattle.clap.specs.declared.builder.command.Command.TheViews.{out-Command as fields_of};
-ghost use Rattle.command_words.specs.Job.{audit_command, make_command};
+ghost use Rattle.command_words.specs.Job.{audit_command, drive_command, make_command};
 ghost use Rattle.command_words.specs.Options.{with_value, without_value};
 ghost use Rattle.command_words.specs.Program.{command_shape, no_commands, option_rule, program_app};
 
@@ -23,6 +23,29 @@ fn without_value<'a>(alloc: Global, name: &'a str) -> Arg<'a>
     ensures local { result.global ≡ false }
 {
     Arg::new(alloc, name).long(name).action(ArgAction::SetTrue)
+}
+
+// The command `drive` with the options of its lanes alone.
+fn drive_lanes<'a>(alloc: Global) -> Result<Command<'a>, AllocError>
+    ensures shape { IfOk result (λ command. shape_of command
+        ≡ command_shape (record drive_command { forms = take 3 drive_command.forms })) }
+    ensures local { IfOk result (λ command. (fields_of command).has_globals ≡ false) }
+{
+    Command::new(alloc, "drive")
+        .arg(with_value(alloc, "slices"))?
+        .arg(with_value(alloc, "room"))?
+        .arg(with_value(alloc, "lane"))
+}
+
+fn drive<'a>(alloc: Global) -> Result<Command<'a>, AllocError>
+    ensures shape { IfOk result (λ command. shape_of command ≡ command_shape drive_command) }
+    ensures local { IfOk result (λ command. (fields_of command).has_globals ≡ false) }
+{
+    drive_lanes(alloc)?
+        .arg(with_value(alloc, "turns"))?
+        .arg(with_value(alloc, "seed"))?
+        .arg(with_value(alloc, "per"))?
+        .arg(without_value(alloc, "places"))
 }
 
 fn make<'a>(alloc: Global) -> Result<Command<'a>, AllocError>
@@ -65,6 +88,7 @@ pub fn program<'a>(alloc: Global) -> Result<Command<'a>, AllocError>
 {
     no_commands(alloc)
         .subcommand(Command::new(alloc, "solo"))?
+        .subcommand(drive(alloc)?)?
         .subcommand(make(alloc)?)?
         .subcommand(Command::new(alloc, "import"))?
         .subcommand(Command::new(alloc, "export"))?

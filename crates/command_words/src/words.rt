@@ -1,5 +1,5 @@
 //! From words to a job.
-ghost use Rattle.std.specs.Prelude.{◌≡◌, ◌^◌, ◌<◌, ℕ, Some, List, IfOk, IfSome, bytes_eq, find, is_some, map};
+ghost use Rattle.std.specs.Prelude.{◌≡◌, ◌^◌, ◌<◌, ◌≤◌, ℕ, Some, List, IfOk, IfSome, bytes_eq, codes, find, is_some, map};
 ghost use Rattle.std.specs.List.{list_any};
 ghost use Rattle.std.specs.Option.{option_map, option_map_or};
 ghost use Rattle.std.specs.String.{string_bytes};
@@ -7,13 +7,16 @@ ghost use Rattle.clap.specs.Words.{first_value, found_of, subcommand_rows_of};
 ghost use Rattle.text_fields.specs.Number.{number_in};
 ghost use Rattle.command_words.specs.Job.{Command, IsInRange, asked_of, audit_forms, audit_job, commands, has_number};
 ghost use Rattle.command_words.specs.Job.{job_of};
-ghost use Rattle.command_words.specs.Job.{lanes_audit, make_forms, make_job, solo_audit};
+ghost use Rattle.command_words.specs.Job.{LanesInRange, drive_forms, drive_job, lanes_audit, lanes_by, make_forms};
+ghost use Rattle.command_words.specs.Job.{make_job, solo_audit};
 ghost use Rattle.command_words.specs.Options.{Given};
 ghost use Rattle.command_words.specs.Program.{Gives, found_asked};
+ghost use Rattle.command_words.specs.Turns.{turns_asked};
 ghost use Rattle.command_words.specs.Words.{Text, is_stray, word_of};
 
-use crate::jobs::Job;
+use crate::jobs::{Job, Lanes};
 use crate::program::program;
+use crate::turns::{Turns, drawn, listed_turns};
 use clap::ArgMatches;
 use clap::error::ErrorKind;
 use std::alloc::{AllocError, Global};
@@ -139,39 +142,88 @@ fn has_value(matches: &ArgMatches<'_>, name: &str) -> bool
 fn lanes_audit(matches: &ArgMatches<'_>) -> Option<Job>
     ensures { (given : List Given) → Gives matches.now audit_forms given → result ≡ lanes_audit given }
 {
-    let slices = octet_number(matches, "slices", 1, 64, 2)?;
-    let room = small_number(matches, "room", 1, 256, 64)?;
-    let lane = small_number(matches, "lane", 1, 16_384, 1_024)?;
+    let lanes = lanes(matches)?;
     Some(Job::Audit {
         solo: false,
-        slices,
-        room,
-        lane,
+        slices: lanes.slices,
+        room: lanes.room,
+        lane: lanes.lane,
     })
 }
 
-fn job_named(name: &str, matches: &ArgMatches<'_>) -> Option<Job>
-    ensures { (command : Command) (given : List Given)
-        → find (λ (c : Command). bytes_eq c.name name.now) commands ≡ Some command
-        → Gives matches.now command.forms given → result ≡ command.job given }
+fn lanes(matches: &ArgMatches<'_>) -> Option<Lanes>
+    ensures found { result ≡ lanes_by (first_value (found_of matches.now) (codes "slices"))
+        (first_value (found_of matches.now) (codes "room")) (first_value (found_of matches.now) (codes "lane")) }
+    ensures ranges { IfSome result LanesInRange }
 {
-    match name {
-        "solo" => Some(Job::Solo),
-        "make" => make_job(matches),
-        "import" => Some(Job::Import),
-        "export" => Some(Job::Export),
-        "audit" => audit_job(matches),
-        _ => None,
+    let slices = octet_number(matches, "slices", 1, 64, 2)?;
+    let room = small_number(matches, "room", 1, 256, 64)?;
+    let lane = small_number(matches, "lane", 1, 16_384, 1_024)?;
+    Some(Lanes { slices, room, lane })
+}
+
+fn drive_job(alloc: Global, matches: &ArgMatches<'_>) -> Result<Option<Job>, AllocError>
+    ensures { (given : List Given) → Gives matches.now drive_forms given
+        → IfOk result (λ asked. asked ≡ drive_job given) }
+{
+    let Some(lanes) = lanes(matches) else {
+        return Ok(None);
+    };
+    let Some(turns) = turns(alloc, matches, lanes.slices)? else {
+        return Ok(None);
+    };
+    Ok(Some(Job::Drive {
+        lanes,
+        turns,
+        places: matches.get_flag("places"),
+    }))
+}
+
+// The turns that are listed or drawn; None where both are asked for, or half of what is drawn.
+fn turns(alloc: Global, matches: &ArgMatches<'_>, slices: u8) -> Result<Option<Turns>, AllocError>
+    requires some { 1 ≤ slices }
+    requires few { slices ≤ 64 }
+    ensures { IfOk result (λ turns. turns ≡ turns_asked slices (first_value (found_of matches.now) (codes "turns"))
+        (first_value (found_of matches.now) (codes "seed")) (first_value (found_of matches.now) (codes "per"))) }
+{
+    let last = 2 * u64::from(slices) - 1;
+    match (
+        matches.get_str("turns"),
+        matches.get_str("seed"),
+        matches.get_str("per"),
+    ) {
+        (None, None, None) => Ok(Some(Turns::NoTurns)),
+        (Some(text), None, None) => listed_turns(alloc, text.as_bytes(), last),
+        (None, Some(seed), Some(per)) => Ok(drawn(seed.as_bytes(), per.as_bytes())),
+        _ => Ok(None),
     }
 }
 
-fn asked(matches: &ArgMatches<'_>) -> Option<Job>
+fn job_named(alloc: Global, name: &str, matches: &ArgMatches<'_>) -> Result<Option<Job>, AllocError>
+    ensures { (command : Command) (given : List Given)
+        → find (λ (c : Command). bytes_eq c.name name.now) commands ≡ Some command
+        → Gives matches.now command.forms given → IfOk result (λ asked. asked ≡ command.job given) }
+{
+    match name {
+        "solo" => Ok(Some(Job::Solo)),
+        "drive" => drive_job(alloc, matches),
+        "make" => Ok(make_job(matches)),
+        "import" => Ok(Some(Job::Import)),
+        "export" => Ok(Some(Job::Export)),
+        "audit" => Ok(audit_job(matches)),
+        _ => Ok(None),
+    }
+}
+
+fn asked(alloc: Global, matches: &ArgMatches<'_>) -> Result<Option<Job>, AllocError>
     ensures { (words : List Text)
         → subcommand_rows_of matches.now ≡ option_map found_asked (asked_of commands words)
-        → result ≡ job_of words }
+        → IfOk result (λ asked. asked ≡ job_of words) }
 {
-    let (name, inner) = matches.subcommand()?;
-    job_named(name, inner)
+    let Some((name, inner)) = matches.subcommand() else {
+        return Ok(None);
+    };
+    job_named(alloc, name, inner)
 }
 
 /// The job that the words ask for, without the program's name; None where they are none of its.
@@ -184,7 +236,7 @@ pub fn job(alloc: Global, words: &[String]) -> Result<Option<Job>, AllocError>
         return Ok(None);
     }
     match program(alloc)?.try_get_matches_from(words) {
-        Ok(matches) => Ok(asked(&matches)),
+        Ok(matches) => asked(alloc, &matches),
         Err(error) => match error.kind() {
             ErrorKind::OutOfMemory => Err(AllocError),
             _ => Ok(None),

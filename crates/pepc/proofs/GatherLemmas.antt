@@ -12,7 +12,7 @@ use Rattle.lawful_run.specs.Outcomes as made_of
 use Rattle.lawful_run.specs.Run.{by_slot}
 use Rattle.lawful_run.proofs.EveryTrace.{with_brought}
 use Rattle.lawful_run.proofs.Growing.{brought-push, effects-append, rows-append, by_slot-more}
-use Rattle.pepc.specs.declared.gathered.Caused.{Caused}
+use Rattle.slot_replay.specs.declared.replayed.Caused.{Caused}
 use Rattle.pepc.specs.declared.gathered.Closed.{Closed}
 use Rattle.pepc.specs.declared.gathered.Gathered.{Gathered}
 use Rattle.pepc.specs.Gathering.{CausedBelow, ClosedBelow, Gathers, IsEmpty, caused_entries, closed_entries, charges_text, closing_text, effects_for, effects_text, rows_for}

@@ -15,7 +15,10 @@ use Rattle.pepc.proofs.AuditReports.{audit_complete, nothing_audited, nothing_se
 use Rattle.pepc.proofs.ExportReports.{export_complete, nothing_exported}
 use Rattle.pepc.proofs.ImportReports.{import_complete, nothing_imported}
 use Rattle.pepc.proofs.ReportLemmas.{nothing_runs}
-use Rattle.trace_run.proofs.EndingLemmas.{complete}
+use Rattle.trace_run.proofs.EndingLemmas.{complete, nothing_runs as nothing_told_of}
+use Rattle.drive_run.specs.Driven.{IsDrivenReport}
+use Rattle.drive_run.proofs.Reports.{says_nothing}
+use Rattle.pepc.specs.Drive.{schedule_asked}
 use Rattle.pepc.specs.Report.{IsSoloReport}
 
 no_front : (summary : Bool) (lines : List Line) → IsMakeFront summary lines []
@@ -32,6 +35,9 @@ pub nothing_done : (asked : Option Job) (source_failed : Type 0) (start old : Op
     → Does asked status.NoMemory source_failed start start old old
 nothing_done None source_failed start old = (refl, refl)
 nothing_done (Some job.Solo) source_failed start old = nothing_runs source_failed start old
+nothing_done (Some (job.Drive lanes turns places)) source_failed start old =
+    nothing_told_of (IsDrivenReport (schedule_asked lanes turns)) places source_failed start old
+    (says_nothing (schedule_asked lanes turns) places)
 nothing_done (Some (job.Make seed subs lines summary)) source_failed start old =
     (refl, nothing_made seed subs lines summary old)
 nothing_done (Some job.Import) source_failed start old = nothing_imported source_failed start old
@@ -42,6 +48,7 @@ nothing_done (Some (job.Audit solo slices room lane)) source_failed start old =
 pub nothing_completes : (asked : Option Job) (start : Option (List ℕ)) → Completes asked status.NoMemory start
 nothing_completes None start = tt
 nothing_completes (Some job.Solo) start = λ octets is stop. inr refl
+nothing_completes (Some (job.Drive lanes turns places)) start = λ octets is stop. inr refl
 nothing_completes (Some (job.Make seed subs lines summary)) start = inr refl
 nothing_completes (Some job.Import) start = λ octets is stop. inr refl
 nothing_completes (Some job.Export) start = λ octets is stop. inr refl
@@ -70,6 +77,11 @@ pub job_completes : (asked : Job) (ending : Status) (source_failed sink_failed :
 job_completes job.Solo ending source_failed sink_failed start left old new no_source no_sink read write usage does =
     λ octets is stop.
     complete IsSoloReport false ending source_failed sink_failed octets start left old new is stop no_source no_sink read write usage does
+job_completes (job.Drive lanes turns places) ending source_failed sink_failed start left old new no_source no_sink read
+    write usage does =
+    λ octets is stop.
+    complete (IsDrivenReport (schedule_asked lanes turns)) places ending source_failed sink_failed octets start left old new
+    is stop no_source no_sink read write usage does
 job_completes (job.Make seed subs lines summary) ending source_failed sink_failed start left old new no_source no_sink
     read write usage does =
     make_complete ending sink_failed summary (made seed subs lines) does.1.text no_sink write does.1.is

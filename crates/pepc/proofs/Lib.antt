@@ -2,7 +2,6 @@ pub mod Answered
 pub mod InSlots
 pub mod GatherLemmas
 pub mod PlaceLemmas
-pub mod OpenLemmas
 pub mod StoryLemmas
 pub mod ShortLemmas
 pub mod LineLemmas

@@ -27,6 +27,8 @@ use Rattle.lawful_run.proofs.EveryTrace.{with_brought}
 use Rattle.lawful_run.proofs.Growing.{events_after-push}
 use Rattle.pepc.specs.declared.gathered.Gathered.{Gathered}
 use Rattle.pepc.specs.declared.solo.Solo.{Solo}
+use Rattle.at_rest.specs.Rest.{Represents}
+use Rattle.std.proofs.lemmas.Option.{get_or_from_slice_get}
 use Rattle.pepc.specs.Gathering.{AddsEffects, AddsRows, CausedBelow, ClosedBelow, Gathers, effects_for, rows_for}
 use Rattle.pepc.specs.Places.{HasAt}
 use Rattle.pepc.specs.Report.{slices}
@@ -197,6 +199,15 @@ pub held_at : (solo : Solo) (story : Story) (own place : ℕ) (held : subscriber
 held_at solo story own place held stands within at is =
     value_at solo.subscribers.items own place (λ h. SlotStands h own (story.bound own) story.latest
     (events_of story own)) held (stands.each own within) at is
+
+-- each subscriber represents its slot's events
+pub stands_each : (solo : Solo) (story : Story) → Stands solo story → (slot : ℕ) (none : subscribers.SubscriberState)
+    → slot < length solo.subscribers.items
+    → Represents (get_or solo.subscribers.items slot none) slot (events_of story slot)
+stands_each solo story stands slot none within =
+    let has = stands.each slot (omega (arith, within, stands.places)) in
+    subst (λ held. Represents held slot (events_of story slot))
+    (sym (get_or_from_slice_get solo.subscribers.items slot has.value none has.found)) has.holds.stands
 
 -- a command and a packet are events of their own slot alone
 pub command_own : (own : ℕ) (events : List Event) (c : CommandKind)

@@ -10,9 +10,9 @@ use Rattle.report_lines.specs.declared.entry.Entry.TheVariants as entry
 use Rattle.lawful_run.specs.AnsweredRun.{brought}
 use Rattle.lawful_run.specs.Order.{Histories}
 use Rattle.lawful_run.specs.Outcomes.{effects, rows, effect_entry}
-use Rattle.lawful_run.specs.Report.{texts_of}
+use Rattle.trace_run.specs.Entries as texts
 use Rattle.lawful_run.specs.Run.{by_slot}
-use Rattle.pepc.specs.declared.gathered.Caused.{Caused}
+use Rattle.slot_replay.specs.declared.replayed.Caused.{Caused}
 use Rattle.pepc.specs.declared.gathered.Closed.{Closed}
 use Rattle.pepc.specs.declared.gathered.Gathered.{Gathered}
 
@@ -65,21 +65,13 @@ IsEmpty gathered = (gathered.effects.items ≡ []) × (gathered.rows.items ≡ [
 
 -- texts of effects by slot, and of charging records
 abbrev pub effects_text : List Effected → List ℕ
-effects_text told = texts_of false (map entry.Effect told)
+effects_text told = texts.effects_text false told
 
 abbrev pub charges_text : List ChargeEntry → List ℕ
-charges_text told = texts_of false (map entry.Charge told)
+charges_text told = texts.charges_text false told
 
 -- what an epoch has behind the entries of its lines
 abbrev pub closing_text : ℕ → Histories → List Meaning → List ℕ
 closing_text slots before made =
     effects_text (by_slot slots (λ slot. effects slot (before slot) (brought slot (before slot) made)))
     ++ charges_text (by_slot slots (λ slot. rows slot (before slot) (brought slot (before slot) made)))
-
--- the counters of a life among these, as entries
-abbrev pub open_entry : ℕ → Option Counters → List ChargeEntry
-open_entry slot (Some counters) = O slot counters ∷ []
-open_entry slot None = []
-
-abbrev pub open_for : ℕ → List Counters → ℕ → List ChargeEntry
-open_for slot counted life = open_entry slot (find (λ (counters : Counters). counters.life == life) counted)

@@ -5,9 +5,11 @@ use Rattle.command_words.specs.declared.jobs.Job.TheVariants as job
 use Rattle.pcap_form.specs.Capture as capture
 use Rattle.trace_lines.specs.Input.{ended, input_of}
 use Rattle.trace_run.specs.declared.status.Status.{Status}
+use Rattle.drive_run.specs.Driven.{IsDrivenReport}
 use Rattle.audit_run.specs.Findings.{Finds}
 use Rattle.audit_run.specs.Texts as texts
 use Rattle.pepc.specs.Audit.{Audits, Settles, audit_setup}
+use Rattle.pepc.specs.Drive.{schedule_asked}
 use Rattle.pepc.specs.Export.{Exports}
 use Rattle.pepc.specs.Import.{Imports}
 use Rattle.pepc.specs.Make.{Makes}
@@ -21,6 +23,8 @@ abbrev pub Does : Option Job → Status → Type 0 → Option (List ℕ) → Opt
 Does None ending source_failed start left old new = (left ≡ start) × (new ≡ old)
 Does (Some job.Solo) ending source_failed start left old new =
     Runs IsSoloReport false ending source_failed start left old new
+Does (Some (job.Drive lanes turns places)) ending source_failed start left old new =
+    Runs (IsDrivenReport (schedule_asked lanes turns)) places ending source_failed start left old new
 Does (Some (job.Make seed subs lines summary)) ending source_failed start left old new =
     (left ≡ start) × Makes seed subs lines summary ending old new
 Does (Some job.Import) ending source_failed start left old new = Imports ending source_failed start left old new
@@ -32,6 +36,8 @@ Does (Some (job.Audit solo slices room lane)) ending source_failed start left ol
 abbrev pub Completes : Option Job → Status → Option (List ℕ) → Type 0
 Completes None ending start = Unit {0}
 Completes (Some job.Solo) ending start =
+    (octets : List ℕ) → start ≡ Some octets → (input_of octets).stop ≡ ended → IsDone ending
+Completes (Some (job.Drive lanes turns places)) ending start =
     (octets : List ℕ) → start ≡ Some octets → (input_of octets).stop ≡ ended → IsDone ending
 Completes (Some (job.Make seed subs lines summary)) ending start = IsDone ending
 Completes (Some job.Import) ending start =

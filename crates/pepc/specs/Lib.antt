@@ -7,7 +7,8 @@ pub mod Counting
 pub mod Make
 pub mod Progress
 pub mod Audit
-pub mod Jobs
 pub mod Export
 pub mod ExportProgress
 pub mod Import
+pub mod Drive
+pub mod Jobs

@@ -6,6 +6,7 @@ ghost use Rattle.pc_outside.specs.Faults.{Rises};
 ghost use Rattle.pepc.specs.Jobs.{Completes, Does};
 
 use crate::audit::audit;
+use crate::drive::drive;
 use crate::export::export;
 use crate::import::import;
 use crate::make::make;
@@ -33,6 +34,11 @@ fn do_job<S: Source, K: Sink>(alloc: Global, asked: Job, source: &mut S, sink: &
 {
     match asked {
         Job::Solo => solo(alloc, source, sink),
+        Job::Drive {
+            lanes,
+            turns,
+            places,
+        } => drive(alloc, lanes, turns, places, source, sink),
         Job::Make {
             seed,
             subs,
@@ -58,8 +64,8 @@ fn do_job<S: Source, K: Sink>(alloc: Global, asked: Job, source: &mut S, sink: &
     }
 }
 
-/// Does what the words say, without the program's name. `solo` reads a trace from the source and writes
-/// its report to the sink, epoch by epoch; `make` writes a generated trace, or the summary of its report;
+/// Does what the words say, without the program's name. `solo` and `drive` read a trace from the source and write
+/// its report to the sink, epoch by epoch, as one thread answers it or under a schedule of turns; `make` writes a generated trace, or the summary of its report;
 /// `import` makes a trace of a capture, and `export` a capture of a trace; `audit` reads a trace and a report of it,
 /// and writes whether the report is a lawful one. Other words are Usage.
 pub fn run_plain<S: Source, K: Sink>(

@@ -5,13 +5,12 @@ ghost use Rattle.trace_run.specs.Report.{Runs};
 ghost use Rattle.pepc.specs.Progress.{ending_text};
 ghost use Rattle.pepc.specs.Report.{IsSoloReport};
 
-use crate::entry_text::push_refusal;
 use crate::solo::Solo;
 use pc_outside::{Sink, Source};
 use std::alloc::{AllocError, Global};
 use text_fields::Text;
 use trace_lines::TraceLine;
-use trace_run::{Ending, Reporter, Status, run_report};
+use trace_run::{Ending, Reporter, Status, push_bad, run_report};
 
 impl Reporter for Solo {
     ghost use Rattle.std.specs.Prelude.{false};
@@ -51,7 +50,7 @@ fn push_ending(text: &mut Text, ending: Ending, number: u64) -> Result<(), Alloc
     ensures { OnOk result (text.new ≡ text.old ++ ending_text number ending) }
 {
     match ending {
-        Ending::BadLine(why) => push_refusal(text, number, why),
+        Ending::BadLine(why) => push_bad(text, number, why),
         Ending::Ended | Ending::ReadFault | Ending::LineLong | Ending::TooLong => Ok(()),
     }
 }

@@ -1,28 +1,21 @@
 //! The gateway on one thread: each line is answered at once.
 ghost use Rattle.std.specs.Prelude.{◌≡◌, ℕ, ◌≤◌, ◌<◌, ◌^◌, ◌==◌, ◌+◌, ◌∷◌, ◌++◌, [], List};
 ghost use Rattle.std.specs.Prelude.{flat_map, length, map, find, None, OnOk, IfOk};
-ghost use Rattle.std.specs.Option.{option_copied};
-ghost use Rattle.bearer_state.specs.declared.version.ActiveBearer.{ActiveBearer};
-ghost use Rattle.charging_book.specs.Rows.{Counters};
 ghost use Rattle.demux.specs.Resolved.{IsDue, book_with, slot_of};
 ghost use Rattle.demux.specs.declared.decision.Whose.TheVariants.{New};
-ghost use Rattle.gate_model.specs.declared.event.Event.{Event};
-ghost use Rattle.subscriber.specs.Standing.{StandsFor};
 ghost use Rattle.demux.specs.Texts.{move_note};
 ghost use Rattle.demux.specs.Trace.{Meaning, note as noted, command as commanded, packet as carried};
 ghost use Rattle.lawful_run.specs.Order.{Histories};
 ghost use Rattle.lawful_run.specs.Outcomes.{opens};
 ghost use Rattle.lawful_run.specs.Run.{by_slot, no_events};
 ghost use Rattle.trace_lines.specs.Line.{Line};
-ghost use Rattle.pepc.specs.Gathering.{charges_text, closing_text, open_for};
+ghost use Rattle.pepc.specs.Gathering.{charges_text, closing_text};
 ghost use Rattle.pepc.specs.Standing.{BringsNothing, HasRoom, IsInBook, IsLate, Stands, Story, entry_line, events_of};
 ghost use Rattle.pepc.specs.Standing.{meant_next, story_of, with_end, with_book, with_meaning, with_move, with_packet};
 
-use crate::entry_text::{push_answer, push_handled, push_move, push_note, push_open};
+use crate::entry_text::{push_handled, push_move};
 use crate::gathered::Gathered;
 use address_book::AddressBook;
-use bearer_state::ActiveBearer;
-use charging_book::Open;
 use control_steps::Command;
 use demux::{Decision, LentPacket, Whose, decide, home_slice};
 use pc_base::{Imsi, SliceNo, Slot};
@@ -30,6 +23,7 @@ use std::alloc::{AllocError, Global};
 use subscriber::{Subscriber, few_events_leave_room};
 use text_fields::Text;
 use trace_lines::TraceLine;
+use trace_run::{push_answer, push_note, push_opens};
 
 /// How many slices there are for an order to move.
 const SLICES: u8 = 64;
@@ -103,10 +97,7 @@ impl Solo {
             ≡ report.old ++ charges_text
             (by_slot (length story.book) (λ slot. opens slot (events_of story slot)))) }
     {
-        for subscriber in self.subscribers.iter() {
-            push_subscriber(report, subscriber)?;
-        }
-        Ok(())
+        push_opens(report, self.subscribers.as_slice())
     }
 
     // An order that a subscriber goes to a slice.
@@ -238,51 +229,4 @@ impl Solo {
         self.subscribers.push(Subscriber::new(alloc, slot, home)?)?;
         Ok(slot)
     }
-}
-
-// Appends the open counters of a subscriber, by its bearers' indices.
-fn push_subscriber(report: &mut Text, subscriber: &Subscriber) -> Result<(), AllocError>
-    ensures { (slot : ℕ) (events : List Event) (taken : ℕ)
-        → StandsFor subscriber.now slot events taken
-        → OnOk result (report.new ≡ report.old ++ charges_text (opens slot events)) }
-{
-    let slot = subscriber.slot();
-    let counted = subscriber.still_open();
-    push_lives(report, slot, subscriber.bearers(), counted)
-}
-
-// Appends the open counters of bearers, which are among these.
-fn push_lives(
-    report: &mut Text,
-    slot: Slot,
-    bearers: &[ActiveBearer],
-    counted: &[Open],
-) -> Result<(), AllocError>
-    ensures { OnOk result (report.new ≡ report.old
-        ++ charges_text (flat_map
-        (λ (bearer : ActiveBearer). open_for slot counted.now bearer.life) bearers.now)) }
-{
-    for bearer in bearers {
-        push_life(report, slot, bearer.life, counted)?;
-    }
-    Ok(())
-}
-
-// Appends those of a life.
-fn push_life(report: &mut Text, slot: Slot, life: u64, counted: &[Open]) -> Result<(), AllocError>
-    ensures { OnOk result (report.new ≡ report.old
-        ++ charges_text (open_for slot counted.now life)) }
-{
-    match counters_of(counted, life) {
-        Some(counters) => push_open(report, slot, counters),
-        None => Ok(()),
-    }
-}
-
-// The counters of a life.
-fn counters_of(counted: &[Open], life: u64) -> Option<&Open>
-    ensures { option_copied result
-        ≡ find (λ (counters : Counters). counters.life == life) counted.now }
-{
-    counted.iter().find(|counters| counters.life == life)
 }

@@ -4,3 +4,5 @@ pub mod ReadLemmas
 pub mod EndingLemmas
 pub mod TakeLemmas
 pub mod ReportingLemmas
+pub mod EntryLemmas
+pub mod OpenLemmas

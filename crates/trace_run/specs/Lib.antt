@@ -1,4 +1,5 @@
 pub mod Told
+pub mod Entries
 pub mod Next
 pub mod Cut
 pub mod Status

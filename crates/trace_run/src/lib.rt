@@ -4,14 +4,21 @@
 #![tactic(auto)]
 
 mod ending;
+mod entries;
 mod epoch;
+mod opens;
 mod reading;
 mod reporting;
 mod status;
 mod taking;
 
 pub use ending::{Ending, Unwritten, status_at, status_without, write_octets, write_report};
+pub use entries::{
+    end_line, push_answer, push_bad, push_effects, push_note, push_packet, push_placed,
+    push_refusal, push_rows,
+};
 pub use epoch::Size;
+pub use opens::push_opens;
 pub use reading::{Next, next_line};
 pub use reporting::{Epochs, Reporter, run_report};
 pub use status::{Status, fault_text};

@@ -7,11 +7,13 @@ pub returns : goal.returns
 returns c =
     let one = c.in_ok-subcommand.ensures.shape c.new.ensures.local
     ∙ ap₂ with_subcommand c.no_commands.ensures (ap (λ (app : App). app.top) c.new.ensures.app) in
-    let two = c.in_ok-subcommand-2.ensures.shape c.in_ok-make.ensures.local
-    ∙ ap₂ with_subcommand one c.in_ok-make.ensures.shape in
-    let three = c.in_ok-subcommand-3.ensures.shape c.new-2.ensures.local
-    ∙ ap₂ with_subcommand two (ap (λ (app : App). app.top) c.new-2.ensures.app) in
-    let four = c.in_ok-subcommand-4.ensures.shape c.new-3.ensures.local
-    ∙ ap₂ with_subcommand three (ap (λ (app : App). app.top) c.new-3.ensures.app) in
-    IfOk-weaker c.subcommand-5.result _ _ (λ program adds. adds.shape c.in_ok-audit.ensures.local
-    ∙ ap₂ with_subcommand four c.in_ok-audit.ensures.shape) c.subcommand-5.ensures
+    let two = c.in_ok-subcommand-2.ensures.shape c.in_ok-drive.ensures.local
+    ∙ ap₂ with_subcommand one c.in_ok-drive.ensures.shape in
+    let three = c.in_ok-subcommand-3.ensures.shape c.in_ok-make.ensures.local
+    ∙ ap₂ with_subcommand two c.in_ok-make.ensures.shape in
+    let four = c.in_ok-subcommand-4.ensures.shape c.new-2.ensures.local
+    ∙ ap₂ with_subcommand three (ap (λ (app : App). app.top) c.new-2.ensures.app) in
+    let five = c.in_ok-subcommand-5.ensures.shape c.new-3.ensures.local
+    ∙ ap₂ with_subcommand four (ap (λ (app : App). app.top) c.new-3.ensures.app) in
+    IfOk-weaker c.subcommand-6.result _ _ (λ program adds. adds.shape c.in_ok-audit.ensures.local
+    ∙ ap₂ with_subcommand five c.in_ok-audit.ensures.shape) c.subcommand-6.ensures

@@ -1,4 +1,4 @@
-use Rattle.std.proofs.Common.{◌≡◌, ◌∙◌, Bool, true, false, refl, sym, codes}
+use Rattle.std.proofs.Common.{◌≡◌, ◌∙◌, true, false, refl, codes}
 use Rattle.command_words.specs.Job.{audit_forms}
 use Rattle.command_words.specs.Options.{has_flag}
 use Rattle.command_words.proofs.Lookups.{flag_is}

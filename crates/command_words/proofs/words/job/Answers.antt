@@ -1,4 +1,5 @@
 use Rattle.std.proofs.Common.{◌≡◌, ◌∙◌, inl, inr, true, false, [], map, sym, ap, subst}
+use Rattle.std.proofs.lemmas.Result.{IfOk-weaker}
 use Rattle.std.specs.String.{string_bytes}
 use Rattle.clap.proofs.WalkLemmas.{list_any-map}
 use Rattle.clap.specs.Faults.{fault_of, is_simple_and_free}
@@ -35,7 +36,7 @@ returns-in-Ok c =
     let rows : subcommand_rows_of c.in-Ok.matches ≡ subcommand_of program_app words =
     (c.in-Ok.ensures.matches simple).1 ∙ ap (λ app. subcommand_of app words) program in
     let asked = c.asked.ensures words (rows ∙ taken_asked words none taken) in
-    record { job = asked; ranges = job_ranges words c.asked.result asked }
+    record { job = asked; ranges = IfOk-weaker c.asked.result _ _ (λ job is. job_ranges words job is) asked }
 
 pub returns : goal.returns
 returns c =

@@ -1,0 +1,4 @@
+pub mod EpochLemmas
+pub mod Texts
+pub mod StandLemmas
+pub mod Reports

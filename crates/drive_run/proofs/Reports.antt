@@ -1,0 +1,445 @@
+-- The report of a run, by the epochs that were driven.
+use Rattle.std.proofs.Common.{◌≡◌, ℕ, ◌+◌, ◌≤◌, Bool, Option, None, Some, List, [], ◌∷◌, ◌++◌, codes, length, flat_map, map, refl, sym, ap, ap₂, subst, ◌∙◌, arith, length-append, append_assoc, append-nil}
+use Rattle.trace_lines.specs.Input.{Stop, ended}
+use Rattle.trace_lines.specs.Line.{Line}
+use Rattle.trace_lines.specs.Word.{word_of}
+use Rattle.trace_lines.specs.declared.bad.LineBad.{LineBad}
+use Rattle.demux.specs.Trace.{Meaning, book_of}
+use Rattle.report_lines.specs.declared.entry.Entry.TheVariants as entry
+use Rattle.lawful_run.specs.Answers.{AnswersAll}
+use Rattle.lawful_run.specs.Cut.{IsCut, lines_in}
+use Rattle.lawful_run.specs.Order.{Histories, behind}
+use Rattle.lawful_run.specs.Outcomes.{opens}
+use Rattle.lawful_run.specs.Report.{EpochReport, Report, epoch_entries}
+use Rattle.lawful_run.specs.Run.{behind_all, by_slot, no_events, told_in}
+use Rattle.lawful_run.specs.Trace.{epochs_from, epochs_told, meant_from, open_epoch, own_epoch, stop_noted}
+use Rattle.lawful_run.proofs.CutEpochs.{cut_means}
+use Rattle.lawful_run.proofs.CutLines.{cut_closed, cut_nothing, epochs_are, length-meant_from, lines_in-push, meant_epochs-push}
+use Rattle.at_rest.specs.Rest.{IsBehind, Rest, RepresentsAll, bound_at, new_rest}
+use Rattle.slice_schedule.specs.World.{Rooms}
+use Rattle.schedule_run.specs.Told.{AreWorkers}
+use Rattle.epoch_drive.specs.Lines.{AreLater, latest_behind}
+use Rattle.driven_run.specs.Driven.{IsDriven}
+use Rattle.driven_run.specs.Noted.{with_note}
+use Rattle.driven_run.specs.Runs.{AreDriven}
+use Rattle.driven_run.proofs.NotedEpoch.{events_noted, note_is_driven}
+use Rattle.trace_run.specs.Entries.{charges_text, closing_text, lines_text}
+use Rattle.trace_run.specs.Lines.{stop_of}
+use Rattle.trace_run.specs.Reporting.{IsDue, SaysEpochs}
+use Rattle.trace_run.specs.Takers.{IsNextOf}
+use Rattle.trace_run.specs.declared.ending.Ending.{Ending}
+use Rattle.trace_run.specs.declared.ending.Ending.TheVariants.{Ended, ReadFault, BadLine, LineLong, TooLong}
+use Rattle.drive_run.specs.Driven.{IsDrivenReport, Schedule, Turns, drawn, listed, rooms_in, turns_by_epoch, turns_for, turns_in, turns_left}
+use Rattle.drive_run.specs.Standing.{Drives, Drove, DroveAll, DroveOn, Stands, bad_at, driven_text, events_behind, homes, meant_all, meant_in, noted, noted_meant, schedule_of}
+use Rattle.drive_run.specs.declared.driver.Driver.{Driver}
+use Rattle.lawful_run.proofs.BookGrows.{book_grows_all}
+use Rattle.drive_run.proofs.EpochLemmas.{behind_all-push, driven_untold, length-turns_for, told_length, turns_by_epoch-push}
+use Rattle.drive_run.proofs.StandLemmas.{drives_more}
+use Rattle.trace_run.proofs.EntryLemmas.{epochs_text-push, lines-append, texts-append}
+
+-- ---- the first line
+
+pub begins_so : (now : Driver) (slices room lane : ℕ) → now.rest ≡ new_rest slices room lane
+    → RepresentsAll now.rest no_events → IsBehind now.rest [] → now.lines.items ≡ [] → AreWorkers slices now.turns
+    → Drove now now [] 0 [] [] [] []
+begins_so now slices room lane is represents behind none workers = record {
+  told = [];
+  stands = record {
+    represents = represents;
+    behind = behind;
+    bounds = behind.bounds;
+    same_slices = refl;
+    same_room = refl;
+    same_lane = refl;
+    goes_on = refl;
+    driven = λ slots known. tt;
+  };
+  parts = refl;
+  few = omega arith;
+  kept = none;
+  places = refl;
+  workers = subst (λ (rest : Rest). AreWorkers rest.slices now.turns) (sym is) workers;
+  later = tt;
+  latest_is = ap (λ (rest : Rest). rest.latest) is;
+  said = refl;
+  waits = refl;
+}
+
+-- ---- one line more
+
+later-push : (latest : ℕ) (lines : List Line) (line : Line) → AreLater latest lines
+    → latest_behind latest lines ≤ line.moment → AreLater latest (lines ++ line ∷ [])
+later-push latest [] line later last = (last, tt)
+later-push latest (first ∷ lines) line later last = (later.0, later-push first.moment lines line later.1 last)
+
+latest-push : (latest : ℕ) (lines : List Line) (line : Line) → latest_behind latest (lines ++ line ∷ []) ≡ line.moment
+latest-push latest [] line = refl
+latest-push latest (first ∷ lines) line = latest-push first.moment lines line
+
+pub takes_so : (first old now : Driver) (done : List Line) (latest : ℕ) (closed : List (List Line)) (open_ : List Line)
+    (sent waiting : List ℕ) (line : Line) → Drove first old done latest closed open_ sent waiting
+    → IsNextOf done latest line → (now.rest ≡ old.rest) × (now.turns ≡ old.turns) × (now.places ≡ old.places)
+    → now.lines.items ≡ old.lines.items ++ line ∷ []
+    → Drove first now (done ++ line ∷ []) line.moment closed (open_ ++ line ∷ []) sent waiting
+takes_so first old now done latest closed open_ sent waiting line so_far next same pushed = record {
+  told = so_far.told;
+  stands = subst (λ rest. Stands (schedule_of first) rest now.turns closed so_far.told) (sym same.0)
+      (subst (λ given. Stands (schedule_of first) old.rest given closed so_far.told) (sym same.1) so_far.stands);
+  parts = ap (λ lines. lines ++ line ∷ []) so_far.parts ∙ append_assoc (lines_in closed) open_ (line ∷ []);
+  few = omega (arith, next.few, length-append done (line ∷ []));
+  kept = pushed ∙ ap (λ lines. lines ++ line ∷ []) so_far.kept;
+  places = same.2 ∙ so_far.places;
+  workers = subst (λ rest. AreWorkers rest.slices now.turns) (sym same.0)
+      (subst (AreWorkers old.rest.slices) (sym same.1) so_far.workers);
+  later = subst (λ rest. AreLater rest.latest (open_ ++ line ∷ [])) (sym same.0)
+      (later-push old.rest.latest open_ line so_far.later (omega (arith, next.late, so_far.latest_is)));
+  latest_is = latest-push now.rest.latest open_ line;
+  said = so_far.said;
+  waits = so_far.waits;
+}
+
+-- ---- the report
+
+abbrev report_of : (schedule : Schedule) (done : List Line) (closed : List (List Line)) (open_ : List Line)
+    (bad : Option LineBad) (told : List EpochReport) → Report
+report_of schedule done closed open_ bad told = record {
+  epochs = told;
+  opens = by_slot (length (book_of done))
+      (λ slot. opens slot (behind_all no_events (meant_all schedule closed open_ bad) told slot));
+}
+
+is_report : (schedule : Schedule) (done : List Line) (closed : List (List Line)) (open_ : List Line) (stop : Stop)
+    (bad : Option LineBad) (told : List EpochReport) → IsCut done closed open_ → stop_noted stop ≡ noted_meant bad
+    → AreDriven (rooms_in schedule) (homes schedule)
+    (turns_by_epoch schedule.turns schedule.slices (closed ++ open_epoch open_)) (length (book_of done)) 1 no_events
+    (meant_all schedule closed open_ bad) told
+    → IsDrivenReport schedule (record { lines = done; stop = stop }) (report_of schedule done closed open_ bad told)
+is_report schedule done closed open_ stop bad told cut same driven =
+    let slots = length (book_of done) in
+    let means : epochs_told schedule.slices (record { lines = done; stop = stop })
+    ≡ meant_all schedule closed open_ bad =
+    ap (λ epochs. epochs_from schedule.slices [] epochs (stop_noted stop)) (epochs_are done closed open_ cut)
+    ∙ cut_means schedule.slices [] closed open_ (stop_noted stop) cut.whole cut.unfinished
+    ∙ ap (λ last. meant_in schedule closed ++ own_epoch (meant_from schedule.slices (lines_in closed) open_ ++ last))
+    same in
+    record {
+      epochs = subst (λ epochs. AreDriven (rooms_in schedule) (homes schedule)
+          (turns_by_epoch schedule.turns schedule.slices epochs) slots 1 no_events
+          (epochs_told schedule.slices (record { lines = done; stop = stop })) told)
+          (sym (epochs_are done closed open_ cut))
+          (subst (λ made. AreDriven (rooms_in schedule) (homes schedule)
+          (turns_by_epoch schedule.turns schedule.slices (closed ++ open_epoch open_)) slots 1 no_events made told)
+          (sym means) driven);
+      opens = ap (λ made. by_slot slots (λ slot. opens slot (behind_all no_events made told slot))) (sym means);
+    }
+
+-- whole epochs alone, as they were driven
+driven_whole : (schedule : Schedule) (closed : List (List Line)) (told : List EpochReport) (slots : ℕ)
+    → AreDriven (rooms_in schedule) (homes schedule) (turns_by_epoch schedule.turns schedule.slices closed) slots 1
+    no_events (meant_in schedule closed) told
+    → AreDriven (rooms_in schedule) (homes schedule)
+    (turns_by_epoch schedule.turns schedule.slices (closed ++ open_epoch [])) slots 1 no_events
+    (meant_all schedule closed [] None) told
+driven_whole schedule closed told slots driven =
+    subst (λ epochs. AreDriven (rooms_in schedule) (homes schedule)
+    (turns_by_epoch schedule.turns schedule.slices epochs) slots 1 no_events (meant_all schedule closed [] None) told)
+    (sym (append-nil closed))
+    (subst (λ made. AreDriven (rooms_in schedule) (homes schedule)
+    (turns_by_epoch schedule.turns schedule.slices closed) slots 1 no_events made told)
+    (sym (append-nil (meant_in schedule closed))) driven)
+
+pub says_epochs : (first now : Driver) (done : List Line) (latest : ℕ) (closed : List (List Line))
+    (sent waiting : List ℕ) → Drove first now done latest closed [] sent waiting → IsCut done closed []
+    → SaysEpochs (IsDrivenReport (schedule_of first)) first.places closed sent
+says_epochs first now done latest closed sent waiting so_far cut =
+    let schedule = schedule_of first in
+    record {
+      report = report_of schedule (lines_in closed) closed [] None so_far.told;
+      allowed = is_report schedule (lines_in closed) closed [] ended None so_far.told (cut_closed done closed [] cut) refl
+          (driven_whole schedule closed so_far.told (length (book_of (lines_in closed)))
+          (so_far.stands.driven (length (book_of (lines_in closed))) (omega arith)));
+      written = so_far.said;
+    }
+
+-- the report of no lines
+pub says_nothing : (schedule : Schedule) (places : Bool) → SaysEpochs (IsDrivenReport schedule) places [] []
+says_nothing schedule places = record {
+  report = report_of schedule [] [] [] None [];
+  allowed = is_report schedule [] [] [] ended None [] cut_nothing refl tt;
+  written = refl;
+}
+
+-- ---- the open epoch
+
+-- its text, with the note of a bad line
+abbrev noted_entry : EpochReport → Option LineBad → ℕ → EpochReport
+noted_entry told None n = told
+noted_entry told (Some why) n = with_note told n (codes "line" ++ 32 ∷ word_of why)
+
+noted_text : (places : Bool) (told : EpochReport) (bad : Option LineBad) (n : ℕ)
+    → lines_text places (noted_entry told bad n).lines ++ closing_text places (noted_entry told bad n)
+    ≡ lines_text places told.lines ++ lines_text places (noted bad n) ++ closing_text places told
+noted_text places told None n =
+    ap (λ lines. lines ++ closing_text places told) (sym (append-nil (lines_text places told.lines)))
+noted_text places told (Some why) n =
+    ap (λ lines. lines ++ closing_text places told) (lines-append places told.lines (noted (Some why) n))
+
+on_text : (places : Bool) (told : List EpochReport) (now : EpochReport) (bad : Option LineBad) (n : ℕ)
+    (sent text : List ℕ) → sent ≡ driven_text places told
+    → text ≡ lines_text places now.lines ++ lines_text places (noted bad n) ++ closing_text places now
+    → sent ++ text ≡ driven_text places (told ++ noted_entry now bad n ∷ [])
+on_text places told now bad n sent text before behind =
+    ap₂ (λ one two. one ++ two) before (behind ∙ sym (noted_text places now bad n))
+    ∙ sym (epochs_text-push places told (noted_entry now bad n))
+
+pub closes_so : (first old now : Driver) (done : List Line) (latest : ℕ) (closed : List (List Line))
+    (open_ : List Line) (sent : List ℕ) (n : ℕ) (text : List ℕ)
+    → DroveOn first old now done latest closed open_ sent None n text
+    → Drove first now done latest (closed ++ open_ ∷ []) [] (sent ++ text) []
+closes_so first old now done latest closed open_ sent n text on = record {
+  told = on.so_far.told ++ on.entry ∷ [];
+  stands = on.stands;
+  parts = on.so_far.parts ∙ sym (lines_in-push closed open_) ∙ sym (append-nil (lines_in (closed ++ open_ ∷ [])));
+  few = on.so_far.few;
+  kept = on.kept;
+  places = on.places;
+  workers = on.workers;
+  later = tt;
+  latest_is = on.latest_is;
+  said = on_text first.places on.so_far.told on.entry None n sent text on.so_far.said on.said;
+  waits = refl;
+}
+
+-- what driving its lines gives
+pub drives_on : (first old now : Driver) (done : List Line) (latest : ℕ) (closed : List (List Line))
+    (open_ : List Line) (sent : List ℕ) (bad : Option LineBad) (n : ℕ) (before after : List ℕ)
+    → Drove first old done latest closed open_ sent before
+    → ((schedule : Schedule) (closed : List (List Line)) (told : List EpochReport)
+    → Stands schedule old.rest old.turns closed told
+    → Drives schedule old.rest old.turns closed told old.lines.items bad n old.places before after now.rest now.turns)
+    → now.rest.latest ≡ latest_behind old.rest.latest old.lines.items → AreWorkers now.rest.slices now.turns
+    → now.lines.items ≡ [] → now.places ≡ old.places
+    → DroveOn first old now done latest closed open_ sent bad n after
+drives_on first old now done latest closed open_ sent bad n before after so_far drives later workers none places =
+    let schedule = schedule_of first in
+    let so : Drove first old done latest closed open_ sent [] =
+    subst (Drove first old done latest closed open_ sent) so_far.waits so_far in
+    let it : Drives schedule old.rest old.turns closed so.told open_ bad n first.places [] after now.rest now.turns =
+    subst (λ lines. Drives schedule old.rest old.turns closed so.told lines bad n first.places [] after now.rest
+    now.turns) so.kept
+    (subst (λ p. Drives schedule old.rest old.turns closed so.told old.lines.items bad n p [] after now.rest
+    now.turns) so.places
+    (subst (λ text. Drives schedule old.rest old.turns closed so.told old.lines.items bad n old.places text after
+    now.rest now.turns) so_far.waits (drives schedule closed so.told so.stands))) in
+    record {
+      so_far = so;
+      entry = it.now;
+      next = it.next;
+      stands = it.stands;
+      kept = none;
+      places = places ∙ so.places;
+      workers = workers;
+      latest_is = later ∙ ap (latest_behind old.rest.latest) so.kept ∙ so.latest_is;
+      said = it.said;
+    }
+
+pub drives_from : (first old now : Driver) (done : List Line) (latest : ℕ) (closed : List (List Line))
+    (open_ : List Line) (sent : List ℕ) (bad : Option LineBad) (n : ℕ) (before after : List ℕ) (rest : Rest)
+    (lines : List Line) → rest ≡ old.rest → lines ≡ old.lines.items
+    → Drove first old done latest closed open_ sent before
+    → ((schedule : Schedule) (closed : List (List Line)) (told : List EpochReport)
+    → Stands schedule rest old.turns closed told
+    → Drives schedule rest old.turns closed told lines bad n old.places before after now.rest now.turns)
+    → now.rest.latest ≡ latest_behind rest.latest lines → AreWorkers now.rest.slices now.turns
+    → now.lines.items ≡ [] → now.places ≡ old.places
+    → DroveOn first old now done latest closed open_ sent bad n after
+drives_from first old now done latest closed open_ sent bad n before after rest lines is_rest is_lines so_far drives
+    later workers none places =
+    drives_on first old now done latest closed open_ sent bad n before after so_far
+    (λ schedule closed told stands. subst (λ r. Drives schedule r old.turns closed told old.lines.items bad n old.places
+    before after now.rest now.turns) is_rest
+    (subst (λ l. Drives schedule rest old.turns closed told l bad n old.places before after now.rest now.turns) is_lines
+    (drives schedule closed told (subst (λ r. Stands schedule r old.turns closed told) (sym is_rest) stands))))
+    (later ∙ ap₂ (λ (r : Rest) l. latest_behind r.latest l) is_rest is_lines) workers none places
+
+-- its lines and a bad line's note are driven
+noted_driven : (rooms : Rooms) (bounds : ℕ → ℕ) (turned : List (List ℕ)) (slots first : ℕ) (before : Histories)
+    (made : List Meaning) (told : EpochReport) (bad : Option LineBad) → length turned ≡ length made
+    → IsDriven rooms bounds turned slots first before made told
+    → IsDriven rooms bounds turned slots first before (made ++ noted_meant bad)
+    (noted_entry told bad (first + length made))
+noted_driven rooms bounds turned slots first before made told None same is =
+    subst (λ all. IsDriven rooms bounds turned slots first before all told) (sym (append-nil made)) is
+noted_driven rooms bounds turned slots first before made told (Some why) same is =
+    note_is_driven rooms bounds turned slots first before made told (codes "line" ++ 32 ∷ word_of why) same is
+
+-- and a note is no event
+noted_behind : (first : ℕ) (before : Histories) (made : List Meaning) (told : EpochReport) (bad : Option LineBad)
+    (all : AnswersAll first made told.lines)
+    → behind before (told_in (made ++ noted_meant bad) (noted_entry told bad (first + length made)))
+    ≡ behind before (told_in made told)
+noted_behind first before made told None all =
+    ap (λ lines. behind before (told_in lines told)) (append-nil made)
+noted_behind first before made told (Some why) all =
+    λ i slot. before slot ++ events_noted first before made told (codes "line" ++ 32 ∷ word_of why) all slot i
+
+-- behind no lines there are no turns
+no_turns : (turns : Turns) (slices : ℕ) → turns_for turns slices 0 ≡ []
+no_turns (listed workers) slices = refl
+no_turns (drawn state per) slices = refl
+
+-- the last epoch's lines, or the note alone
+some_lines : (schedule : Schedule) (turns : Turns) (closed : List (List Line)) (told : List EpochReport)
+    (open_ : List Line) (noted : List Meaning) (slots : ℕ) → turns ≡ turns_left schedule.turns closed
+    → (open_ ≡ [] → noted ≡ [] → ⊥)
+    → AreDriven (rooms_in schedule) (homes schedule) (turns_by_epoch schedule.turns schedule.slices closed
+    ++ turns_for turns schedule.slices (length open_) ∷ []) slots 1 no_events
+    (meant_in schedule closed ++ (meant_from schedule.slices (lines_in closed) open_ ++ noted) ∷ []) told
+    → AreDriven (rooms_in schedule) (homes schedule)
+    (turns_by_epoch schedule.turns schedule.slices (closed ++ open_epoch open_)) slots 1 no_events
+    (meant_in schedule closed ++ own_epoch (meant_from schedule.slices (lines_in closed) open_ ++ noted)) told
+some_lines schedule turns closed told [] [] slots goes_on some driven = absurd (some refl refl)
+some_lines schedule turns closed told [] (now ∷ noted) slots goes_on some driven =
+    subst (λ epochs. AreDriven (rooms_in schedule) (homes schedule)
+    (turns_by_epoch schedule.turns schedule.slices epochs) slots 1 no_events
+    (meant_in schedule closed ++ (now ∷ noted) ∷ []) told) (sym (append-nil closed))
+    (driven_untold (rooms_in schedule) (homes schedule) (turns_by_epoch schedule.turns schedule.slices closed) slots 1
+    no_events (meant_in schedule closed ++ (now ∷ noted) ∷ []) told
+    (subst (λ last. AreDriven (rooms_in schedule) (homes schedule)
+    (turns_by_epoch schedule.turns schedule.slices closed ++ last ∷ []) slots 1 no_events
+    (meant_in schedule closed ++ (now ∷ noted) ∷ []) told) (no_turns turns schedule.slices) driven))
+some_lines schedule turns closed told (line ∷ open_) noted slots goes_on some driven =
+    subst (λ turned. AreDriven (rooms_in schedule) (homes schedule) turned slots 1 no_events
+    (meant_in schedule closed ++ (meant_from schedule.slices (lines_in closed) (line ∷ open_) ++ noted) ∷ []) told)
+    (ap (λ t. turns_by_epoch schedule.turns schedule.slices closed
+    ++ turns_for t schedule.slices (length (line ∷ open_)) ∷ []) goes_on
+    ∙ sym (turns_by_epoch-push schedule.turns schedule.slices closed (line ∷ open_))) driven
+
+some_noted : (open_ : List Line) (bad : Option LineBad) → (open_ ≡ [] → bad ≡ None → ⊥)
+    → open_ ≡ [] → noted_meant bad ≡ [] → ⊥
+some_noted open_ None some none_open none = some none_open refl
+some_noted open_ (Some why) some none_open none = cc
+
+own_so : (schedule : Schedule) (closed : List (List Line)) (open_ : List Line) (bad : Option LineBad)
+    → (open_ ≡ [] → noted_meant bad ≡ [] → ⊥)
+    → meant_in schedule closed ++ (meant_from schedule.slices (lines_in closed) open_ ++ noted_meant bad) ∷ []
+    ≡ meant_all schedule closed open_ bad
+own_so schedule closed [] None some = absurd (some refl refl)
+own_so schedule closed [] (Some why) some = refl
+own_so schedule closed (line ∷ open_) bad some = refl
+
+pub all_so : (first old now : Driver) (done : List Line) (latest : ℕ) (closed : List (List Line))
+    (open_ : List Line) (sent : List ℕ) (bad : Option LineBad) (n : ℕ) (text : List ℕ)
+    → n ≡ length done + 1 → (open_ ≡ [] → bad ≡ None → ⊥)
+    → DroveOn first old now done latest closed open_ sent bad n text
+    → DroveAll first now done closed open_ bad (sent ++ text)
+all_so first old now done latest closed open_ sent bad n text counted some on =
+    let schedule = schedule_of first in
+    let told = on.so_far.told in
+    let made = meant_from schedule.slices (lines_in closed) open_ in
+    let before = events_behind schedule closed told in
+    let slots = length (book_of done) in
+    let known : length (book_of (lines_in closed ++ open_)) ≤ slots =
+    omega (arith, ap (λ lines. length (book_of lines)) on.so_far.parts) in
+    let is = on.next slots known in
+    let number : 1 + length (lines_in closed) + length made ≡ n =
+    omega (
+      arith,
+      counted,
+      ap length on.so_far.parts,
+      length-append (lines_in closed) open_,
+      length-meant_from schedule.slices (lines_in closed) open_,
+    ) in
+    let same : length (turns_for (turns_in old.turns) schedule.slices (length open_)) ≡ length made =
+    length-turns_for (turns_in old.turns) schedule.slices (length open_)
+    ∙ sym (length-meant_from schedule.slices (lines_in closed) open_) in
+    let with_bad : IsDriven (rooms_in schedule) (bound_at old.rest)
+    (turns_for (turns_in old.turns) schedule.slices (length open_)) slots (1 + length (lines_in closed)) before
+    (made ++ noted_meant bad) (noted_entry on.entry bad n) =
+    subst (λ m. IsDriven (rooms_in schedule) (bound_at old.rest)
+    (turns_for (turns_in old.turns) schedule.slices (length open_)) slots (1 + length (lines_in closed)) before
+    (made ++ noted_meant bad) (noted_entry on.entry bad m)) number
+    (noted_driven (rooms_in schedule) (bound_at old.rest)
+    (turns_for (turns_in old.turns) schedule.slices (length open_)) slots (1 + length (lines_in closed)) before made
+    on.entry bad same is) in
+    let closed_known : length (book_of (lines_in closed)) ≤ slots =
+    omega (arith, known, book_grows_all (lines_in closed) open_) in
+    let driven = some_lines schedule (turns_in old.turns) closed (told ++ noted_entry on.entry bad n ∷ []) open_
+    (noted_meant bad) slots on.so_far.stands.goes_on (some_noted open_ bad some)
+    (drives_more schedule old.rest old.turns closed told (made ++ noted_meant bad)
+    (turns_for (turns_in old.turns) schedule.slices (length open_)) (noted_entry on.entry bad n) slots on.so_far.stands
+    closed_known with_bad) in
+    let many = told_length (rooms_in schedule) (homes schedule) (turns_by_epoch schedule.turns schedule.slices closed)
+    slots 1 no_events (meant_in schedule closed) told (on.so_far.stands.driven slots closed_known) in
+    let events : events_behind schedule (closed ++ open_ ∷ []) (told ++ on.entry ∷ [])
+    ≡ behind_all no_events (meant_in schedule closed ++ (made ++ noted_meant bad) ∷ [])
+    (told ++ noted_entry on.entry bad n ∷ []) =
+    ap (λ epochs. behind_all no_events epochs (told ++ on.entry ∷ []))
+    (meant_epochs-push schedule.slices [] closed open_)
+    ∙ behind_all-push no_events (meant_in schedule closed) made told on.entry many
+    ∙ sym (noted_behind (1 + length (lines_in closed)) before made on.entry bad is.one_each)
+    ∙ ap (λ m. behind before (told_in (made ++ noted_meant bad) (noted_entry on.entry bad m))) number
+    ∙ sym (behind_all-push no_events (meant_in schedule closed) (made ++ noted_meant bad) told
+    (noted_entry on.entry bad n) many) in
+    record {
+      told = told ++ noted_entry on.entry bad n ∷ [];
+      driven = driven;
+      represents = subst (RepresentsAll now.rest) (events ∙ ap (λ epochs. behind_all no_events epochs
+          (told ++ noted_entry on.entry bad n ∷ []))
+          (own_so schedule closed open_ bad (some_noted open_ bad some))) on.stands.represents;
+      behind = subst (IsBehind now.rest) (lines_in-push closed open_ ∙ sym on.so_far.parts) on.stands.behind;
+      places = on.places;
+      said = on_text first.places told on.entry bad n sent text on.so_far.said on.said;
+    }
+
+-- no epoch is open, and no line is bad
+pub none_so : (first now : Driver) (done : List Line) (latest : ℕ) (closed : List (List Line))
+    (sent waiting : List ℕ) → Drove first now done latest closed [] sent waiting
+    → DroveAll first now done closed [] None (sent ++ waiting)
+none_so first now done latest closed sent waiting so_far =
+    let schedule = schedule_of first in
+    let parts : done ≡ lines_in closed = so_far.parts ∙ append-nil (lines_in closed) in
+    let slots = length (book_of done) in
+    record {
+      told = so_far.told;
+      driven = driven_whole schedule closed so_far.told slots
+          (so_far.stands.driven slots (omega (arith, ap (λ lines. length (book_of lines)) parts)));
+      represents = subst (RepresentsAll now.rest) (ap (λ epochs. behind_all no_events epochs so_far.told)
+          (sym (append-nil (meant_in schedule closed)))) so_far.stands.represents;
+      behind = subst (IsBehind now.rest) (sym parts) so_far.stands.behind;
+      places = so_far.places;
+      said = ap (λ w. sent ++ w) so_far.waits ∙ append-nil sent ∙ so_far.said;
+    }
+
+-- ---- the end
+
+same_note : (ending : Ending) (n : ℕ) → stop_noted (stop_of ending n) ≡ noted_meant (bad_at ending)
+same_note Ended n = refl
+same_note ReadFault n = refl
+same_note (BadLine why) n = refl
+same_note LineLong n = refl
+same_note TooLong n = refl
+
+pub due_so : (first now : Driver) (done : List Line) (closed : List (List Line)) (open_ : List Line)
+    (ending : Ending) (sent text after : List ℕ) → IsCut done closed open_
+    → (all : DroveAll first now done closed open_ (bad_at ending) (sent ++ text))
+    → after ≡ text ++ charges_text first.places (by_slot (length now.rest.book)
+    (λ slot. opens slot (behind_all no_events (meant_all (schedule_of first) closed open_ (bad_at ending)) all.told slot)))
+    → IsDue (IsDrivenReport (schedule_of first)) first.places ending done (sent ++ after)
+due_so first now done closed open_ ending sent text after cut all appended =
+    let schedule = schedule_of first in
+    let bad = bad_at ending in
+    let report = report_of schedule done closed open_ bad all.told in
+    let slots : length now.rest.book ≡ length (book_of done) = ap length all.behind.book in
+    record {
+      report = report;
+      allowed = is_report schedule done closed open_ (stop_of ending (length done + 1)) bad all.told cut
+          (same_note ending (length done + 1)) all.driven;
+      written = ap (λ t. sent ++ t) appended
+          ∙ sym (append_assoc sent text (charges_text first.places (by_slot (length now.rest.book)
+          (λ slot. opens slot (behind_all no_events (meant_all schedule closed open_ bad) all.told slot)))))
+          ∙ ap₂ (λ one two. one ++ two) all.said
+          (ap (λ m. charges_text first.places (by_slot m
+          (λ slot. opens slot (behind_all no_events (meant_all schedule closed open_ bad) all.told slot)))) slots)
+          ∙ sym (texts-append first.places (flat_map epoch_entries all.told) (map entry.Charge report.opens));
+    }

@@ -1,0 +1,12 @@
+use Rattle.drive_run.proofs.Reports.{begins_so}
+use Rattle.drive_run.proofs.driver.Driver.new.Goals as goal
+
+pub returns-clause-first : goal.returns-clause-first
+returns-clause-first c =
+    begins_so (record {
+      rest = c.new.result;
+      turns = c.args.turns;
+      lines = c.new-2.result;
+      places = c.args.places;
+    }) c.args.slices c.args.room c.args.lane c.new.ensures.new c.new.ensures.represents c.new.ensures.behind
+    c.new-2.ensures.items c.requires.workers

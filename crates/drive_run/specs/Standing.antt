@@ -1,0 +1,147 @@
+-- What stands behind epochs that were driven.
+use Rattle.std.specs.Prelude.{◌≡◌, ℕ, ◌+◌, ◌≤◌, ◌%◌, ◌^◌, Bool, Option, None, Some, List, [], ◌∷◌, ◌++◌, length, codes}
+use Rattle.std.specs.Prelude.{flat_map}
+use Rattle.trace_lines.specs.Line.{Line}
+use Rattle.trace_lines.specs.Word.{word_of}
+use Rattle.trace_lines.specs.declared.bad.LineBad.{LineBad}
+use Rattle.demux.specs.Trace.{Meaning, book_of, note}
+use Rattle.report_lines.specs.declared.entry.LineEntry.{LineEntry}
+use Rattle.report_lines.specs.declared.entry.LineEntry.TheVariants as line_entry
+use Rattle.lawful_run.specs.Cut.{lines_in}
+use Rattle.lawful_run.specs.Order.{Histories}
+use Rattle.lawful_run.specs.Report.{EpochReport, epoch_entries, texts_of}
+use Rattle.lawful_run.specs.Run.{behind_all, no_events}
+use Rattle.lawful_run.specs.Trace.{meant_epochs, meant_from, open_epoch, own_epoch}
+use Rattle.at_rest.specs.Rest.{IsBehind, Rest, RepresentsAll, bound_at}
+use Rattle.schedule_run.specs.Told.{AreWorkers}
+use Rattle.schedule_run.specs.declared.turns.Turns as run
+use Rattle.epoch_drive.specs.Lines.{AreLater, latest_behind}
+use Rattle.driven_run.specs.Driven.{IsDriven}
+use Rattle.driven_run.specs.Runs.{AreDriven}
+use Rattle.trace_run.specs.Entries.{closing_text, lines_text}
+use Rattle.trace_run.specs.declared.ending.Ending.{Ending}
+use Rattle.trace_run.specs.declared.ending.Ending.TheVariants.{Ended, ReadFault, BadLine, LineLong, TooLong}
+use Rattle.drive_run.specs.Driven.{Schedule, Turns, bounds_all, rooms_in, turns_by_epoch, turns_for, turns_in, turns_left}
+use Rattle.drive_run.specs.declared.driver.Driver.{Driver}
+
+-- what epochs' lines mean, and the events behind them
+abbrev pub meant_in : Schedule → List (List Line) → List (List Meaning)
+meant_in schedule closed = meant_epochs schedule.slices [] closed
+
+abbrev pub events_behind : Schedule → List (List Line) → List EpochReport → Histories
+events_behind schedule closed told = behind_all no_events (meant_in schedule closed) told
+
+-- each slot begins bound for the slice of its number
+abbrev pub homes : Schedule → ℕ → ℕ
+homes schedule slot = slot % schedule.slices
+
+-- these epochs are driven, for as many slots as the book has, or more
+abbrev pub DrivesAll : Schedule → List (List Line) → List EpochReport → Type 0
+DrivesAll schedule closed told = (slots : ℕ) → length (book_of (lines_in closed)) ≤ slots
+    → AreDriven (rooms_in schedule) (homes schedule) (turns_by_epoch schedule.turns schedule.slices closed) slots 1
+    no_events (meant_in schedule closed) told
+
+-- the gateway at rest is what these epochs leave, and the turns go on behind them
+pub record Stands (schedule : Schedule) (rest : Rest) (turns : run.Turns) (closed : List (List Line))
+    (told : List EpochReport) : Type 0 where
+  pub represents : RepresentsAll rest (events_behind schedule closed told)
+  pub behind : IsBehind rest (lines_in closed)
+  pub bounds : (slot : ℕ) → bound_at rest slot ≡ bounds_all (homes schedule) (meant_in schedule closed) slot
+  pub same_slices : rest.slices ≡ schedule.slices
+  pub same_room : rest.room ≡ schedule.room
+  pub same_lane : rest.lane ≡ schedule.lane
+  pub goes_on : turns_in turns ≡ turns_left schedule.turns closed
+  pub driven : DrivesAll schedule closed told
+
+-- the lines of one more epoch were driven behind them
+abbrev pub DrivesNext : Schedule → Rest → Turns → List (List Line) → List EpochReport → List Line → EpochReport → Type 0
+DrivesNext schedule rest turns closed told lines now = (slots : ℕ) → length (book_of (lines_in closed ++ lines)) ≤ slots
+    → IsDriven (rooms_in schedule) (bound_at rest) (turns_for turns schedule.slices (length lines)) slots
+    (1 + length (lines_in closed)) (events_behind schedule closed told)
+    (meant_from schedule.slices (lines_in closed) lines) now
+
+-- what a line that can't be read means, and its entry
+abbrev pub noted_meant : Option LineBad → List Meaning
+noted_meant None = []
+noted_meant (Some why) = note (codes "line" ++ 32 ∷ word_of why) ∷ []
+
+abbrev pub noted : Option LineBad → ℕ → List LineEntry
+noted None n = []
+noted (Some why) n = line_entry.N (record { line = n; note = codes "line" ++ 32 ∷ word_of why }) ∷ []
+
+pub record Drives (schedule : Schedule) (old : Rest) (old_turns : run.Turns) (closed : List (List Line))
+    (told : List EpochReport) (lines : List Line) (bad : Option LineBad) (n : ℕ) (places : Bool)
+    (before after : List ℕ) (new : Rest) (new_turns : run.Turns) : Type 0 where
+  pub now : EpochReport
+  pub next : DrivesNext schedule old (turns_in old_turns) closed told lines now
+  pub stands : Stands schedule new new_turns (closed ++ lines ∷ []) (told ++ now ∷ [])
+  pub said : after ≡ before ++ (lines_text places now.lines ++ lines_text places (noted bad n)
+      ++ closing_text places now)
+
+-- the schedule that a run began with
+abbrev pub schedule_of : Driver → Schedule
+schedule_of first = record {
+  slices = first.rest.slices;
+  room = first.rest.room;
+  lane = first.rest.lane;
+  turns = turns_in first.turns;
+}
+
+abbrev pub driven_text : Bool → List EpochReport → List ℕ
+driven_text places told = texts_of places (flat_map epoch_entries told)
+
+-- A run began with the first and has come to these lines: the whole epochs are driven and told, and the lines of the
+-- open one are kept.
+pub record Drove (first now : Driver) (done : List Line) (latest : ℕ) (closed : List (List Line)) (open_ : List Line)
+    (sent waiting : List ℕ) : Type 0 where
+  pub told : List EpochReport
+  pub stands : Stands (schedule_of first) now.rest now.turns closed told
+  pub parts : done ≡ lines_in closed ++ open_
+  pub few : length done ≤ 2 ^ 39
+  pub kept : now.lines.items ≡ open_
+  pub places : now.places ≡ first.places
+  pub workers : AreWorkers now.rest.slices now.turns
+  pub later : AreLater now.rest.latest open_
+  pub latest_is : latest_behind now.rest.latest open_ ≡ latest
+  pub said : sent ≡ driven_text first.places told
+  pub waits : waiting ≡ []
+
+-- The open epoch was driven: these epochs were told before it, and now one more.
+pub record DroveOn (first old now : Driver) (done : List Line) (latest : ℕ) (closed : List (List Line))
+    (open_ : List Line) (sent : List ℕ) (bad : Option LineBad) (n : ℕ) (text : List ℕ) : Type 0 where
+  pub so_far : Drove first old done latest closed open_ sent []
+  pub entry : EpochReport
+  pub next : DrivesNext (schedule_of first) old.rest (turns_in old.turns) closed so_far.told open_ entry
+  pub stands : Stands (schedule_of first) now.rest now.turns (closed ++ open_ ∷ []) (so_far.told ++ entry ∷ [])
+  pub kept : now.lines.items ≡ []
+  pub places : now.places ≡ first.places
+  pub workers : AreWorkers now.rest.slices now.turns
+  pub latest_is : now.rest.latest ≡ latest
+  pub said : text ≡ lines_text first.places entry.lines ++ lines_text first.places (noted bad n)
+      ++ closing_text first.places entry
+
+-- what the last epoch means, with the note of a bad line, and all before it
+abbrev pub meant_all : Schedule → List (List Line) → List Line → Option LineBad → List (List Meaning)
+meant_all schedule closed open_ bad =
+    meant_in schedule closed ++ own_epoch (meant_from schedule.slices (lines_in closed) open_ ++ noted_meant bad)
+
+-- the open epoch is driven too, if there is one
+pub record DroveAll (first now : Driver) (done : List Line) (closed : List (List Line)) (open_ : List Line)
+    (bad : Option LineBad) (text : List ℕ) : Type 0 where
+  pub told : List EpochReport
+  pub driven : AreDriven (rooms_in (schedule_of first)) (homes (schedule_of first))
+      (turns_by_epoch (turns_in first.turns) first.rest.slices (closed ++ open_epoch open_)) (length (book_of done)) 1
+      no_events (meant_all (schedule_of first) closed open_ bad) told
+  pub represents : RepresentsAll now.rest
+      (behind_all no_events (meant_all (schedule_of first) closed open_ bad) told)
+  pub behind : IsBehind now.rest done
+  pub places : now.places ≡ first.places
+  pub said : text ≡ driven_text first.places told
+
+-- why the next line can't be read, where lines end so
+abbrev pub bad_at : Ending → Option LineBad
+bad_at Ended = None
+bad_at ReadFault = None
+bad_at (BadLine why) = Some why
+bad_at LineLong = None
+bad_at TooLong = None

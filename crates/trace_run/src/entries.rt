@@ -1,0 +1,176 @@
+//! The lines of a report: an entry's text and a newline, made of lent parts.
+ghost use Rattle.std.specs.Prelude.{◌≡◌, ◌++◌, ◌∷◌, [], None, Bool, codes, false, map, OnOk};
+ghost use Rattle.lawful_run.specs.Outcomes.{effect_entry};
+ghost use Rattle.packet_steps.specs.Lent.{verdict_of};
+ghost use Rattle.report_lines.specs.declared.entry.ChargeEntry.TheVariants.{R};
+ghost use Rattle.report_lines.specs.declared.entry.Entry.TheVariants as entry;
+ghost use Rattle.report_lines.specs.declared.entry.LineEntry.TheVariants as line_entry;
+ghost use Rattle.report_lines.specs.Lent.{IsShort};
+ghost use Rattle.slot_replay.specs.Replaying.{effects_caused, effects_told};
+ghost use Rattle.trace_lines.specs.Word.{word_of};
+ghost use Rattle.trace_run.specs.Entries.{charges_text, effects_text, line_of};
+
+use charging_book::ChargeRow;
+use packet_steps::LentVerdict;
+use pc_base::{Effect, Place, Reply, Slot};
+use slot_replay::Caused;
+use std::alloc::AllocError;
+use text_fields::Text;
+use trace_lines::LineBad;
+
+/// Ends a line.
+pub fn end_line(report: &mut Text) -> Result<(), AllocError>
+    ensures { OnOk result (report.new ≡ report.old ++ 10 ∷ []) }
+{
+    report.push(b'\n')
+}
+
+/// Appends the line of a note.
+pub fn push_note(report: &mut Text, line: u64, note: &[u8]) -> Result<(), AllocError>
+    ensures { OnOk result (report.new ≡ report.old
+        ++ line_of (entry.Line (line_entry.N (record { line = line; note = note.now })))) }
+{
+    report_lines::push_note(report, line, note)?;
+    end_line(report)
+}
+
+/// Appends the note of a line that can't be read.
+pub fn push_bad(report: &mut Text, line: u64, why: LineBad) -> Result<(), AllocError>
+    ensures { OnOk result (report.new ≡ report.old ++ line_of (entry.Line (line_entry.N
+        (record { line = line; note = codes "line" ++ 32 ∷ word_of why })))) }
+{
+    report_lines::push_note(report, line, b"line")?;
+    report.push_field(why.word().as_bytes())?;
+    end_line(report)
+}
+
+/// Appends the line of a slot's command of this number, with its reply.
+pub fn push_answer(
+    report: &mut Text,
+    line: u64,
+    slot: Slot,
+    number: u64,
+    reply: &Reply,
+) -> Result<(), AllocError>
+    ensures { OnOk result (report.new ≡ report.old ++ line_of (entry.Line (line_entry.C
+        (record { line = line; slot = slot; number = number; reply = reply.now })))) }
+{
+    report_lines::push_answer(report, line, slot, number, reply)?;
+    end_line(report)
+}
+
+/// Appends the line of a slot's packet of this number, judged behind so many of the slot's commands, without its
+/// place.
+pub fn push_packet(
+    report: &mut Text,
+    line: u64,
+    slot: Slot,
+    number: u64,
+    commands: u64,
+    verdict: &LentVerdict<'_>,
+) -> Result<(), AllocError>
+    requires { IsShort verdict.now }
+    ensures { OnOk result (report.new ≡ report.old ++ line_of (entry.Line (line_entry.P (record {
+      line = line;
+      slot = slot;
+      number = number;
+      commands = commands;
+      verdict = verdict_of verdict.now;
+      place = None;
+      parked = false;
+    })))) }
+{
+    report_lines::push_packet(report, line, slot, number, commands, verdict)?;
+    end_line(report)
+}
+
+/// Appends the same line with the place where the packet was handled, and whether it was parked.
+pub fn push_placed(
+    report: &mut Text,
+    line: u64,
+    slot: Slot,
+    number: u64,
+    commands: u64,
+    verdict: &LentVerdict<'_>,
+    place: Option<Place>,
+    parked: bool,
+) -> Result<(), AllocError>
+    requires { IsShort verdict.now }
+    ensures { OnOk result (report.new ≡ report.old ++ line_of (entry.Line (line_entry.P (record {
+      line = line;
+      slot = slot;
+      number = number;
+      commands = commands;
+      verdict = verdict_of verdict.now;
+      place = place;
+      parked = parked;
+    })))) }
+{
+    report_lines::push_placed(report, line, slot, number, commands, verdict, place, parked)?;
+    end_line(report)
+}
+
+/// Appends the line of a slot's command or packet that was refused.
+pub fn push_refusal(
+    report: &mut Text,
+    line: u64,
+    slot: Slot,
+    packet: bool,
+) -> Result<(), AllocError>
+    ensures { OnOk result (report.new ≡ report.old
+        ++ line_of (entry.Line (line_entry.F (record { line = line; slot = slot; packet = packet })))) }
+{
+    report_lines::push_refusal(report, line, slot, packet)?;
+    end_line(report)
+}
+
+fn push_effect(
+    report: &mut Text,
+    slot: Slot,
+    command: u64,
+    effect: &Effect,
+) -> Result<(), AllocError>
+    ensures { OnOk result (report.new ≡ report.old ++ line_of (entry.Effect (effect_entry slot command effect.now))) }
+{
+    report_lines::push_effect(report, slot, command, effect)?;
+    end_line(report)
+}
+
+fn push_caused(report: &mut Text, caused: &Caused) -> Result<(), AllocError>
+    ensures { (places : Bool) → OnOk result (report.new ≡ report.old
+        ++ effects_text places (effects_caused caused.now)) }
+{
+    for effect in caused.effects.as_slice() {
+        push_effect(report, caused.slot, caused.command, effect)?;
+    }
+    Ok(())
+}
+
+/// Appends the lines of effects, in their order.
+pub fn push_effects(report: &mut Text, effects: &[Caused]) -> Result<(), AllocError>
+    ensures { (places : Bool) → OnOk result (report.new ≡ report.old
+        ++ effects_text places (effects_told effects.now)) }
+{
+    for caused in effects {
+        push_caused(report, caused)?;
+    }
+    Ok(())
+}
+
+fn push_row(report: &mut Text, slot: Slot, row: &ChargeRow) -> Result<(), AllocError>
+    ensures { OnOk result (report.new ≡ report.old ++ line_of (entry.Charge (R slot row.now))) }
+{
+    report_lines::push_row(report, slot, row)?;
+    end_line(report)
+}
+
+/// Appends the lines of a slot's charging records, in their order.
+pub fn push_rows(report: &mut Text, slot: Slot, rows: &[ChargeRow]) -> Result<(), AllocError>
+    ensures { (places : Bool) → OnOk result (report.new ≡ report.old
+        ++ charges_text places (map (R slot) rows.now)) }
+{
+    for row in rows {
+        push_row(report, slot, row)?;
+    }
+    Ok(())
+}
