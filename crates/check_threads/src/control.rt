@@ -76,6 +76,16 @@ fn serve_there<R: Threads + Wait + Sync>(
     )
 }
 
+/// How many halves came home; and whether nothing was asked any more of the half that was sent to its slice, of the
+/// one that was called back, and of the one that came home and was sent again.
+#[derive(Clone, Copy)]
+pub struct ControlCame {
+    pub homes: usize,
+    pub sent: bool,
+    pub called: bool,
+    pub again: bool,
+}
+
 /// A side with one slice, and the worker there.
 #[derive(Drop)]
 struct Path {
@@ -103,12 +113,30 @@ impl Path {
         }
     }
 
-    // Turns the half at the slice, and gathers it: how many came home.
-    fn home<R: Threads + Wait + Sync>(mut self, rt: &R, alloc: Global) -> Result<usize, Stop> {
+    fn settled(&self) -> bool {
+        self.side.settled(Slot(0))
+    }
+
+    // Calls the half back, turns it at the slice, sends it there again, and gathers it.
+    fn home<R: Threads + Wait + Sync>(
+        mut self,
+        rt: &R,
+        alloc: Global,
+    ) -> Result<ControlCame, Stop> {
+        let sent = self.settled();
+        self.call_back(rt);
         self.side.pump(rt);
+        let called = self.settled();
         let end = serve_there(rt, self.worker);
         self.side.pump(rt);
-        gathered(rt, alloc, self.side.into_end(), end)
+        let again = self.side.settled(Slot(0));
+        let homes = gathered(rt, alloc, self.side.into_end(), end)?;
+        Ok(ControlCame {
+            homes,
+            sent,
+            called,
+            again,
+        })
     }
 }
 
@@ -123,17 +151,19 @@ fn gathered<R: Wait>(
     let ends = Vec::from_array(alloc, [end])?;
     match gather(rt, alloc, side, ends) {
         Ok(halves) => Ok(halves.len()),
-        Err(_) => Err(Stop::Back),
+        Err(parts) => match parts.again(rt) {
+            Ok(halves) => Ok(halves.len()),
+            Err(_) => Err(Stop::NoMemory),
+        },
     }
 }
 
-/// Sends the half to a slice, turns it there, calls it back to the slice, and gathers it: how many came home.
+/// Sends the half to a slice, turns it there, calls it back to the slice, and gathers it.
 pub fn control_home<R: Threads + Wait + Sync>(
     rt: &R,
     alloc: Global,
     half: ControlHalf,
-) -> Result<usize, Stop> {
-    let mut path = Path::sent(rt, alloc, half)?;
-    path.call_back(rt);
+) -> Result<ControlCame, Stop> {
+    let path = Path::sent(rt, alloc, half)?;
     path.home(rt, alloc)
 }

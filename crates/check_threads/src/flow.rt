@@ -1,4 +1,4 @@
-//! The counter half goes to a slice, an item follows it, and both come home.
+//! The counter half goes to a slice, an item follows it, it is called back while more items come, and all come home.
 ghost use Rattle.std.specs.Prelude.{◌≡◌, [], ◌∷◌};
 ghost use Rattle.flow_core.specs.Workers.{worker_lanes, end_lanes};
 ghost use Rattle.worker_core.specs.Desks.{lanes_of};
@@ -10,7 +10,7 @@ use counter_half::{FlowHalf, FlowItem};
 use flow_core::{FlowEnd, FlowWorker, flow_pair};
 use flow_home::{Home, gather_flow};
 use flow_migration::{FlowEnded, FlowSide};
-use pc_base::SliceNo;
+use pc_base::{SliceNo, Slot};
 use std::alloc::Global;
 use std::snapshot::Snapshot;
 use std::sync::Wait;
@@ -21,11 +21,26 @@ const SLICE: SliceNo = SliceNo(0);
 /// How often a worker is turned.
 const TURNS: u32 = 64;
 
-/// How many halves came home, and how many of their items weren't handled.
+/// How many items wait in a queue at the front, at most.
+const QUEUE: u32 = 4;
+
+/// How many halves came home, and how many of the first one's items weren't handled.
 #[derive(Clone, Copy)]
-pub struct Came {
+struct Homes {
+    homes: usize,
+    left: usize,
+}
+
+/// The same; at which place the half was; whether an item went to the queue before the half was called back, and
+/// after; and how many items were refused.
+#[derive(Clone, Copy)]
+pub struct FlowCame {
     pub homes: usize,
     pub left: usize,
+    pub place: u8,
+    pub parks: bool,
+    pub parks_then: bool,
+    pub refused: u64,
 }
 
 /// An end of this worker has its lanes.
@@ -91,7 +106,7 @@ impl Path {
     {
         let (desk, worker) = flow_pair(alloc, SLICE, 16)?;
         let desks = Vec::from_array(alloc, [desk])?;
-        let mut side = FlowSide::new(alloc, desks, 4);
+        let mut side = FlowSide::new(alloc, desks, QUEUE);
         match side.admit(rt, half, SLICE, false) {
             Ok(()) => Ok(Path { side, worker }),
             Err(_) => Err(Stop::Back),
@@ -106,12 +121,45 @@ impl Path {
         self.side.give(rt, item).is_ok()
     }
 
-    // Turns the half at the slice, and gathers it.
-    fn home<R: Threads + Wait + Sync>(mut self, rt: &R, alloc: Global) -> Result<Came, Stop> {
+    // Gives all of these, as far as they are accepted.
+    fn give_all<R: Wait>(&mut self, rt: &R, items: Vec<FlowItem>) {
+        for item in items {
+            self.give(rt, item);
+        }
+    }
+
+    // Calls the half back to the slice.
+    fn call_back<R: Wait>(&mut self, rt: &R) {
+        if self.side.is_admitted(Slot(0)) && self.side.slices() == 1 && self.side.asked() < 8 {
+            self.side.go(rt, Slot(0), SLICE);
+        }
+    }
+
+    // Calls the half back and gives more items, turns it at the slice, sends it there again, and gathers it.
+    fn home<R: Threads + Wait + Sync>(
+        mut self,
+        rt: &R,
+        alloc: Global,
+        more: Vec<FlowItem>,
+    ) -> Result<FlowCame, Stop> {
+        let parks = self.side.parks(Slot(0));
+        self.call_back(rt);
+        let parks_then = self.side.parks(Slot(0));
+        self.give_all(rt, more);
         self.side.pump(rt);
+        let place = self.worker.place();
         let end = serve_there(rt, self.worker);
         self.side.pump(rt);
-        gathered(rt, alloc, self.side.into_end(), end)
+        let refused = self.side.refused();
+        let found = gathered(rt, alloc, self.side.into_end(), end)?;
+        Ok(FlowCame {
+            homes: found.homes,
+            left: found.left,
+            place: place.0,
+            parks,
+            parks_then,
+            refused,
+        })
     }
 }
 
@@ -120,39 +168,44 @@ fn gathered<R: Wait>(
     alloc: Global,
     side: FlowEnded<FlowHalf>,
     end: FlowEnd<FlowHalf>,
-) -> Result<Came, Stop>
+) -> Result<Homes, Stop>
     requires { lanes_of side.desks.items ≡ end_lanes end ∷ [] }
 {
     let ends = Vec::from_array(alloc, [end])?;
     match gather_flow(rt, alloc, side, ends) {
         Ok(homes) => Ok(counted(&homes)),
-        Err(_) => Err(Stop::Back),
+        Err(parts) => match parts.again(rt) {
+            Ok(homes) => Ok(counted(&homes)),
+            Err(_) => Err(Stop::NoMemory),
+        },
     }
 }
 
-fn counted(homes: &[Home<FlowHalf>]) -> Came {
+fn counted(homes: &[Home<FlowHalf>]) -> Homes {
     let left = match homes.first() {
         Some(home) => home.left.len(),
         None => 0,
     };
-    Came {
+    Homes {
         homes: homes.len(),
         left,
     }
 }
 
-/// Sends the half to a slice and an item behind it, turns it there, and gathers it.
+/// Sends the half to a slice and an item behind it, calls it back while more items come, turns it there, and gathers
+/// it.
 pub fn flow_home<R: Threads + Wait + Sync>(
     rt: &R,
     alloc: Global,
     half: FlowHalf,
     item: FlowItem,
-) -> Result<Came, Stop>
+    more: Vec<FlowItem>,
+) -> Result<FlowCame, Stop>
     requires { handled_by half ≡ [] }
 {
     let mut path = Path::sent(rt, alloc, half)?;
     if path.give(rt, item) {
-        path.home(rt, alloc)
+        path.home(rt, alloc, more)
     } else {
         Err(Stop::Back)
     }

@@ -7,10 +7,10 @@ mod flow;
 mod stop;
 mod subject;
 
-use control::control_home;
+use control::{ControlCame, control_home};
 use control_half::ControlHalf;
 use counter_half::FlowHalf;
-use flow::{Came, flow_home};
+use flow::{FlowCame, flow_home};
 use flow_core::FlowOrder;
 use std::alloc::{AllocError as NoMemory, Global};
 use std::io::{self, Write};
@@ -26,54 +26,71 @@ use worker_core::Order;
 /// How many octets an order has at most: a half is a slot and a pointer, and an item the largest of all.
 const MOST: usize = 96;
 
-/// How many halves of each kind came home, and how many items weren't handled.
+/// What came of the half of each kind.
 #[derive(Clone, Copy)]
-struct Told {
-    control: usize,
-    flow: Came,
+struct Outcome {
+    control: ControlCame,
+    flow: FlowCame,
 }
 
 // What comes of the two halves of a subscriber.
-fn take_through<R: Threads + Wait + Sync>(rt: &R, alloc: Global) -> Result<Told, Stop> {
+fn take_through<R: Threads + Wait + Sync>(rt: &R, alloc: Global) -> Result<Outcome, Stop> {
     let subject = new_subject(rt, alloc)?;
     let control = control_home(rt, alloc, subject.control);
-    let flow = flow_home(rt, alloc, subject.flow, subject.item);
-    Ok(Told {
+    let flow = flow_home(rt, alloc, subject.flow, subject.item, subject.more);
+    Ok(Outcome {
         control: control?,
         flow: flow?,
     })
 }
 
-fn push_small(text: &mut Vec<u8>, is_small: bool) -> Result<(), NoMemory> {
-    push_field(text, if is_small { b"true" } else { b"false" })
+fn push_bool(text: &mut Vec<u8>, is: bool) -> Result<(), NoMemory> {
+    push_field(text, if is { b"true" } else { b"false" })
 }
 
 fn push_sizes(text: &mut Vec<u8>) -> Result<(), NoMemory> {
     text.extend_from_slice(b"orders of at most")?;
     push_number(text, MOST as u64)?;
     text.extend_from_slice(b" octets:")?;
-    push_small(text, size_of::<Order<ControlHalf>>() <= MOST)?;
+    push_bool(text, size_of::<Order<ControlHalf>>() <= MOST)?;
     text.push(b',')?;
-    push_small(text, size_of::<FlowOrder<FlowHalf>>() <= MOST)?;
+    push_bool(text, size_of::<FlowOrder<FlowHalf>>() <= MOST)?;
     text.push(b'\n')?;
     Ok(())
 }
 
-fn push_told(text: &mut Vec<u8>, told: Told) -> Result<(), NoMemory> {
+fn push_control(text: &mut Vec<u8>, control: ControlCame) -> Result<(), NoMemory> {
     text.extend_from_slice(b"control:")?;
-    push_number(text, told.control as u64)?;
-    text.extend_from_slice(b" home\npackets:")?;
-    push_number(text, told.flow.homes as u64)?;
+    push_number(text, control.homes as u64)?;
+    text.extend_from_slice(b" home, settled")?;
+    push_bool(text, control.sent)?;
+    push_bool(text, control.called)?;
+    push_bool(text, control.again)?;
+    text.push(b'\n')?;
+    Ok(())
+}
+
+fn push_flow(text: &mut Vec<u8>, flow: FlowCame) -> Result<(), NoMemory> {
+    text.extend_from_slice(b"packets: parks")?;
+    push_bool(text, flow.parks)?;
+    push_bool(text, flow.parks_then)?;
+    text.push(b',')?;
+    push_number(text, flow.refused)?;
+    text.extend_from_slice(b" refused, place")?;
+    push_number(text, u64::from(flow.place))?;
+    text.push(b',')?;
+    push_number(text, flow.homes as u64)?;
     text.extend_from_slice(b" home,")?;
-    push_number(text, told.flow.left as u64)?;
+    push_number(text, flow.left as u64)?;
     text.extend_from_slice(b" left\n")
 }
 
 fn play<R: Threads + Wait + Sync>(rt: &R, alloc: Global) -> Result<Vec<u8>, Stop> {
-    let told = take_through(rt, alloc)?;
+    let outcome = take_through(rt, alloc)?;
     let mut text = Vec::new(alloc);
     push_sizes(&mut text)?;
-    push_told(&mut text, told)?;
+    push_control(&mut text, outcome.control)?;
+    push_flow(&mut text, outcome.flow)?;
     Ok(text)
 }
 

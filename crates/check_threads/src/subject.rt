@@ -1,4 +1,4 @@
-//! A subscriber that is split, with a command on its lane and a packet in hand.
+//! A subscriber that is split, with a command on its lane and packets in hand.
 ghost use Rattle.std.specs.Prelude.{◌≡◌, []};
 ghost use Rattle.counter_half.specs.Half.{handled_by};
 
@@ -7,21 +7,25 @@ use control_half::ControlHalf;
 use control_steps::{Command, CommandKind};
 use counter_half::{FlowHalf, FlowItem};
 use pc_base::{Addr4, Kbps, Moment, Octets, Packet, Peer, SliceNo, Slot, Teid, Way};
-use split_record::split;
+use split_record::{FrontEnd, split};
 use std::alloc::Global;
 use std::sync::Wait;
 use subscriber::{Subscriber, few_events_leave_room};
 
-/// The halves, and the item of a packet that was accepted.
+/// How many packets come behind the first one: as many as its queue has room for, and one more.
+const MORE: u64 = 5;
+
+/// The halves, and the items of a packet and of those that come behind it.
 #[derive(Drop)]
 pub struct Subject {
     pub control: ControlHalf,
     pub flow: FlowHalf,
     pub item: FlowItem,
+    pub more: Vec<FlowItem>,
     pub ghost unhandled: { handled_by flow ≡ [] },
 }
 
-/// An attach, and a packet that waits for no command.
+/// An attach, and packets that wait for no command.
 pub fn new_subject<R: Wait>(rt: &R, alloc: Global) -> Result<Subject, Stop> {
     let record = Subscriber::new(alloc, Slot(0), SliceNo(0))?;
     few_events_leave_room();
@@ -42,16 +46,30 @@ pub fn new_subject<R: Wait>(rt: &R, alloc: Global) -> Result<Subject, Stop> {
     let Ok(()) = front.give_command(rt, 1, command) else {
         return Err(Stop::Back);
     };
-    let packet = Packet {
-        number: 0,
-        moment: Moment(0),
-        way: Way::Down,
-        octets: Octets::of(Vec::new(alloc)),
-    };
-    let item = front.packet_item(2, false, packet);
+    let item = front.packet_item(2, false, new_packet(alloc));
+    let more = more_items(alloc, &front)?;
     Ok(Subject {
         control,
         flow,
         item,
+        more,
     })
+}
+
+fn new_packet(alloc: Global) -> Packet {
+    Packet {
+        number: 0,
+        moment: Moment(0),
+        way: Way::Down,
+        octets: Octets::of(Vec::new(alloc)),
+    }
+}
+
+fn more_items(alloc: Global, front: &FrontEnd) -> Result<Vec<FlowItem>, Stop> {
+    let mut items = Vec::new(alloc);
+    for number in 1..MORE + 1 {
+        let item = front.packet_item(2 + number, true, new_packet(alloc));
+        items.push(FlowItem { number, ..item })?;
+    }
+    Ok(items)
 }

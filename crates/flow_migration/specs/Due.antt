@@ -1,5 +1,5 @@
 -- The slots for which something is still to be done, in a list by slot.
-use Rattle.std.specs.Prelude.{◌≡◌, ℕ, ◌+◌, ◌<◌, ◌&&◌, ◌==◌, Bool, true, List, [], ◌∷◌, length, nat_le, nat_lt}
+use Rattle.std.specs.Prelude.{◌≡◌, ◌≢◌, ℕ, ◌+◌, ◌<◌, ◌&&◌, ◌==◌, Bool, true, List, [], ◌∷◌, length, nat_le, nat_lt}
 use Rattle.std.specs.Prelude.{slice_index, slice_index_or, Option, Some, false}
 use Rattle.std.specs.List.{list_any}
 use Rattle.flow_migration.specs.declared.place.FlowPlace.{FlowPlace}
@@ -24,7 +24,13 @@ pub record Lists {H I : Type 0} (places : List (Option (FlowPlace H I))) (due : 
   pub rising : is_rising 0 (length places) due ≡ true
   pub all : (slot : ℕ) → is_busy (place_at places slot) ≡ true → is_among slot due ≡ true
 
--- each slice that a listed slot is leaving is marked
-abbrev pub IsMarked : {H I : Type 0} → List (Option (FlowPlace H I)) → List ℕ → List Bool → Type 0
-IsMarked places due marks = (k slice : ℕ) → k < length due
-    → leaves (state_at (place_at places (slice_index due k))) ≡ Some slice → slice_index_or marks slice false ≡ true
+abbrev pub marked_at : List Bool → ℕ → Bool
+marked_at marks slice = slice_index_or marks slice false
+
+-- the slices that listed slots are leaving are marked, and no others
+pub record IsMarked {H I : Type 0} (places : List (Option (FlowPlace H I))) (due : List ℕ) (marks : List Bool) :
+    Type 0 where
+  pub all : (k slice : ℕ) → k < length due → leaves (state_at (place_at places (slice_index due k))) ≡ Some slice
+      → marked_at marks slice ≡ true
+  pub only : (slice : ℕ) → ((k : ℕ) → k < length due
+      → leaves (state_at (place_at places (slice_index due k))) ≢ Some slice) → marked_at marks slice ≡ false

@@ -1,5 +1,5 @@
 //! The slots for which something is still to be done, in a list by slot.
-ghost use Rattle.std.specs.Prelude.{◌≡◌, ◌≤◌, ◌<◌, ℕ, Bool, true, false, Some, length, vec_len, vec_capacity};
+ghost use Rattle.std.specs.Prelude.{◌≡◌, ◌≢◌, ◌≤◌, ◌<◌, ℕ, Bool, true, false, Some, length, vec_len, vec_capacity};
 ghost use Rattle.std.specs.Prelude.{filter, count_by, nat_lt, slice_index_or};
 ghost use Rattle.flow_migration.specs.Places.{place_at, state_at, leaves, is_busy};
 ghost use Rattle.flow_migration.specs.Due.{is_among, is_rising, Joins, IsMarked};
@@ -82,7 +82,7 @@ fn left_by<H>(state: &FlowState<H>) -> Option<SliceNo>
     }
 }
 
-// Marks each slice that a listed slot is leaving.
+// Marks each slice that a listed slot is leaving, and no other.
 pub fn leaving<H: Flow>(places: &[Option<FlowPlace<H>>], due: &[Slot]) -> [bool; SLICES]
     ensures { IsMarked places.now due.now result }
 {
@@ -99,6 +99,8 @@ fn mark(marks: &mut [bool], slice: Option<SliceNo>)
     requires { length marks.old ≡ 64 }
     ensures marked { (at : ℕ) → slice ≡ Some at → slice_index_or marks.new at false ≡ true }
     ensures kept { (at : ℕ) → slice_index_or marks.old at false ≡ true → slice_index_or marks.new at false ≡ true }
+    ensures others { (at : ℕ) → slice ≢ Some at
+        → slice_index_or marks.new at false ≡ slice_index_or marks.old at false }
 {
     if let Some(at) = slice {
         marks[at.0 as usize] = true;

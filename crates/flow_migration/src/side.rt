@@ -66,6 +66,7 @@ impl<H: Flow> FlowSide<H> {
     ghost use Rattle.flow_migration.specs.Steps.{Served, Drained, Moved, Gave, AtSlot};
     ghost use Rattle.worker_core.specs.BySlot.{Grown};
     ghost use Rattle.flow_migration.specs.Pumps.{EachState, Pumps, IsOffered, KeepsAside, TakesHome, NoneLeaves};
+    ghost use Rattle.flow_migration.specs.Pumps.{HomeStays};
     ghost use Rattle.flow_migration.specs.Queues.{EachShortens, QueuesStay};
     ghost use Rattle.flow_migration.specs.Sides.{AllMetFull, QueuesMetFull};
     ghost use Rattle.worker_core.specs.Homes.{HomeEnded};
@@ -166,12 +167,15 @@ impl<H: Flow> FlowSide<H> {
         ensures aside { KeepsAside (λ half. H.slot_at (H.name half)) (places_of self.old) (places_of self.new)
             (aside_of self.old) (aside_of self.new) }
 
-        // What waits on met a full lane, and no more came home than may at once, or none was on its way.
+        // What waits on met a full lane, and no more came home than may at once, or none was on its way: then the
+        // lane home isn't touched.
         ensures full { AllMetFull (places_of self.new) (desks_of self.old) (desks_of self.new) }
         ensures queues { QueuesMetFull (places_of self.new) (desks_of self.old) (desks_of self.new) }
         ensures home { (slice : ℕ) → slice < length (desks_of self.old)
             → HomeEnded (length (aside_of self.new)) (admitted_of self.new) slice (desks_of self.old)
             (desks_of self.new) ⊎ NoneLeaves slice (places_of self.old) }
+        ensures stays { (slice : ℕ) → NoneLeaves slice (places_of self.old)
+            → HomeStays slice (desks_of self.old) (desks_of self.new) }
     {
         self.take_all(rt);
         self.serve_all(rt);
@@ -371,6 +375,8 @@ impl<H: Flow> FlowSide<H> {
         ensures home { (slice : ℕ) → slice < length (desks_of self.old)
             → HomeEnded (length (aside_of self.new)) (admitted_of self.new) slice (desks_of self.old)
             (desks_of self.new) ⊎ NoneLeaves slice (places_of self.old) }
+        ensures stays { (slice : ℕ) → NoneLeaves slice (places_of self.old)
+            → HomeStays slice (desks_of self.old) (desks_of self.new) }
         ensures fulls { (slice : ℕ) → fulls_at (desks_of self.new) slice ≡ fulls_at (desks_of self.old) slice }
     {
         let marks = due::leaving(&self.places, &self.due);

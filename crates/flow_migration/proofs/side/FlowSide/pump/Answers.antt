@@ -4,6 +4,7 @@ use Rattle.flow_migration.specs.Places.{place_at}
 use Rattle.flow_migration.specs.Words.{Roll}
 use Rattle.flow_migration.proofs.Passes.{met_in_all, queues_in_all}
 use Rattle.worker_core.proofs.Homes.{ended_since}
+use Rattle.flow_migration.proofs.Marks.{stays_since}
 use Rattle.flow_migration.proofs.Pumps.{each_pumped, keeps_on}
 use Rattle.flow_migration.proofs.Queues.{pump_shortens, rests_at, moved_same}
 use Rattle.flow_migration.proofs.side.FlowSide.pump.Goals as goal
@@ -36,6 +37,10 @@ returns-clause-home g c = λ slice within.
       | inl ended ↦ inl (ended_since _ _ _ _ slice _ _ _ homes aside admitted ended)
       | inr none ↦ inr none
     ]
+
+pub returns-clause-stays : goal.returns-clause-stays
+returns-clause-stays g c = λ slice none.
+    stays_since slice _ _ _ (c.drain_all.ensures.homes ∙ c.serve_all.ensures.homes) (c.take_all.ensures.stays slice none)
 
 pub returns-clause-drains : goal.returns-clause-drains
 returns-clause-drains g c = pump_shortens c.args.self.now.places.items c.take_all.new.self.places.items
