@@ -15,11 +15,13 @@ pub fn words(alloc: Global, row: &Call, text: &mut String) -> Result<(), AllocEr
     match job(alloc, words.as_slice())? {
         None => text.push_str("none\n"),
         Some(Job::Solo) => text.push_str("solo\n"),
-        Some(Job::Drive {
-            lanes,
-            turns,
-            places,
-        }) => {
+        Some(
+            Job::Drive {
+                lanes,
+                turns,
+                places,
+            },
+        ) => {
             let Lanes { slices, room, lane } = lanes;
             push_told(text, "drive: ", &slices)?;
             push_told(text, " slices, room ", &room)?;
