@@ -1,5 +1,6 @@
 //! From words to a job.
-ghost use Rattle.std.specs.Prelude.{◌≡◌, ◌^◌, ◌<◌, ◌≤◌, ℕ, Some, List, IfOk, IfSome, bytes_eq, codes, find, is_some, map};
+ghost use Rattle.std.specs.Prelude.{◌≡◌, ◌^◌, ◌<◌, ◌≤◌, ℕ, Some, List, IfOk, IfSome};
+ghost use Rattle.std.specs.Prelude.{bytes_eq, codes, find, is_some, map};
 ghost use Rattle.std.specs.List.{list_any};
 ghost use Rattle.std.specs.Option.{option_map, option_map_or};
 ghost use Rattle.std.specs.String.{string_bytes};

@@ -13,8 +13,8 @@ use Rattle.schedule_run.specs.declared.turns.Turns as run
 use Rattle.schedule_run.specs.declared.turns.Turns.TheVariants as turns
 use Rattle.driven_run.specs.Runs.{IsDrivenRun, bounds_behind}
 
--- Which workers have a turn behind each line: the same ones, or so many that are drawn from a state on. Worker 2i is the
--- control worker of slice i, and worker 2i + 1 its data worker.
+-- Which workers have a turn behind each line: the same ones, or so many that are drawn from a state on. Worker 2i is
+-- the control worker of slice i, and worker 2i + 1 its data worker.
 pub data Turns : Type 0 where
   listed : List ℕ → Turns
   drawn : (state per : ℕ) → Turns

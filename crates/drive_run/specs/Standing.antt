@@ -21,7 +21,8 @@ use Rattle.driven_run.specs.Runs.{AreDriven}
 use Rattle.trace_run.specs.Entries.{closing_text, lines_text}
 use Rattle.trace_run.specs.declared.ending.Ending.{Ending}
 use Rattle.trace_run.specs.declared.ending.Ending.TheVariants.{Ended, ReadFault, BadLine, LineLong, TooLong}
-use Rattle.drive_run.specs.Driven.{Schedule, Turns, bounds_all, rooms_in, turns_by_epoch, turns_for, turns_in, turns_left}
+use Rattle.drive_run.specs.Driven.{Schedule, Turns, bounds_all, rooms_in, turns_by_epoch, turns_for, turns_in}
+use Rattle.drive_run.specs.Driven.{turns_left}
 use Rattle.drive_run.specs.declared.driver.Driver.{Driver}
 
 -- what epochs' lines mean, and the events behind them

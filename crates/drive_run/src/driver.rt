@@ -22,8 +22,8 @@ use text_fields::Text;
 use trace_lines::{LineBad, TraceLine};
 use trace_run::{Ending, Reporter, push_opens};
 
-/// Drives a trace epoch by epoch: the gateway at rest behind the last whole epoch, how its turns go on, and the lines of
-/// the open epoch.
+/// Drives a trace epoch by epoch: the gateway at rest behind the last whole epoch, how its turns go on, and the lines
+/// of the open epoch.
 #[derive(Drop)]
 pub struct Driver {
     rest: AtRest,
@@ -33,9 +33,9 @@ pub struct Driver {
 }
 
 impl Driver {
-    /// The gateway before the first line: 1 to 64 slices, room for 1 to 256 items of a subscriber and for 1 to 16,384 of
-    /// a slice. Listed turns are those of workers, whose numbers are below twice the number of slices. The report tells
-    /// places, or leaves them out.
+    /// The gateway before the first line: 1 to 64 slices, room for 1 to 256 items of a subscriber and for 1 to 16,384
+    /// of a slice. Listed turns are those of workers, whose numbers are below twice the number of slices. The report
+    /// tells places, or leaves them out.
     pub fn new(
         alloc: Global,
         slices: u8,

@@ -65,9 +65,10 @@ fn do_job<S: Source, K: Sink>(alloc: Global, asked: Job, source: &mut S, sink: &
 }
 
 /// Does what the words say, without the program's name. `solo` and `drive` read a trace from the source and write
-/// its report to the sink, epoch by epoch, as one thread answers it or under a schedule of turns; `make` writes a generated trace, or the summary of its report;
-/// `import` makes a trace of a capture, and `export` a capture of a trace; `audit` reads a trace and a report of it,
-/// and writes whether the report is a lawful one. Other words are Usage.
+/// its report to the sink, epoch by epoch, as one thread answers it or under a schedule of turns; `make` writes a
+/// generated trace, or the summary of its report; `import` makes a trace of a capture, and `export` a capture of a
+/// trace; `audit` reads a trace and a report of it, and writes whether the report is a lawful one. Other words are
+/// Usage.
 pub fn run_plain<S: Source, K: Sink>(
     alloc: Global,
     words: &[String],
