@@ -20,7 +20,7 @@ below most kind [] all any = absurd cc
 below most kind (x ∷ xs) all any =
     one_below most kind x (eqb x kind) (list_any (λ y. eqb y kind) xs) refl all.0 (below most kind xs all.1) any
 
-request_small : (kind : ℕ) → is_request kind ≡ true → kind ≤ 176
+pub request_small : (kind : ℕ) → is_request kind ≡ true → kind ≤ 176
 unfolding is_request
 request_small kind is =
     below 176 kind requests (
