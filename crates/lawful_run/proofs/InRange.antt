@@ -55,7 +55,9 @@ word_is why_bad.NoMemory = word_prints (codes "memory") refl
 
 stop_in : (stop : Stop) → AllIn (stop_noted stop)
 stop_in (bad n why) =
-    (note_of _ _ (behind_space (codes "line") (word_of why) (word_prints (codes "line") refl) (word_is why)), tt)
+    let text : List ℕ = codes "line" ++ 32 ∷ word_of why in
+    let prints : Prints text = behind_space (codes "line") (word_of why) (word_prints (codes "line") refl) (word_is why) in
+    (note_of text (omega arith) prints, tt)
 stop_in (long n) = tt
 stop_in big = tt
 stop_in ended = tt
