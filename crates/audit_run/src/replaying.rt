@@ -90,7 +90,12 @@ impl<'m> Run<'m> {
     }
 
     // One epoch more.
-    fn take(&mut self, alloc: Global, setup: &Setup, lines: &'m [ToldLine<'m>]) -> Result<(), NoMemory>
+    fn take(
+        &mut self,
+        alloc: Global,
+        setup: &Setup,
+        lines: &'m [ToldLine<'m>],
+    ) -> Result<(), NoMemory>
         requires { CanTake self.old lines.now }
 
         ensures runs { (slots first : ℕ) (all left : List (List LineTold)) (before : Histories)

@@ -16,7 +16,9 @@ use crate::answers::{replies_hold, verdicts_hold};
 use crate::finding::Held;
 use crate::player::{Done, Placed, Played, Player};
 use audit_reading::Setup;
-use audit_sentences::{ToldLine, are_numbered_on, counts_in_sequence, counts_rise, parked_behind_moves};
+use audit_sentences::{
+    ToldLine, are_numbered_on, counts_in_sequence, counts_rise, parked_behind_moves,
+};
 use charging_book::ChargeRow;
 use control_steps::Command;
 use report_lines::LineEntry;
@@ -40,7 +42,10 @@ fn push_command<'a>(all: &mut Vec<&'a Command>, told: &ToldLine<'a>) -> Result<(
     }
 }
 
-fn commands_accepted<'a>(alloc: Global, lines: &[ToldLine<'a>]) -> Result<Vec<&'a Command>, NoMemory>
+fn commands_accepted<'a>(
+    alloc: Global,
+    lines: &[ToldLine<'a>],
+) -> Result<Vec<&'a Command>, NoMemory>
     ensures { IfOk result (λ commands. commands_lent commands.items ≡ filter_map command_taken (lines_of lines.now)) }
 {
     let mut commands = Vec::new(alloc);
@@ -83,7 +88,11 @@ fn packets_accepted<'a>(alloc: Global, lines: &[ToldLine<'a>]) -> Result<Vec<Pla
 }
 
 // Plays what the lines of a slot bring.
-fn play_lines(alloc: Global, player: &mut Player, lines: &[ToldLine<'_>]) -> Result<Played, NoMemory>
+fn play_lines(
+    alloc: Global,
+    player: &mut Player,
+    lines: &[ToldLine<'_>],
+) -> Result<Played, NoMemory>
     requires { CanGoOn player.old (length lines.now) }
 
     ensures led { (slot : ℕ) (before : List Event) (all : List LineTold) → HasPlayed player.old slot before

@@ -1,8 +1,8 @@
 //! Computes schedules of epochs and plans of moves, and says what they are, a line each.
 #![tactic(auto)]
 
-mod plans;
 mod case;
+mod plans;
 mod telling;
 
 use case::{Case, read_row};

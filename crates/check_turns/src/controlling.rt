@@ -140,9 +140,8 @@ fn push_note(text: &mut Text, note: &CommandDone) -> Result<(), NoMemory> {
     text.push_number(note.line)?;
     text.push_number(note.number)?;
     text.push_field(match note.reply.outcome {
-            Outcome::Done => b"done",
-            Outcome::No => b"no",
-            Outcome::Again => b"again",
-        },
-    )
+        Outcome::Done => b"done",
+        Outcome::No => b"no",
+        Outcome::Again => b"again",
+    })
 }

@@ -280,11 +280,10 @@ fn push_note(text: &mut Text, note: &PacketDone) -> Result<(), NoMemory> {
     text.push_number(note.number)?;
     text.push_number(note.commands)?;
     text.push_field(match note.place {
-            Place::At(SliceNo(1)) => b"@1",
-            Place::At(_) => b"@another",
-            Place::Closing => b"@closing",
-        },
-    )?;
+        Place::At(SliceNo(1)) => b"@1",
+        Place::At(_) => b"@another",
+        Place::Closing => b"@closing",
+    })?;
     push_verdict(text, &note.verdict)
 }
 

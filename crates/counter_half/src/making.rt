@@ -5,8 +5,8 @@ ghost use Rattle.control_half.specs.Published.{in_batches, in_kept};
 ghost use Rattle.counter_half.specs.Learnt.{learnt_in};
 ghost use Rattle.counter_half.specs.Named.{started};
 
-use crate::half_state::HalfState;
 use crate::half::FlowHalf;
+use crate::half_state::HalfState;
 use crate::inner::FlowInner;
 use crate::start::Start;
 use bearer_state::{Session, Version};

@@ -12,7 +12,7 @@ ghost use Rattle.demux.specs.Resolved.{controller_in, resolved};
 use crate::booking::{in_book, whose};
 use crate::ends::control_slot;
 use crate::requests::{creation, imsi_in, mme_in, session_command};
-use crate::texts::{message_note, reply_note, octets_note, words};
+use crate::texts::{message_note, octets_note, reply_note, words};
 use crate::{Decision, Whose};
 use address_book::AddressBook;
 use control_steps::CONTEXT_NOT_FOUND;

@@ -1,8 +1,8 @@
 //! The notes on lines, as texts.
 ghost use Rattle.std.specs.Prelude.{◌≡◌, IfOk, OnOk, option_map};
 ghost use Rattle.gtpv2_msg.specs.Refusal.{IsRefusal, refusal_of};
-ghost use Rattle.demux.specs.Texts.{octets_note, reply_note, element_note, message_note, tunnel_note, carried_note, packet_note};
-ghost use Rattle.demux.specs.Texts.{template_note, move_word, move_note};
+ghost use Rattle.demux.specs.Texts.{octets_note, reply_note, element_note, message_note, tunnel_note, carried_note};
+ghost use Rattle.demux.specs.Texts.{packet_note, template_note, move_word, move_note};
 
 use gtpu_codec::UBad;
 use gtpv2_msg::{CBad, refusal};

@@ -6,7 +6,7 @@ ghost use Rattle.demux.specs.Resolved.{granted, bearer_in, addressee_in, resolve
 
 use crate::booking::in_book;
 use crate::ends::{addressee, bearer_end};
-use crate::texts::{carried_note, packet_note, octets_note, tunnel_note, words};
+use crate::texts::{carried_note, octets_note, packet_note, tunnel_note, words};
 use crate::{Decision, LentPacket};
 use address_book::AddressBook;
 use gtpu_codec::{GtpU, GtpUKind, read, write};

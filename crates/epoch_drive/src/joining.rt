@@ -161,7 +161,12 @@ fn answer<'a>(line: u64, slot: Slot, next: Option<NumberedReply>) -> Entry<'a>
 }
 
 // A packet's entry: it has the next verdict.
-fn judgement<'a>(line: u64, slot: Slot, parked: bool, next: Option<NumberedVerdict<'a>>) -> Entry<'a>
+fn judgement<'a>(
+    line: u64,
+    slot: Slot,
+    parked: bool,
+    next: Option<NumberedVerdict<'a>>,
+) -> Entry<'a>
     ensures told { line_told result ≡ told_of_packet line slot parked next.entry }
     ensures short { IfSome next.entry (λ judged. IsShort judged.verdict) → IsShortEntry result }
 {
