@@ -6,7 +6,7 @@ use Rattle.demux.specs.Destinations.{home_slice}
 use Rattle.demux.specs.Trace.{book_of, destination_after}
 use Rattle.gate_model.specs.declared.event.Event.{Event}
 use Rattle.gate_model.specs.Events.{FewEvents}
-use Rattle.lawful_run.specs.Order.{Histories}
+use Rattle.lawful_run.specs.Merging.{Histories}
 use Rattle.subscriber.specs.Standing.{SubscriberState, Represents, HasRoom, last_of}
 
 -- how many slices there are, the rooms of a slot's queues and of a slice's lane, the IMSIs and the subscribers by slot,

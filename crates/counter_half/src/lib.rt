@@ -3,7 +3,7 @@
 //! others.
 #![tactic(auto)]
 
-mod flow_state;
+mod half_state;
 mod flowing;
 mod half;
 mod inner;
@@ -15,7 +15,7 @@ mod meeting;
 mod name;
 mod start;
 
-pub use flow_state::FlowState;
+pub use half_state::HalfState;
 pub use half::FlowHalf;
 pub use items::{FlowItem, PacketDone, VersionDone};
 pub use making::FlowRest;

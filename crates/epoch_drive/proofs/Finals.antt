@@ -6,7 +6,7 @@ use Rattle.trace_lines.specs.Line.{Line}
 use Rattle.demux.specs.Destinations.{home_slice}
 use Rattle.demux.specs.Trace.{destination_after}
 use Rattle.lawful_run.specs.LinesTold.{LineTold}
-use Rattle.lawful_run.specs.Order.{Histories, behind, events_in}
+use Rattle.lawful_run.specs.Merging.{Histories, behind, events_in}
 use Rattle.lawful_run.specs.Trace.{meant_from}
 use Rattle.driven_run.specs.Runs.{bounds_behind}
 use Rattle.subscriber.specs.Standing.{SubscriberState, Represents}

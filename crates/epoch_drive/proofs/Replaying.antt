@@ -17,7 +17,7 @@ use Rattle.slot_replay.specs.Replaying.{counts_of, effects_told, events_of, late
 use Rattle.slot_replay.specs.declared.placed.Placed.{Placed}
 use Rattle.slot_replay.specs.declared.replayed.Replayed.{Replayed}
 use Rattle.epoch_drive.specs.Replays.{AreShortAnswers, DoesShare, HasDone, HaveDone, IsTold, commands_at, commands_shared, events_shared, packets_at, packets_shared}
-use Rattle.epoch_drive.specs.Told.{rows_told}
+use Rattle.slot_replay.specs.Replaying.{rows_told}
 use Rattle.epoch_drive.specs.declared.replays.Answers.{Answers}
 use Rattle.epoch_drive.specs.declared.replays.Replays.{Replays}
 use Rattle.epoch_drive.specs.declared.sharing.Share.{Share}

@@ -4,7 +4,7 @@ ghost use Rattle.std.specs.Option.{option_copied};
 ghost use Rattle.bearer_state.specs.declared.version.ActiveBearer.{ActiveBearer};
 ghost use Rattle.charging_book.specs.Rows.{Counters};
 ghost use Rattle.gate_model.specs.declared.event.Event.{Event};
-ghost use Rattle.lawful_run.specs.Order.{Histories};
+ghost use Rattle.lawful_run.specs.Merging.{Histories};
 ghost use Rattle.lawful_run.specs.Outcomes.{opens};
 ghost use Rattle.lawful_run.specs.Run.{by_slot};
 ghost use Rattle.report_lines.specs.declared.entry.ChargeEntry.TheVariants.{O};

@@ -1,5 +1,5 @@
 use Rattle.std.proofs.Common.{◌≡◌, ◌++◌, ◌<◌, ℕ, Bool, get_or, length}
-use Rattle.lawful_run.specs.Order.{Histories}
+use Rattle.lawful_run.specs.Merging.{Histories}
 use Rattle.lawful_run.specs.Outcomes.{opens}
 use Rattle.lawful_run.specs.Run.{by_slot}
 use Rattle.subscriber.specs.Standing.{SubscriberState, Represents}
