@@ -10,8 +10,7 @@ use Rattle.lawful_run.specs.Outcomes as made_of
 use Rattle.lawful_run.specs.Run.{by_slot}
 use Rattle.lawful_run.specs.Telling.{counted}
 use Rattle.report_lines.specs.declared.entry.ChargeEntry.TheVariants.{R}
-use Rattle.subscriber.specs.Standing.{SubscriberState}
-use Rattle.at_rest.specs.Rest.{Represents}
+use Rattle.subscriber.specs.Standing.{SubscriberState, Represents}
 use Rattle.slot_replay.specs.Replaying.{AreLate, AreShort, CanReplay, IsLedTo, commands_lent, counts_in}
 use Rattle.slot_replay.specs.Replaying.{counts_of, effects_told, events_of, latest_of, moment_of}
 use Rattle.slot_replay.specs.Replaying.{numbers_in, packet_numbers_in, placed_lent, places_in, places_of}

@@ -27,7 +27,7 @@ use Rattle.lawful_run.proofs.EveryTrace.{with_brought}
 use Rattle.lawful_run.proofs.Growing.{events_after-push}
 use Rattle.pepc.specs.declared.gathered.Gathered.{Gathered}
 use Rattle.pepc.specs.declared.solo.Solo.{Solo}
-use Rattle.at_rest.specs.Rest.{Represents}
+use Rattle.subscriber.specs.Standing.{Represents}
 use Rattle.std.proofs.lemmas.Option.{get_or_from_slice_get}
 use Rattle.pepc.specs.Gathering.{AddsEffects, AddsRows, CausedBelow, ClosedBelow, Gathers, effects_for, rows_for}
 use Rattle.pepc.specs.Places.{HasAt}

@@ -11,13 +11,12 @@ use Rattle.packet_steps.specs.Lent.{verdict_of}
 use Rattle.gate_model.specs.Events.{commands_of, packets_of}
 use Rattle.gate_model.specs.SlotPast.{records_after}
 use Rattle.gate_model.specs.declared.event.Event.{Event}
-use Rattle.subscriber.specs.Standing.{SubscriberState, StandsFor, last_of}
+use Rattle.subscriber.specs.Standing.{SubscriberState, StandsFor, last_of, Represents}
 use Rattle.lawful_run.specs.Accepted as accepted
 use Rattle.lawful_run.specs.Merging.{CanGo}
 pub use Rattle.lawful_run.specs.Merging.{commands_lent, events_of}
 use Rattle.lawful_run.specs.Outcomes as made_of
 use Rattle.lawful_run.specs.Telling.{counted}
-use Rattle.at_rest.specs.Rest.{Represents}
 use Rattle.slot_replay.specs.declared.placed.Placed.{Placed}
 use Rattle.slot_replay.specs.declared.replayed.Caused.{Caused}
 use Rattle.slot_replay.specs.declared.replayed.Closed.{Closed}

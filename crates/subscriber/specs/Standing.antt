@@ -7,7 +7,7 @@ use Rattle.bearer_state.specs.Version.{VersionState}
 use Rattle.packet_steps.specs.Standing as counters
 use Rattle.gate_model.specs.declared.event.Event.{Event}
 use Rattle.gate_model.specs.Events.{FewEvents, commands_of, packets_of}
-use Rattle.gate_model.specs.SlotPast.{past_of, session_after, version_after}
+use Rattle.gate_model.specs.SlotPast.{past_of, records_after, session_after, version_after}
 
 -- the session, the version that packets go by, the running counters, how many packets came, and the slice that the
 -- subscriber is bound for
@@ -33,6 +33,10 @@ pub record StandsFor (subscriber : SubscriberState) (slot : ℕ) (events : List 
   pub counters : counters.StandsFor subscriber.counters (past_of slot events).packets taken
   pub commands : commands_met subscriber ≡ length (commands_of events)
   pub packets : subscriber.packets ≡ length (packets_of events)
+
+-- It represents events of its slot, of which all charging records were taken out.
+abbrev pub Represents : SubscriberState → ℕ → List Event → Type 0
+Represents subscriber slot events = StandsFor subscriber slot events (length (records_after slot events))
 
 -- Where memory ran out at a command, the session may have done it, or not: for packets, records and counters the
 -- subscriber represents the events before all the same.
