@@ -16,7 +16,7 @@ use Rattle.tft_codec.specs.declared.fault.TBad.{TBad}
 use Rattle.tft_codec.specs.declared.fault.TBad.TheVariants as template_bad
 use Rattle.demux.specs.Ranges.{IsOctet}
 use Rattle.demux.specs.Resolved.{IsNote}
-use Rattle.demux.specs.Texts.{carried_note, element_note, message_note, move_note, packet_note, replied, template_note, told, tunnel_note}
+use Rattle.demux.specs.Texts.{carried_note, element_note, message_note, move_note, packet_note, reply_note, template_note, octets_note, tunnel_note}
 use Rattle.demux.proofs.FaultRanges.{FaultFits}
 use Rattle.demux.proofs.Small.{Small, each_append}
 
@@ -93,14 +93,14 @@ pub words_told : (word octets : List ℕ) → is_words word ≡ true → Small o
 words_told word octets is small = told_is_note word octets (words_some word is) (words_print word is) small
 
 replied_is_note : (word : List ℕ) (reply : Option (List ℕ)) → 0 < length word → Prints word → IfSome reply Small
-    → IsNote (replied word reply)
+    → IsNote (reply_note word reply)
 replied_is_note word (Some reply) some prints small = told_is_note word reply some prints small
 replied_is_note word None some prints small =
     note_of (word ++ 32 ∷ codes "-") (some_before word (codes "-") some)
     (behind_space word (codes "-") prints (word_prints (codes "-") refl))
 
 pub words_replied : (word : List ℕ) (reply : Option (List ℕ)) → is_words word ≡ true → IfSome reply Small
-    → IsNote (replied word reply)
+    → IsNote (reply_note word reply)
 words_replied word reply is small = replied_is_note word reply (words_some word is) (words_print word is) small
 
 element_is_note : (word : List ℕ) (kind instance : ℕ) (reply : Option (List ℕ)) → is_words word ≡ true
