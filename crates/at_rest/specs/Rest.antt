@@ -6,9 +6,8 @@ use Rattle.demux.specs.Destinations.{home_slice}
 use Rattle.demux.specs.Trace.{book_of, destination_after}
 use Rattle.gate_model.specs.declared.event.Event.{Event}
 use Rattle.gate_model.specs.Events.{FewEvents}
-use Rattle.gate_model.specs.SlotPast.{records_after}
-use Rattle.lawful_run.specs.Order.{Histories}
-use Rattle.subscriber.specs.Standing.{SubscriberState, StandsFor, HasRoom, last_of}
+use Rattle.lawful_run.specs.Merging.{Histories}
+use Rattle.subscriber.specs.Standing.{SubscriberState, Represents, HasRoom, last_of}
 
 -- how many slices there are, the rooms of a slot's queues and of a slice's lane, the IMSIs and the subscribers by slot,
 -- how many lines there were, the moment of the last one, and how many tries of lines were answered Full
@@ -34,10 +33,6 @@ new_rest slices room lane = record {
   latest = 0;
   fulls = 0;
 }
-
--- A subscriber represents events of its slot, of which all charging records were taken out.
-abbrev pub Represents : SubscriberState → ℕ → List Event → Type 0
-Represents subscriber slot events = StandsFor subscriber slot events (length (records_after slot events))
 
 -- it represents some events, at most as many as there were lines
 pub record HasEvents (slot lines : ℕ) (subscriber : SubscriberState) : Type 0 where

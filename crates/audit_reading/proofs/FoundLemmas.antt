@@ -8,7 +8,7 @@ use Rattle.report_lines.specs.declared.entry.LineEntry.{LineEntry}
 use Rattle.lawful_run.specs.LinesTold.{LineTold}
 use Rattle.audit_sentences.specs.declared.meaning.Meant.{Meant}
 use Rattle.audit_sentences.specs.declared.sharing.Keyed.{Keyed}
-use Rattle.audit_sentences.specs.declared.told.Told.{Told}
+use Rattle.audit_sentences.specs.declared.told_line.ToldLine.{ToldLine}
 use Rattle.audit_sentences.specs.Entries.{all_lines, in_line_order, line_entries}
 use Rattle.audit_sentences.specs.Sentences.{LinesAreAnswered, told_epochs}
 use Rattle.audit_reading.specs.Answering.{matched_all}
@@ -17,29 +17,29 @@ use Rattle.audit_reading.specs.Matching.{IsKeyed, lent}
 use Rattle.audit_reading.proofs.MatchLemmas.{finds}
 
 -- the lines of epochs with their entries, as the program found them
-abbrev held : Vec (Vec Told) → List (List LineTold)
+abbrev held : Vec (Vec ToldLine) → List (List LineTold)
 held all = epochs_held all.items
 
-some_mapped : (found : Option (Vec (Vec Told))) → is_some (option_map held found) ≡ is_some found
+some_mapped : (found : Option (Vec (Vec ToldLine))) → is_some (option_map held found) ≡ is_some found
 some_mapped None = refl
 some_mapped (Some all) = refl
 
-if_mapped : (P : List (List LineTold) → Type 0) (found : Option (Vec (Vec Told))) → IfSome (option_map held found) P
+if_mapped : (P : List (List LineTold) → Type 0) (found : Option (Vec (Vec ToldLine))) → IfSome (option_map held found) P
     → IfSome found (λ all. P (held all))
 if_mapped P None holds = tt
 if_mapped P (Some all) holds = holds
 
-pub record IsAnswered (epochs : List (Vec Meant)) (entries : List Entry) (found : Option (Vec (Vec Told))) :
+pub record IsAnswered (epochs : List (Vec Meant)) (entries : List Entry) (found : Option (Vec (Vec ToldLine))) :
     Type 0 where
   pub holds : IsSome found ↔ LinesAreAnswered (epochs_meant epochs) entries
   pub told : IfSome found (λ all. epochs_held all.items ≡ told_epochs (epochs_meant epochs) entries)
   pub answers : IfSome found (λ all. EpochsAnswered 1 (epochs_held all.items))
   pub lines : IfSome found (λ all. meanings_told (epochs_held all.items) ≡ epochs_meant epochs)
 
-pub is_answered : (epochs : List (Vec Meant)) (entries : List Entry) (count : ℕ) (found : Option (Vec (Vec Told)))
+pub is_answered : (epochs : List (Vec Meant)) (entries : List Entry) (count : ℕ) (found : Option (Vec (Vec ToldLine)))
     → count ≡ length (all_lines (epochs_meant epochs))
     → length (line_entries entries) ≡ count
-    → option_map (λ (all : Vec (Vec Told)). epochs_held all.items) found
+    → option_map (λ (all : Vec (Vec ToldLine)). epochs_held all.items) found
     ≡ matched_all 1 [] (epochs_meant epochs) (in_line_order count (line_entries entries))
     → IsAnswered epochs entries found
 is_answered epochs entries count found count_is many is =
@@ -61,11 +61,11 @@ is_answered epochs entries count found count_is many is =
 -- by what was keyed, and brought into line order
 pub answered_so : (epochs : List (Vec Meant)) (entries : List Entry) (count : ℕ)
     (keyed keyed_lent : List (Keyed (Bor LineEntry))) (order order_lent : List (Bor LineEntry))
-    (found : Option (Vec (Vec Told))) → count ≡ length (all_lines (epochs_meant epochs))
+    (found : Option (Vec (Vec ToldLine))) → count ≡ length (all_lines (epochs_meant epochs))
     → IsKeyed keyed (line_entries entries) → length keyed ≡ count → keyed_lent ≡ keyed
     → ((lines : List LineEntry) → IsKeyed keyed_lent lines → lent order ≡ in_line_order count lines)
     → order_lent ≡ order
-    → option_map (λ (all : Vec (Vec Told)). epochs_held all.items) found
+    → option_map (λ (all : Vec (Vec ToldLine)). epochs_held all.items) found
     ≡ matched_all 1 [] (epochs_meant epochs) (lent order_lent)
     → IsAnswered epochs entries found
 answered_so epochs entries count keyed keyed_lent order order_lent found count_is is many keyed_is ordered order_is

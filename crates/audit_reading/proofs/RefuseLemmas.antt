@@ -19,7 +19,7 @@ use Rattle.audit_reading.specs.declared.setup.Setup.{Setup as Given}
 use Rattle.audit_reading.specs.declared.waiting.Load.{Load}
 use Rattle.audit_reading.specs.declared.waiting.Waiting.{Waiting}
 use Rattle.audit_reading.specs.declared.waiting.Waits.{Waits}
-use Rattle.audit_sentences.specs.declared.told.Told.{Told}
+use Rattle.audit_sentences.specs.declared.told_line.ToldLine.{ToldLine}
 use Rattle.audit_reading.specs.Holding.{AreKnownTold, IsKnown}
 use Rattle.audit_reading.specs.Setups.{setup_of}
 use Rattle.audit_reading.specs.Waiting.{AllWait, AreWaiting, SlotWaits, may_refuse, one_new, refused_well}
@@ -204,40 +204,40 @@ pub known_below : (slots : ℕ) (meaning : Meaning) (at : ℕ) → slot_in meani
 known_below slots meaning at is known = subst (λ found. IfSome found (λ slot. slot < slots)) is known
 
 -- lines, as the program holds them
-told_is : (lines : List Told) (i : ℕ) (told : Told) → i < length lines → told ≡ get_or lines i told
+told_is : (lines : List ToldLine) (i : ℕ) (told : ToldLine) → i < length lines → told ≡ get_or lines i told
     → line_told told ≡ get_or (lines_of lines) i (line_told told)
 told_is [] i told within is = absurd (omega (arith, within))
 told_is (first ∷ lines) zero told within is = ap line_told is
 told_is (first ∷ lines) (suc i) told within is = told_is lines i told (omega (arith, within)) is
 
-told_within : (lines : List Told) (i : ℕ) → i < length lines → i < length (lines_of lines)
+told_within : (lines : List ToldLine) (i : ℕ) → i < length lines → i < length (lines_of lines)
 told_within lines i within = omega (arith, within, length-map lines line_told)
 
-pub known_at : (slots : ℕ) (lines : List Told) (i : ℕ) (told : Told) → AreKnownTold slots (lines_of lines)
+pub known_at : (slots : ℕ) (lines : List ToldLine) (i : ℕ) (told : ToldLine) → AreKnownTold slots (lines_of lines)
     → i < length lines → told ≡ get_or lines i told → IsKnown slots (line_told told).meaning
 known_at slots lines i told known within is =
     subst (λ (t : LineTold). IsKnown slots t.meaning) (sym (told_is lines i told within is))
     (known i (line_told told) (told_within lines i within))
 
-pub front_more : (lines : List Told) (i : ℕ) (told : Told) → i < length lines → told ≡ get_or lines i told
+pub front_more : (lines : List ToldLine) (i : ℕ) (told : ToldLine) → i < length lines → told ≡ get_or lines i told
     → take i (lines_of lines) ++ line_told told ∷ [] ≡ take (i + 1) (lines_of lines)
 front_more lines i told within is =
     ap (λ t. take i (lines_of lines) ++ t ∷ []) (told_is lines i told within is)
     ∙ sym (take_more (lines_of lines) i (line_told told) (told_within lines i within))
 
 -- what is said of an answered line of theirs
-abbrev pub Tells : Given → List Told → ℕ → Told → ℕ → Bool → Type 0
+abbrev pub Tells : Given → List ToldLine → ℕ → ToldLine → ℕ → Bool → Type 0
 Tells setup lines i told first well =
     Answers (first + i) (line_told told).meaning (line_told told).entry
     → IsTrue well ↔ RefusedAs (setup_of setup) (take i (lines_of lines)) (line_told told) (line_told told).entry
 
-answer_of : (lines : List Told) (i : ℕ) (told : Told) (first : ℕ) → i < length lines → told ≡ get_or lines i told
+answer_of : (lines : List ToldLine) (i : ℕ) (told : ToldLine) (first : ℕ) → i < length lines → told ≡ get_or lines i told
     → AreAnswered first (lines_of lines) → Answers (first + i) (line_told told).meaning (line_told told).entry
 answer_of lines i told first within is answers =
     subst (λ (t : LineTold). Answers (first + i) t.meaning t.entry) (sym (told_is lines i told within is))
     (answered_at first (lines_of lines) i (line_told told) answers (told_within lines i within))
 
-pub goes_on : (setup : Given) (lines : List Told) (i : ℕ) (told : Told) (first : ℕ) (well : Bool) → well ≡ true
+pub goes_on : (setup : Given) (lines : List ToldLine) (i : ℕ) (told : ToldLine) (first : ℕ) (well : Bool) → well ≡ true
     → Tells setup lines i told first well
     → i < length lines → told ≡ get_or lines i told → AreAnswered first (lines_of lines)
     → (Each setup (take i (lines_of lines)) (drop i (lines_of lines)) ↔ Each setup [] (lines_of lines))
@@ -246,7 +246,7 @@ goes_on setup lines i told first well is_well tells within is answers holds =
     each_step setup (lines_of lines) i (line_told told) (told_within lines i within) (told_is lines i told within is)
     ((tells (answer_of lines i told first within is answers)).0 is_well) holds
 
-pub breaks_off : (setup : Given) (lines : List Told) (i : ℕ) (told : Told) (first : ℕ) (well : Bool) → well ≡ false
+pub breaks_off : (setup : Given) (lines : List ToldLine) (i : ℕ) (told : ToldLine) (first : ℕ) (well : Bool) → well ≡ false
     → Tells setup lines i told first well
     → i < length lines → told ≡ get_or lines i told → AreAnswered first (lines_of lines)
     → (Each setup (take i (lines_of lines)) (drop i (lines_of lines)) ↔ Each setup [] (lines_of lines))

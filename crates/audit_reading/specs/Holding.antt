@@ -4,7 +4,7 @@ use Rattle.std.specs.Global.{Vec}
 use Rattle.demux.specs.Trace.{Meaning}
 use Rattle.lawful_run.specs.LinesTold.{LineTold}
 use Rattle.audit_sentences.specs.declared.meaning.Meant.{Meant}
-use Rattle.audit_sentences.specs.declared.told.Told.{Told}
+use Rattle.audit_sentences.specs.declared.told_line.ToldLine.{ToldLine}
 use Rattle.audit_sentences.specs.Meant.{meaning_of, lines_of, slot_in}
 use Rattle.audit_sentences.specs.OfSlot.{AreAnswered}
 
@@ -16,8 +16,8 @@ abbrev pub epochs_meant : List (Vec Meant) → List (List Meaning)
 epochs_meant epochs = map (λ (epoch : Vec Meant). meant_of epoch.items) epochs
 
 -- the lines of each epoch with their entries
-abbrev pub epochs_held : List (Vec Told) → List (List LineTold)
-epochs_held epochs = map (λ (epoch : Vec Told). lines_of epoch.items) epochs
+abbrev pub epochs_held : List (Vec ToldLine) → List (List LineTold)
+epochs_held epochs = map (λ (epoch : Vec ToldLine). lines_of epoch.items) epochs
 
 -- a line is about a slot below so many, or about none
 abbrev pub IsKnown : ℕ → Meaning → Type 0

@@ -5,6 +5,6 @@ pub mod Matching
 pub mod Setups
 pub mod Waiting
 pub mod Made
-pub mod Order
+pub mod Sequence
 pub mod Placing
 pub mod Agreeing

@@ -10,7 +10,7 @@ ghost use Rattle.audit_reading.specs.Matching.{IsKeyed, lent};
 ghost use Rattle.audit_sentences.specs.Sentences.{LinesAreAnswered, told_epochs};
 
 use crate::NoMemory;
-use audit_sentences::{Keyed, Meant, Told, shares_of};
+use audit_sentences::{Keyed, Meant, ToldLine, shares_of};
 use pc_base::{Octets, Slot};
 use report_lines::{Entry, LineEntry, Refusal};
 use std::alloc::Global;
@@ -108,7 +108,7 @@ fn matched<'a>(
     behind: usize,
     epoch: &'a [Meant<'a>],
     entries: &[&'a LineEntry],
-) -> Result<Option<Vec<Told<'a>>>, NoMemory>
+) -> Result<Option<Vec<ToldLine<'a>>>, NoMemory>
     requires { behind + length epoch.now < 2 ^ 63 }
     ensures { IfOk result (λ found. option_map (λ lines. lines_of lines.items) found
         ≡ matched_on (behind + 1) [] (meant_of epoch.now) (drop behind (lent entries.now))) }
@@ -122,7 +122,7 @@ fn matched<'a>(
         if !answers(place as u64 + 1, meant, entry) {
             return Ok(None);
         }
-        lines.push(Told {
+        lines.push(ToldLine {
             meant,
             entry: *entry,
         })?;
@@ -135,7 +135,7 @@ fn all_matched<'a>(
     alloc: Global,
     epochs: &'a [Vec<Meant<'a>>],
     entries: &[&'a LineEntry],
-) -> Result<Option<Vec<Vec<Told<'a>>>>, NoMemory>
+) -> Result<Option<Vec<Vec<ToldLine<'a>>>>, NoMemory>
     requires { length (all_lines (epochs_meant epochs.now)) < 2 ^ 63 }
     ensures { IfOk result (λ found. option_map (λ all. epochs_held all.items) found
         ≡ matched_all 1 [] (epochs_meant epochs.now) (lent entries.now)) }
@@ -172,7 +172,7 @@ pub fn answered<'a>(
     alloc: Global,
     epochs: &'a [Vec<Meant<'a>>],
     entries: &'a [Entry],
-) -> Result<Option<Vec<Vec<Told<'a>>>>, NoMemory>
+) -> Result<Option<Vec<Vec<ToldLine<'a>>>>, NoMemory>
     requires { length (all_lines (epochs_meant epochs.now)) < 2 ^ 63 }
 
     ensures holds { IfOk result (λ found. IsSome found ↔ LinesAreAnswered (epochs_meant epochs.now) entries.now) }

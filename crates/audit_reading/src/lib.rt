@@ -9,8 +9,8 @@ mod answering;
 mod charging;
 mod made;
 mod meaning;
-mod order;
 mod placing;
+mod sequence;
 mod setup;
 mod waiting;
 
@@ -18,7 +18,7 @@ pub use answering::{answered, line_of};
 pub use charging::charges_hold;
 pub use made::{EffectMade, EpochMade};
 pub use meaning::{Trace, trace_of};
-pub use order::in_order;
 pub use pc_base::NoMemory;
+pub use sequence::in_order;
 pub use setup::{BadAt, Setup};
 pub use waiting::refused_where_full;

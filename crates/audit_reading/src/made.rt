@@ -1,5 +1,5 @@
 //! What the lines of a trace lead to.
-use audit_sentences::Told;
+use audit_sentences::ToldLine;
 use pc_base::{Effect, Slot};
 use report_lines::ChargeEntry;
 
@@ -15,7 +15,7 @@ pub struct EffectMade {
 /// of the slots.
 #[derive(Drop)]
 pub struct EpochMade<'a> {
-    pub lines: &'a [Told<'a>],
+    pub lines: &'a [ToldLine<'a>],
     pub effects: Vec<EffectMade>,
     pub rows: Vec<ChargeEntry>,
 }

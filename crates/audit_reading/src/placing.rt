@@ -11,7 +11,7 @@ ghost use Rattle.audit_reading.specs.Placing.{IsLine, PlacesLines, lent_under, p
 
 use crate::NoMemory;
 use crate::made::EpochMade;
-use audit_sentences::{Keyed, Told};
+use audit_sentences::{Keyed, ToldLine};
 use report_lines::{ChargeEntry, EffectEntry, Entry, LineEntry};
 use std::alloc::Global;
 
@@ -28,7 +28,7 @@ fn line_of(entry: &LineEntry) -> u64
 }
 
 // The number of an epoch, once for each of its lines.
-fn push_places(all: &mut Vec<u64>, lines: &[Told<'_>], epoch: u64) -> Result<(), NoMemory>
+fn push_places(all: &mut Vec<u64>, lines: &[ToldLine<'_>], epoch: u64) -> Result<(), NoMemory>
     ensures { OnOk result (all.new.items ≡ all.old.items ++ map (λ _. epoch) (lines_of lines.now)) }
 {
     for told in lines {

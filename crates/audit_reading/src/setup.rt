@@ -1,7 +1,7 @@
 //! What a report is held against.
 use trace_lines::LineBad;
 
-/// The gateway whose report it should be: one thread that does each line at once, or so many slices (1 to 64)
+/// The gateway whose report it should be: the sequential one, on one thread, or so many slices (1 to 64)
 /// with room for so many waiting commands or parked packets of a subscriber (1 to 256) and lanes of so many
 /// items of a slice (1 to 16,384).
 #[derive(Clone, Copy, Debug, PartialEq, Eq)]

@@ -13,7 +13,7 @@ ghost use Rattle.audit_reading.specs.Waiting.{refused_well, waiting_by};
 
 use crate::NoMemory;
 use crate::setup::Setup;
-use audit_sentences::{Meant, Told};
+use audit_sentences::{Meant, ToldLine};
 use report_lines::LineEntry;
 use std::alloc::Global;
 
@@ -35,7 +35,7 @@ struct Load {
 }
 
 // One where a line is accepted.
-fn one_taken(told: &Told<'_>) -> u64
+fn one_taken(told: &ToldLine<'_>) -> u64
     ensures value { result ≡ one_taken (line_told told.now).entry }
     ensures most { result ≤ 1 }
 {
@@ -62,7 +62,7 @@ impl Waiting {
     }
 
     // With a line of the slot more.
-    fn with(self, told: &Told<'_>) -> Waiting
+    fn with(self, told: &ToldLine<'_>) -> Waiting
         requires commands { self.commands < 2 ^ 62 }
         requires packets { self.packets < 2 ^ 62 }
         ensures { result ≡ waiting_by self (line_told told.now).meaning (line_told told.now).entry }
@@ -89,7 +89,7 @@ impl Waiting {
 
 impl Load {
     // With a line more, of a slot that was seen or not.
-    fn with(self, seen: bool, told: &Told<'_>) -> Load
+    fn with(self, seen: bool, told: &ToldLine<'_>) -> Load
         requires slots { self.slots < 2 ^ 62 }
         requires packets { self.packets < 2 ^ 62 }
         requires moves { self.moves < 2 ^ 62 }
@@ -171,7 +171,7 @@ impl Waits {
     }
 
     // One line more: whether it is refused only where it may be.
-    fn take(&mut self, setup: &Setup, told: &Told<'_>) -> bool
+    fn take(&mut self, setup: &Setup, told: &ToldLine<'_>) -> bool
         requires known { IsKnown (length self.old.own.items) (line_told told.now).meaning }
         requires few { (slots : ℕ) × (before : List LineTold) × AreWaiting self.old slots before
             × (length before < 2 ^ 60) }
@@ -201,7 +201,7 @@ pub fn refused_where_full(
     alloc: Global,
     setup: &Setup,
     slots: u32,
-    lines: &[Told<'_>],
+    lines: &[ToldLine<'_>],
 ) -> Result<bool, NoMemory>
     requires few { length lines.now < 2 ^ 60 }
     requires known { AreKnownTold slots (lines_of lines.now) }

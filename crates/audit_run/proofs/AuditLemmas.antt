@@ -9,7 +9,7 @@ use Rattle.report_lines.specs.declared.entry.ChargeEntry.{ChargeEntry}
 use Rattle.report_lines.specs.declared.entry.Entry.{Entry}
 use Rattle.lawful_run.specs.Setup.{slices_of, sliced, solo}
 use Rattle.lawful_run.specs.LinesTold.{LineTold}
-use Rattle.lawful_run.specs.Order.{Histories}
+use Rattle.lawful_run.specs.Merging.{Histories}
 use Rattle.lawful_run.specs.Outcomes as made_of
 use Rattle.lawful_run.specs.Report.{Report, entries_of}
 use Rattle.lawful_run.specs.Run.{by_slot, no_events}

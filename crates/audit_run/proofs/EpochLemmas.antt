@@ -12,20 +12,20 @@ use Rattle.lawful_run.specs.Answers.{AnswersAll}
 use Rattle.lawful_run.specs.Bounds.{MeetsBounds, count_before}
 use Rattle.lawful_run.specs.Setup.{Setup, solo, sliced}
 use Rattle.lawful_run.specs.LinesTold.{LineTold, EachLine, lines_told}
-use Rattle.lawful_run.specs.Order.{Histories, events_in, ordered}
+use Rattle.lawful_run.specs.Merging.{Histories, events_in, merged}
 use Rattle.lawful_run.specs.Outcomes as made_of
 use Rattle.lawful_run.specs.Refusals.{RefusedWhereFull}
 use Rattle.lawful_run.specs.Run.{by_slot}
 use Rattle.lawful_run.specs.Telling.{counted}
-use Rattle.audit_sentences.specs.Counts.{at_once_on, counts_on}
+use Rattle.audit_sentences.specs.Counts.{in_sequence_on, counts_on}
 use Rattle.audit_sentences.specs.Meant.{command_taken, share}
 use Rattle.audit_sentences.specs.Numbers.{number_on}
 use Rattle.audit_sentences.specs.OfSlot.{AreAnswered, NumberOn, CountsRise, HasAll, ParksWell}
 use Rattle.audit_sentences.specs.Parked.{parked_on}
-use Rattle.audit_sentences.proofs.CountLemmas.{counts_hold, all_at_once}
+use Rattle.audit_sentences.proofs.CountLemmas.{counts_hold, all_in_sequence}
 use Rattle.audit_sentences.proofs.NumberLemmas.{numbers_hold}
 use Rattle.audit_sentences.proofs.ParkedLemmas.{parked_well}
-use Rattle.audit_sentences.proofs.TogetherLemmas.{at_once_of_slots, counts_of_slots, parking_of_slots}
+use Rattle.audit_sentences.proofs.TogetherLemmas.{in_sequence_of_slots, counts_of_slots, parking_of_slots}
 use Rattle.audit_sentences.specs.Sentences.{AreNumbered, CountsAreLawful, AreOfTheGateway, WaitsAreLawful}
 use Rattle.audit_reading.specs.Made.{effects_made}
 use Rattle.audit_reading.specs.Holding.{AreKnownTold}
@@ -219,19 +219,19 @@ module _ (setup : Given) (slots n : ℕ) (before : Histories) (all : List LineTo
         each_slot (λ s. WaitsOf setup s (count_before before s) all) slots
         (λ s past. record {
           parking = (parked_well n s all are).0 (ap (parked_on false) (none s past));
-          at_once = λ alone. (all_at_once n s (count_before before s) all are).0
-              (ap (at_once_on (count_before before s)) (none s past));
+          in_sequence = λ alone. (all_in_sequence n s (count_before before s) all are).0
+              (ap (in_sequence_on (count_before before s)) (none s past));
         }) (below.waits.0 parts.0) in
         record {
           refusals = refusals.0 parts.1;
           parking = (parking_of_slots all).1 (λ s. (each s).parking);
           counts = job_bounds setup setup.solo n before all refl are counts
-              (λ alone. (at_once_of_slots before all).1 (λ s. (each s).at_once alone));
+              (λ alone. (in_sequence_of_slots before all).1 (λ s. (each s).in_sequence alone));
         }),
     (λ lawful. is ∙ and_from old.held.waits full
         (below.waits.1 (λ s low. record {
           parking = (parking_of_slots all).0 lawful.parking s;
-          at_once = λ alone. (at_once_of_slots before all).0 (alone_bounds setup before all alone lawful.counts) s;
+          in_sequence = λ alone. (in_sequence_of_slots before all).0 (alone_bounds setup before all alone lawful.counts) s;
         }))
         (refusals.1 lawful.refusals)),
   )

@@ -3,6 +3,8 @@ use Rattle.std.proofs.Common.{◌≡◌, ℕ, ◌≤◌, ◌↔◌, Bool, true, 
 use Rattle.std.specs.Io.KnownBytes.{Appends}
 use Rattle.std.proofs.KnownBytes.{Appends-nil}
 use Rattle.pc_outside.specs.Fronts.{AppendsFront}
+use Rattle.pc_outside.specs.WhereTold.{WhereTold}
+use Rattle.pc_outside.proofs.ToldLemmas.{told_map}
 use Rattle.pc_outside.specs.declared.writing.WriteFault.{WriteFault}
 use Rattle.report_lines.specs.declared.entry.Entry.{Entry}
 use Rattle.trace_lines.specs.Line.{Line}
@@ -11,7 +13,7 @@ use Rattle.audit_reading.specs.Setups.{input_with}
 use Rattle.audit_run.specs.Findings.{Breaks, Confirmed, Finds, IsOf, finding_text}
 use Rattle.audit_run.specs.Heard.{HasHeard}
 use Rattle.audit_run.specs.Progress.{Reached, ending_as}
-use Rattle.audit_run.specs.Report.{Audits, Reports, SaysWhole, WhereTold}
+use Rattle.audit_run.specs.Report.{Audits, Reports, SaysWhole}
 use Rattle.audit_run.specs.Texts.{Text, texts_of}
 use Rattle.audit_run.specs.declared.auditing.Audited.TheVariants as audited
 use Rattle.audit_run.specs.declared.auditing.Stopped.TheVariants as stopped_at
@@ -36,16 +38,9 @@ broken_by setup heard texts lines entries k inside same all breaks hears = inr (
   broken = rw (said_heard heard texts hears, ← same, ← all) breaks;
 })
 
-told_as : (start left : Option (List ℕ)) (P Q : List ℕ → List ℕ → Type 0)
-    → ((octets rest : List ℕ) → P octets rest → Q octets rest)
-    → WhereTold start left P → WhereTold start left Q
-told_as None left P Q follows said = tt
-told_as (Some octets) None P Q follows said = absurd said
-told_as (Some octets) (Some rest) P Q follows said = follows octets rest said
-
 pub told_unit : (start left : Option (List ℕ)) (P : List ℕ → List ℕ → Type 0) → WhereTold start left P
     → WhereTold start left (λ octets rest. Unit {0})
-told_unit start left P = told_as start left P (λ octets rest. Unit {0}) (λ octets rest said. tt)
+told_unit start left P = told_map start left P (λ octets rest. Unit {0}) (λ octets rest said. tt)
 
 says_whole : (setup : Setup) (octets : List ℕ) (texts : List Text) (found : Option ℕ) → Finds setup texts found
     → (texts_of octets).lines ≡ texts → SaysWhole setup octets (finding_text found) found
@@ -54,7 +49,7 @@ says_whole setup octets texts found finds same = record {
   says = refl;
 }
 
--- the finding was written, or a front of it
+-- the finding was written, or a prefix of it
 pub audits_so : (setup : Setup) (found : Option ℕ) (written : Result Unit WriteFault)
     (start left old new : Option (List ℕ)) (texts : List Text) → Finds setup texts found
     → WhereTold start left (λ octets rest. Reached stopped_at.Ended octets rest texts)
@@ -63,21 +58,21 @@ pub audits_so : (setup : Setup) (found : Option ℕ) (written : Result Unit Writ
 audits_so setup None (Ok done) start left old new texts finds reached whole cut = record {
   text = finding_text None;
   written = whole;
-  report = told_as start left (λ octets rest. Reached stopped_at.Ended octets rest texts)
+  report = told_map start left (λ octets rest. Reached stopped_at.Ended octets rest texts)
       (λ octets rest. Reports (ending_as None (Ok done)) setup octets rest (finding_text None))
       (λ octets rest is. (is.0, says_whole setup octets texts None finds is.1)) reached;
 }
 audits_so setup (Some k) (Ok done) start left old new texts finds reached whole cut = record {
   text = finding_text (Some k);
   written = whole;
-  report = told_as start left (λ octets rest. Reached stopped_at.Ended octets rest texts)
+  report = told_map start left (λ octets rest. Reached stopped_at.Ended octets rest texts)
       (λ octets rest. Reports (ending_as (Some k) (Ok done)) setup octets rest (finding_text (Some k)))
       (λ octets rest is. (is.0, (k, says_whole setup octets texts (Some k) finds is.1))) reached;
 }
 audits_so setup found (Err fault) start left old new texts finds reached whole cut = record {
   text = cut.front;
   written = cut.appended;
-  report = told_as start left (λ octets rest. Reached stopped_at.Ended octets rest texts)
+  report = told_map start left (λ octets rest. Reached stopped_at.Ended octets rest texts)
       (λ octets rest. Reports (ending_as found (Err fault)) setup octets rest cut.front)
       (λ octets rest is. (
         is.0,
@@ -96,7 +91,7 @@ pub nothing_said : (setup : Setup) (start left old : Option (List ℕ))
 nothing_said setup start left old told = record {
   text = [];
   written = Appends-nil old;
-  report = told_as start left (λ octets rest. Unit {0}) (λ octets rest. Reports audited.NoMemory setup octets rest [])
+  report = told_map start left (λ octets rest. Unit {0}) (λ octets rest. Reports audited.NoMemory setup octets rest [])
       (λ octets rest yes. refl) told;
 }
 
@@ -106,7 +101,7 @@ pub fault_said : (setup : Setup) (start left old : Option (List ℕ)) (texts : L
 fault_said setup start left old texts reached = record {
   text = [];
   written = Appends-nil old;
-  report = told_as start left (λ octets rest. Reached stopped_at.ReadFault octets rest texts)
+  report = told_map start left (λ octets rest. Reached stopped_at.ReadFault octets rest texts)
       (λ octets rest. Reports audited.ReadFault setup octets rest []) (λ octets rest is. (is, refl)) reached;
 }
 
@@ -116,7 +111,7 @@ pub long_said : (setup : Setup) (start left old : Option (List ℕ)) (texts : Li
 long_said setup start left old texts reached = record {
   text = [];
   written = Appends-nil old;
-  report = told_as start left (λ octets rest. Reached stopped_at.LineLong octets rest texts)
+  report = told_map start left (λ octets rest. Reached stopped_at.LineLong octets rest texts)
       (λ octets rest. Reports audited.LineLong setup octets rest []) (λ octets rest is. (is.0, refl)) reached;
 }
 
@@ -126,6 +121,6 @@ pub big_said : (setup : Setup) (start left old : Option (List ℕ)) (texts : Lis
 big_said setup start left old texts reached = record {
   text = [];
   written = Appends-nil old;
-  report = told_as start left (λ octets rest. Reached stopped_at.TooLong octets rest texts)
+  report = told_map start left (λ octets rest. Reached stopped_at.TooLong octets rest texts)
       (λ octets rest. Reports audited.TooLong setup octets rest []) (λ octets rest is. (is.0, refl)) reached;
 }

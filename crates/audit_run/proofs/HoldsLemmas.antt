@@ -4,7 +4,7 @@ use Rattle.std.specs.List.{filter_map}
 use Rattle.gate_model.specs.Events.{commands_of, packets_of}
 use Rattle.gate_model.specs.declared.event.Event.{Event}
 use Rattle.lawful_run.specs.LinesTold.{LineTold}
-use Rattle.lawful_run.specs.Order.{events_in}
+use Rattle.lawful_run.specs.Merging.{events_in}
 use Rattle.audit_sentences.specs.Meant.{share}
 use Rattle.audit_sentences.specs.OfSlot.{AreAnswered}
 use Rattle.audit_reading.specs.declared.setup.Setup.{Setup}

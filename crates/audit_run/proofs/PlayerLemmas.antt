@@ -5,11 +5,11 @@ use Rattle.std.specs.List.{All}
 use Rattle.std.proofs.lemmas.Bool.{cases_lt}
 use Rattle.std.proofs.lemmas.List.{get_or-map, get_or_append_left, get_or_at}
 use Rattle.lawful_run.specs.LinesTold.{LineTold}
-use Rattle.lawful_run.specs.Order.{Histories, behind}
+use Rattle.lawful_run.specs.Merging.{Histories, behind}
 use Rattle.lawful_run.specs.Telling.{counted}
 use Rattle.audit_sentences.specs.Meant.{lines_of, share}
 use Rattle.audit_sentences.specs.OfSlot.{AreAnswered}
-use Rattle.audit_sentences.specs.declared.told.Told.{Told}
+use Rattle.audit_sentences.specs.declared.told_line.ToldLine.{ToldLine}
 use Rattle.audit_reading.specs.declared.setup.Setup.{Setup}
 use Rattle.audit_run.specs.Playing.{CanGoOn, HasPlayed}
 use Rattle.audit_run.specs.declared.player.Player.{Player}
@@ -46,26 +46,26 @@ map_length : {X Y : Type 0} (f : X → Y) (xs : List X) → length (map f xs) �
 map_length f [] = refl
 map_length f (x ∷ xs) = ap suc (map_length f xs)
 
-pub shares_many : (shares : List (Vec Told)) (slots : ℕ) (all : List LineTold) → AreShares shares slots all
+pub shares_many : (shares : List (Vec ToldLine)) (slots : ℕ) (all : List LineTold) → AreShares shares slots all
     → length shares ≡ slots
 shares_many shares slots all are =
-    sym (map_length (λ (v : Vec Told). lines_of v.items) shares) ∙ ap length are
+    sym (map_length (λ (v : Vec ToldLine). lines_of v.items) shares) ∙ ap length are
     ∙ counted_length (λ slot. share slot all) 0 slots
 
 from_none : (i : ℕ) → 0 + i ≡ i
 from_none i = omega arith
 
-pub share_at : (shares : List (Vec Told)) (slots : ℕ) (all : List LineTold) (i : ℕ) (own : Vec Told)
+pub share_at : (shares : List (Vec ToldLine)) (slots : ℕ) (all : List LineTold) (i : ℕ) (own : Vec ToldLine)
     → AreShares shares slots all → i < slots → own ≡ get_or shares i own → lines_of own.items ≡ share i all
 share_at shares slots all i own are low is =
-    ap (λ (v : Vec Told). lines_of v.items) is
-    ∙ sym (get_or-map (λ (v : Vec Told). lines_of v.items) shares i own [] (omega (arith, low, shares_many shares slots all are)))
+    ap (λ (v : Vec ToldLine). lines_of v.items) is
+    ∙ sym (get_or-map (λ (v : Vec ToldLine). lines_of v.items) shares i own [] (omega (arith, low, shares_many shares slots all are)))
     ∙ ap (λ some. get_or some i []) are
     ∙ counted_at (λ slot. share slot all) 0 slots i [] low
     ∙ ap (λ k. share k all) (from_none i)
 
 -- The players of the slots below so many have played their lines, the others not yet.
-pub record Half (setup : Setup) (shares : List (Vec Told)) (old now : List Player) (done : ℕ) (replayed : Replayed) :
+pub record Half (setup : Setup) (shares : List (Vec ToldLine)) (old now : List Player) (done : ℕ) (replayed : Replayed) :
     Type 0 where
   pub many : length now ≡ length old
   pub later : (s : ℕ) (none : Player) → done ≤ s → get_or now s none ≡ get_or old s none
@@ -76,7 +76,7 @@ pub record Half (setup : Setup) (shares : List (Vec Told)) (old now : List Playe
   pub holds : (first : ℕ) (before : Histories) (all : List LineTold) → Stand old before → AreAnswered first all
       → AreShares shares (length old) all → HoldBelow setup done before all replayed
 
-pub half_next : (setup : Setup) (shares : List (Vec Told)) (old now new : List Player) (i : ℕ) (player : Player)
+pub half_next : (setup : Setup) (shares : List (Vec ToldLine)) (old now new : List Player) (i : ℕ) (player : Player)
     (replayed after : Replayed)
     → Half setup shares old now i replayed → i < length old → new ≡ set now i player
     → ((before : Histories) (all : List LineTold) → Stand old before → AreShares shares (length old) all

@@ -8,7 +8,7 @@ use Rattle.pc_outside.specs.LineReads.{Answers, Reads}
 use Rattle.pc_outside.specs.declared.reading.LineRead.{LineRead}
 use Rattle.pc_outside.specs.declared.reading.LineRead.TheVariants as read
 use Rattle.audit_run.specs.Progress.{HasRead, Reached}
-use Rattle.audit_run.specs.Report.{WhereTold}
+use Rattle.pc_outside.specs.WhereTold.{WhereTold}
 use Rattle.audit_run.specs.Texts.{Texts, Text, Stop, long, big, ended, stopped, after_lines, texts_of, texts_within}
 use Rattle.audit_run.specs.declared.auditing.Stopped.TheVariants as stopped_at
 use Rattle.audit_run.proofs.TextLemmas.{at_end, input_big, last_line, line_long, unfinished, whole_line}

@@ -4,10 +4,10 @@ use Rattle.std.specs.List.{All}
 use Rattle.std.proofs.lemmas.List.{length-map}
 use Rattle.std.proofs.lemmas.List.Elements.{All-head, All-tail}
 use Rattle.lawful_run.specs.LinesTold.{LineTold}
-use Rattle.lawful_run.specs.Order.{Histories, behind}
+use Rattle.lawful_run.specs.Merging.{Histories, behind}
 use Rattle.audit_sentences.specs.Meant.{line_told, lines_of}
 use Rattle.audit_sentences.specs.OfSlot.{AreAnswered}
-use Rattle.audit_sentences.specs.declared.told.Told.{Told}
+use Rattle.audit_sentences.specs.declared.told_line.ToldLine.{ToldLine}
 use Rattle.audit_reading.specs.Holding.{AreKnownTold, EpochsAnswered}
 use Rattle.audit_reading.specs.declared.setup.Setup.{Setup}
 use Rattle.audit_run.specs.Epochs.{AllCanGoOn}
@@ -46,7 +46,7 @@ goes_next setup slots all left later lines old new going is runs room =
       few = omega (arith, count, going.few);
     }
 
-pub can_take : (setup : Setup) (slots : ℕ) (all left later : List (List LineTold)) (told : List Told) (run : Run)
+pub can_take : (setup : Setup) (slots : ℕ) (all left later : List (List LineTold)) (told : List ToldLine) (run : Run)
     → slots ≤ 65533 → Going setup slots all left run → left ≡ lines_of told ∷ later → CanTake run told
 can_take setup slots all left later told run few going is =
     let count : count_of left ≡ length (lines_of told) + count_of later = ap count_of is in

@@ -13,7 +13,7 @@ use Rattle.gate_model.specs.declared.event.Event.TheVariants as event
 use Rattle.report_lines.specs.Records.{Effected}
 use Rattle.report_lines.specs.declared.entry.ChargeEntry.TheVariants.{R, O}
 use Rattle.lawful_run.specs.LinesTold.{LineTold}
-use Rattle.lawful_run.specs.Order.{Histories, behind, events_in}
+use Rattle.lawful_run.specs.Merging.{Histories, behind, events_in}
 use Rattle.lawful_run.specs.Outcomes as made_of
 use Rattle.lawful_run.specs.Run.{by_slot}
 use Rattle.audit_sentences.specs.Meant.{lines_of}

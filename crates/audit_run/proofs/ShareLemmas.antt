@@ -12,7 +12,7 @@ use Rattle.gate_model.specs.Events.{commands_of, packets_of}
 use Rattle.gate_model.specs.declared.event.Event.{Event}
 use Rattle.lawful_run.specs.Accepted.{Placed, accepted_command, accepted_packet, commands_accepted, commands_before, is_refused, packets_accepted}
 use Rattle.lawful_run.specs.LinesTold.{LineTold}
-use Rattle.lawful_run.specs.Order.{events_in, ordered}
+use Rattle.lawful_run.specs.Merging.{events_in, merged}
 use Rattle.lawful_run.specs.Telling.{reply_told, verdict_told}
 use Rattle.pc_base.specs.declared.packet.Verdict.{Verdict}
 use Rattle.pc_base.specs.declared.reply.Reply.{Reply}
@@ -21,7 +21,7 @@ use Rattle.audit_sentences.specs.Meant.{command_taken, is_about, line_told, line
 use Rattle.audit_sentences.specs.OfSlot.{AreAnswered, told_of}
 use Rattle.audit_sentences.proofs.LineKinds.{KindOf, other, moved, answered, judged, refused, kind_of}
 use Rattle.audit_reading.specs.Holding.{AreKnownTold, IsKnown}
-use Rattle.audit_sentences.specs.declared.told.Told.{Told}
+use Rattle.audit_sentences.specs.declared.told_line.ToldLine.{ToldLine}
 use Rattle.audit_run.specs.Playing.{CanGoOn, commands_lent, events_of, placed_lent, placed_so}
 use Rattle.audit_run.specs.declared.player.Placed.{Placed as HeldPlaced}
 use Rattle.std.specs.Borrow.{Bor}
@@ -155,7 +155,7 @@ pub events_shared : (slot : ℕ) (before : List Event) (all : List LineTold)
     → events_of before (filter_map command_taken (share slot all)) (filter_map placed_in (share slot all))
     ≡ events_in before all slot
 events_shared slot before all =
-    (λ i. ordered (length (commands_of before)) (length (packets_of before)) (sym (commands_shared slot all) i)
+    (λ i. merged (length (commands_of before)) (length (packets_of before)) (sym (commands_shared slot all) i)
     (sym (packets_shared slot all) i))
 
 -- each line brings at most one
@@ -211,7 +211,7 @@ fewer player more less can low = record {
 }
 
 -- what lines bring may be played
-brought_length : (lines : List Told) (commands : List (Bor CommandKind)) (packets : List HeldPlaced)
+brought_length : (lines : List ToldLine) (commands : List (Bor CommandKind)) (packets : List HeldPlaced)
     → commands_lent commands ≡ filter_map command_taken (lines_of lines)
     → placed_lent packets ≡ filter_map placed_in (lines_of lines) → length commands + length packets ≤ length lines
 brought_length lines commands packets of_commands of_packets =
@@ -225,7 +225,7 @@ brought_length lines commands packets of_commands of_packets =
       length-map lines line_told,
     )
 
-pub can_play : (player : Player) (lines : List Told) (commands : List (Bor CommandKind)) (packets : List HeldPlaced)
+pub can_play : (player : Player) (lines : List ToldLine) (commands : List (Bor CommandKind)) (packets : List HeldPlaced)
     → commands_lent commands ≡ filter_map command_taken (lines_of lines)
     → placed_lent packets ≡ filter_map placed_in (lines_of lines)
     → CanGoOn player (length lines) → CanGoOn player (length commands + length packets)
@@ -233,7 +233,7 @@ can_play player lines commands packets of_commands of_packets can =
     fewer player (length lines) (length commands + length packets) can
     (brought_length lines commands packets of_commands of_packets)
 
-pub can_play_more : (player : Player) (lines : List Told) (commands : List (Bor CommandKind))
+pub can_play_more : (player : Player) (lines : List ToldLine) (commands : List (Bor CommandKind))
     (packets : List HeldPlaced) (more : ℕ)
     → commands_lent commands ≡ filter_map command_taken (lines_of lines)
     → placed_lent packets ≡ filter_map placed_in (lines_of lines)

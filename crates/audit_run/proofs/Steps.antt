@@ -22,7 +22,7 @@ use Rattle.gate_model.proofs.Following.{commands_learnt, packets_judged}
 use Rattle.gate_model.proofs.RoomLemmas.{room_left}
 use Rattle.report_lines.specs.Records.{Effected}
 use Rattle.lawful_run.specs.Accepted as accepted
-use Rattle.lawful_run.specs.Order.{ordered}
+use Rattle.lawful_run.specs.Merging.{merged}
 use Rattle.lawful_run.specs.Outcomes as made_of
 use Rattle.lawful_run.proofs.Counting.{commands-command, commands-packet, packets-packet, packets-command}
 use Rattle.lawful_run.proofs.Growing.{effects-append, replies-push, verdicts-push}
@@ -136,7 +136,7 @@ led_packet player played after slot before now p plays notes =
           ∙ sym (append-nil (made_of.effects slot before now)) ∙ sym (effects-append slot before now (e ∷ []));
     }
 
--- what wasn't posted yet may follow, and the book stands for all then
+-- what wasn't posted yet may follow, and the book represents all then
 pub postings_follow : (slot : ℕ) (before now : List Event) (postings : List Posting) (posted : ℕ)
     → length (before ++ now) < 2 ^ 40 → map happening_of postings ≡ charged_after slot (before ++ now)
     → posted ≡ length (charged_after slot before)
@@ -150,7 +150,7 @@ postings_follow slot before now postings posted few told is =
     ∙ drop_at base heard.more posted (sym is) in
     (subst (MayAllFollow base) (sym rest) heard.may, ap (λ more. base ++ more) rest ∙ sym heard.is)
 
--- a book to which the rest is posted stands for all
+-- a book to which the rest is posted represents all
 pub stands_behind : (slot : ℕ) (before now : List Event) (book : Accounts) (postings : List Posting)
     (posted taken : ℕ)
     → length (before ++ now) < 2 ^ 40 → map happening_of postings ≡ charged_after slot (before ++ now)
@@ -216,7 +216,7 @@ effect_noted start old new slot command effects k e within is notes replies verd
           ∙ ap (λ xs. effects_made start.effects.items ++ xs) more;
     }
 
--- what was posted is a front of what is to be posted
+-- what was posted is a prefix of what is to be posted
 pub posted_within : (player : Player) (slot : ℕ) (before now : List Event) → IsBehind player slot before now
     → length (before ++ now) < 2 ^ 40 → player.posted ≤ length player.gateway.packets.charged
 posted_within player slot before now behind few =

@@ -4,13 +4,13 @@ use Rattle.std.specs.Global.{Vec}
 use Rattle.gate_model.specs.Events.{commands_of, packets_of}
 use Rattle.lawful_run.specs.Bounds.{count_before}
 use Rattle.lawful_run.specs.LinesTold.{LineTold}
-use Rattle.lawful_run.specs.Order.{Histories, events_in}
+use Rattle.lawful_run.specs.Merging.{Histories, events_in}
 use Rattle.lawful_run.specs.Outcomes as made_of
 use Rattle.lawful_run.specs.Run.{by_slot}
 use Rattle.lawful_run.specs.Telling.{counted}
 use Rattle.audit_sentences.specs.Meant.{lines_of, share}
 use Rattle.audit_sentences.specs.OfSlot.{NumberOn, CountsRise}
-use Rattle.audit_sentences.specs.declared.told.Told.{Told}
+use Rattle.audit_sentences.specs.declared.told_line.ToldLine.{ToldLine}
 use Rattle.audit_sentences.specs.Sentences.{AreNumbered, CountsAreLawful, AreOfTheGateway, WaitsAreLawful}
 use Rattle.audit_reading.specs.Made.{effects_made}
 use Rattle.audit_reading.specs.Setups.{setup_of}
@@ -34,11 +34,11 @@ pub record AllCanGoOn (players : List Player) (more : ℕ) : Type 0 where
   pub each : (slot : ℕ) (none : Player) → slot < length players → CanGoOn (get_or players slot none) more
 
 -- the lines of each slot
-abbrev pub AreShares : List (Vec Told) → ℕ → List LineTold → Type 0
+abbrev pub AreShares : List (Vec ToldLine) → ℕ → List LineTold → Type 0
 AreShares shares slots all =
-    map (λ (v : Vec Told). lines_of v.items) shares ≡ map (λ slot. share slot all) (counted 0 slots)
+    map (λ (v : Vec ToldLine). lines_of v.items) shares ≡ map (λ slot. share slot all) (counted 0 slots)
 
-pub record CanHold (players : List Player) (shares : List (Vec Told)) : Type 0 where
+pub record CanHold (players : List Player) (shares : List (Vec ToldLine)) : Type 0 where
   pub all : List LineTold
   pub are : AreShares shares (length players) all
   pub room : AllCanGoOn players (length all)

@@ -34,7 +34,7 @@ pub record Refuted (setup : Setup) (texts : List Text) (k : ℕ) : Type 0 where
   pub are : AreEntries (report_texts texts) entries
   pub broken : Breaks setup (trace_said texts) entries k
 
--- What is found: nothing to refute, or the number of what refutes it, where 0 stands for a line that is no entry.
+-- What is found: nothing to refute, or the number of what refutes it, where 0 is a line that is no entry.
 abbrev pub Finds : Setup → List Text → Option ℕ → Type 0
 Finds setup texts None = Confirmed setup texts
 Finds setup texts (Some k) = ((k ≡ 0) × HasNoEntry (report_texts texts)) ⊎ Refuted setup texts k

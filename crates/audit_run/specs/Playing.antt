@@ -11,8 +11,8 @@ use Rattle.gate_model.specs.Events.{commands_of, packets_of}
 use Rattle.gate_model.specs.SlotPast.{past_of}
 use Rattle.gate_model.specs.declared.event.Event.{Event}
 use Rattle.lawful_run.specs.Accepted as accepted
-use Rattle.lawful_run.specs.Order.{CanGo}
-pub use Rattle.lawful_run.specs.Order.{commands_lent, events_of}
+use Rattle.lawful_run.specs.Merging.{CanGo}
+pub use Rattle.lawful_run.specs.Merging.{commands_lent, events_of}
 use Rattle.lawful_run.specs.Outcomes as made_of
 use Rattle.audit_run.specs.Charged.{charged_after}
 use Rattle.audit_run.specs.declared.player.Done.{Done}

@@ -3,7 +3,8 @@ use Rattle.std.specs.Prelude.{◌≡◌, ℕ, ◌+◌, ◌<◌, ◌≤◌, ◌^�
 use Rattle.std.specs.Prelude.{Some, Result, Ok, Err, vec_len}
 use Rattle.pc_outside.specs.declared.writing.WriteFault.{WriteFault}
 use Rattle.audit_run.specs.Heard.{HasHeard}
-use Rattle.audit_run.specs.Report.{IsReadWhole, IsTaken, WhereTold}
+use Rattle.pc_outside.specs.WhereTold.{WhereTold}
+use Rattle.audit_run.specs.Report.{IsReadWhole, IsTaken}
 use Rattle.audit_run.specs.Texts.{Text, after_lines, big, long, texts_of, texts_within}
 use Rattle.audit_run.specs.declared.auditing.Audited.{Audited}
 use Rattle.audit_run.specs.declared.auditing.Audited.TheVariants as audited

@@ -1,12 +1,12 @@
 -- The lines of all epochs, replayed.
 use Rattle.std.specs.Prelude.{◌≡◌, ℕ, ◌<◌, ◌≤◌, ◌^◌, ◌↔◌, ◌+◌, All, List, [], ◌∷◌, length}
 use Rattle.std.specs.Global.{Vec}
-use Rattle.lawful_run.specs.Order.{Histories}
+use Rattle.lawful_run.specs.Merging.{Histories}
 use Rattle.lawful_run.specs.LinesTold.{LineTold}
 use Rattle.demux.specs.Trace.{Meaning}
 use Rattle.lawful_run.specs.Setup.{Setup}
 use Rattle.report_lines.specs.declared.entry.Entry.{Entry}
-use Rattle.audit_sentences.specs.declared.told.Told.{Told}
+use Rattle.audit_sentences.specs.declared.told_line.ToldLine.{ToldLine}
 use Rattle.audit_sentences.specs.Sentences.{IsFirstBroken, Sentence}
 use Rattle.audit_sentences.specs.Lawful.{AllSentences}
 use Rattle.audit_reading.specs.Holding.{AreKnownTold, EpochsAnswered, epochs_held}

@@ -1,18 +1,12 @@
 -- What an audit wrote, by how it ended.
 use Rattle.std.specs.Prelude.{◌≡◌, ℕ, List, [], ◌++◌, Option, None, Some}
 use Rattle.std.specs.Io.KnownBytes.{Appends}
+use Rattle.pc_outside.specs.WhereTold.{WhereTold}
 use Rattle.lawful_run.specs.Setup.{Setup}
 use Rattle.audit_run.specs.Findings.{Finds, finding_text}
 use Rattle.audit_run.specs.Texts.{big, ended, long, texts_of}
 use Rattle.audit_run.specs.declared.auditing.Audited.{Audited}
 use Rattle.audit_run.specs.declared.auditing.Audited.TheVariants as audited
-
--- This holds of the octets that a source had and of those that it has left. A source that told the former tells
--- the latter too; of one that didn't nothing is said.
-abbrev pub WhereTold : Option (List ℕ) → Option (List ℕ) → (List ℕ → List ℕ → Type 0) → Type 0
-WhereTold None now holds = Unit {0}
-WhereTold (Some octets) None holds = ⊥
-WhereTold (Some octets) (Some left) holds = holds octets left
 
 -- all octets were read, and they end as they should
 abbrev pub IsReadWhole : List ℕ → List ℕ → Type 0

@@ -1,11 +1,11 @@
 -- All epochs, one after another.
 use Rattle.std.specs.Prelude.{◌≡◌, ℕ, ◌+◌, ◌<◌, ◌≤◌, ◌^◌, ◌↔◌, Bool, IsTrue, All, List, []}
 use Rattle.std.specs.Prelude.{◌++◌, length, map}
-use Rattle.lawful_run.specs.Order.{Histories}
+use Rattle.lawful_run.specs.Merging.{Histories}
 use Rattle.lawful_run.specs.Run.{no_events}
 use Rattle.lawful_run.specs.LinesTold.{LineTold}
 use Rattle.audit_sentences.specs.Meant.{lines_of}
-use Rattle.audit_sentences.specs.declared.told.Told.{Told}
+use Rattle.audit_sentences.specs.declared.told_line.ToldLine.{ToldLine}
 use Rattle.audit_sentences.specs.Sentences.{AreNumbered, CountsAreLawful, AreOfTheGateway, WaitsAreLawful, EachEpoch}
 use Rattle.audit_sentences.specs.Sentences.{behind_epochs, made_epochs}
 use Rattle.audit_reading.specs.Agreeing.{IsBySlot}
@@ -40,7 +40,7 @@ pub record RunsFrom (setup : Setup) (slots : ℕ) (all : List (List LineTold)) (
   pub behind : (slot : ℕ) → behind_epochs before left slot ≡ behind_epochs no_events all slot
 
 -- one epoch more may come
-pub record CanTake (run : Run) (lines : List Told) : Type 0 where
+pub record CanTake (run : Run) (lines : List ToldLine) : Type 0 where
   pub few : length run.players.items ≤ 65533
   pub room : AllCanGoOn run.players.items (length lines)
   pub known : AreKnownTold (length run.players.items) (lines_of lines)

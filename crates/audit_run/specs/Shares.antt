@@ -7,7 +7,7 @@ use Rattle.gate_model.specs.SlotPast.{records_made}
 use Rattle.gate_model.specs.declared.event.Event.{Event}
 use Rattle.lawful_run.specs.Accepted.{Placed, commands_before}
 use Rattle.lawful_run.specs.LinesTold.{LineTold, EachLine}
-use Rattle.lawful_run.specs.Order.{events_in}
+use Rattle.lawful_run.specs.Merging.{events_in}
 use Rattle.lawful_run.specs.Outcomes as made_of
 use Rattle.lawful_run.specs.Telling.{reply_told, verdict_told}
 use Rattle.audit_sentences.specs.Meant.{packet_taken}
@@ -31,7 +31,7 @@ pub record MakesOf (played : Played) (slot : ℕ) (before now : List Event) : Ty
 -- where packets are parked, and on one thread handled
 pub record WaitsOf (setup : Setup) (slot commands : ℕ) (all : List LineTold) : Type 0 where
   pub parking : EachLine (ParksWell slot) all
-  pub at_once : IsTrue setup.solo → EachLine (HasAll slot commands) all
+  pub in_sequence : IsTrue setup.solo → EachLine (HasAll slot commands) all
 
 -- what is said of lines alone, behind so many commands and packets of the slot
 pub record LinesHold (setup : Setup) (slot commands packets : ℕ) (all : List LineTold) (held : Held) : Type 0 where

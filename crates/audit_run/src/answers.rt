@@ -3,7 +3,7 @@ ghost use Rattle.std.specs.Prelude.{◌≡◌, ◌≤◌, ◌↔◌, List, drop,
 ghost use Rattle.audit_sentences.specs.Meant.{line_told, lines_of};
 ghost use Rattle.audit_run.specs.Answers.{NextIs, NoneNext, reply_in, verdict_in};
 
-use audit_sentences::Told;
+use audit_sentences::ToldLine;
 use pc_base::{Reply, Verdict};
 use report_lines::{Answer, Judgement, LineEntry};
 
@@ -20,7 +20,7 @@ fn same_verdict(own: &Verdict, told: &Judgement) -> bool
 }
 
 // The place behind the reply that a line tells, if it is the one at this place.
-fn reply_behind(made: &[Reply], at: usize, told: &Told<'_>) -> Option<usize>
+fn reply_behind(made: &[Reply], at: usize, told: &ToldLine<'_>) -> Option<usize>
     requires { at ≤ length made.now }
     ensures some { IfSome result (λ next. NextIs made.now at next (reply_in (line_told told.now))) }
     ensures none { IfNone result (NoneNext made.now at (reply_in (line_told told.now))) }
@@ -40,7 +40,7 @@ fn reply_behind(made: &[Reply], at: usize, told: &Told<'_>) -> Option<usize>
     }
 }
 
-fn verdict_behind(made: &[Verdict], at: usize, told: &Told<'_>) -> Option<usize>
+fn verdict_behind(made: &[Verdict], at: usize, told: &ToldLine<'_>) -> Option<usize>
     requires { at ≤ length made.now }
     ensures some { IfSome result (λ next. NextIs made.now at next (verdict_in (line_told told.now))) }
     ensures none { IfNone result (NoneNext made.now at (verdict_in (line_told told.now))) }
@@ -61,7 +61,7 @@ fn verdict_behind(made: &[Verdict], at: usize, told: &Told<'_>) -> Option<usize>
 }
 
 /// Whether the lines of a slot tell these replies, one by one.
-pub fn replies_hold(made: &[Reply], lines: &[Told<'_>]) -> bool
+pub fn replies_hold(made: &[Reply], lines: &[ToldLine<'_>]) -> bool
     ensures { IsTrue result ↔ (filter_map reply_in (lines_of lines.now) ≡ made.now) }
 {
     let mut at = 0usize;
@@ -75,7 +75,7 @@ pub fn replies_hold(made: &[Reply], lines: &[Told<'_>]) -> bool
 }
 
 /// Whether the lines of a slot tell these verdicts, one by one.
-pub fn verdicts_hold(made: &[Verdict], lines: &[Told<'_>]) -> bool
+pub fn verdicts_hold(made: &[Verdict], lines: &[ToldLine<'_>]) -> bool
     ensures { IsTrue result ↔ (filter_map verdict_in (lines_of lines.now) ≡ made.now) }
 {
     let mut at = 0usize;

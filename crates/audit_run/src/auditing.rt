@@ -8,7 +8,8 @@ ghost use Rattle.audit_reading.specs.Setups.{IsSetup, setup_of};
 ghost use Rattle.audit_run.specs.Findings.{Finds, finding_text};
 ghost use Rattle.audit_run.specs.Heard.{HasHeard};
 ghost use Rattle.audit_run.specs.Progress.{Ends, Reached, ending_as};
-ghost use Rattle.audit_run.specs.Report.{Audits, WhereTold};
+ghost use Rattle.pc_outside.specs.WhereTold.{WhereTold};
+ghost use Rattle.audit_run.specs.Report.{Audits};
 ghost use Rattle.audit_run.specs.Texts.{Text};
 
 use crate::finding::Finding;

@@ -1,7 +1,7 @@
 //! An epoch: its lines slot by slot, and what they lead to.
 ghost use Rattle.std.specs.Prelude.{◌≡◌, ℕ, ◌+◌, ◌<◌, ◌≤◌, ◌^◌, ◌++◌, List, map, length, IfOk, OnOk};
 ghost use Rattle.lawful_run.specs.LinesTold.{LineTold};
-ghost use Rattle.lawful_run.specs.Order.{Histories, behind};
+ghost use Rattle.lawful_run.specs.Merging.{Histories, behind};
 ghost use Rattle.audit_sentences.specs.Meant.{lines_of};
 ghost use Rattle.audit_sentences.specs.OfSlot.{AreAnswered};
 ghost use Rattle.report_lines.specs.declared.entry.ChargeEntry.{ChargeEntry};
@@ -17,7 +17,7 @@ use crate::finding::Held;
 use crate::player::{Done, Player};
 use crate::share::{Shared, share_held};
 use audit_reading::{EffectMade, Setup, refused_where_full};
-use audit_sentences::{Told, by_slot};
+use audit_sentences::{ToldLine, by_slot};
 use charging_book::ChargeRow;
 use pc_base::Slot;
 use report_lines::ChargeEntry;
@@ -95,7 +95,7 @@ fn slots_held(
     alloc: Global,
     setup: &Setup,
     players: &mut Vec<Player>,
-    shares: &[Vec<Told<'_>>],
+    shares: &[Vec<ToldLine<'_>>],
 ) -> Result<Replayed, NoMemory>
     requires few { length players.old.items ≤ 65533 }
     requires room { CanHold players.old.items shares.now }
@@ -123,7 +123,7 @@ pub(crate) fn epoch_held(
     alloc: Global,
     setup: &Setup,
     players: &mut Vec<Player>,
-    lines: &[Told<'_>],
+    lines: &[ToldLine<'_>],
 ) -> Result<Replayed, NoMemory>
     requires few { length players.old.items ≤ 65533 }
     requires room { AllCanGoOn players.old.items (length lines.now) }

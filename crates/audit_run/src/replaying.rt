@@ -4,7 +4,7 @@ ghost use Rattle.std.specs.Prelude.{List, length, map, IfOk, OnOk};
 ghost use Rattle.demux.specs.Trace.{Meaning, book_of};
 ghost use Rattle.lawful_run.specs.Setup.{slices_of};
 ghost use Rattle.lawful_run.specs.LinesTold.{LineTold};
-ghost use Rattle.lawful_run.specs.Order.{Histories, behind};
+ghost use Rattle.lawful_run.specs.Merging.{Histories, behind};
 ghost use Rattle.lawful_run.specs.Outcomes.{opens};
 ghost use Rattle.lawful_run.specs.Run.{by_slot, no_events};
 ghost use Rattle.lawful_run.specs.Trace.{epochs_told};
@@ -28,7 +28,7 @@ use crate::epoch::epoch_held;
 use crate::finding::{Finding, Held};
 use crate::player::Player;
 use audit_reading::{BadAt, EpochMade, Setup, answered, charges_hold, in_order, trace_of};
-use audit_sentences::{Meant, Told, sentences_are_the_run};
+use audit_sentences::{Meant, ToldLine, sentences_are_the_run};
 use charging_book::Open;
 use pc_base::Slot;
 use report_lines::{ChargeEntry, Entry};
@@ -90,7 +90,12 @@ impl<'m> Run<'m> {
     }
 
     // One epoch more.
-    fn take(&mut self, alloc: Global, setup: &Setup, lines: &'m [Told<'m>]) -> Result<(), NoMemory>
+    fn take(
+        &mut self,
+        alloc: Global,
+        setup: &Setup,
+        lines: &'m [ToldLine<'m>],
+    ) -> Result<(), NoMemory>
         requires { CanTake self.old lines.now }
 
         ensures runs { (slots first : ℕ) (all left : List (List LineTold)) (before : Histories)
@@ -135,7 +140,7 @@ fn replay<'m>(
     alloc: Global,
     setup: &Setup,
     slots: u32,
-    epochs: &'m [Vec<Told<'m>>],
+    epochs: &'m [Vec<ToldLine<'m>>],
 ) -> Result<Run<'m>, NoMemory>
     requires { CanReplay slots (epochs_held epochs.now) }
     ensures { IfOk result (λ run. HasRun setup.now slots (epochs_held epochs.now) run) }
@@ -152,7 +157,7 @@ fn found_in<'m>(
     alloc: Global,
     setup: &Setup,
     slots: u32,
-    epochs: &'m [Vec<Told<'m>>],
+    epochs: &'m [Vec<ToldLine<'m>>],
     entries: &[Entry],
 ) -> Result<Finding, NoMemory>
     requires can { CanReplay slots (epochs_held epochs.now) }

@@ -4,7 +4,7 @@ ghost use Rattle.std.specs.Prelude.{filter_map, length, IfOk, IsTrue, OnOk};
 ghost use Rattle.gate_model.specs.declared.event.Event.{Event};
 ghost use Rattle.lawful_run.specs.Accepted.{commands_before};
 ghost use Rattle.lawful_run.specs.LinesTold.{EachLine, LineTold};
-ghost use Rattle.lawful_run.specs.Order.{events_in};
+ghost use Rattle.lawful_run.specs.Merging.{events_in};
 ghost use Rattle.audit_sentences.specs.Meant.{command_taken, line_told, lines_of, share};
 ghost use Rattle.audit_sentences.specs.OfSlot.{AreAnswered, HasAll};
 ghost use Rattle.audit_run.specs.Playing.{CanGoOn, HasPlayed, commands_lent, placed_lent};
@@ -16,7 +16,9 @@ use crate::answers::{replies_hold, verdicts_hold};
 use crate::finding::Held;
 use crate::player::{Done, Placed, Played, Player};
 use audit_reading::Setup;
-use audit_sentences::{Told, are_numbered_on, counts_at_once, counts_rise, parked_behind_moves};
+use audit_sentences::{
+    ToldLine, are_numbered_on, counts_in_sequence, counts_rise, parked_behind_moves,
+};
 use charging_book::ChargeRow;
 use control_steps::Command;
 use report_lines::LineEntry;
@@ -30,7 +32,7 @@ pub(crate) struct Shared {
     pub rows: Vec<ChargeRow>,
 }
 
-fn push_command<'a>(all: &mut Vec<&'a Command>, told: &Told<'a>) -> Result<(), NoMemory>
+fn push_command<'a>(all: &mut Vec<&'a Command>, told: &ToldLine<'a>) -> Result<(), NoMemory>
     ensures { OnOk result (commands_lent all.new.items
         ≡ commands_lent all.old.items ++ filter_map command_taken (line_told told.now ∷ [])) }
 {
@@ -40,7 +42,10 @@ fn push_command<'a>(all: &mut Vec<&'a Command>, told: &Told<'a>) -> Result<(), N
     }
 }
 
-fn commands_accepted<'a>(alloc: Global, lines: &[Told<'a>]) -> Result<Vec<&'a Command>, NoMemory>
+fn commands_accepted<'a>(
+    alloc: Global,
+    lines: &[ToldLine<'a>],
+) -> Result<Vec<&'a Command>, NoMemory>
     ensures { IfOk result (λ commands. commands_lent commands.items ≡ filter_map command_taken (lines_of lines.now)) }
 {
     let mut commands = Vec::new(alloc);
@@ -59,7 +64,7 @@ fn commands_told(entry: &LineEntry) -> u64
     }
 }
 
-fn push_packet<'a>(all: &mut Vec<Placed<'a>>, told: &Told<'a>) -> Result<(), NoMemory>
+fn push_packet<'a>(all: &mut Vec<Placed<'a>>, told: &ToldLine<'a>) -> Result<(), NoMemory>
     ensures { OnOk result (placed_lent all.new.items
         ≡ placed_lent all.old.items ++ filter_map placed_in (line_told told.now ∷ [])) }
 {
@@ -72,7 +77,7 @@ fn push_packet<'a>(all: &mut Vec<Placed<'a>>, told: &Told<'a>) -> Result<(), NoM
     }
 }
 
-fn packets_accepted<'a>(alloc: Global, lines: &[Told<'a>]) -> Result<Vec<Placed<'a>>, NoMemory>
+fn packets_accepted<'a>(alloc: Global, lines: &[ToldLine<'a>]) -> Result<Vec<Placed<'a>>, NoMemory>
     ensures { IfOk result (λ packets. placed_lent packets.items ≡ filter_map placed_in (lines_of lines.now)) }
 {
     let mut packets = Vec::new(alloc);
@@ -83,7 +88,11 @@ fn packets_accepted<'a>(alloc: Global, lines: &[Told<'a>]) -> Result<Vec<Placed<
 }
 
 // Plays what the lines of a slot bring.
-fn play_lines(alloc: Global, player: &mut Player, lines: &[Told<'_>]) -> Result<Played, NoMemory>
+fn play_lines(
+    alloc: Global,
+    player: &mut Player,
+    lines: &[ToldLine<'_>],
+) -> Result<Played, NoMemory>
     requires { CanGoOn player.old (length lines.now) }
 
     ensures led { (slot : ℕ) (before : List Event) (all : List LineTold) → HasPlayed player.old slot before
@@ -101,29 +110,29 @@ fn play_lines(alloc: Global, player: &mut Player, lines: &[Told<'_>]) -> Result<
     Ok(played)
 }
 
-// Whether each packet has just the commands before its line, where one thread does each line at once.
-fn at_once(setup: &Setup, commands: u64, lines: &[Told<'_>]) -> bool
+// Whether each packet has just the commands before its line, where the gateway is sequential.
+fn in_sequence(setup: &Setup, commands: u64, lines: &[ToldLine<'_>]) -> bool
     requires { commands + length lines.now < 2 ^ 64 }
     ensures { (slot first : ℕ) (all : List LineTold) → AreAnswered first all → lines_of lines.now ≡ share slot all
         → (IsTrue result ↔ (IsTrue setup.now.solo → EachLine (HasAll slot commands) all)) }
 {
     if setup.solo {
-        counts_at_once(commands, lines)
+        counts_in_sequence(commands, lines)
     } else {
         true
     }
 }
 
-fn waits_hold(setup: &Setup, commands: u64, lines: &[Told<'_>]) -> bool
+fn waits_hold(setup: &Setup, commands: u64, lines: &[ToldLine<'_>]) -> bool
     requires { commands + length lines.now < 2 ^ 64 }
     ensures { (slot first : ℕ) (all : List LineTold) → AreAnswered first all → lines_of lines.now ≡ share slot all
         → (IsTrue result ↔ WaitsOf setup.now slot commands all) }
 {
-    parked_behind_moves(lines) && at_once(setup, commands, lines)
+    parked_behind_moves(lines) && in_sequence(setup, commands, lines)
 }
 
 // What holds of the lines alone, behind so many commands and packets of the slot.
-fn lines_hold(setup: &Setup, commands: u64, packets: u64, lines: &[Told<'_>]) -> Held
+fn lines_hold(setup: &Setup, commands: u64, packets: u64, lines: &[ToldLine<'_>]) -> Held
     requires commands { commands + length lines.now < 2 ^ 64 }
     requires packets { packets + length lines.now < 2 ^ 64 }
     ensures { (slot first : ℕ) (all : List LineTold) → AreAnswered first all → lines_of lines.now ≡ share slot all
@@ -137,7 +146,7 @@ fn lines_hold(setup: &Setup, commands: u64, packets: u64, lines: &[Told<'_>]) ->
     }
 }
 
-fn answers_hold(played: &Played, lines: &[Told<'_>]) -> bool
+fn answers_hold(played: &Played, lines: &[ToldLine<'_>]) -> bool
     ensures { IsTrue result ↔ ((filter_map reply_in (lines_of lines.now) ≡ played.now.replies.items)
         × (filter_map verdict_in (lines_of lines.now) ≡ played.now.verdicts.items)) }
 {
@@ -149,7 +158,7 @@ pub(crate) fn share_held(
     alloc: Global,
     setup: &Setup,
     player: &mut Player,
-    lines: &[Told<'_>],
+    lines: &[ToldLine<'_>],
 ) -> Result<Shared, NoMemory>
     requires { CanGoOn player.old (length lines.now) }
 

@@ -5,11 +5,11 @@ use Rattle.std.specs.List.{cons_option}
 use Rattle.std.proofs.lemmas.Bool.{and_parts, and_from, leb-true, le-leb, eqb-true, eq-eqb}
 use Rattle.std.proofs.lemmas.List.Elements.{filter_map-append}
 use Rattle.control_steps.specs.declared.command.CommandKind.{CommandKind}
-use Rattle.report_lines.specs.Records.{Answered, Judged}
+use Rattle.report_lines.specs.Records.{Answered, PacketTold}
 use Rattle.report_lines.specs.declared.entry.LineEntry.{LineEntry}
 use Rattle.report_lines.specs.declared.entry.LineEntry.TheVariants as line
 use Rattle.lawful_run.specs.Accepted.{Placed, accepted_command, command_count}
-use Rattle.audit_sentences.specs.Counts.{has_all, at_once_on, counts_on, is_above, last_behind}
+use Rattle.audit_sentences.specs.Counts.{has_all, in_sequence_on, counts_on, is_above, last_behind}
 use Rattle.lawful_run.specs.LinesTold.{LineTold, EachFrom}
 use Rattle.audit_sentences.specs.Meant.{is_about, is_move, share}
 use Rattle.lawful_run.specs.Moves.{moves, before_last_move, before_next_move}
@@ -178,7 +178,7 @@ module _ (slot start : ℕ) (front : List LineTold) (now : LineTold) (later : Li
             }))),
       )
 
-  with_packet : (j : Judged) (p : Placed) → now.entry ≡ line.P j → is_move now.meaning ≡ false
+  with_packet : (j : PacketTold) (p : Placed) → now.entry ≡ line.P j → is_move now.meaning ≡ false
       → Tells slot now true false None (Some j) None (Some p) → Goes done least j.commands → GoesNow
   with_packet j p is stays tells holds =
       let same = is_first slot done least last now later (line.P j) false tells.about_is is stays in
@@ -259,24 +259,24 @@ counts_hold n slot start lines answers =
 -- each packet has all commands before it
 module _ (slot start : ℕ) (front : List LineTold) (now : LineTold) (later : List LineTold) (done : ℕ) where
   abbrev AllNow : Type 0
-  AllNow = (at_once_on done (share slot (now ∷ later)) ≡ true) ↔ EachFrom (HasAll slot start) front (now ∷ later)
+  AllNow = (in_sequence_on done (share slot (now ∷ later)) ≡ true) ↔ EachFrom (HasAll slot start) front (now ∷ later)
 
   abbrev AllLater : ℕ → Type 0
-  AllLater d = (at_once_on d (share slot later) ≡ true) ↔ EachFrom (HasAll slot start) (front ++ now ∷ []) later
+  AllLater d = (in_sequence_on d (share slot later) ≡ true) ↔ EachFrom (HasAll slot start) (front ++ now ∷ []) later
 
   no_packet : (d : ℕ) → commands_told slot now.entry ≡ None
-      → at_once_on done (share slot (now ∷ later)) ≡ at_once_on d (share slot later) → AllLater d → AllNow
+      → in_sequence_on done (share slot (now ∷ later)) ≡ in_sequence_on d (share slot later) → AllLater d → AllNow
   no_packet d none same holds = along same holds (
     (λ each. each.1),
     (λ rest. (subst (λ x. IfSome x (λ count. count ≡ start + command_count slot front)) (sym none) tt, rest)),
   )
 
-  a_packet : (j : Judged) → done ≡ start + command_count slot front → commands_told slot now.entry ≡ Some j.commands
-      → at_once_on done (share slot (now ∷ later)) ≡ ((j.commands == done) && at_once_on done (share slot later))
+  a_packet : (j : PacketTold) → done ≡ start + command_count slot front → commands_told slot now.entry ≡ Some j.commands
+      → in_sequence_on done (share slot (now ∷ later)) ≡ ((j.commands == done) && in_sequence_on done (share slot later))
       → AllLater done → AllNow
   a_packet j counted told same holds = (
     (λ yes.
-        let parts = and_parts (j.commands == done) (at_once_on done (share slot later)) (sym same ∙ yes) in (
+        let parts = and_parts (j.commands == done) (in_sequence_on done (share slot later)) (sym same ∙ yes) in (
           subst (λ x. IfSome x (λ count. count ≡ start + command_count slot front)) (sym told)
               (eqb-true j.commands done parts.0 ∙ counted),
           holds.0 parts.1,
@@ -284,26 +284,26 @@ module _ (slot start : ℕ) (front : List LineTold) (now : LineTold) (later : Li
     (λ each.
         let count : j.commands ≡ start + command_count slot front =
         subst (λ x. IfSome x (λ count. count ≡ start + command_count slot front)) told each.0 in
-        same ∙ and_from (j.commands == done) (at_once_on done (share slot later))
+        same ∙ and_from (j.commands == done) (in_sequence_on done (share slot later))
         (eq-eqb j.commands done (count ∙ sym counted)) (holds.1 each.1)),
   )
 
 once_not_about : (slot done : ℕ) (now : LineTold) (later : List LineTold) → is_about slot now ≡ false
-    → at_once_on done (share slot (now ∷ later)) ≡ at_once_on done (share slot later)
+    → in_sequence_on done (share slot (now ∷ later)) ≡ in_sequence_on done (share slot later)
 once_not_about slot done now later there =
-    ap (λ test. at_once_on done (cond test (now ∷ share slot later) (share slot later))) there
+    ap (λ test. in_sequence_on done (cond test (now ∷ share slot later) (share slot later))) there
 
 once_first : (slot done : ℕ) (now : LineTold) (later : List LineTold) (entry : LineEntry)
     → is_about slot now ≡ true → now.entry ≡ entry
-    → at_once_on done (share slot (now ∷ later))
-    ≡ (has_all done entry && at_once_on (commands_behind done entry) (share slot later))
+    → in_sequence_on done (share slot (now ∷ later))
+    ≡ (has_all done entry && in_sequence_on (commands_behind done entry) (share slot later))
 once_first slot done now later entry here is =
-    ap (λ test. at_once_on done (cond test (now ∷ share slot later) (share slot later))) here
-    ∙ ap (λ e. has_all done e && at_once_on (commands_behind done e) (share slot later)) is
+    ap (λ test. in_sequence_on done (cond test (now ∷ share slot later) (share slot later))) here
+    ∙ ap (λ e. has_all done e && in_sequence_on (commands_behind done e) (share slot later)) is
 
 all_hold : (n slot start : ℕ) (front : List LineTold) (done : ℕ) (lines : List LineTold)
     → AreAnswered n lines → done ≡ start + command_count slot front
-    → (at_once_on done (share slot lines) ≡ true) ↔ EachFrom (HasAll slot start) front lines
+    → (in_sequence_on done (share slot lines) ≡ true) ↔ EachFrom (HasAll slot start) front lines
 all_hold n slot start front done [] answers counted = ((λ yes. tt), (λ each. refl))
 all_hold n slot start front done (now ∷ later) answers counted =
     let more = count_push slot front now in
@@ -328,6 +328,6 @@ all_hold n slot start front done (now ∷ later) answers counted =
           (once_first slot done now later (line.F r) tells.about_is is) (rest done (same tells.accepted_is))
     ]
 
-pub all_at_once : (n slot start : ℕ) (lines : List LineTold) → AreAnswered n lines
-    → (at_once_on start (share slot lines) ≡ true) ↔ EachFrom (HasAll slot start) [] lines
-all_at_once n slot start lines answers = all_hold n slot start [] start lines answers (omega arith)
+pub all_in_sequence : (n slot start : ℕ) (lines : List LineTold) → AreAnswered n lines
+    → (in_sequence_on start (share slot lines) ≡ true) ↔ EachFrom (HasAll slot start) [] lines
+all_in_sequence n slot start lines answers = all_hold n slot start [] start lines answers (omega arith)

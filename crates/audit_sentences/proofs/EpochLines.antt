@@ -9,7 +9,7 @@ use Rattle.report_lines.specs.declared.entry.LineEntry.{LineEntry}
 use Rattle.lawful_run.specs.Answers.{AnswersAll}
 use Rattle.lawful_run.specs.Setup.{Setup}
 use Rattle.lawful_run.specs.LinesTold.{LineTold, lines_told}
-use Rattle.lawful_run.specs.Order.{Histories, behind}
+use Rattle.lawful_run.specs.Merging.{Histories, behind}
 use Rattle.lawful_run.specs.Report.{EpochReport}
 use Rattle.lawful_run.specs.Run.{told_in, IsEpochRun, AreEpochRuns, behind_all}
 use Rattle.audit_sentences.specs.Entries.{all_lines, cut}

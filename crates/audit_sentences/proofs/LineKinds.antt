@@ -3,7 +3,7 @@ use Rattle.std.proofs.Common.{◌≡◌, ℕ, ◌+◌, ◌==◌, Bool, true, fal
 use Rattle.std.specs.List.{filter_map, cons_option}
 use Rattle.std.specs.Option.{option_map}
 use Rattle.control_steps.specs.declared.command.CommandKind.{CommandKind}
-use Rattle.report_lines.specs.Records.{Noted, Answered, Judged}
+use Rattle.report_lines.specs.Records.{Noted, Answered, PacketTold}
 use Rattle.report_lines.specs.declared.entry.LineEntry.{LineEntry}
 use Rattle.report_lines.specs.declared.entry.LineEntry.TheVariants as line
 use Rattle.report_lines.specs.declared.entry.Refusal.{Refusal}
@@ -19,16 +19,16 @@ use Rattle.lawful_run.specs.Parking.{parked_told}
 use Rattle.lawful_run.specs.Telling.{command_number, reply_told, packet_number, commands_told, verdict_told}
 
 -- the answer, the verdict, the accepted command and packet
-pub record Tells (slot : ℕ) (told : LineTold) (about moved : Bool) (answer : Option Answered) (verdict : Option Judged)
+pub record Tells (slot : ℕ) (told : LineTold) (about moved : Bool) (answer : Option Answered) (verdict : Option PacketTold)
     (accepted : Option CommandKind) (placed : Option Placed) : Type 0 where
   pub about_is : is_about slot told ≡ about
   pub moves_is : moves slot told ≡ moved
   pub command_number_is : command_number slot told.entry ≡ option_map (λ (a : Answered). a.number) answer
   pub reply_is : reply_told slot told.entry ≡ option_map (λ (a : Answered). a.reply) answer
-  pub packet_number_is : packet_number slot told.entry ≡ option_map (λ (j : Judged). j.number) verdict
-  pub commands_is : commands_told slot told.entry ≡ option_map (λ (j : Judged). j.commands) verdict
-  pub verdict_is : verdict_told slot told.entry ≡ option_map (λ (j : Judged). j.verdict) verdict
-  pub parked_is : parked_told slot told ≡ option_map (λ (j : Judged). j.parked) verdict
+  pub packet_number_is : packet_number slot told.entry ≡ option_map (λ (j : PacketTold). j.number) verdict
+  pub commands_is : commands_told slot told.entry ≡ option_map (λ (j : PacketTold). j.commands) verdict
+  pub verdict_is : verdict_told slot told.entry ≡ option_map (λ (j : PacketTold). j.verdict) verdict
+  pub parked_is : parked_told slot told ≡ option_map (λ (j : PacketTold). j.parked) verdict
   pub accepted_is : accepted_command slot told ≡ accepted
   pub placed_is : accepted_packet slot told ≡ placed
 
@@ -38,7 +38,7 @@ pub data KindOf (slot : ℕ) (told : LineTold) : Type 0 where
       → Tells slot told true true None None None None → KindOf slot told
   answered : (a : Answered) (c : CommandKind) → told.entry ≡ line.C a → is_move told.meaning ≡ false
       → Tells slot told true false (Some a) None (Some c) None → KindOf slot told
-  judged : (j : Judged) (p : LentPacket) → told.entry ≡ line.P j → is_move told.meaning ≡ false
+  judged : (j : PacketTold) (p : LentPacket) → told.entry ≡ line.P j → is_move told.meaning ≡ false
       → Tells slot told true false None (Some j) None (Some (record { commands = j.commands; packet = p }))
       → KindOf slot told
   refused : (r : Refusal) → told.entry ≡ line.F r → is_move told.meaning ≡ false
@@ -105,7 +105,7 @@ of_answer slot own c a false there same =
 abbrev place : ℕ → Option LentPacket → Option Placed
 place count = option_map (λ (p : LentPacket). record { commands = count; packet = p })
 
-of_verdict : (slot own : ℕ) (p : LentPacket) (j : Judged) (test : Bool) → (own == slot) ≡ test → j.slot ≡ own
+of_verdict : (slot own : ℕ) (p : LentPacket) (j : PacketTold) (test : Bool) → (own == slot) ≡ test → j.slot ≡ own
     → KindOf slot (record { meaning = packet own p; entry = line.P j })
 of_verdict slot own p j true here same =
     let its : (j.slot == slot) ≡ true = ap (λ s. s == slot) same ∙ here in

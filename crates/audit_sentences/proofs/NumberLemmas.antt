@@ -3,7 +3,7 @@ use Rattle.std.proofs.Common.{◌≡◌, ℕ, ◌+◌, ◌==◌, ◌&&◌, ◌�
 use Rattle.std.specs.List.{cons_option}
 use Rattle.std.proofs.lemmas.Bool.{and_parts, and_from, eqb-true, eq-eqb}
 use Rattle.control_steps.specs.declared.command.CommandKind.{CommandKind}
-use Rattle.report_lines.specs.Records.{Answered, Judged}
+use Rattle.report_lines.specs.Records.{Answered, PacketTold}
 use Rattle.report_lines.specs.declared.entry.LineEntry.{LineEntry}
 use Rattle.report_lines.specs.declared.entry.LineEntry.TheVariants as line
 use Rattle.lawful_run.specs.Accepted.{Placed, commands_accepted, packets_accepted}
@@ -104,7 +104,7 @@ module _ (slot commands packets : ℕ) (now : LineTold) (later : List LineTold) 
             (holds.1 (record { of_commands = rest; of_packets = sym told_none ∙ goes.of_packets ∙ taken_none }))),
       )
 
-  with_packet : (j : Judged) (p : Placed) → now.entry ≡ line.P j
+  with_packet : (j : PacketTold) (p : Placed) → now.entry ≡ line.P j
       → Tells slot now true false None (Some j) None (Some p)
       → Goes commands (packets + 1)
       → (number_on commands packets (share slot (now ∷ later)) ≡ true) ↔ NumberOn slot commands packets (now ∷ later)

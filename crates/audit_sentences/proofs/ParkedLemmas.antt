@@ -3,7 +3,7 @@ use Rattle.std.proofs.Common.{◌≡◌, ℕ, ◌+◌, ◌&&◌, ◌||◌, ◌�
 use Rattle.std.specs.List.{filter_map, cons_option}
 use Rattle.std.proofs.lemmas.Bool.{and_parts, and_from}
 use Rattle.std.proofs.lemmas.List.Elements.{filter_map-append, All-nil, All-cons, All-append, All-head, All-tail}
-use Rattle.report_lines.specs.Records.{Judged}
+use Rattle.report_lines.specs.Records.{PacketTold}
 use Rattle.report_lines.specs.declared.entry.LineEntry.{LineEntry}
 use Rattle.report_lines.specs.declared.entry.LineEntry.TheVariants as line
 use Rattle.lawful_run.specs.LinesTold.{LineTold, EachFrom}
@@ -125,7 +125,7 @@ module _ (slot : ℕ) (front : List LineTold) (may : Bool) (now : LineTold) (lat
     (λ rest. (subst (λ x. IfSome x (λ parked. MayPark parked slot front)) (sym none) tt, rest)),
   )
 
-  parks : (j : Judged) (parked : Bool) → j.parked ≡ parked → now.entry ≡ line.P j → is_move now.meaning ≡ false
+  parks : (j : PacketTold) (parked : Bool) → j.parked ≡ parked → now.entry ≡ line.P j → is_move now.meaning ≡ false
       → is_about slot now ≡ true → moves slot now ≡ false → parked_told slot now ≡ Some j.parked
       → ((Known j.parked slot (front ++ now ∷ [])) → Goes j.parked) → GoesNow
   parks j true is_parked is stays here unmoved told holds =

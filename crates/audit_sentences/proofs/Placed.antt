@@ -13,7 +13,7 @@ use Rattle.report_lines.specs.declared.entry.LineEntry.{LineEntry}
 use Rattle.gate_model.specs.SlotPast.{records_made}
 use Rattle.lawful_run.specs.Answers.{AnswersAll}
 use Rattle.lawful_run.specs.Setup.{Setup}
-use Rattle.lawful_run.specs.Order.{Histories, behind}
+use Rattle.lawful_run.specs.Merging.{Histories, behind}
 use Rattle.lawful_run.specs.Outcomes as made_of
 use Rattle.lawful_run.specs.Report.{EpochReport, epoch_entries}
 use Rattle.lawful_run.specs.Run.{told_in, AreEpochRuns, by_slot, events_now, no_events}

@@ -14,12 +14,12 @@ use Rattle.lawful_run.specs.Answers.{AnswersAll}
 use Rattle.lawful_run.specs.Bounds.{MeetsBounds, MeetsAs}
 use Rattle.lawful_run.specs.Setup.{Setup, solo, sliced}
 use Rattle.lawful_run.specs.LinesTold.{LineTold}
-use Rattle.lawful_run.specs.Order.{Histories}
+use Rattle.lawful_run.specs.Merging.{Histories}
 use Rattle.lawful_run.specs.Outcomes as made_of
 use Rattle.lawful_run.specs.Report.{EpochReport, Report, entries_of}
 use Rattle.lawful_run.specs.Run.{told_in, IsEpochRun, IsRun, by_slot, no_events, behind_all}
 use Rattle.lawful_run.specs.Telling.{reply_told, verdict_told}
-use Rattle.lawful_run.proofs.Lawful.{each_gives, meets_at_once}
+use Rattle.lawful_run.proofs.Lawful.{each_gives, meets_in_sequence}
 use Rattle.audit_sentences.proofs.LineKinds.{told_entries}
 use Rattle.audit_sentences.proofs.TogetherLemmas.{numbers_of_slots, counts_of_slots}
 use Rattle.audit_sentences.specs.Entries.{line_entries, in_line_order, cut, all_lines, effects_told, rows_told, opens_told, slot_charged}
@@ -81,7 +81,7 @@ solo_within : (start : Histories) (before : List LineTold) (entry : LineEntry) (
 solo_within start before (line.N noted) later meets = tt
 solo_within start before (line.C answered) later meets = tt
 solo_within start before (line.P judged) later meets =
-    meets_at_once (sliced 1 1 1) start judged.slot before later judged.commands meets
+    meets_in_sequence (sliced 1 1 1) start judged.slot before later judged.commands meets
 solo_within start before (line.F refused) later meets = tt
 
 counts_there : (setup : Setup) (slots first : ℕ) (before : Histories) (now : List Meaning) (told : EpochReport)

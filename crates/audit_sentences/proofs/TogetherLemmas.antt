@@ -4,14 +4,14 @@ use Rattle.std.proofs.lemmas.Bool.{eqb-true, eq-eqb}
 use Rattle.demux.specs.Trace.{Meaning}
 use Rattle.report_lines.specs.declared.entry.LineEntry.{LineEntry}
 use Rattle.report_lines.specs.declared.entry.LineEntry.TheVariants as line
-use Rattle.lawful_run.specs.Bounds.{MeetsBounds, MeetsAs, Rises, count_before, count_at_once}
+use Rattle.lawful_run.specs.Bounds.{MeetsBounds, MeetsAs, Rises, count_before, count_in_sequence}
 use Rattle.lawful_run.specs.Setup.{solo, sliced}
 use Rattle.lawful_run.specs.LinesTold.{LineTold, lines_told, EachFrom}
-use Rattle.lawful_run.specs.Order.{Histories}
+use Rattle.lawful_run.specs.Merging.{Histories}
 use Rattle.lawful_run.specs.Parking.{ParkedBehindMoves, ParkedAs, MayPark, parked_by}
 use Rattle.lawful_run.specs.Telling.{command_number, packet_number, commands_told}
 use Rattle.audit_sentences.specs.OfSlot.{Within, LiesWithin, HasAll, ParksWell}
-use Rattle.audit_sentences.specs.Together.{NumbersAreOfSlots, CountsAreOfSlots, AtOnceIsOfSlots, ParkingIsOfSlots}
+use Rattle.audit_sentences.specs.Together.{NumbersAreOfSlots, CountsAreOfSlots, InSequenceIsOfSlots, ParkingIsOfSlots}
 use Rattle.audit_sentences.proofs.LineKinds.{told_entries}
 
 -- of one line, by its own slot
@@ -86,25 +86,25 @@ counts_of_slots slices room lane start first made entries answers =
 -- on one thread
 once_there : (start : Histories) (before : List LineTold) (entry : LineEntry) (later : List LineTold)
     → MeetsAs solo start before entry later → (slot : ℕ)
-    → IfSome (commands_told slot entry) (λ count. count ≡ count_at_once start slot before)
+    → IfSome (commands_told slot entry) (λ count. count ≡ count_in_sequence start slot before)
 once_there start before (line.N noted) later holds slot = tt
 once_there start before (line.C answered) later holds slot = tt
 once_there start before (line.P judged) later holds slot =
-    own_one (λ s count. count ≡ count_at_once start s before) judged.slot slot judged.commands (judged.slot == slot)
+    own_one (λ s count. count ≡ count_in_sequence start s before) judged.slot slot judged.commands (judged.slot == slot)
     refl holds
 once_there start before (line.F refused) later holds slot = tt
 
 once_back : (start : Histories) (before : List LineTold) (entry : LineEntry) (later : List LineTold)
-    → ((slot : ℕ) → IfSome (commands_told slot entry) (λ count. count ≡ count_at_once start slot before))
+    → ((slot : ℕ) → IfSome (commands_told slot entry) (λ count. count ≡ count_in_sequence start slot before))
     → MeetsAs solo start before entry later
 once_back start before (line.N noted) later holds = tt
 once_back start before (line.C answered) later holds = tt
 once_back start before (line.P judged) later holds =
-    own_back (λ s count. count ≡ count_at_once start s before) judged.slot judged.commands (holds judged.slot)
+    own_back (λ s count. count ≡ count_in_sequence start s before) judged.slot judged.commands (holds judged.slot)
 once_back start before (line.F refused) later holds = tt
 
-pub at_once_of_slots : AtOnceIsOfSlots
-at_once_of_slots start lines =
+pub in_sequence_of_slots : InSequenceIsOfSlots
+in_sequence_of_slots start lines =
     let P = MeetsBounds solo start in
     let Q = λ (slot : ℕ). HasAll slot (count_before start slot) in
     let there =

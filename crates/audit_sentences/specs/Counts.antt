@@ -40,6 +40,6 @@ has_all done (line.C answered) = true
 has_all done (line.P judged) = judged.commands == done
 has_all done (line.F refused) = true
 
-abbrev pub at_once_on : ℕ → List LineTold → Bool
-at_once_on done [] = true
-at_once_on done (now ∷ later) = has_all done now.entry && at_once_on (commands_behind done now.entry) later
+abbrev pub in_sequence_on : ℕ → List LineTold → Bool
+in_sequence_on done [] = true
+in_sequence_on done (now ∷ later) = has_all done now.entry && in_sequence_on (commands_behind done now.entry) later

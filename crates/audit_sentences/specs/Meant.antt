@@ -6,7 +6,7 @@ use Rattle.demux.specs.Trace.{Meaning, command, packet, move, note}
 use Rattle.lawful_run.specs.Accepted.{is_refused}
 use Rattle.lawful_run.specs.LinesTold.{LineTold}
 use Rattle.audit_sentences.specs.declared.meaning.Meant.{Meant}
-use Rattle.audit_sentences.specs.declared.told.Told.{Told}
+use Rattle.audit_sentences.specs.declared.told_line.ToldLine.{ToldLine}
 use Rattle.audit_sentences.specs.declared.meaning.Meant.TheVariants.{Command, Packet, Move, Note}
 
 abbrev pub meaning_of : Meant → Meaning
@@ -16,10 +16,10 @@ meaning_of (Move slot slice text) = move slot slice text
 meaning_of (Note text) = note text
 
 -- a line of the trace with its entry, as the program holds them
-abbrev pub line_told : Told → LineTold
+abbrev pub line_told : ToldLine → LineTold
 line_told told = record { meaning = meaning_of told.meant.now; entry = told.entry.now }
 
-abbrev pub lines_of : List Told → List LineTold
+abbrev pub lines_of : List ToldLine → List LineTold
 lines_of lines = map line_told lines
 
 -- the slot that a line is about

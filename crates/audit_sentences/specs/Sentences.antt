@@ -10,7 +10,7 @@ use Rattle.lawful_run.specs.Answers.{AnswersAll}
 use Rattle.lawful_run.specs.Bounds.{MeetsBounds, count_before}
 use Rattle.lawful_run.specs.Setup.{Setup}
 use Rattle.lawful_run.specs.LinesTold.{LineTold, EachLine}
-use Rattle.lawful_run.specs.Order.{Histories, events_in, behind}
+use Rattle.lawful_run.specs.Merging.{Histories, events_in, behind}
 use Rattle.lawful_run.specs.Outcomes as made_of
 use Rattle.lawful_run.specs.Parking.{ParkedBehindMoves}
 use Rattle.lawful_run.specs.Refusals.{RefusedWhereFull}

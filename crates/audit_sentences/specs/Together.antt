@@ -8,7 +8,7 @@ use Rattle.lawful_run.specs.Answers.{AnswersAll}
 use Rattle.lawful_run.specs.Bounds.{MeetsBounds, Rises, count_before}
 use Rattle.lawful_run.specs.Setup.{solo, sliced}
 use Rattle.lawful_run.specs.LinesTold.{LineTold, lines_told, EachLine}
-use Rattle.lawful_run.specs.Order.{Histories}
+use Rattle.lawful_run.specs.Merging.{Histories}
 use Rattle.lawful_run.specs.Parking.{ParkedBehindMoves}
 use Rattle.lawful_run.specs.Telling.{command_number, packet_number, commands_told, counted}
 use Rattle.audit_sentences.specs.OfSlot.{NumberOn, CountsRise, HasAll, ParksWell}
@@ -41,8 +41,8 @@ CountsAreOfSlots =
     ↔ ((slot : ℕ) → CountsRise slot (count_before before slot) (lines_told made entries))
 
 -- how they do on one thread
-abbrev pub AtOnceIsOfSlots : Type 0
-AtOnceIsOfSlots = (before : Histories) (lines : List LineTold)
+abbrev pub InSequenceIsOfSlots : Type 0
+InSequenceIsOfSlots = (before : Histories) (lines : List LineTold)
     → EachLine (MeetsBounds solo before) lines
     ↔ ((slot : ℕ) → EachLine (HasAll slot (count_before before slot)) lines)
 

@@ -5,20 +5,20 @@ ghost use Rattle.std.specs.Prelude.{◌≡◌, ℕ, ◌+◌, ◌<◌, ◌^◌, �
 ghost use Rattle.lawful_run.specs.LinesTold.{LineTold, EachLine};
 ghost use Rattle.audit_sentences.specs.OfSlot.{AreAnswered, CountsRise, HasAll};
 ghost use Rattle.audit_sentences.specs.Counts.{is_closed, is_above, least_behind, last_behind, counts_on};
-ghost use Rattle.audit_sentences.specs.Counts.{has_all, at_once_on};
+ghost use Rattle.audit_sentences.specs.Counts.{has_all, in_sequence_on};
 ghost use Rattle.audit_sentences.specs.Meant.{line_told, lines_of, share};
 
 use crate::numbering::commands_behind;
-use crate::told::Told;
+use crate::told_line::ToldLine;
 use report_lines::LineEntry;
 
-fn is_closed(done: u64, last: u64, told: &Told<'_>) -> bool
+fn is_closed(done: u64, last: u64, told: &ToldLine<'_>) -> bool
     ensures { result ≡ is_closed done last (line_told told.now) }
 {
     if told.moves() { last <= done } else { true }
 }
 
-fn least_behind(done: u64, least: u64, told: &Told<'_>) -> u64
+fn least_behind(done: u64, least: u64, told: &ToldLine<'_>) -> u64
     ensures { result ≡ least_behind done least (line_told told.now) }
 {
     if told.moves() { done } else { least }
@@ -42,7 +42,7 @@ fn last_behind(last: u64, entry: &LineEntry) -> u64
     }
 }
 
-fn counts_on(before: u64, lines: &[Told<'_>]) -> bool
+fn counts_on(before: u64, lines: &[ToldLine<'_>]) -> bool
     requires { before + length lines.now < 2 ^ 64 }
     ensures { result ≡ counts_on before before before (lines_of lines.now) }
 {
@@ -72,9 +72,9 @@ fn has_all(done: u64, entry: &LineEntry) -> bool
     }
 }
 
-fn at_once_on(before: u64, lines: &[Told<'_>]) -> bool
+fn in_sequence_on(before: u64, lines: &[ToldLine<'_>]) -> bool
     requires { before + length lines.now < 2 ^ 64 }
-    ensures { result ≡ at_once_on before (lines_of lines.now) }
+    ensures { result ≡ in_sequence_on before (lines_of lines.now) }
 {
     let mut done = before;
     for told in lines {
@@ -89,7 +89,7 @@ fn at_once_on(before: u64, lines: &[Told<'_>]) -> bool
 /// Whether the counts that a slot's packets tell in an epoch rise, each within its bounds, where so
 /// many commands came before the epoch. The slot's lines are those of all answered lines that are
 /// about it.
-pub fn counts_rise(before: u64, lines: &[Told<'_>]) -> bool
+pub fn counts_rise(before: u64, lines: &[ToldLine<'_>]) -> bool
     requires { before + length lines.now < 2 ^ 64 }
     ensures { (slot first : ℕ) (all : List LineTold) → AreAnswered first all
         → lines_of lines.now ≡ share slot all
@@ -100,11 +100,11 @@ pub fn counts_rise(before: u64, lines: &[Told<'_>]) -> bool
 
 /// Whether each packet of a slot in an epoch has just the commands before its line, where so many
 /// came before the epoch. The slot's lines are those of all answered lines that are about it.
-pub fn counts_at_once(before: u64, lines: &[Told<'_>]) -> bool
+pub fn counts_in_sequence(before: u64, lines: &[ToldLine<'_>]) -> bool
     requires { before + length lines.now < 2 ^ 64 }
     ensures { (slot first : ℕ) (all : List LineTold) → AreAnswered first all
         → lines_of lines.now ≡ share slot all
         → (IsTrue result ↔ EachLine (HasAll slot before) all) }
 {
-    at_once_on(before, lines)
+    in_sequence_on(before, lines)
 }

@@ -1,6 +1,6 @@
 //! Laws of the sentences.
 ghost use Rattle.audit_sentences.specs.Lawful.{SentencesAreTheRun, TracesHaveLines};
-ghost use Rattle.audit_sentences.specs.Together.{NumbersAreOfSlots, CountsAreOfSlots, AtOnceIsOfSlots};
+ghost use Rattle.audit_sentences.specs.Together.{NumbersAreOfSlots, CountsAreOfSlots, InSequenceIsOfSlots};
 ghost use Rattle.audit_sentences.specs.Together.{ParkingIsOfSlots};
 
 /// All six sentences hold of entries exactly where these are those of a lawful run, in a trace each epoch of which has
@@ -16,6 +16,6 @@ pub fn sentences_are_the_run()
 pub fn sentences_of_slots()
     ensures numbers { NumbersAreOfSlots }
     ensures counts { CountsAreOfSlots }
-    ensures at_once { AtOnceIsOfSlots }
+    ensures in_sequence { InSequenceIsOfSlots }
     ensures parking { ParkingIsOfSlots }
 {}

@@ -10,15 +10,15 @@ mod meaning;
 mod numbering;
 mod sharing;
 mod slots;
-mod told;
+mod told_line;
 mod waiting;
 
-pub use counting::{counts_at_once, counts_rise};
+pub use counting::{counts_in_sequence, counts_rise};
 pub use laws::{sentences_are_the_run, sentences_of_slots};
 pub use meaning::Meant;
 pub use numbering::are_numbered_on;
 pub use pc_base::NoMemory;
 pub use sharing::{Keyed, arranged, shares_of};
 pub use slots::by_slot;
-pub use told::Told;
+pub use told_line::ToldLine;
 pub use waiting::parked_behind_moves;

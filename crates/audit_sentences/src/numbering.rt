@@ -5,7 +5,7 @@ ghost use Rattle.audit_sentences.specs.Meant.{lines_of, share};
 ghost use Rattle.audit_sentences.specs.Numbers.{is_next, commands_behind, packets_behind, number_on};
 ghost use Rattle.audit_sentences.specs.OfSlot.{AreAnswered, NumberOn};
 
-use crate::told::Told;
+use crate::told_line::ToldLine;
 use report_lines::LineEntry;
 
 // Whether an entry has the next number of its kind.
@@ -41,7 +41,7 @@ fn packets_behind(packets: u64, entry: &LineEntry) -> u64
     }
 }
 
-fn number_on(commands: u64, packets: u64, lines: &[Told<'_>]) -> bool
+fn number_on(commands: u64, packets: u64, lines: &[ToldLine<'_>]) -> bool
     requires commands { commands + length lines.now < 2 ^ 64 }
     requires packets { packets + length lines.now < 2 ^ 64 }
     ensures { result ≡ number_on commands packets (lines_of lines.now) }
@@ -60,7 +60,7 @@ fn number_on(commands: u64, packets: u64, lines: &[Told<'_>]) -> bool
 
 /// Whether the commands of a slot in an epoch are numbered on in line order, from so many, and its
 /// packets too. The slot's lines are those of all answered lines that are about it.
-pub fn are_numbered_on(commands: u64, packets: u64, lines: &[Told<'_>]) -> bool
+pub fn are_numbered_on(commands: u64, packets: u64, lines: &[ToldLine<'_>]) -> bool
     requires commands { commands + length lines.now < 2 ^ 64 }
     requires packets { packets + length lines.now < 2 ^ 64 }
     ensures { (slot first : ℕ) (all : List LineTold) → AreAnswered first all

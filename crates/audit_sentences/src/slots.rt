@@ -7,11 +7,11 @@ ghost use Rattle.audit_sentences.specs.BySlot.{KeyedBySlot};
 
 use crate::NoMemory;
 use crate::sharing::{Keyed, shares_of};
-use crate::told::Told;
+use crate::told_line::ToldLine;
 use std::alloc::Global;
 
 // The lines that are about a slot, each under it.
-fn keyed<'a>(alloc: Global, lines: &[Told<'a>]) -> Result<Vec<Keyed<Told<'a>>>, NoMemory>
+fn keyed<'a>(alloc: Global, lines: &[ToldLine<'a>]) -> Result<Vec<Keyed<ToldLine<'a>>>, NoMemory>
     ensures { IfOk result (λ all. KeyedBySlot all.items lines.now) }
 {
     let mut all = Vec::new(alloc);
@@ -31,8 +31,8 @@ fn keyed<'a>(alloc: Global, lines: &[Told<'a>]) -> Result<Vec<Keyed<Told<'a>>>, 
 pub fn by_slot<'a>(
     alloc: Global,
     slots: u32,
-    lines: &[Told<'a>],
-) -> Result<Vec<Vec<Told<'a>>>, NoMemory>
+    lines: &[ToldLine<'a>],
+) -> Result<Vec<Vec<ToldLine<'a>>>, NoMemory>
     ensures { IfOk result (λ all. map (λ v. lines_of v.items) all.items
         ≡ map (λ slot. share slot (lines_of lines.now)) (counted 0 slots)) }
 {

@@ -5,10 +5,10 @@ ghost use Rattle.audit_sentences.specs.OfSlot.{AreAnswered, ParksWell};
 ghost use Rattle.audit_sentences.specs.Parked.{may_at, is_allowed, may_behind, parked_on};
 ghost use Rattle.audit_sentences.specs.Meant.{line_told, lines_of, share};
 
-use crate::told::Told;
+use crate::told_line::ToldLine;
 use report_lines::LineEntry;
 
-fn may_at(may: bool, told: &Told<'_>) -> bool
+fn may_at(may: bool, told: &ToldLine<'_>) -> bool
     ensures { result ≡ may_at may (line_told told.now) }
 {
     if told.moves() { true } else { may }
@@ -32,7 +32,7 @@ fn may_behind(may: bool, entry: &LineEntry) -> bool
     }
 }
 
-fn parked_on(lines: &[Told<'_>]) -> bool
+fn parked_on(lines: &[ToldLine<'_>]) -> bool
     ensures { result ≡ parked_on false (lines_of lines.now) }
 {
     let mut may = false;
@@ -49,7 +49,7 @@ fn parked_on(lines: &[Told<'_>]) -> bool
 /// Whether the parked packets of a slot in an epoch stand behind a move of it, and since the last
 /// one before those that weren't parked. The slot's lines are those of all answered lines that are
 /// about it.
-pub fn parked_behind_moves(lines: &[Told<'_>]) -> bool
+pub fn parked_behind_moves(lines: &[ToldLine<'_>]) -> bool
     ensures { (slot first : ℕ) (all : List LineTold) → AreAnswered first all
         → lines_of lines.now ≡ share slot all
         → (IsTrue result ↔ EachLine (ParksWell slot) all) }

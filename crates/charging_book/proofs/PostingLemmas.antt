@@ -1,4 +1,4 @@
--- What may follow what happened may be posted to a book that stands for it.
+-- What may follow what happened may be posted to a book that represents it.
 use Rattle.std.proofs.Common.{◌≡◌, ◌≢◌, ℕ, suc, ◌+◌, ◌↔◌, Bool, true, false, not, IsTrue, ◌-◌, ◌^◌, ◌≤◌, ◌<◌, List, [], ◌∷◌, ◌++◌, length, map, drop, take, All, Contains, get_or, sym, ◌∙◌, ap, refl, subst, append_assoc, length-append, arith}
 use Rattle.std.proofs.lemmas.Bool.{false≢true}
 use Rattle.std.proofs.lemmas.List.{append-nil, drop-append-le, get_or_default, map-append, take-append-drop, take_more}

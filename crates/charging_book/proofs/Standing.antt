@@ -1,4 +1,4 @@
--- The book stands for one happening more.
+-- The book represents one happening more.
 use Rattle.std.proofs.Common.{◌≡◌, ◌≢◌, ℕ, ◌+◌, ◌<◌, Bool, true, false, not, nat_le, List, [], ◌∷◌, ◌++◌, length, map, drop, if◌then◌else◌, All, Contains, Option, None, Some, get_or, set, sym, ◌∙◌, ap, refl, subst, arith, cond, eq-eqb, length-append}
 use Rattle.std.specs.List.{remove}
 use Rattle.std.proofs.lemmas.Bool.{ne_eqb}

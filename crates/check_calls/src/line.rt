@@ -2,7 +2,7 @@
 ghost use Rattle.std.specs.Prelude.{◌≤◌, IfOk};
 
 use crate::stop::Stop;
-use pc_base::{Kbps, Moment};
+use pc_base::{Kbps, LAST_MOMENT, Moment};
 use std::alloc::Global;
 use text_fields::{next_piece, read_number, read_octets};
 
@@ -63,7 +63,7 @@ impl<'a> Words<'a> {
     }
 
     pub fn moment(&mut self) -> Result<Moment, Stop> {
-        Ok(Moment(self.number(0x3_ffff_ffff_ffff)?))
+        Ok(Moment(self.number(LAST_MOMENT)?))
     }
 
     pub fn rate(&mut self) -> Result<Kbps, Stop> {

@@ -5,7 +5,7 @@ use std::io;
 /// Why an order isn't played to its end.
 #[derive(Clone, Copy)]
 pub enum Stop {
-    /// Memory was wanting three times, one after another.
+    /// Memory ran out three times, one after another.
     NoMemory,
     /// The trace isn't a few lines of one subscriber, or its moments fall.
     Trace,

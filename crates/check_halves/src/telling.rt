@@ -9,7 +9,7 @@ use audit_run::{Finding, finding_of};
 use report_lines::{Entry, LineEntry};
 use split_record::{Finished, NoMemory};
 use std::alloc::Global;
-use text_fields::push_number;
+use text_fields::Text;
 use trace_lines::TraceLine;
 
 // A gateway of slices.
@@ -27,7 +27,7 @@ fn setup() -> Setup
 // What an audit finds of entries.
 fn push_finding(
     alloc: Global,
-    text: &mut Vec<u8>,
+    text: &mut Text,
     lines: &[TraceLine],
     entries: &[Entry],
 ) -> Result<(), NoMemory>
@@ -37,7 +37,7 @@ fn push_finding(
         Finding::Yes => text.extend_from_slice(b" yes"),
         Finding::No(k) => {
             text.extend_from_slice(b" no")?;
-            push_number(text, u64::from(k))
+            text.push_number(u64::from(k))
         }
     }
 }
@@ -55,7 +55,7 @@ fn raise_first(entries: &mut Vec<Entry>) {
 // What an audit finds of a report, and of one whose first packet tells a command more.
 fn push_own(
     alloc: Global,
-    text: &mut Vec<u8>,
+    text: &mut Text,
     lines: &[TraceLine],
     report: &[u8],
 ) -> Result<(), NoMemory>
@@ -71,7 +71,7 @@ fn push_own(
 // And of one without its last entry.
 fn push_cut(
     alloc: Global,
-    text: &mut Vec<u8>,
+    text: &mut Text,
     lines: &[TraceLine],
     report: &[u8],
 ) -> Result<(), NoMemory>
@@ -85,19 +85,19 @@ fn push_cut(
     Ok(())
 }
 
-fn push_counts(alloc: Global, text: &mut Vec<u8>, finished: &Finished) -> Result<(), NoMemory> {
+fn push_counts(alloc: Global, text: &mut Text, finished: &Finished) -> Result<(), NoMemory> {
     let commands = format!(in alloc; "{}", finished.record.commands())?;
     text.extend_from_slice(commands.as_bytes())?;
     text.extend_from_slice(b" commands,")?;
-    push_number(text, finished.record.packets)?;
+    text.push_number(finished.record.packets)?;
     text.extend_from_slice(b" packets, behind")?;
     for done in finished.packets.as_slice() {
-        push_number(text, done.commands)?;
+        text.push_number(done.commands)?;
     }
     text.extend_from_slice(b":")
 }
 
-fn push_head(text: &mut Vec<u8>, name: &str, order: &str) -> Result<(), NoMemory> {
+fn push_head(text: &mut Text, name: &str, order: &str) -> Result<(), NoMemory> {
     text.extend_from_slice(name.as_bytes())?;
     text.push(b' ')?;
     text.extend_from_slice(order.as_bytes())?;
@@ -114,11 +114,11 @@ pub fn told(
     order: &str,
     lines: &[TraceLine],
     finished: &Finished,
-) -> Result<Vec<u8>, NoMemory>
+) -> Result<Text, NoMemory>
     requires { length lines.now + 1 < 2 ^ 40 }
 {
     let report = report_of(alloc, lines, finished)?;
-    let mut text = Vec::new(alloc);
+    let mut text = Text::new(alloc);
     push_head(&mut text, name, order)?;
     text.extend_from_slice(&report)?;
     push_counts(alloc, &mut text, finished)?;

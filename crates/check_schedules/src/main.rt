@@ -1,18 +1,19 @@
 //! Computes schedules of epochs and plans of moves, and says what they are, a line each.
 #![tactic(auto)]
 
+mod case;
 mod plans;
-mod row;
 mod telling;
 
-use row::{Row, read_row};
+use case::{Case, read_row};
 use schedule_run::schedule;
 use std::alloc::{AllocError, Global};
 use std::io::{self, Read, Write};
 use telling::push_schedule;
+use text_fields::Text;
 
 // The schedule of a row, or that it is none.
-fn push_answer(alloc: Global, text: &mut Vec<u8>, row: Row) -> Result<(), AllocError> {
+fn push_answer(alloc: Global, text: &mut Text, row: Case) -> Result<(), AllocError> {
     if row.slices == 0 || row.slices > 64 {
         return text.extend_from_slice(b"no such slices");
     }
@@ -34,8 +35,8 @@ fn push_answer(alloc: Global, text: &mut Vec<u8>, row: Row) -> Result<(), AllocE
 }
 
 /// The answers to rows, a line each, and then the plans.
-fn answers(alloc: Global, rows: &[u8]) -> Result<Vec<u8>, AllocError> {
-    let mut text = Vec::new(alloc);
+fn answers(alloc: Global, rows: &[u8]) -> Result<Text, AllocError> {
+    let mut text = Text::new(alloc);
     for line in rows.split(|octet| *octet == b'\n') {
         match read_row(alloc, line)? {
             Some(row) => push_answer(alloc, &mut text, row)?,

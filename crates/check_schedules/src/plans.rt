@@ -4,13 +4,13 @@ ghost use Rattle.std.specs.Prelude.{◌≡◌, ◌≤◌};
 use balance_plan::{Load, Planned, plan};
 use pc_base::{SliceNo, Slot};
 use std::alloc::{AllocError, Global};
-use text_fields::push_number;
+use text_fields::Text;
 
-fn push_plan(text: &mut Vec<u8>, planned: &[Planned]) -> Result<(), AllocError> {
+fn push_plan(text: &mut Text, planned: &[Planned]) -> Result<(), AllocError> {
     text.extend_from_slice(b"plan")?;
     for step in planned {
-        push_number(text, u64::from(step.slot.0))?;
-        push_number(text, u64::from(step.slice.0))?;
+        text.push_number(u64::from(step.slot.0))?;
+        text.push_number(u64::from(step.slice.0))?;
     }
     text.push(b'\n')?;
     Ok(())
@@ -30,7 +30,7 @@ fn on(slot: u32, slice: u8, packets: u64) -> Load
 
 /// Of three slots on one slice of two the heaviest goes; one slot stays; of four slots on three slices two go, the
 /// lowest of equals first.
-pub fn push_plans(alloc: Global, text: &mut Vec<u8>) -> Result<(), AllocError> {
+pub fn push_plans(alloc: Global, text: &mut Text) -> Result<(), AllocError> {
     let three = plan(alloc, &[on(0, 0, 5), on(1, 0, 3), on(2, 0, 2)], 2, 4)?;
     push_plan(text, &three)?;
     let one = plan(alloc, &[on(0, 0, 9)], 2, 4)?;

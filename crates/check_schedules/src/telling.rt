@@ -3,7 +3,7 @@
 use pc_base::Place;
 use schedule_run::{Met, Outcome, Scheduled, Turns};
 use std::alloc::AllocError;
-use text_fields::push_number;
+use text_fields::Text;
 
 fn letter(outcome: Outcome) -> u8 {
     if !outcome.taken {
@@ -15,8 +15,8 @@ fn letter(outcome: Outcome) -> u8 {
     }
 }
 
-fn push_met(text: &mut Vec<u8>, met: &Met) -> Result<(), AllocError> {
-    push_number(text, met.commands as u64)?;
+fn push_met(text: &mut Text, met: &Met) -> Result<(), AllocError> {
+    text.push_number(met.commands as u64)?;
     match met.place {
         Place::At(slice) => {
             text.push(b'@')?;
@@ -27,7 +27,7 @@ fn push_met(text: &mut Vec<u8>, met: &Met) -> Result<(), AllocError> {
 }
 
 // A number below 100.
-fn push_digits(text: &mut Vec<u8>, number: u64) -> Result<(), AllocError> {
+fn push_digits(text: &mut Text, number: u64) -> Result<(), AllocError> {
     if number >= 10 {
         text.push(b'0' + (number / 10 % 10) as u8)?;
     }
@@ -35,9 +35,9 @@ fn push_digits(text: &mut Vec<u8>, number: u64) -> Result<(), AllocError> {
     Ok(())
 }
 
-fn push_slot(text: &mut Vec<u8>, slot: u32, mets: &[Met]) -> Result<(), AllocError> {
+fn push_slot(text: &mut Text, slot: u32, mets: &[Met]) -> Result<(), AllocError> {
     text.extend_from_slice(b" |")?;
-    push_number(text, u64::from(slot))?;
+    text.push_number(u64::from(slot))?;
     for met in mets {
         push_met(text, met)?;
     }
@@ -46,7 +46,7 @@ fn push_slot(text: &mut Vec<u8>, slot: u32, mets: &[Met]) -> Result<(), AllocErr
 
 /// The text of a schedule of the slots below this one.
 pub fn push_schedule(
-    text: &mut Vec<u8>,
+    text: &mut Text,
     scheduled: &Scheduled,
     slots: u32,
     turns: &Turns,
@@ -62,7 +62,7 @@ pub fn push_schedule(
     }
     if let Turns::Drawn { state, .. } = turns {
         text.extend_from_slice(b" ;")?;
-        push_number(text, *state)?;
+        text.push_number(*state)?;
     }
     Ok(())
 }

@@ -20,7 +20,7 @@ use std::sync::Wait;
 use std::thread::Threads;
 use stop::Stop;
 use subject::new_subject;
-use text_fields::{push_field, push_number};
+use text_fields::Text;
 use worker_core::Order;
 
 /// How many octets an order has at most: a half is a slot and a pointer, and an item the largest of all.
@@ -44,13 +44,13 @@ fn take_through<R: Threads + Wait + Sync>(rt: &R, alloc: Global) -> Result<Outco
     })
 }
 
-fn push_bool(text: &mut Vec<u8>, is: bool) -> Result<(), NoMemory> {
-    push_field(text, if is { b"true" } else { b"false" })
+fn push_bool(text: &mut Text, is: bool) -> Result<(), NoMemory> {
+    text.push_field(if is { b"true" } else { b"false" })
 }
 
-fn push_sizes(text: &mut Vec<u8>) -> Result<(), NoMemory> {
+fn push_sizes(text: &mut Text) -> Result<(), NoMemory> {
     text.extend_from_slice(b"orders of at most")?;
-    push_number(text, MOST as u64)?;
+    text.push_number(MOST as u64)?;
     text.extend_from_slice(b" octets:")?;
     push_bool(text, size_of::<Order<ControlHalf>>() <= MOST)?;
     text.push(b',')?;
@@ -59,9 +59,9 @@ fn push_sizes(text: &mut Vec<u8>) -> Result<(), NoMemory> {
     Ok(())
 }
 
-fn push_control(text: &mut Vec<u8>, control: ControlCame) -> Result<(), NoMemory> {
+fn push_control(text: &mut Text, control: ControlCame) -> Result<(), NoMemory> {
     text.extend_from_slice(b"control:")?;
-    push_number(text, control.homes as u64)?;
+    text.push_number(control.homes as u64)?;
     text.extend_from_slice(b" home, settled")?;
     push_bool(text, control.sent)?;
     push_bool(text, control.called)?;
@@ -70,24 +70,24 @@ fn push_control(text: &mut Vec<u8>, control: ControlCame) -> Result<(), NoMemory
     Ok(())
 }
 
-fn push_flow(text: &mut Vec<u8>, flow: FlowCame) -> Result<(), NoMemory> {
+fn push_flow(text: &mut Text, flow: FlowCame) -> Result<(), NoMemory> {
     text.extend_from_slice(b"packets: parks")?;
     push_bool(text, flow.parks)?;
     push_bool(text, flow.parks_then)?;
     text.push(b',')?;
-    push_number(text, flow.refused)?;
+    text.push_number(flow.refused)?;
     text.extend_from_slice(b" refused, place")?;
-    push_number(text, u64::from(flow.place))?;
+    text.push_number(u64::from(flow.place))?;
     text.push(b',')?;
-    push_number(text, flow.homes as u64)?;
+    text.push_number(flow.homes as u64)?;
     text.extend_from_slice(b" home,")?;
-    push_number(text, flow.left as u64)?;
+    text.push_number(flow.left as u64)?;
     text.extend_from_slice(b" left\n")
 }
 
-fn play<R: Threads + Wait + Sync>(rt: &R, alloc: Global) -> Result<Vec<u8>, Stop> {
+fn play<R: Threads + Wait + Sync>(rt: &R, alloc: Global) -> Result<Text, Stop> {
     let outcome = take_through(rt, alloc)?;
-    let mut text = Vec::new(alloc);
+    let mut text = Text::new(alloc);
     push_sizes(&mut text)?;
     push_control(&mut text, outcome.control)?;
     push_flow(&mut text, outcome.flow)?;

@@ -1,7 +1,7 @@
 //! The text of an answer.
 use lane_core::{Did, NoMemory};
 use std::alloc::{AllocFailed, Global};
-use text_fields::push_number;
+use text_fields::Text;
 
 /// Why a step has no answer.
 #[derive(Clone, Copy, Debug)]
@@ -23,44 +23,44 @@ impl<T: Drop> From<AllocFailed<T>> for Stop {
     }
 }
 
-pub fn push_word(text: &mut Vec<u8>, word: &[u8]) -> Result<(), Stop> {
+pub fn push_word(text: &mut Text, word: &[u8]) -> Result<(), Stop> {
     text.extend_from_slice(word)?;
     Ok(())
 }
 
-pub fn word_of(alloc: Global, word: &[u8]) -> Result<Vec<u8>, Stop> {
-    let mut text = Vec::new(alloc);
+pub fn word_of(alloc: Global, word: &[u8]) -> Result<Text, Stop> {
+    let mut text = Text::new(alloc);
     push_word(&mut text, word)?;
     Ok(text)
 }
 
-pub fn push_yes(text: &mut Vec<u8>, is: bool) -> Result<(), Stop> {
+pub fn push_yes(text: &mut Text, is: bool) -> Result<(), Stop> {
     push_word(text, if is { b"yes" } else { b"no" })
 }
 
-pub fn yes_or_no(alloc: Global, is: bool) -> Result<Vec<u8>, Stop> {
-    let mut text = Vec::new(alloc);
+pub fn yes_or_no(alloc: Global, is: bool) -> Result<Text, Stop> {
+    let mut text = Text::new(alloc);
     push_yes(&mut text, is)?;
     Ok(text)
 }
 
 /// A word, and a number behind a blank.
-pub fn push_counted(text: &mut Vec<u8>, word: &[u8], number: u64) -> Result<(), Stop> {
+pub fn push_counted(text: &mut Text, word: &[u8], number: u64) -> Result<(), Stop> {
     push_word(text, word)?;
-    push_number(text, number)?;
+    text.push_number(number)?;
     Ok(())
 }
 
 /// Numbers, each behind a blank.
-pub fn numbers(alloc: Global, of: &[u64]) -> Result<Vec<u8>, Stop> {
-    let mut text = Vec::new(alloc);
+pub fn numbers(alloc: Global, of: &[u64]) -> Result<Text, Stop> {
+    let mut text = Text::new(alloc);
     push_numbers(&mut text, of)?;
     Ok(text)
 }
 
-pub fn push_numbers(text: &mut Vec<u8>, of: &[u64]) -> Result<(), NoMemory> {
+pub fn push_numbers(text: &mut Text, of: &[u64]) -> Result<(), NoMemory> {
     for number in of {
-        push_number(text, *number)?;
+        text.push_number(*number)?;
     }
     Ok(())
 }

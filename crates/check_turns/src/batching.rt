@@ -1,8 +1,7 @@
 //! A batch of versions that hold a number and no more.
-ghost use Rattle.std.specs.Prelude.{IfSome};
 ghost use Rattle.std.proofs.Props.{props};
 ghost use Rattle.control_half.specs.Batch.{versions_of};
-ghost use Rattle.control_half.specs.Consecutive.{IsNext};
+ghost use Rattle.check_turns.specs.Editions.{MayJoin};
 
 use crate::answers::{Stop, push_counted, push_word};
 use crate::step::Step;
@@ -10,7 +9,7 @@ use control_half::Batch;
 use lane_core::NoMemory;
 use pc_base::Numbered;
 use std::alloc::Global;
-use text_fields::push_number;
+use text_fields::Text;
 
 #[derive(Clone, Copy, Debug, PartialEq, Eq)]
 struct Edition(u64);
@@ -28,7 +27,7 @@ impl Numbered for Edition {
 pub struct Shelf {
     batch: Batch<Edition>,
     next: Option<u64>,
-    ghost follows: { IfSome next (λ number. IsNext (λ e. e.0) (versions_of batch) (record { 0 = number })) } by { Prim.hlevel props },
+    ghost follows: { MayJoin next (versions_of batch) } by { Prim.hlevel props },
 }
 
 impl Shelf {
@@ -69,7 +68,7 @@ impl Shelf {
     }
 
     /// A version more under a floor (a), the floor (f), the versions (v), or the first one, which is taken (t).
-    pub fn play(&mut self, step: Step, text: &mut Vec<u8>) -> Result<(), Stop> {
+    pub fn play(&mut self, step: Step, text: &mut Text) -> Result<(), Stop> {
         match step.letter {
             b'a' => match self.add(u64::from(step.one))? {
                 None => push_word(text, b"ok"),
@@ -86,9 +85,9 @@ impl Shelf {
     }
 }
 
-fn push_numbers(text: &mut Vec<u8>, editions: &[Edition]) -> Result<(), NoMemory> {
+fn push_numbers(text: &mut Text, editions: &[Edition]) -> Result<(), NoMemory> {
     for edition in editions {
-        push_number(text, edition.0)?;
+        text.push_number(edition.0)?;
     }
     Ok(())
 }

@@ -8,7 +8,7 @@ use lane_core::{Did, NoMemory, Receiver, Sender, lane};
 use pc_base::{Addr4, Kbps, Outcome, Peer, Slot, Teid};
 use std::alloc::Global;
 use std::sync::Wait;
-use text_fields::{push_field, push_number};
+use text_fields::Text;
 use worker_core::Traveller;
 
 const ENB: Peer = Peer {
@@ -81,7 +81,7 @@ impl Desk {
     }
 
     // The floor of the next batch, and the numbers of its versions.
-    fn batch<R: Wait>(&mut self, rt: &R, text: &mut Vec<u8>) -> Result<(), Stop> {
+    fn batch<R: Wait>(&mut self, rt: &R, text: &mut Text) -> Result<(), Stop> {
         match self.versions.take(rt) {
             Some(batch) => Ok(push_batch(text, &batch)?),
             None => push_word(text, b"none"),
@@ -90,7 +90,7 @@ impl Desk {
 
     /// A command of a hop and a floor (c), a turn and how many commands the half has applied behind it (w), the next
     /// batch (b), or an arrival behind so many moves (h).
-    pub fn play<R: Wait>(&mut self, rt: &R, step: Step, text: &mut Vec<u8>) -> Result<(), Stop> {
+    pub fn play<R: Wait>(&mut self, rt: &R, step: Step, text: &mut Text) -> Result<(), Stop> {
         match step.letter {
             b'c' => {
                 let took = self.give(rt, step)?;
@@ -110,15 +110,15 @@ impl Desk {
     }
 
     /// The replies: line, number and outcome of each.
-    pub fn end(self, alloc: Global) -> Result<Vec<u8>, Stop> {
-        let mut text = Vec::new(alloc);
+    pub fn end(self, alloc: Global) -> Result<Text, Stop> {
+        let mut text = Text::new(alloc);
         let end = self.half.into_end();
         push_notes(&mut text, end.control.notes.as_slice())?;
         Ok(text)
     }
 }
 
-fn push_notes(text: &mut Vec<u8>, notes: &[CommandDone]) -> Result<(), NoMemory> {
+fn push_notes(text: &mut Text, notes: &[CommandDone]) -> Result<(), NoMemory> {
     let mut between: &[u8] = b"";
     for note in notes {
         text.extend_from_slice(between)?;
@@ -128,23 +128,20 @@ fn push_notes(text: &mut Vec<u8>, notes: &[CommandDone]) -> Result<(), NoMemory>
     Ok(())
 }
 
-fn push_batch(text: &mut Vec<u8>, batch: &Batch<Version>) -> Result<(), NoMemory> {
-    push_number(text, batch.floor())?;
+fn push_batch(text: &mut Text, batch: &Batch<Version>) -> Result<(), NoMemory> {
+    text.push_number(batch.floor())?;
     for version in batch.versions() {
-        push_number(text, version.number)?;
+        text.push_number(version.number)?;
     }
     Ok(())
 }
 
-fn push_note(text: &mut Vec<u8>, note: &CommandDone) -> Result<(), NoMemory> {
-    push_number(text, note.line)?;
-    push_number(text, note.number)?;
-    push_field(
-        text,
-        match note.reply.outcome {
-            Outcome::Done => b"done",
-            Outcome::No => b"no",
-            Outcome::Again => b"again",
-        },
-    )
+fn push_note(text: &mut Text, note: &CommandDone) -> Result<(), NoMemory> {
+    text.push_number(note.line)?;
+    text.push_number(note.number)?;
+    text.push_field(match note.reply.outcome {
+        Outcome::Done => b"done",
+        Outcome::No => b"no",
+        Outcome::Again => b"again",
+    })
 }

@@ -4,7 +4,7 @@ use crate::step::Step;
 use bearer_state::{Ask, Asks, Qos, Session, Version};
 use control_half::Batch;
 use control_steps::{Command, CommandKind, step};
-use counter_half::{FlowHalf, FlowItem, FlowRest, FlowState, PacketDone};
+use counter_half::{FlowHalf, FlowItem, FlowRest, HalfState, PacketDone};
 use lane_core::{NoMemory, Sender, lane};
 use packet_steps::Counters;
 use pc_base::{
@@ -13,7 +13,7 @@ use pc_base::{
 };
 use std::alloc::Global;
 use std::sync::Wait;
-use text_fields::{Text, push_field, push_number};
+use text_fields::Text;
 
 // 28 octets of UDP from 203.0.113.9, port 5060, to 10.45.0.2.
 const DOWN: [u8; 28] = [
@@ -176,7 +176,7 @@ impl Bench {
         rt: &R,
         alloc: Global,
         step: Step,
-        text: &mut Vec<u8>,
+        text: &mut Text,
     ) -> Result<(), Stop> {
         match step.letter {
             b's' | b'n' => {
@@ -202,101 +202,96 @@ impl Bench {
 
     /// How many commands were learnt and packets handled, the floor of a batch that is kept, the moment of the last
     /// packet; then each packet's verdict, and each effect with its command.
-    pub fn end(self, alloc: Global) -> Result<Vec<u8>, Stop> {
-        let mut text = Vec::new(alloc);
+    pub fn end(self, alloc: Global) -> Result<Text, Stop> {
+        let mut text = Text::new(alloc);
         let rest = self.half.into_rest();
         push_rest(&mut text, &rest)?;
         Ok(text)
     }
 }
 
-fn push_rest(text: &mut Vec<u8>, rest: &FlowRest) -> Result<(), NoMemory> {
+fn push_rest(text: &mut Text, rest: &FlowRest) -> Result<(), NoMemory> {
     let state = &rest.state;
-    push_number(text, state.met)?;
-    push_number(text, state.done)?;
+    text.push_number(state.met)?;
+    text.push_number(state.done)?;
     push_floor(text, &rest.batch)?;
     push_last(text, state)?;
     push_notes(text, state)?;
     push_effects(text, state)
 }
 
-fn push_floor(text: &mut Vec<u8>, batch: &Option<Batch<Version>>) -> Result<(), NoMemory> {
+fn push_floor(text: &mut Text, batch: &Option<Batch<Version>>) -> Result<(), NoMemory> {
     match batch {
-        Some(batch) => push_number(text, batch.floor()),
-        None => push_field(text, b"-"),
+        Some(batch) => text.push_number(batch.floor()),
+        None => text.push_field(b"-"),
     }
 }
 
-fn push_last(text: &mut Vec<u8>, state: &FlowState) -> Result<(), NoMemory> {
+fn push_last(text: &mut Text, state: &HalfState) -> Result<(), NoMemory> {
     match state.counters.last() {
-        Some(moment) => push_number(text, moment.0),
-        None => push_field(text, b"-"),
+        Some(moment) => text.push_number(moment.0),
+        None => text.push_field(b"-"),
     }
 }
 
 // What goes to an eNodeB.
-fn push_down(text: &mut Vec<u8>, word: &[u8], life: u64, octets: &Octets) -> Result<(), NoMemory> {
-    push_field(text, word)?;
-    push_number(text, life)?;
-    let mut digits = Text::new(*text.allocator());
-    digits.push_octets(octets.as_slice())?;
-    text.extend_from_slice(digits.as_slice())
+fn push_down(text: &mut Text, word: &[u8], life: u64, octets: &Octets) -> Result<(), NoMemory> {
+    text.push_field(word)?;
+    text.push_number(life)?;
+    text.push_octets(octets.as_slice())
 }
 
-fn push_verdict(text: &mut Vec<u8>, verdict: &Verdict) -> Result<(), NoMemory> {
+fn push_verdict(text: &mut Text, verdict: &Verdict) -> Result<(), NoMemory> {
     match verdict {
         Verdict::Down { life, octets, .. } => push_down(text, b"down", *life, octets),
         Verdict::Held { life, .. } => {
-            push_field(text, b"held")?;
-            push_number(text, *life)
+            text.push_field(b"held")?;
+            text.push_number(*life)
         }
-        _ => push_field(text, b"neither"),
+        _ => text.push_field(b"neither"),
     }
 }
 
-fn push_effect(text: &mut Vec<u8>, effect: &Effect) -> Result<(), NoMemory> {
+fn push_effect(text: &mut Text, effect: &Effect) -> Result<(), NoMemory> {
     match effect {
         Effect::Marker { life, octets, .. } => push_down(text, b"marker", *life, octets),
         Effect::Fate {
             packet,
             fate: Fate::Down { life, octets, .. },
         } => {
-            push_field(text, b"packet")?;
-            push_number(text, *packet)?;
+            text.push_field(b"packet")?;
+            text.push_number(*packet)?;
             push_down(text, b"down", *life, octets)
         }
-        Effect::Fate { .. } => push_field(text, b"neither"),
+        Effect::Fate { .. } => text.push_field(b"neither"),
     }
 }
 
-fn push_notes(text: &mut Vec<u8>, state: &FlowState) -> Result<(), NoMemory> {
+fn push_notes(text: &mut Text, state: &HalfState) -> Result<(), NoMemory> {
     for note in state.notes.as_slice() {
         push_note(text, note)?;
     }
     Ok(())
 }
 
-fn push_note(text: &mut Vec<u8>, note: &PacketDone) -> Result<(), NoMemory> {
+fn push_note(text: &mut Text, note: &PacketDone) -> Result<(), NoMemory> {
     text.push(b';')?;
-    push_number(text, note.line)?;
-    push_number(text, note.number)?;
-    push_number(text, note.commands)?;
-    push_field(
-        text,
-        match note.place {
-            Place::At(SliceNo(1)) => b"@1",
-            Place::At(_) => b"@another",
-            Place::Closing => b"@closing",
-        },
-    )?;
+    text.push_number(note.line)?;
+    text.push_number(note.number)?;
+    text.push_number(note.commands)?;
+    text.push_field(match note.place {
+        Place::At(SliceNo(1)) => b"@1",
+        Place::At(_) => b"@another",
+        Place::Closing => b"@closing",
+    })?;
     push_verdict(text, &note.verdict)
 }
 
-fn push_effects(text: &mut Vec<u8>, state: &FlowState) -> Result<(), NoMemory> {
+fn push_effects(text: &mut Text, state: &HalfState) -> Result<(), NoMemory> {
     for done in state.effects.as_slice() {
         for effect in done.effects.as_slice() {
             text.push(b';')?;
-            push_number(text, done.command)?;
+            text.push_number(done.command)?;
             push_effect(text, effect)?;
         }
     }

@@ -14,7 +14,7 @@ use lane_core::{Did, NoMemory};
 use pc_base::{Place, SliceNo};
 use std::alloc::Global;
 use std::sync::Wait;
-use text_fields::push_number;
+use text_fields::Text;
 
 #[derive(Drop)]
 pub struct Stream {
@@ -106,8 +106,8 @@ impl Stream {
     }
 
     // Turns of a worker, and what each came to.
-    fn turns<R: Wait>(&mut self, rt: &R, alloc: Global, step: Step) -> Result<Vec<u8>, Stop> {
-        let mut text = Vec::new(alloc);
+    fn turns<R: Wait>(&mut self, rt: &R, alloc: Global, step: Step) -> Result<Text, Stop> {
+        let mut text = Text::new(alloc);
         for _ in 0..step.two {
             let did = self.turn(rt, slice_of(step.one));
             text.push(letter_of(did))?;
@@ -117,7 +117,7 @@ impl Stream {
 
     /// An admission (a), a move (g), an item (i), turns of a worker (w), a pumping (p), whether a slot parks (s), and
     /// how often the side was asked and refused (c).
-    pub fn play<R: Wait>(&mut self, rt: &R, alloc: Global, step: Step) -> Result<Vec<u8>, Stop> {
+    pub fn play<R: Wait>(&mut self, rt: &R, alloc: Global, step: Step) -> Result<Text, Stop> {
         match step.letter {
             b'a' => {
                 let took = self.admit(rt, alloc, step);
@@ -144,7 +144,7 @@ impl Stream {
 
     /// Of all halves that come home the slot, the asks and what it knows; the items that it handled, each with its
     /// slice; and those that are left.
-    pub fn end<R: Wait>(self, rt: &R, alloc: Global) -> Result<Vec<u8>, Stop> {
+    pub fn end<R: Wait>(self, rt: &R, alloc: Global) -> Result<Text, Stop> {
         let ends = Vec::from_array(
             alloc,
             [
@@ -156,36 +156,36 @@ impl Stream {
         let Ok(homes) = gather_flow(rt, alloc, self.side.into_end(), ends) else {
             return Err(Stop::NoMemory);
         };
-        let mut text = Vec::new(alloc);
+        let mut text = Text::new(alloc);
         push_homes(&mut text, &homes)?;
         Ok(text)
     }
 }
 
-fn push_homes(text: &mut Vec<u8>, homes: &[Home<Pupil>]) -> Result<(), NoMemory> {
+fn push_homes(text: &mut Text, homes: &[Home<Pupil>]) -> Result<(), NoMemory> {
     for home in homes {
         push_home(text, home)?;
     }
     Ok(())
 }
 
-fn push_home(text: &mut Vec<u8>, home: &Home<Pupil>) -> Result<(), NoMemory> {
+fn push_home(text: &mut Text, home: &Home<Pupil>) -> Result<(), NoMemory> {
     let half = &home.half;
     push_numbers(text, &[u64::from(half.slot.0), half.asks, half.known])?;
     push_handled(text, half)?;
     push_left(text, &home.left)
 }
 
-fn push_handled(text: &mut Vec<u8>, half: &Pupil) -> Result<(), NoMemory> {
+fn push_handled(text: &mut Text, half: &Pupil) -> Result<(), NoMemory> {
     text.extend_from_slice(b" handled")?;
     for (task, place) in half.handled.iter().zip(half.places.iter()) {
-        push_number(text, u64::from(task.number))?;
+        text.push_number(u64::from(task.number))?;
         push_place(text, *place)?;
     }
     Ok(())
 }
 
-fn push_place(text: &mut Vec<u8>, place: Place) -> Result<(), NoMemory> {
+fn push_place(text: &mut Text, place: Place) -> Result<(), NoMemory> {
     match place {
         Place::At(SliceNo(0)) => text.extend_from_slice(b"@0"),
         Place::At(SliceNo(1)) => text.extend_from_slice(b"@1"),
@@ -194,10 +194,10 @@ fn push_place(text: &mut Vec<u8>, place: Place) -> Result<(), NoMemory> {
     }
 }
 
-fn push_left(text: &mut Vec<u8>, left: &[Task]) -> Result<(), NoMemory> {
+fn push_left(text: &mut Text, left: &[Task]) -> Result<(), NoMemory> {
     text.extend_from_slice(b" left")?;
     for task in left {
-        push_number(text, u64::from(task.number))?;
+        text.push_number(u64::from(task.number))?;
     }
     text.push(b';')?;
     Ok(())

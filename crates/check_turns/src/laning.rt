@@ -7,6 +7,7 @@ use crate::step::Step;
 use lane_core::{Carried, Full, NoMemory, Receiver, Sender, close, lane};
 use std::alloc::Global;
 use std::sync::Wait;
+use text_fields::Text;
 
 /// What a lane carries.
 #[derive(Clone, Copy)]
@@ -53,7 +54,7 @@ impl Lane {
 
     /// An offer (o), a taking (t), offers of all numbers below one (f), or the counts of offers, of refusals and of
     /// takings in vain (c).
-    pub fn play<R: Wait>(&mut self, rt: &R, alloc: Global, step: Step) -> Result<Vec<u8>, Stop> {
+    pub fn play<R: Wait>(&mut self, rt: &R, alloc: Global, step: Step) -> Result<Text, Stop> {
         match step.letter {
             b'o' => {
                 let taken = self.offer(rt, step.one);
@@ -76,7 +77,7 @@ impl Lane {
     }
 
     /// How many are left, then the first and the last of them.
-    pub fn end<R: Wait>(self, rt: &R, alloc: Global) -> Result<Vec<u8>, Stop> {
+    pub fn end<R: Wait>(self, rt: &R, alloc: Global) -> Result<Text, Stop> {
         let Ok(rest) = close(rt, alloc, self.tx, self.rx) else {
             return Err(Stop::NoMemory);
         };
@@ -86,7 +87,7 @@ impl Lane {
     }
 }
 
-fn push_ends(text: &mut Vec<u8>, rest: &[Parcel]) -> Result<(), NoMemory> {
+fn push_ends(text: &mut Text, rest: &[Parcel]) -> Result<(), NoMemory> {
     match (rest.first(), rest.last()) {
         (Some(first), Some(last)) => push_numbers(text, &[u64::from(first.0), u64::from(last.0)]),
         _ => Ok(()),

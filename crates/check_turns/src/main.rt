@@ -25,6 +25,7 @@ use std::alloc::{AllocError, Global};
 use std::io::{self, Read, Write};
 use std::sync::Wait;
 use step::Step;
+use text_fields::Text;
 use walking::Walk;
 
 /// What is played.
@@ -51,13 +52,13 @@ fn opened(alloc: Global, step: Step) -> Result<Stage, Stop> {
     }
 }
 
-fn begin(alloc: Global, stage: &mut Stage, step: Step) -> Result<Vec<u8>, Stop> {
+fn begin(alloc: Global, stage: &mut Stage, step: Step) -> Result<Text, Stop> {
     *stage = opened(alloc, step)?;
     word_of(alloc, b"opened")
 }
 
-fn go_on<R: Wait>(rt: &R, alloc: Global, stage: &mut Stage, step: Step) -> Result<Vec<u8>, Stop> {
-    let mut text = Vec::new(alloc);
+fn go_on<R: Wait>(rt: &R, alloc: Global, stage: &mut Stage, step: Step) -> Result<Text, Stop> {
+    let mut text = Text::new(alloc);
     match stage {
         Stage::Nothing => return Err(Stop::Step),
         Stage::Lane(lane) => return lane.play(rt, alloc, step),
@@ -70,7 +71,7 @@ fn go_on<R: Wait>(rt: &R, alloc: Global, stage: &mut Stage, step: Step) -> Resul
     Ok(text)
 }
 
-fn close<R: Wait>(rt: &R, alloc: Global, stage: Stage) -> Result<Vec<u8>, Stop> {
+fn close<R: Wait>(rt: &R, alloc: Global, stage: Stage) -> Result<Text, Stop> {
     match stage {
         Stage::Nothing => Err(Stop::Step),
         Stage::Lane(lane) => lane.end(rt, alloc),
@@ -82,7 +83,7 @@ fn close<R: Wait>(rt: &R, alloc: Global, stage: Stage) -> Result<Vec<u8>, Stop> 
     }
 }
 
-fn answer<R: Wait>(rt: &R, alloc: Global, stage: &mut Stage, line: &[u8]) -> Result<Vec<u8>, Stop> {
+fn answer<R: Wait>(rt: &R, alloc: Global, stage: &mut Stage, line: &[u8]) -> Result<Text, Stop> {
     let step = Step::read(line);
     match step.letter {
         b'#' => word_of(alloc, line),
@@ -93,7 +94,7 @@ fn answer<R: Wait>(rt: &R, alloc: Global, stage: &mut Stage, line: &[u8]) -> Res
 }
 
 // The line that answers a step, without the blank before its first number.
-fn push_line(told: &mut Vec<u8>, answered: &Result<Vec<u8>, Stop>) -> Result<(), AllocError> {
+fn push_line(told: &mut Vec<u8>, answered: &Result<Text, Stop>) -> Result<(), AllocError> {
     let text: &[u8] = match answered {
         Ok(text) => text.as_slice(),
         Err(Stop::Step) => b"no such step",

@@ -13,6 +13,7 @@ use migration::Side;
 use pc_base::SliceNo;
 use std::alloc::Global;
 use std::sync::Wait;
+use text_fields::Text;
 use worker_core::{Worker, WorkerEnd, pair};
 
 #[derive(Drop)]
@@ -82,8 +83,8 @@ impl Walk {
     }
 
     // Turns of a worker, and what each came to.
-    fn turns<R: Wait>(&mut self, rt: &R, alloc: Global, step: Step) -> Result<Vec<u8>, Stop> {
-        let mut text = Vec::new(alloc);
+    fn turns<R: Wait>(&mut self, rt: &R, alloc: Global, step: Step) -> Result<Text, Stop> {
+        let mut text = Text::new(alloc);
         for _ in 0..step.two {
             let did = self.turn(rt, slice_of(step.one));
             text.push(letter_of(did))?;
@@ -93,7 +94,7 @@ impl Walk {
 
     /// An admission (a), a move (g), turns of a worker (w), a pumping (p), whether a slot is settled (s), and how often
     /// the side was asked (c).
-    pub fn play<R: Wait>(&mut self, rt: &R, alloc: Global, step: Step) -> Result<Vec<u8>, Stop> {
+    pub fn play<R: Wait>(&mut self, rt: &R, alloc: Global, step: Step) -> Result<Text, Stop> {
         match step.letter {
             b'a' => {
                 let took = self.admit(rt, step);
@@ -116,7 +117,7 @@ impl Walk {
 
     /// The slots that each worker holds, in their order, and then of all halves that come home the slot, what they
     /// had to do and what they did, their hop, and their turns.
-    pub fn end<R: Wait>(self, rt: &R, alloc: Global) -> Result<Vec<u8>, Stop> {
+    pub fn end<R: Wait>(self, rt: &R, alloc: Global) -> Result<Text, Stop> {
         let ends = Vec::from_array(
             alloc,
             [
@@ -125,7 +126,7 @@ impl Walk {
                 self.third.into_end(),
             ],
         )?;
-        let mut text = Vec::new(alloc);
+        let mut text = Text::new(alloc);
         let held = push_all_held(&mut text, &ends);
         let Ok(halves) = gather(rt, alloc, self.side.into_end(), ends) else {
             return Err(Stop::NoMemory);
@@ -136,21 +137,21 @@ impl Walk {
     }
 }
 
-fn push_all_held(text: &mut Vec<u8>, ends: &[WorkerEnd<Walker>]) -> Result<(), NoMemory> {
+fn push_all_held(text: &mut Text, ends: &[WorkerEnd<Walker>]) -> Result<(), NoMemory> {
     for end in ends {
         push_held(text, end)?;
     }
     Ok(())
 }
 
-fn push_held(text: &mut Vec<u8>, end: &WorkerEnd<Walker>) -> Result<(), NoMemory> {
+fn push_held(text: &mut Text, end: &WorkerEnd<Walker>) -> Result<(), NoMemory> {
     for half in end.held.iter() {
         push_numbers(text, &[u64::from(half.slot.0)])?;
     }
     text.extend_from_slice(b" /")
 }
 
-fn push_halves(text: &mut Vec<u8>, halves: &[Walker]) -> Result<(), NoMemory> {
+fn push_halves(text: &mut Text, halves: &[Walker]) -> Result<(), NoMemory> {
     for half in halves {
         push_numbers(
             text,

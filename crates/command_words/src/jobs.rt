@@ -10,7 +10,7 @@ pub struct Lanes {
     pub lane: u32,
 }
 
-/// A job of the program, with each option's number or what stands for it.
+/// A job of the program, with each option's number or its default.
 #[derive(Drop)]
 pub enum Job {
     /// `solo`: replay a trace on one thread.

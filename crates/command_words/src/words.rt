@@ -40,7 +40,7 @@ fn has_stray(words: &[String]) -> bool
     words.iter().any(|word| is_stray(word.as_bytes()))
 }
 
-// The number of an option, or what stands for it; None where its text is no number from `least` to
+// The number of an option, or its default; None where its text is no number from `least` to
 // `last`.
 fn number(matches: &ArgMatches<'_>, name: &str, least: u64, last: u64, default: u64) -> Option<u64>
     ensures { result ≡ option_map_or (number_in least last) (first_value (found_of matches.now) name.now)

@@ -8,7 +8,7 @@ use pc_base::Numbered;
 use std::alloc::Global;
 
 /// How many versions a batch holds at most.
-const MOST: usize = 16;
+pub(crate) const MOST: usize = 16;
 
 /// Up to 16 versions with consecutive numbers, all under one floor.
 #[derive(Drop)]

@@ -8,15 +8,13 @@ ghost use Rattle.control_half.specs.Applied.{JoinsBatch, NextOf};
 ghost use Rattle.control_half.specs.Published.{in_batch, in_kept, under};
 ghost use Rattle.control_half.specs.Turns.{Grew, size, IsOfBatch, Fits, Stops, SendsAs, Ended, came_to};
 
+use crate::batch::MOST;
 use crate::inner::ControlInner;
 use crate::{Batch, NoMemory};
 use bearer_state::Version;
 use lane_core::{Did, Full};
 use std::alloc::Global;
 use std::sync::Wait;
-
-/// How many versions a batch holds at most.
-const MOST: usize = 16;
 
 impl ControlInner {
     ghost use Rattle.worker_core.specs.Turns.{works_after};

@@ -30,7 +30,7 @@ use Rattle.counter_half.specs.declared.items.PacketDone.{PacketDone}
 use Rattle.counter_half.specs.declared.items.VersionDone.{VersionDone}
 use Rattle.counter_half.specs.Handled.{Handled, met_in, HasHandled}
 use Rattle.counter_half.specs.Interleaved.{rises}
-use Rattle.counter_half.specs.Told.{versions_in, versions_behind, events_made, told, Tells, IsLawful, TellsLawfully, moments_in}
+use Rattle.counter_half.specs.Tells.{versions_in, versions_behind, events_made, effect_entries, Tells, IsLawful, TellsLawfully, moments_in}
 use Rattle.counter_half.proofs.Interleavings.{one_command}
 use Rattle.counter_half.proofs.Made.{commands_made, made_count, counts_met, met_count, versions_count, verdicts_command}
 use Rattle.counter_half.proofs.Versions.{ends_in}
@@ -142,7 +142,7 @@ module _ (sessions : SessionsAreOfCommands) (versions : VersionsAreOfCommands) (
           verdicts_are = tells.verdicts_are ∙ sym (verdicts_command slot before made last)
               ∙ ap (λ (l : List Event). verdicts slot before l) (sym made_more);
           effects_are =
-              flat_map-append (told slot) dones (now ∷ [])
+              flat_map-append (effect_entries slot) dones (now ∷ [])
               ∙ (λ i. tells.effects_are i ++ (map (effect_entry slot (command i)) (made_effects i) ++ []))
               ∙ sym (effects-append slot before made (event.Command last ∷ []))
               ∙ ap (λ (l : List Event). effects slot before l) (sym made_more);

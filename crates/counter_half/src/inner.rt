@@ -5,7 +5,7 @@ ghost use Rattle.control_half.specs.Published.{in_batches, in_kept};
 ghost use Rattle.counter_half.specs.Kept.{kept_count};
 ghost use Rattle.counter_half.specs.Learnt.{learnt_in};
 
-use crate::flow_state::FlowState;
+use crate::half_state::HalfState;
 use bearer_state::Version;
 use control_half::Batch;
 use lane_core::Receiver;
@@ -13,7 +13,7 @@ use lane_core::Receiver;
 /// What the half knows and noted, and its versions on their way in.
 #[derive(Drop)]
 pub struct FlowInner {
-    pub(crate) state: FlowState,
+    pub(crate) state: HalfState,
     /// A batch that was taken and isn't learnt, or not whole.
     pub(crate) batch: Option<Batch<Version>>,
     pub(crate) versions: Receiver<Batch<Version>>,

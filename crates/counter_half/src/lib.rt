@@ -3,9 +3,9 @@
 //! others.
 #![tactic(auto)]
 
-mod flow_state;
 mod flowing;
 mod half;
+mod half_state;
 mod inner;
 mod items;
 mod laws;
@@ -15,8 +15,8 @@ mod meeting;
 mod name;
 mod start;
 
-pub use flow_state::FlowState;
 pub use half::FlowHalf;
+pub use half_state::HalfState;
 pub use items::{FlowItem, PacketDone, VersionDone};
 pub use making::FlowRest;
 pub use name::FlowName;

@@ -5,8 +5,8 @@ ghost use Rattle.control_half.specs.Published.{in_batches, in_kept};
 ghost use Rattle.counter_half.specs.Learnt.{learnt_in};
 ghost use Rattle.counter_half.specs.Named.{started};
 
-use crate::flow_state::FlowState;
 use crate::half::FlowHalf;
+use crate::half_state::HalfState;
 use crate::inner::FlowInner;
 use crate::start::Start;
 use bearer_state::{Session, Version};
@@ -18,7 +18,7 @@ use worker_core::Log;
 /// What is left of a half that is turned no more.
 #[derive(Drop)]
 pub struct FlowRest {
-    pub state: FlowState,
+    pub state: HalfState,
     pub batch: Option<Batch<Version>>,
     pub versions: Receiver<Batch<Version>>,
     pub ghost in_order: { in_batches (taken versions) ≡ learnt_in state.learnt.items ++ in_kept batch },
@@ -82,7 +82,7 @@ fn parts_of(inner: FlowInner) -> (Version, Counters)
     ensures { (result.0 ≡ inner.state.version) × (result.1 ≡ inner.state.counters) }
 {
     let FlowInner { state, .. } = inner;
-    let FlowState {
+    let HalfState {
         version,
         counters,
         ..
@@ -115,7 +115,7 @@ impl FlowInner {
         let started = Start::of(session, &version, &counters, packets);
         let met = version.number;
         FlowInner {
-            state: FlowState {
+            state: HalfState {
                 started,
                 version,
                 counters,

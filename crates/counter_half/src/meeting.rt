@@ -9,7 +9,7 @@ ghost use Rattle.control_half.specs.Published.{in_batch};
 ghost use Rattle.counter_half.specs.declared.items.PacketDone.{PacketDone};
 ghost use Rattle.counter_half.specs.Moments.{later, not_before, IsJudged};
 
-use crate::flow_state::FlowState;
+use crate::half_state::HalfState;
 use crate::laws::known_pasts;
 use crate::{FlowItem, NoMemory, PacketDone, VersionDone};
 use bearer_state::Version;
@@ -17,11 +17,11 @@ use control_half::Batch;
 use packet_steps::{Counters, advance, handle};
 use pc_base::{Packet, Place, Verdict};
 
-impl FlowState {
+impl HalfState {
     ghost use Rattle.counter_half.specs.State.{learnt_by};
 
-    /// Learns the first version of a batch whose floor is met; tells whether there was one. Where memory
-    /// is wanting, it stays in the batch.
+    /// Learns the first version of a batch whose floor is met; tells whether there was one. Out of memory
+    /// it stays in the batch.
     pub fn learn_first(&mut self, batch: &mut Batch<Version>) -> Result<bool, NoMemory>
         requires floor { floor_of batch.old ≤ self.old.done }
         requires few { self.old.met < 2 ^ 61 }
@@ -61,8 +61,8 @@ impl FlowState {
         Ok(true)
     }
 
-    /// Judges a packet whose floor is met, at the last packet's moment where its own is earlier. Where memory
-    /// is wanting, nothing changes.
+    /// Judges a packet whose floor is met, at the last packet's moment where its own is earlier. Out of memory
+    /// nothing changes.
     pub fn meet(&mut self, place: Place, item: &FlowItem) -> Result<(), NoMemory>
         requires floor { item.now.floor ≤ self.old.met }
         requires few { self.old.done < 2 ^ 61 }

@@ -17,7 +17,7 @@ use Rattle.control_steps.specs.Messages.{element, cause_alone}
 use Rattle.demux.specs.Message.{message_in}
 use Rattle.demux.specs.Ends.{control_slot}
 use Rattle.demux.specs.Requests.{imsi_in, mme_in, creation, session_command}
-use Rattle.demux.specs.Texts.{told, replied, message_note}
+use Rattle.demux.specs.Texts.{octets_note, reply_note, message_note}
 use Rattle.demux.specs.Asked.{Asked, note, admission, of, slot, command}
 
 -- an Echo Response (7.1.2): without a TEID, with restart counter 0
@@ -25,11 +25,11 @@ abbrev pub echo_response : ℕ → Message
 echo_response seq = record { kind = ECHO_RESPONSE; teid = None; seq = seq; ies = element (values.Recovery 0) ∷ [] }
 
 abbrev pub echo_note : ℕ → List ℕ
-echo_note seq = told (codes "s11 echo") (spelling (echo_response seq))
+echo_note seq = octets_note (codes "s11 echo") (spelling (echo_response seq))
 
 -- a Create Session Request where no slot is left, answered to its sender's TEID
 abbrev pub pool_note : ℕ → ℕ → List ℕ
-pool_note teid seq = told (codes "s11 pool") (spelling
+pool_note teid seq = octets_note (codes "s11 pool") (spelling
     (cause_alone teid CREATE_SESSION_REQUEST seq ALL_DYNAMIC_ADDRESSES_ARE_OCCUPIED))
 
 -- a message to a TEID of no session: a request is answered, to TEID 0
@@ -38,7 +38,7 @@ no_context_reply message =
     if is_request message.kind then Some (spelling (cause_alone 0 message.kind message.seq CONTEXT_NOT_FOUND)) else None
 
 abbrev pub no_context_note : Message → List ℕ
-no_context_note message = replied (codes "s11 nocontext") (no_context_reply message)
+no_context_note message = reply_note (codes "s11 nocontext") (no_context_reply message)
 
 -- A Create Session Request is for its own IMSI. One that is read has all that it takes.
 abbrev pub create_asked : Message → Option Asked

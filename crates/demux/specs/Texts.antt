@@ -11,17 +11,17 @@ use Rattle.tft_codec.specs.declared.fault.TBad.{TBad}
 use Rattle.tft_codec.specs.declared.fault.TBad.TheVariants as template_bad
 
 -- a word, and octets in hexadecimal
-abbrev pub told : List ℕ → List ℕ → List ℕ
-told word octets = word ++ 32 ∷ encode_lower octets
+abbrev pub octets_note : List ℕ → List ℕ → List ℕ
+octets_note word octets = word ++ 32 ∷ encode_lower octets
 
 -- the same, or a dash where there are none
-abbrev pub replied : List ℕ → Option (List ℕ) → List ℕ
-replied word (Some reply) = told word reply
-replied word None = word ++ 32 ∷ codes "-"
+abbrev pub reply_note : List ℕ → Option (List ℕ) → List ℕ
+reply_note word (Some reply) = octets_note word reply
+reply_note word None = word ++ 32 ∷ codes "-"
 
 -- an information element by its type and instance, and the reply to the request that it is refused in
 abbrev pub element_note : List ℕ → ℕ → ℕ → Option (List ℕ) → List ℕ
-element_note word kind instance reply = replied ((word ++ 32 ∷ decimal kind) ++ 32 ∷ decimal instance) reply
+element_note word kind instance reply = reply_note ((word ++ 32 ∷ decimal kind) ++ 32 ∷ decimal instance) reply
 
 -- octets that are no message of GTPv2-C; no fault is out of memory
 abbrev pub message_note : CBad → Option (List ℕ) → List ℕ

@@ -17,7 +17,7 @@ use Rattle.pc_base.specs.declared.packet.Way.TheVariants.{Up, Down}
 use Rattle.pc_base.specs.Addresses.{gateway_addr}
 use Rattle.demux.specs.declared.packet.LentPacket.{LentPacket}
 use Rattle.demux.specs.Ends.{bearer_end, addressee}
-use Rattle.demux.specs.Texts.{told, tunnel_note, carried_note, packet_note}
+use Rattle.demux.specs.Texts.{octets_note, tunnel_note, carried_note, packet_note}
 use Rattle.demux.specs.Asked.{Asked, Wish, note, of, slot, packet, noted}
 
 -- a packet that came so, at a moment: it ends where its total length says
@@ -26,11 +26,11 @@ lent moment way octets = record { moment = moment; way = way; ip = packet_of oct
 
 -- an echo is answered (7.2.2), to sequence number 0 where the request has none
 abbrev pub tunnel_echo_note : Option ℕ → List ℕ
-tunnel_echo_note seq = told (codes "s1u echo") (spelling (EchoResponse (unwrap_or seq 0)))
+tunnel_echo_note seq = octets_note (codes "s1u echo") (spelling (EchoResponse (unwrap_or seq 0)))
 
 -- a tunnel that isn't there is told to the sender (7.3.1)
 abbrev pub unknown_note : ℕ → List ℕ
-unknown_note teid = told (codes "s1u unknown") (spelling (ErrorIndication 0 teid gateway_addr))
+unknown_note teid = octets_note (codes "s1u unknown") (spelling (ErrorIndication 0 teid gateway_addr))
 
 -- what came on a bearer is a packet, if it is one of IPv4
 abbrev pub carried_where : ℕ → ℕ → List ℕ → Option IpBad → Wish

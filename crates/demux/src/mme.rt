@@ -12,7 +12,7 @@ ghost use Rattle.demux.specs.Resolved.{controller_in, resolved};
 use crate::booking::{in_book, whose};
 use crate::ends::control_slot;
 use crate::requests::{creation, imsi_in, mme_in, session_command};
-use crate::texts::{message_note, replied, told, words};
+use crate::texts::{message_note, octets_note, reply_note, words};
 use crate::{Decision, Whose};
 use address_book::AddressBook;
 use control_steps::CONTEXT_NOT_FOUND;
@@ -159,7 +159,7 @@ fn echo_note(alloc: Global, seq: u32) -> Result<Octets, NoMemory>
     ensures { IfOk result (λ note. note ≡ echo_note seq) }
 {
     let message = echo_response(alloc, seq)?;
-    told(alloc, "s11 echo", &write(alloc, &message)?)
+    octets_note(alloc, "s11 echo", &write(alloc, &message)?)
 }
 
 // The answer to a request that is a cause alone.
@@ -201,7 +201,7 @@ fn pool_note(alloc: Global, teid: Teid, seq: u32) -> Result<Octets, NoMemory>
         seq,
         ALL_DYNAMIC_ADDRESSES_ARE_OCCUPIED,
     )?;
-    told(alloc, "s11 pool", &reply)
+    octets_note(alloc, "s11 pool", &reply)
 }
 
 // The reply to a request of no session.
@@ -219,5 +219,5 @@ fn no_context_note(alloc: Global, message: &Msg) -> Result<Octets, NoMemory>
     ensures { IfOk result (λ note. note ≡ no_context_note message.now) }
 {
     let reply = no_context_reply(alloc, message)?;
-    replied(alloc, "s11 nocontext", &reply)
+    reply_note(alloc, "s11 nocontext", &reply)
 }

@@ -1,15 +1,15 @@
 //! The notes on lines, as texts.
 ghost use Rattle.std.specs.Prelude.{◌≡◌, IfOk, OnOk, option_map};
 ghost use Rattle.gtpv2_msg.specs.Refusal.{IsRefusal, refusal_of};
-ghost use Rattle.demux.specs.Texts.{told, replied, element_note, message_note, tunnel_note, carried_note, packet_note};
-ghost use Rattle.demux.specs.Texts.{template_note, move_word, move_note};
+ghost use Rattle.demux.specs.Texts.{octets_note, reply_note, element_note, message_note, tunnel_note, carried_note};
+ghost use Rattle.demux.specs.Texts.{packet_note, template_note, move_word, move_note};
 
 use gtpu_codec::UBad;
 use gtpv2_msg::{CBad, refusal};
 use ipv4_packet::IpBad;
 use pc_base::{NoMemory, Octets, SliceNo, Slot};
 use std::alloc::Global;
-use text_fields::{Text, push_number};
+use text_fields::Text;
 use tft_codec::TBad;
 
 /// A note that is these words.
@@ -29,8 +29,8 @@ fn begun(alloc: Global, text: &str) -> Result<Text, NoMemory>
 }
 
 /// Words, and octets.
-pub fn told(alloc: Global, text: &str, octets: &[u8]) -> Result<Octets, NoMemory>
-    ensures { IfOk result (λ note. note ≡ told text.now octets.now) }
+pub fn octets_note(alloc: Global, text: &str, octets: &[u8]) -> Result<Octets, NoMemory>
+    ensures { IfOk result (λ note. note ≡ octets_note text.now octets.now) }
 {
     let mut note = begun(alloc, text)?;
     note.push_octets(octets)?;
@@ -39,7 +39,7 @@ pub fn told(alloc: Global, text: &str, octets: &[u8]) -> Result<Octets, NoMemory
 
 // Appends a reply, or a dash where there is none.
 fn push_reply(note: &mut Text, reply: &Option<Vec<u8>>) -> Result<(), NoMemory>
-    ensures { OnOk result (note.new ≡ replied note.old (option_map (λ v. v.items) reply.now)) }
+    ensures { OnOk result (note.new ≡ reply_note note.old (option_map (λ v. v.items) reply.now)) }
 {
     match reply {
         Some(octets) => note.push_octets(octets),
@@ -48,8 +48,8 @@ fn push_reply(note: &mut Text, reply: &Option<Vec<u8>>) -> Result<(), NoMemory>
 }
 
 /// Words, and a reply or a dash.
-pub fn replied(alloc: Global, text: &str, reply: &Option<Vec<u8>>) -> Result<Octets, NoMemory>
-    ensures { IfOk result (λ note. note ≡ replied text.now (option_map (λ v. v.items) reply.now)) }
+pub fn reply_note(alloc: Global, text: &str, reply: &Option<Vec<u8>>) -> Result<Octets, NoMemory>
+    ensures { IfOk result (λ note. note ≡ reply_note text.now (option_map (λ v. v.items) reply.now)) }
 {
     let mut note = begun(alloc, text)?;
     push_reply(&mut note, reply)?;
@@ -167,8 +167,8 @@ pub fn move_note(
 ) -> Result<Octets, NoMemory>
     ensures { IfOk result (λ note. note ≡ move_note destination slot slice) }
 {
-    let mut note = Vec::from_slice(alloc, move_word(destination, slice).as_bytes())?;
-    push_number(&mut note, u64::from(slot.0))?;
-    push_number(&mut note, u64::from(slice.0))?;
-    Ok(Octets::of(note))
+    let mut note = begun(alloc, move_word(destination, slice))?;
+    note.push_number(u64::from(slot.0))?;
+    note.push_number(u64::from(slice.0))?;
+    Ok(Octets::of(note.into_octets()))
 }

@@ -6,7 +6,7 @@ ghost use Rattle.demux.specs.Resolved.{granted, bearer_in, addressee_in, resolve
 
 use crate::booking::in_book;
 use crate::ends::{addressee, bearer_end};
-use crate::texts::{carried_note, packet_note, told, tunnel_note, words};
+use crate::texts::{carried_note, octets_note, packet_note, tunnel_note, words};
 use crate::{Decision, LentPacket};
 use address_book::AddressBook;
 use gtpu_codec::{GtpU, GtpUKind, read, write};
@@ -141,7 +141,7 @@ fn echo_note(alloc: Global, seq: u16) -> Result<Octets, NoMemory>
     ensures { (asked : Option ℕ) → unwrap_or asked 0 ≡ seq → IfOk result (λ note. note ≡ tunnel_echo_note asked) }
 {
     let reply = write(alloc, &GtpU::EchoResponse { seq })?;
-    told(alloc, "s1u echo", reply.as_slice())
+    octets_note(alloc, "s1u echo", reply.as_slice())
 }
 
 fn unknown_note(alloc: Global, teid: Teid) -> Result<Octets, NoMemory>
@@ -155,5 +155,5 @@ fn unknown_note(alloc: Global, teid: Teid) -> Result<Octets, NoMemory>
             peer: GATEWAY_ADDR,
         },
     )?;
-    told(alloc, "s1u unknown", reply.as_slice())
+    octets_note(alloc, "s1u unknown", reply.as_slice())
 }

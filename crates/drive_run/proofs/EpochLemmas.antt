@@ -3,14 +3,14 @@ use Rattle.std.proofs.Common.{◌≡◌, ℕ, zero, suc, ◌+◌, ◌*◌, List,
 use Rattle.trace_lines.specs.Line.{Line}
 use Rattle.demux.specs.Trace.{Meaning}
 use Rattle.lawful_run.specs.Cut.{lines_in}
-use Rattle.lawful_run.specs.Order.{Histories, behind}
+use Rattle.lawful_run.specs.Merging.{Histories, behind}
 use Rattle.lawful_run.specs.Report.{EpochReport}
 use Rattle.lawful_run.specs.Run.{behind_all, told_in}
 use Rattle.lawful_run.specs.Trace.{meant_epochs, meant_from}
 use Rattle.lawful_run.proofs.CutLines.{length-meant_from}
 use Rattle.slice_schedule.specs.Turns.{state_behind}
 use Rattle.slice_schedule.specs.World.{Rooms}
-use Rattle.schedule_run.specs.Told.{drawn_told}
+use Rattle.schedule_run.specs.TurnsTold.{drawn_told}
 use Rattle.driven_run.specs.Driven.{IsDriven}
 use Rattle.driven_run.specs.Runs.{AreDriven, bounds_behind}
 use Rattle.drive_run.specs.Driven.{Turns, listed, drawn, bounds_all, turns_by_epoch, turns_for, turns_left, turns_past}

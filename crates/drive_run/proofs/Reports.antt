@@ -8,7 +8,7 @@ use Rattle.demux.specs.Trace.{Meaning, book_of}
 use Rattle.report_lines.specs.declared.entry.Entry.TheVariants as entry
 use Rattle.lawful_run.specs.Answers.{AnswersAll}
 use Rattle.lawful_run.specs.Cut.{IsCut, lines_in}
-use Rattle.lawful_run.specs.Order.{Histories, behind}
+use Rattle.lawful_run.specs.Merging.{Histories, behind}
 use Rattle.lawful_run.specs.Outcomes.{opens}
 use Rattle.lawful_run.specs.Report.{EpochReport, Report, epoch_entries}
 use Rattle.lawful_run.specs.Run.{behind_all, by_slot, no_events, told_in}
@@ -17,7 +17,7 @@ use Rattle.lawful_run.proofs.CutEpochs.{cut_means}
 use Rattle.lawful_run.proofs.CutLines.{cut_closed, cut_nothing, epochs_are, length-meant_from, lines_in-push, meant_epochs-push}
 use Rattle.at_rest.specs.Rest.{IsBehind, Rest, RepresentsAll, bound_at, new_rest}
 use Rattle.slice_schedule.specs.World.{Rooms}
-use Rattle.schedule_run.specs.Told.{AreWorkers}
+use Rattle.schedule_run.specs.TurnsTold.{AreWorkers}
 use Rattle.epoch_drive.specs.Lines.{AreLater, latest_behind}
 use Rattle.driven_run.specs.Driven.{IsDriven}
 use Rattle.driven_run.specs.Noted.{with_note}

@@ -3,13 +3,13 @@ use Rattle.std.proofs.Common.{◌≡◌, ℕ, ◌+◌, ◌≤◌, List, [], ◌�
 use Rattle.trace_lines.specs.Line.{Line}
 use Rattle.demux.specs.Trace.{Meaning, book_of}
 use Rattle.lawful_run.specs.Cut.{lines_in}
-use Rattle.lawful_run.specs.Order.{Histories, behind}
+use Rattle.lawful_run.specs.Merging.{Histories, behind}
 use Rattle.lawful_run.specs.Report.{EpochReport}
 use Rattle.lawful_run.specs.Run.{behind_all, no_events, told_in}
 use Rattle.lawful_run.specs.Trace.{meant_from}
 use Rattle.lawful_run.proofs.CutLines.{lines_in-push, meant_epochs-push}
 use Rattle.at_rest.specs.Rest.{IsBehind, Rest, RepresentsAll, bound_at}
-use Rattle.schedule_run.specs.Told.{AreWorkers, turns_behind, turns_told}
+use Rattle.schedule_run.specs.TurnsTold.{AreWorkers, turns_behind, turns_told}
 use Rattle.schedule_run.specs.declared.turns.Turns as run
 use Rattle.schedule_run.specs.declared.turns.Turns.TheVariants as turns
 use Rattle.driven_run.specs.Driven.{IsDriven}

@@ -8,7 +8,7 @@ use Rattle.lawful_run.specs.Report.{Report}
 use Rattle.lawful_run.specs.Setup.{sliced}
 use Rattle.lawful_run.specs.Trace.{IsReport, epochs_told, slots_of}
 use Rattle.slice_schedule.specs.World.{Rooms}
-use Rattle.schedule_run.specs.Told.{drawn_told, state_after}
+use Rattle.schedule_run.specs.TurnsTold.{drawn_told, state_after}
 use Rattle.schedule_run.specs.declared.turns.Turns as run
 use Rattle.schedule_run.specs.declared.turns.Turns.TheVariants as turns
 use Rattle.driven_run.specs.Runs.{IsDrivenRun, bounds_behind}

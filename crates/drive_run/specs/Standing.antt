@@ -8,12 +8,12 @@ use Rattle.demux.specs.Trace.{Meaning, book_of, note}
 use Rattle.report_lines.specs.declared.entry.LineEntry.{LineEntry}
 use Rattle.report_lines.specs.declared.entry.LineEntry.TheVariants as line_entry
 use Rattle.lawful_run.specs.Cut.{lines_in}
-use Rattle.lawful_run.specs.Order.{Histories}
+use Rattle.lawful_run.specs.Merging.{Histories}
 use Rattle.lawful_run.specs.Report.{EpochReport, epoch_entries, texts_of}
 use Rattle.lawful_run.specs.Run.{behind_all, no_events}
 use Rattle.lawful_run.specs.Trace.{meant_epochs, meant_from, open_epoch, own_epoch}
 use Rattle.at_rest.specs.Rest.{IsBehind, Rest, RepresentsAll, bound_at}
-use Rattle.schedule_run.specs.Told.{AreWorkers}
+use Rattle.schedule_run.specs.TurnsTold.{AreWorkers}
 use Rattle.schedule_run.specs.declared.turns.Turns as run
 use Rattle.epoch_drive.specs.Lines.{AreLater, latest_behind}
 use Rattle.driven_run.specs.Driven.{IsDriven}

@@ -3,11 +3,11 @@ ghost use Rattle.std.specs.Prelude.{◌≡◌, ◌+◌, ◌≤◌, ◌++◌, ℕ
 ghost use Rattle.trace_lines.specs.Line.{Line};
 ghost use Rattle.trace_lines.specs.declared.bad.LineBad.{LineBad};
 ghost use Rattle.lawful_run.specs.Cut.{IsCut};
-ghost use Rattle.lawful_run.specs.Order.{Histories};
+ghost use Rattle.lawful_run.specs.Merging.{Histories};
 ghost use Rattle.lawful_run.specs.Outcomes.{opens};
 ghost use Rattle.lawful_run.specs.Run.{by_slot};
 ghost use Rattle.at_rest.specs.Rest.{RepresentsAll};
-ghost use Rattle.schedule_run.specs.Told.{AreWorkers};
+ghost use Rattle.schedule_run.specs.TurnsTold.{AreWorkers};
 ghost use Rattle.trace_run.specs.Entries.{charges_text};
 ghost use Rattle.trace_run.specs.Reporting.{IsDue, SaysEpochs};
 ghost use Rattle.drive_run.specs.Driven.{IsDrivenReport, turns_in};

@@ -2,21 +2,21 @@
 ghost use Rattle.std.specs.Prelude.{◌≡◌, ◌+◌, ◌≤◌, ◌^◌, ◌++◌, Bool, List, length, IfOk, OnOk};
 ghost use Rattle.trace_lines.specs.Line.{Line};
 ghost use Rattle.lawful_run.specs.Report.{EpochReport};
-ghost use Rattle.schedule_run.specs.Told.{AreWorkers};
+ghost use Rattle.schedule_run.specs.TurnsTold.{AreWorkers};
 ghost use Rattle.epoch_drive.specs.Lines.{AreLater, latest_behind};
-ghost use Rattle.epoch_drive.specs.Told.{AreShort, told_by};
+ghost use Rattle.epoch_drive.specs.Telling.{AreShort, told_by};
 ghost use Rattle.trace_run.specs.Entries.{closing_text, lines_text};
 ghost use Rattle.drive_run.specs.Driven.{Schedule};
 ghost use Rattle.drive_run.specs.Standing.{Drives, Stands, noted};
 
-use crate::telling::{push_lines, push_records};
+use crate::telling::push_lines;
 use at_rest::AtRest;
 use epoch_drive::{Epoch, drive_epoch};
 use schedule_run::Turns;
 use std::alloc::{AllocError, Global};
 use text_fields::Text;
 use trace_lines::{LineBad, TraceLine};
-use trace_run::{push_bad, push_effects};
+use trace_run::{push_bad, push_effects, push_records};
 
 // Appends the note of a bad line, where there is one.
 fn push_noted(report: &mut Text, bad: Option<LineBad>, number: u64) -> Result<(), AllocError>

@@ -1,14 +1,14 @@
-//! The text of what is told of an epoch.
-ghost use Rattle.std.specs.Prelude.{◌≡◌, ◌++◌, ◌∷◌, [], Bool, map, OnOk};
-ghost use Rattle.epoch_drive.specs.Told.{AreShort, IsShortEntry, line_told, rows_closed, rows_told};
+//! The text of what is told of the lines of an epoch.
+ghost use Rattle.std.specs.Prelude.{◌≡◌, ◌++◌, ◌∷◌, [], map, OnOk};
+ghost use Rattle.epoch_drive.specs.Telling.{AreShort, IsShortEntry, line_told};
 ghost use Rattle.report_lines.specs.declared.entry.Entry.TheVariants as entry;
 ghost use Rattle.report_lines.specs.Text.{line_shown};
-ghost use Rattle.trace_run.specs.Entries.{charges_text, line_of, lines_text};
+ghost use Rattle.trace_run.specs.Entries.{line_of, lines_text};
 
-use epoch_drive::{Closed, Entry};
+use epoch_drive::Entry;
 use std::alloc::AllocError;
 use text_fields::Text;
-use trace_run::{push_answer, push_note, push_packet, push_placed, push_refusal, push_rows};
+use trace_run::{push_answer, push_note, push_packet, push_placed, push_refusal};
 
 // Appends the line of an entry, with its place or without.
 fn push_line(report: &mut Text, told: &Entry<'_>, places: bool) -> Result<(), AllocError>
@@ -51,22 +51,6 @@ pub fn push_lines(report: &mut Text, told: &[Entry<'_>], places: bool) -> Result
 {
     for entry in told {
         push_line(report, entry, places)?;
-    }
-    Ok(())
-}
-
-fn push_closed(report: &mut Text, closed: &Closed) -> Result<(), AllocError>
-    ensures { (places : Bool) → OnOk result (report.new ≡ report.old ++ charges_text places (rows_closed closed.now)) }
-{
-    push_rows(report, closed.slot, closed.rows.as_slice())
-}
-
-/// Appends the lines of charging records.
-pub fn push_records(report: &mut Text, rows: &[Closed]) -> Result<(), AllocError>
-    ensures { (places : Bool) → OnOk result (report.new ≡ report.old ++ charges_text places (rows_told rows.now)) }
-{
-    for closed in rows {
-        push_closed(report, closed)?;
     }
     Ok(())
 }

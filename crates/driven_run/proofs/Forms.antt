@@ -5,7 +5,7 @@ use Rattle.demux.specs.Trace.{Meaning, command, packet, move, note}
 use Rattle.demux.specs.declared.packet.LentPacket.{LentPacket}
 use Rattle.pc_base.specs.declared.packet.Verdict.TheVariants.{NoBearer}
 use Rattle.pc_base.specs.declared.reply.Outcome.TheVariants.{Done}
-use Rattle.report_lines.specs.Records.{Judged}
+use Rattle.report_lines.specs.Records.{PacketTold}
 use Rattle.report_lines.specs.declared.entry.LineEntry.{LineEntry}
 use Rattle.report_lines.specs.declared.entry.LineEntry.TheVariants as line
 use Rattle.lawful_run.specs.Answers.{Answers, AnswersAll}
@@ -162,7 +162,7 @@ all_tell n (now ∷ made) (first ∷ turns) (outcome ∷ outs) formed =
     λ i. here i ∷ rest i
 
 -- filled entries tell the same outcomes
-judged_tells : (judged : Judged) (mets : List Met)
+judged_tells : (judged : PacketTold) (mets : List Met)
     → outcome_told (line.P (judged_with judged mets)) ≡ outcome_told (line.P judged)
 judged_tells judged [] = refl
 judged_tells judged (first ∷ others) = refl

@@ -4,7 +4,7 @@ use Rattle.std.specs.List.{filter_map, cons_option, AllZip, AllByRecursion}
 use Rattle.std.proofs.lemmas.List.{length-map}
 use Rattle.std.proofs.lemmas.List.Elements.{All-from_recursion}
 use Rattle.demux.specs.Trace.{Meaning, packet}
-use Rattle.report_lines.specs.Records.{Judged}
+use Rattle.report_lines.specs.Records.{PacketTold}
 use Rattle.report_lines.specs.declared.entry.LineEntry.{LineEntry}
 use Rattle.report_lines.specs.declared.entry.LineEntry.TheVariants as line
 use Rattle.lawful_run.specs.Accepted.{packets_accepted}
@@ -12,7 +12,7 @@ use Rattle.lawful_run.specs.Answers.{Answers, AnswersAll}
 use Rattle.lawful_run.specs.Bounds.{MeetsBounds, MeetsAs, count_before}
 use Rattle.lawful_run.specs.Setup.{sliced}
 use Rattle.lawful_run.specs.LinesTold.{LineTold, lines_told, EachFrom}
-use Rattle.lawful_run.specs.Order.{Histories}
+use Rattle.lawful_run.specs.Merging.{Histories}
 use Rattle.lawful_run.specs.Report.{EpochReport}
 use Rattle.lawful_run.specs.Run.{told_in}
 use Rattle.lawful_run.specs.Telling.{packet_number, commands_told, counted}
@@ -34,7 +34,7 @@ use Rattle.driven_run.proofs.Owing.{driven_lines}
 use Rattle.driven_run.proofs.Rising.{counts_rise}
 
 -- what the packets of a slot met, as their entries tell it
-abbrev pub met_of : Judged → fill.Met
+abbrev pub met_of : PacketTold → fill.Met
 met_of judged = record {
   number = judged.number;
   commands = judged.commands;
@@ -83,7 +83,7 @@ drop-first : {X : Type 0} (test : Bool) (x : X) (xs : List X)
 drop-first true x xs = refl
 drop-first false x xs = refl
 
-own_first : (judged : Judged) (entries : List LineEntry)
+own_first : (judged : PacketTold) (entries : List LineEntry)
     → mets_told (line.P judged ∷ entries) judged.slot ≡ met_of judged ∷ mets_told entries judged.slot
 own_first judged entries =
     ap (λ test. cons_option (cond test (Some (met_of judged)) None) (mets_told entries judged.slot))

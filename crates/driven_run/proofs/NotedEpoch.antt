@@ -14,7 +14,7 @@ use Rattle.lawful_run.specs.Accepted.{accepted_command, accepted_packet, command
 use Rattle.lawful_run.specs.Answers.{Answers, AnswersAll}
 use Rattle.lawful_run.specs.Bounds.{count_before}
 use Rattle.lawful_run.specs.LinesTold.{LineTold, lines_told}
-use Rattle.lawful_run.specs.Order.{Histories, ordered}
+use Rattle.lawful_run.specs.Merging.{Histories, merged}
 use Rattle.lawful_run.specs.Outcomes as made_of
 use Rattle.lawful_run.specs.Report.{EpochReport}
 use Rattle.lawful_run.specs.Run.{by_slot, events_now, told_in}
@@ -251,7 +251,7 @@ module _ (first : ℕ) (before : Histories) (made : List Meaning) (told : EpochR
       → events_now before (made ++ note text ∷ []) (with_note told (first + length made) text) slot
       ≡ events_now before made told slot
   events_noted slot =
-      ap₂ (ordered (length (commands_of (before slot))) (length (packets_of (before slot))))
+      ap₂ (merged (length (commands_of (before slot))) (length (packets_of (before slot))))
       (commands_same slot) (packets_same slot)
 
   entry_same : {Y : Type 0} (select : LineEntry → Option Y) → select (note_entry (first + length made) text) ≡ None

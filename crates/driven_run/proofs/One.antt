@@ -6,14 +6,14 @@ use Rattle.control_steps.specs.declared.command.CommandKind.{CommandKind}
 use Rattle.demux.specs.Trace.{Meaning, command, packet, move, note}
 use Rattle.demux.specs.declared.packet.LentPacket.{LentPacket}
 use Rattle.gate_model.specs.Events.{commands_of, packets_of}
-use Rattle.report_lines.specs.Records.{Noted, Answered, Judged}
+use Rattle.report_lines.specs.Records.{Noted, Answered, PacketTold}
 use Rattle.report_lines.specs.declared.entry.LineEntry.{LineEntry}
 use Rattle.report_lines.specs.declared.entry.LineEntry.TheVariants as line
 use Rattle.report_lines.specs.declared.entry.Refusal.{Refusal}
 use Rattle.lawful_run.specs.Accepted.{Placed, accepted_command, accepted_packet, commands_accepted, packets_accepted}
 use Rattle.lawful_run.specs.Answers.{Answers, AnswersAll}
 use Rattle.lawful_run.specs.LinesTold.{lines_told}
-use Rattle.lawful_run.specs.Order.{ordered, events_in}
+use Rattle.lawful_run.specs.Merging.{merged, events_in}
 use Rattle.lawful_run.specs.Outcomes as made_of
 use Rattle.lawful_run.specs.Run.{by_slot}
 use Rattle.lawful_run.specs.Telling.{command_number, packet_number, commands_told, reply_told, verdict_told, counted}
@@ -32,7 +32,7 @@ module _ (P : Meaning → LineEntry → LineEntry → Type 0) (n : ℕ)
     (refused : (meaning : Meaning) (it : Refusal) → P meaning (line.F it) (line.F it))
     (answered : (slot : ℕ) (c : CommandKind) (one other : Answered) → one.line ≡ other.line → one.slot ≡ slot
     → other.slot ≡ slot → P (command slot c) (line.C one) (line.C other))
-    (judged : (slot : ℕ) (p : LentPacket) (one other : Judged) → one.line ≡ other.line → one.slot ≡ slot
+    (judged : (slot : ℕ) (p : LentPacket) (one other : PacketTold) → one.line ≡ other.line → one.slot ≡ slot
     → other.slot ≡ slot → one.parked ≡ other.parked → P (packet slot p) (line.P one) (line.P other)) where
   two_notes : (meaning : Meaning) (it one other : Noted) → one ≡ it → other ≡ it
       → P meaning (line.N one) (line.N other)
@@ -242,7 +242,7 @@ answered_same slot one other ones others line_is one_is other_is same =
       },
     )
 
-judged_same : (slot : ℕ) (one other : Judged) (ones others : List LineEntry) → one.line ≡ other.line
+judged_same : (slot : ℕ) (one other : PacketTold) (ones others : List LineEntry) → one.line ≡ other.line
     → one.slot ≡ slot → other.slot ≡ slot → one.parked ≡ other.parked
     → SameTold (line.P one ∷ ones) (line.P other ∷ others)
     → (line.P one ≡ line.P other) × SameTold ones others
@@ -311,7 +311,7 @@ one_driven rooms bounds turns slots first before made one other is also =
     (counts s) in
     let events : (s : ℕ) → events_in (before s) (lines_told made one.lines) s
     ≡ events_in (before s) (lines_told made other.lines) s =
-    λ s i. ordered (length (commands_of (before s))) (length (packets_of (before s))) (commands s i) (packets s i) in
+    λ s i. merged (length (commands_of (before s))) (length (packets_of (before s))) (commands s i) (packets s i) in
     let lines : one.lines ≡ other.lines =
     entries_same first made one.lines other.lines is.one_each also.one_each outcomes (record {
       numbers = λ s. is.command_numbers s

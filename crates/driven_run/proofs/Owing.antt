@@ -18,7 +18,7 @@ use Rattle.lawful_run.specs.Moves.{moves_by, moves}
 use Rattle.lawful_run.specs.Parking.{MayPark, ParkedAs, ParkedBehindMoves}
 use Rattle.lawful_run.specs.Refusals.{is_packet, packet_count, slot_of, is_move, move_count, lane_load, MayRefuse, RefusedAs, RefusedWhereFull}
 use Rattle.lawful_run.specs.Setup.{sliced}
-use Rattle.lawful_run.specs.Order.{Histories}
+use Rattle.lawful_run.specs.Merging.{Histories}
 use Rattle.lawful_run.specs.Report.{EpochReport}
 use Rattle.lawful_run.specs.Run.{told_in}
 use Rattle.slice_schedule.specs.Tallies.{Tally, Tallies, no_tally, tallies_after, LaneFull, IsDue, AreDue}

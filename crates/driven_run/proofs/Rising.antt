@@ -7,7 +7,7 @@ use Rattle.slice_schedule.specs.Slots.{Met}
 use Rattle.slice_schedule.specs.Fits.{count_at}
 use Rattle.slice_schedule.proofs.Lines.{each_packet_is_handled}
 use Rattle.demux.specs.Trace.{Meaning}
-use Rattle.lawful_run.specs.Order.{Histories}
+use Rattle.lawful_run.specs.Merging.{Histories}
 use Rattle.lawful_run.specs.Report.{EpochReport}
 use Rattle.slice_schedule.specs.World.{Rooms}
 use Rattle.driven_run.specs.Driven.{IsDriven, driven, mets_driven}

@@ -1,7 +1,7 @@
 -- Driven runs, epoch after epoch.
 use Rattle.std.proofs.Common.{◌≡◌, ℕ, ◌+◌, ◌%◌, List, [], ◌∷◌, length, drop, refl, sym, ap, subst, ◌∙◌}
 use Rattle.demux.specs.Trace.{Meaning}
-use Rattle.lawful_run.specs.Order.{Histories, behind}
+use Rattle.lawful_run.specs.Merging.{Histories, behind}
 use Rattle.lawful_run.specs.Outcomes as made_of
 use Rattle.lawful_run.specs.Report.{EpochReport}
 use Rattle.lawful_run.specs.Run.{told_in, by_slot, behind_all, no_events, AreEpochRuns}

@@ -15,11 +15,11 @@ use Rattle.lawful_run.specs.Accepted.{Placed, accepted_packet, commands_accepted
 use Rattle.lawful_run.specs.Answers.{AnswersAll}
 use Rattle.lawful_run.specs.Bounds.{Rises, count_before}
 use Rattle.lawful_run.specs.LinesTold.{LineTold, lines_told}
-use Rattle.lawful_run.specs.Order.{Histories, ordered}
+use Rattle.lawful_run.specs.Merging.{Histories, merged}
 use Rattle.lawful_run.specs.Outcomes as made_of
 use Rattle.lawful_run.specs.Placing.{numbered_from}
 use Rattle.lawful_run.specs.Telling.{packet_number, commands_told, counted}
-use Rattle.lawful_run.proofs.AsTold.{ordered-commands, ordered-packets}
+use Rattle.lawful_run.proofs.AsTold.{merged-commands, merged-packets}
 use Rattle.epoch_join.specs.Filling as fill
 use Rattle.epoch_join.specs.Floors.{packet_floor, floor_for, command_floors, packet_floors}
 use Rattle.epoch_join.specs.Joined.{with_counts, events_met, MeetsFloors, SlotTold, epoch_of}
@@ -129,7 +129,7 @@ module _ (rooms : Rooms) (bounds : ℕ → ℕ) (turns : List (List ℕ)) (first
     (made : List Meaning) (entries : List LineEntry) where
   abbrev pub events_at : ℕ → List Event
   events_at slot =
-      ordered (length (commands_of (before slot))) (length (packets_of (before slot)))
+      merged (length (commands_of (before slot))) (length (packets_of (before slot)))
       (commands_accepted slot (lines_told made entries))
       (with_counts (map (λ (m : Met). count_before before slot + m.commands) (mets_driven rooms bounds turns made slot))
       (packets_accepted slot (lines_told made entries)))
@@ -164,7 +164,7 @@ module _ (rooms : Rooms) (bounds : ℕ → ℕ) (turns : List (List ℕ)) (first
         let counts = map (λ (m : Met). count_before before slot + m.commands) met in
         let many = as_many slot in
         length-verdicts slot (before slot) (events_at slot)
-        ∙ ap length (ordered-packets (length (commands_of (before slot))) (length (packets_of (before slot)))
+        ∙ ap length (merged-packets (length (commands_of (before slot))) (length (packets_of (before slot)))
         (commands_accepted slot (lines_told made entries)) (with_counts counts packets))
         ∙ length-numbered (length (packets_of (before slot))) (with_counts counts packets)
         ∙ length-with_counts counts packets
@@ -175,7 +175,7 @@ module _ (rooms : Rooms) (bounds : ℕ → ℕ) (turns : List (List ℕ)) (first
         ≡ command_count slot (lines_told made entries)
     reply_count slot =
         length-replies slot (before slot) (events_at slot)
-        ∙ ap length (ordered-commands (length (commands_of (before slot))) (length (packets_of (before slot)))
+        ∙ ap length (merged-commands (length (commands_of (before slot))) (length (packets_of (before slot)))
         (commands_accepted slot (lines_told made entries))
         (with_counts (map (λ (m : Met). count_before before slot + m.commands)
         (mets_driven rooms bounds turns made slot)) (packets_accepted slot (lines_told made entries))))
@@ -203,7 +203,7 @@ module _ (rooms : Rooms) (bounds : ℕ → ℕ) (turns : List (List ℕ)) (first
         lists.counts (numbers_at slot) in
         let handles = (each_packet_is_handled rooms bounds (driven made turns) slot).handles in
         let same : events_met slot (before slot) lines (mets_at slot) ≡ events_at slot =
-        ap (λ counts. ordered commands packets (commands_accepted slot lines)
+        ap (λ counts. merged commands packets (commands_accepted slot lines)
         (with_counts counts (packets_accepted slot lines))) lists.counts in
         record {
           numbers = reply_numbers commands (made_of.replies slot (before slot) (events_at slot))

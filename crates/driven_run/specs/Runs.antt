@@ -2,7 +2,7 @@
 -- move sent it.
 use Rattle.std.specs.Prelude.{◌≡◌, ℕ, ◌+◌, ◌%◌, ◌==◌, if◌then◌else◌, List, [], ◌∷◌, length, drop}
 use Rattle.demux.specs.Trace.{Meaning, command, packet, move, note}
-use Rattle.lawful_run.specs.Order.{Histories, behind}
+use Rattle.lawful_run.specs.Merging.{Histories, behind}
 use Rattle.lawful_run.specs.Outcomes as made_of
 use Rattle.lawful_run.specs.Report.{EpochReport, Report}
 use Rattle.lawful_run.specs.Run.{told_in, by_slot, behind_all, no_events, IsRun}

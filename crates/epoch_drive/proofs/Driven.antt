@@ -11,7 +11,7 @@ use Rattle.report_lines.specs.declared.entry.LineEntry.{LineEntry}
 use Rattle.lawful_run.specs.Accepted as accepted
 use Rattle.lawful_run.specs.Bounds.{count_before}
 use Rattle.lawful_run.specs.LinesTold.{LineTold, lines_told}
-use Rattle.lawful_run.specs.Order.{Histories, events_in, ordered}
+use Rattle.lawful_run.specs.Merging.{Histories, events_in, merged}
 use Rattle.lawful_run.specs.Outcomes as made_of
 use Rattle.lawful_run.specs.Report.{EpochReport}
 use Rattle.lawful_run.specs.Run.{by_slot, told_in}
@@ -37,7 +37,8 @@ use Rattle.epoch_drive.specs.Meant.{AreStanding}
 use Rattle.epoch_drive.specs.Opened.{open_entries, opened}
 use Rattle.epoch_drive.specs.Replays.{HasDone, HaveDone, commands_at, commands_shared, events_shared, packets_at, packets_shared}
 use Rattle.epoch_drive.specs.Shares.{AreShares, IsShare, base_at, packets_alone, packets_lent}
-use Rattle.epoch_drive.specs.Told.{line_told, rows_told}
+use Rattle.slot_replay.specs.Replaying.{rows_told}
+use Rattle.epoch_drive.specs.Telling.{line_told}
 use Rattle.epoch_drive.specs.declared.epoch.Entry.{Entry}
 use Rattle.epoch_drive.specs.declared.replays.Answers.{Answers}
 use Rattle.epoch_drive.specs.declared.replays.Replays.{Replays}
@@ -121,7 +122,7 @@ module _ (rooms : Rooms) (bounds : ℕ → ℕ) (turns : List (List ℕ)) (first
   joined_events : (slot : ℕ) → events_joined before made (entries rooms bounds turns first before made) own_mets slot
       ≡ own_events slot
   joined_events slot =
-      ap (λ counts. ordered (length (commands_of (before slot))) (length (packets_of (before slot)))
+      ap (λ counts. merged (length (commands_of (before slot))) (length (packets_of (before slot)))
       (accepted.commands_accepted slot lines) (with_counts counts (accepted.packets_accepted slot lines)))
       (counts_at rooms bounds turns first before made slot)
 
@@ -241,7 +242,7 @@ module _ (rooms : Rooms) (bounds : ℕ → ℕ) (turns : List (List ℕ)) (first
   events_are slot =
       let commands = commands_are slot in
       let packets = packets_are slot in
-      λ i. ordered (length (commands_of (before slot))) (length (packets_of (before slot))) (commands i) (packets i)
+      λ i. merged (length (commands_of (before slot))) (length (packets_of (before slot))) (commands i) (packets i)
 
   pub events_none : (slot : ℕ) → length old ≤ slot → events_shared shares slot (before slot) ≡ []
   events_none slot past =
@@ -251,7 +252,7 @@ module _ (rooms : Rooms) (bounds : ℕ → ℕ) (turns : List (List ℕ)) (first
       let packets : packets_at shares slot ≡ [] =
       get_or_past (map packets_shared shares) slot []
       (omega (arith, past, drove.many, length-map shares packets_shared)) in
-      λ i. ordered (length (commands_of (before slot))) (length (packets_of (before slot))) (commands i) (packets i)
+      λ i. merged (length (commands_of (before slot))) (length (packets_of (before slot))) (commands i) (packets i)
 
   done_at : (slot : ℕ) (s : SubscriberState) (a : Answers) → slot < length old
       → HasDone (get_or old slot s) (get_or new slot s) shares (get_or replays.answers.items slot a) slot

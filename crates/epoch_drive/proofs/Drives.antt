@@ -19,7 +19,7 @@ use Rattle.slice_schedule.specs.Slots.{Met}
 use Rattle.slice_schedule.specs.World.{Rooms, start}
 use Rattle.schedule_run.specs.Lines.{asked, bound_in, driven_by}
 use Rattle.schedule_run.specs.Plan.{Plan, mets_of}
-use Rattle.schedule_run.specs.Told.{turns_told}
+use Rattle.schedule_run.specs.TurnsTold.{turns_told}
 use Rattle.schedule_run.specs.declared.ask.Ask.{Ask}
 use Rattle.schedule_run.specs.declared.turns.Turns.{Turns}
 use Rattle.driven_run.specs.Driven.{asks_of, driven, mets_driven}

@@ -13,7 +13,7 @@ use Rattle.gate_model.specs.Versions.{SessionsKeepTheirSlot}
 use Rattle.gate_model.specs.declared.event.Event.{Event}
 use Rattle.gate_model.specs.declared.event.Event.TheVariants as event
 use Rattle.demux.specs.Packets.{numbered}
-use Rattle.lawful_run.specs.Order.{ordered}
+use Rattle.lawful_run.specs.Merging.{merged}
 use Rattle.lawful_run.specs.Accepted as accepted
 use Rattle.lawful_run.specs.LinesTold.{LineTold}
 use Rattle.slice_schedule.specs.Front.{Outcome}
@@ -37,7 +37,7 @@ use Rattle.epoch_drive.proofs.Moments.{Rises, late_so, taken_rise}
 
 -- the events in order are as many as commands and packets
 ordered_length : (done next : ℕ) (commands : List CommandKind) (packets : List accepted.Placed)
-    → length (ordered done next commands packets) ≡ length commands + length packets
+    → length (merged done next commands packets) ≡ length commands + length packets
 ordered_length done next commands [] = length-map commands event.Command ∙ (omega arith)
 ordered_length done next commands (p ∷ packets) =
     let k = p.commands - done in
@@ -47,7 +47,7 @@ ordered_length done next commands (p ∷ packets) =
     sym (length-append (take k commands) (drop k commands)) ∙ ap length (take-append-drop k commands) in
     let later = ordered_length p.commands (next + 1) (drop k commands) packets in
     length-append (map event.Command (take k commands))
-    (event.Packet (numbered next p.packet) ∷ ordered p.commands (next + 1) (drop k commands) packets)
+    (event.Packet (numbered next p.packet) ∷ merged p.commands (next + 1) (drop k commands) packets)
     ∙ omega (arith, front, both, later)
 
 pub length-moments : (lines : List Line) (meants : List Meant) → HaveMoments lines meants

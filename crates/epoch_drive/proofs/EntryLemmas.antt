@@ -10,8 +10,8 @@ use Rattle.report_lines.specs.declared.entry.LineEntry.TheVariants as line
 use Rattle.epoch_join.specs.Filling.{Mets, Replies, fill, filled, met_slot, others_of, replied_slot}
 use Rattle.slice_schedule.specs.Front.{Outcome}
 use Rattle.slot_replay.specs.Replaying.{AreShort}
-use Rattle.slot_replay.specs.declared.replayed.Judged.{Judged}
-use Rattle.slot_replay.specs.declared.replayed.Replied as told
+use Rattle.slot_replay.specs.declared.replayed.NumberedVerdict.{NumberedVerdict}
+use Rattle.slot_replay.specs.declared.replayed.NumberedReply as told
 use Rattle.epoch_drive.specs.declared.epoch.Entry.{Entry}
 use Rattle.epoch_drive.specs.declared.epoch.Entry.TheVariants as entries
 use Rattle.epoch_drive.specs.declared.meant.Meant.{Meant}
@@ -19,7 +19,7 @@ use Rattle.epoch_drive.specs.declared.replays.Answers.{Answers}
 use Rattle.epoch_drive.specs.Joins.{AllShort, FillsNext, TakesPacket, TakesReply, met_so, mets_at, mets_of, replied_so, replies_at, replies_of, told_of_command, told_of_packet}
 use Rattle.epoch_drive.specs.Meant.{meaning_of}
 use Rattle.epoch_drive.specs.Opened.{open_command, open_entries, open_entry, open_packet}
-use Rattle.epoch_drive.specs.Told.{IsShortEntry, line_told}
+use Rattle.epoch_drive.specs.Telling.{IsShortEntry, line_told}
 
 -- lists by slot, where the value of one slot is another
 get_other : {X Y : Type 0} (f : X → List Y) (xs : List X) (own slot : ℕ) (x : X) → (own ≡ slot → ⊥)
@@ -88,7 +88,7 @@ none_left : {X : Type 0} (xs ys : List X) → xs ≡ [] ++ ys → ys ≡ drop 1 
 none_left xs ys is rest =
     nil_from_length xs (omega (arith, ap length is, ap length rest, length-drop 1 xs))
 
-pub next_replied : (xs ys : List told.Replied) (next : Option told.Replied) → xs ≡ option_to_list next ++ ys
+pub next_replied : (xs ys : List told.NumberedReply) (next : Option told.NumberedReply) → xs ≡ option_to_list next ++ ys
     → ys ≡ drop 1 xs → (n slot : ℕ) (replies : Replies) (mets : Mets) → map replied_so xs ≡ replies slot
     → told_of_command n slot next ≡ fill (open_command n slot true) replies mets
 next_replied xs ys None is rest n slot replies mets own =
@@ -96,7 +96,7 @@ next_replied xs ys None is rest n slot replies mets own =
 next_replied xs ys (Some r) is rest n slot replies mets own =
     ap (λ rs. fill (open_command n slot true) (λ k. rs) mets) (sym (ap (map replied_so) is) ∙ own)
 
-pub next_judged : (xs ys : List Judged) (next : Option Judged) → xs ≡ option_to_list next ++ ys
+pub next_judged : (xs ys : List NumberedVerdict) (next : Option NumberedVerdict) → xs ≡ option_to_list next ++ ys
     → ys ≡ drop 1 xs → (n slot : ℕ) (parked : Bool) (replies : Replies) (mets : Mets) → map met_so xs ≡ mets slot
     → told_of_packet n slot parked next ≡ fill (open_packet n slot true parked) replies mets
 next_judged xs ys None is rest n slot parked replies mets own =
@@ -150,14 +150,14 @@ joins_over entries n left outs replies mets whole none joins =
     ∙ ap (λ ms. map line_told entries ++ filled (open_entries n (map meaning_of ms) outs) replies mets) (sym none) ∙ joins
 
 -- a verdict that is taken can be written
-next_short : (xs ys : List Judged) (next : Option Judged) → xs ≡ option_to_list next ++ ys → AreShort xs
-    → IfSome next (λ (j : Judged). IsShort j.verdict)
+next_short : (xs ys : List NumberedVerdict) (next : Option NumberedVerdict) → xs ≡ option_to_list next ++ ys → AreShort xs
+    → IfSome next (λ (j : NumberedVerdict). IsShort j.verdict)
 next_short xs ys None is short = tt
 next_short xs ys (Some j) is short =
-    All-head (λ (judged : Judged). IsShort judged.verdict) j ys (subst AreShort is short)
+    All-head (λ (judged : NumberedVerdict). IsShort judged.verdict) j ys (subst AreShort is short)
 
 -- the entry of a command, or a packet, that was taken
-pub fills_command : (old new : List Answers) (n slot : ℕ) (taken : Bool) (next : Option told.Replied) (entry : Entry)
+pub fills_command : (old new : List Answers) (n slot : ℕ) (taken : Bool) (next : Option told.NumberedReply) (entry : Entry)
     → taken ≡ true → slot < length old → TakesReply old new slot next
     → line_told entry ≡ told_of_command n slot next → IsShortEntry entry
     → FillsNext old new (open_command n slot taken) entry
@@ -186,10 +186,10 @@ fills_command old new n slot taken next entry is_taken low takes told_so short =
     } in
     subst (λ t. FillsNext old new (open_command n slot t) entry) (sym is_taken) fills
 
-pub fills_packet : (old new : List Answers) (n slot : ℕ) (taken parked : Bool) (next : Option Judged) (entry : Entry)
+pub fills_packet : (old new : List Answers) (n slot : ℕ) (taken parked : Bool) (next : Option NumberedVerdict) (entry : Entry)
     → taken ≡ true → slot < length old → TakesPacket old new slot next
     → line_told entry ≡ told_of_packet n slot parked next
-    → (IfSome next (λ (j : Judged). IsShort j.verdict) → IsShortEntry entry)
+    → (IfSome next (λ (j : NumberedVerdict). IsShort j.verdict) → IsShortEntry entry)
     → FillsNext old new (open_packet n slot taken parked) entry
 fills_packet old new n slot taken parked next entry is_taken low takes told_so short =
     let own : mets_of takes.before ≡ mets_at old slot =
@@ -215,7 +215,7 @@ fills_packet old new n slot taken parked next entry is_taken low takes told_so s
           subst AllShort (sym takes.is)
           (All-set (λ (a : Answers). AreShort a.packets.items) old slot takes.after
           (subst AreShort (sym takes.rest)
-          (All-drop (λ (judged : Judged). IsShort judged.verdict) 1 takes.before.packets.items (before_short all))) all);
+          (All-drop (λ (judged : NumberedVerdict). IsShort judged.verdict) 1 takes.before.packets.items (before_short all))) all);
     } in
     subst (λ t. FillsNext old new (open_packet n slot t parked) entry) (sym is_taken) fills
 

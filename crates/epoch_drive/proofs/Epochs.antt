@@ -3,7 +3,7 @@ use Rattle.std.proofs.Common.{◌≡◌, ℕ, ◌+◌, ◌≤◌, ◌^◌, List,
 use Rattle.trace_lines.specs.Line.{Line}
 use Rattle.demux.specs.Trace.{Meaning}
 use Rattle.gate_model.specs.Versions.{SessionsKeepTheirSlot}
-use Rattle.lawful_run.specs.Order.{Histories, behind}
+use Rattle.lawful_run.specs.Merging.{Histories, behind}
 use Rattle.lawful_run.specs.Report.{EpochReport}
 use Rattle.lawful_run.specs.Run.{told_in}
 use Rattle.lawful_run.specs.Trace.{meant_from}
@@ -15,7 +15,8 @@ use Rattle.slot_replay.specs.Replaying.{effects_told}
 use Rattle.epoch_drive.specs.Lines.{AreLater, latest_behind, rooms_of}
 use Rattle.epoch_drive.specs.Meant.{AreStanding, meaning_of}
 use Rattle.epoch_drive.specs.Steps.{DoesLines}
-use Rattle.epoch_drive.specs.Told.{line_told, rows_told, told_by}
+use Rattle.slot_replay.specs.Replaying.{rows_told}
+use Rattle.epoch_drive.specs.Telling.{line_told, told_by}
 use Rattle.epoch_drive.specs.declared.epoch.Entry.{Entry}
 use Rattle.epoch_drive.specs.declared.epoch.Epoch.{Epoch}
 use Rattle.epoch_drive.specs.declared.meant.Meant.{Meant}

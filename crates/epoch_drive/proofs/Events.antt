@@ -17,8 +17,8 @@ use Rattle.driven_run.proofs.Forms as forms
 use Rattle.driven_run.proofs.There.{met_list, reply_list}
 use Rattle.slot_replay.specs.Replaying.{counts_in, counts_of, numbers_in, packet_numbers_in, placed_lent, places_in, replies_in, verdicts_in}
 use Rattle.slot_replay.specs.declared.placed.Placed.{Placed}
-use Rattle.slot_replay.specs.declared.replayed.Judged.{Judged}
-use Rattle.slot_replay.specs.declared.replayed.Replied as told
+use Rattle.slot_replay.specs.declared.replayed.NumberedVerdict.{NumberedVerdict}
+use Rattle.slot_replay.specs.declared.replayed.NumberedReply as told
 use Rattle.packet_steps.specs.Lent.{verdict_of}
 use Rattle.epoch_drive.specs.Joins.{met_so, replied_so}
 use Rattle.epoch_drive.specs.Opened.{open_command, open_entries, open_entry, open_packet, opened}
@@ -68,7 +68,7 @@ opened_lines n (m ∷ made) (o ∷ outs) =
     ap (λ rest. record { meaning = m; entry = open_entry n m o } ∷ rest) (opened_lines (n + 1) made outs)
 
 -- replies under their numbers
-pub replies_list : (rs : List told.Replied) (first k : ℕ) → numbers_in rs ≡ counted first k
+pub replies_list : (rs : List told.NumberedReply) (first k : ℕ) → numbers_in rs ≡ counted first k
     → map replied_so rs ≡ reply_list first (replies_in rs)
 replies_list [] first k numbers = refl
 replies_list (r ∷ rs) first zero numbers = absurd (omega (arith, ap length numbers))
@@ -78,7 +78,7 @@ replies_list (r ∷ rs) first (suc k) numbers =
     λ i. record { number = here i; reply = r.reply } ∷ rest i
 
 -- verdicts with what was met
-pub mets_list : (js : List Judged) (mets : List Met) (base next k : ℕ) → packet_numbers_in js ≡ counted next k
+pub mets_list : (js : List NumberedVerdict) (mets : List Met) (base next k : ℕ) → packet_numbers_in js ≡ counted next k
     → counts_in js ≡ map (λ (m : Met). base + m.commands) mets → places_in js ≡ map (λ (m : Met). m.place) mets
     → map met_so js ≡ met_list base next mets (verdicts_in js)
 mets_list [] [] base next k numbers counts places = refl

@@ -6,11 +6,11 @@ use Rattle.trace_lines.specs.Line.{Line}
 use Rattle.demux.specs.Destinations.{home_slice}
 use Rattle.demux.specs.Trace.{destination_after}
 use Rattle.lawful_run.specs.LinesTold.{LineTold}
-use Rattle.lawful_run.specs.Order.{Histories, behind, events_in}
+use Rattle.lawful_run.specs.Merging.{Histories, behind, events_in}
 use Rattle.lawful_run.specs.Trace.{meant_from}
 use Rattle.driven_run.specs.Runs.{bounds_behind}
-use Rattle.subscriber.specs.Standing.{SubscriberState}
-use Rattle.at_rest.specs.Rest.{IsBehind, Represents, RepresentsAll, Rest, bound_at, destination_or}
+use Rattle.subscriber.specs.Standing.{SubscriberState, Represents}
+use Rattle.at_rest.specs.Rest.{IsBehind, RepresentsAll, Rest, bound_at, destination_or}
 use Rattle.epoch_drive.specs.Meant.{AreStanding, Stand, bound_of}
 use Rattle.epoch_drive.specs.Replays.{HasDone, events_shared}
 use Rattle.epoch_drive.specs.declared.replays.Answers.{Answers}

@@ -12,13 +12,12 @@ use Rattle.lawful_run.specs.Accepted as accepted
 use Rattle.lawful_run.specs.Outcomes as made_of
 use Rattle.lawful_run.specs.Run.{by_slot}
 use Rattle.lawful_run.specs.Telling.{counted}
-use Rattle.subscriber.specs.Standing.{SubscriberState}
-use Rattle.at_rest.specs.Rest.{Represents}
+use Rattle.subscriber.specs.Standing.{SubscriberState, Represents}
 use Rattle.slot_replay.specs.Replaying.{counts_of, effects_told, events_of, latest_of, moment_of, placed_lent, places_of}
 use Rattle.slot_replay.specs.declared.placed.Placed.{Placed}
 use Rattle.slot_replay.specs.declared.replayed.Replayed.{Replayed}
 use Rattle.epoch_drive.specs.Replays.{AreShortAnswers, DoesShare, HasDone, HaveDone, IsTold, commands_at, commands_shared, events_shared, packets_at, packets_shared}
-use Rattle.epoch_drive.specs.Told.{rows_told}
+use Rattle.slot_replay.specs.Replaying.{rows_told}
 use Rattle.epoch_drive.specs.declared.replays.Answers.{Answers}
 use Rattle.epoch_drive.specs.declared.replays.Replays.{Replays}
 use Rattle.epoch_drive.specs.declared.sharing.Share.{Share}

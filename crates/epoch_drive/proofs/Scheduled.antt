@@ -10,7 +10,7 @@ use Rattle.lawful_run.specs.Accepted.{accepted_command, packets_accepted}
 use Rattle.lawful_run.specs.Answers.{AnswersAll}
 use Rattle.lawful_run.specs.Bounds.{count_before}
 use Rattle.lawful_run.specs.LinesTold.{LineTold, lines_told}
-use Rattle.lawful_run.specs.Order.{Histories}
+use Rattle.lawful_run.specs.Merging.{Histories}
 use Rattle.lawful_run.specs.Run.{no_events}
 use Rattle.epoch_join.specs.Filling as fill
 use Rattle.epoch_join.specs.Floors.{command_floor, command_floors, floor_for}

@@ -254,7 +254,7 @@ opened_more n (suc i) (m1 ∷ made) (o1 ∷ outs) m o low low_outs m_is o_is =
     ∙ opened_more (n + 1) i made outs m o (omega (arith, low)) (omega (arith, low_outs)) m_is o_is)
     ∙ ap (λ k. take k (opened n (m1 ∷ made) (o1 ∷ outs))) more
 
--- a front of the lines has no more packets of a slot than all
+-- a prefix of the lines has no more packets of a slot than all
 front_packets : (slot k : ℕ) (told : List LineTold)
     → length (accepted.packets_accepted slot (take k told)) ≤ length (accepted.packets_accepted slot told)
 front_packets slot k told =

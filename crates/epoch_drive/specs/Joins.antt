@@ -4,18 +4,18 @@ use Rattle.std.specs.Prelude.{List, [], ◌∷◌, ◌++◌, All, length, map, d
 use Rattle.packet_steps.specs.Lent.{verdict_of}
 use Rattle.report_lines.specs.declared.entry.LineEntry.{LineEntry}
 use Rattle.epoch_join.specs.Filling.{Met, Mets, Replied, Replies, fill, met_slot, others_of, replied_slot}
-use Rattle.slot_replay.specs.declared.replayed.Judged.{Judged}
-use Rattle.slot_replay.specs.declared.replayed.Replied as told
+use Rattle.slot_replay.specs.declared.replayed.NumberedVerdict.{NumberedVerdict}
+use Rattle.slot_replay.specs.declared.replayed.NumberedReply as told
 use Rattle.epoch_drive.specs.Opened.{open_command, open_packet}
 use Rattle.epoch_drive.specs.Replays.{AreShortAnswers}
-use Rattle.epoch_drive.specs.Told.{IsShortEntry, line_told}
+use Rattle.epoch_drive.specs.Telling.{IsShortEntry, line_told}
 use Rattle.epoch_drive.specs.declared.epoch.Entry.{Entry}
 use Rattle.epoch_drive.specs.declared.replays.Answers.{Answers}
 
-abbrev pub replied_so : told.Replied → Replied
+abbrev pub replied_so : told.NumberedReply → Replied
 replied_so replied = record { number = replied.number; reply = replied.reply }
 
-abbrev pub met_so : Judged → Met
+abbrev pub met_so : NumberedVerdict → Met
 met_so judged = record {
   number = judged.number;
   commands = judged.commands;
@@ -41,22 +41,22 @@ abbrev pub AllShort : List Answers → Type 0
 AllShort answers = All AreShortAnswers answers
 
 -- the entry of a command or packet that was taken, with what comes next of its slot
-abbrev pub next_reply : Option told.Replied → List Replied
+abbrev pub next_reply : Option told.NumberedReply → List Replied
 next_reply None = []
 next_reply (Some replied) = replied_so replied ∷ []
 
-abbrev pub next_met : Option Judged → List Met
+abbrev pub next_met : Option NumberedVerdict → List Met
 next_met None = []
 next_met (Some judged) = met_so judged ∷ []
 
-abbrev pub told_of_command : (n slot : ℕ) → Option told.Replied → LineEntry
+abbrev pub told_of_command : (n slot : ℕ) → Option told.NumberedReply → LineEntry
 told_of_command n slot next = fill (open_command n slot true) (λ own. next_reply next) (λ own. [])
 
-abbrev pub told_of_packet : (n slot : ℕ) → Bool → Option Judged → LineEntry
+abbrev pub told_of_packet : (n slot : ℕ) → Bool → Option NumberedVerdict → LineEntry
 told_of_packet n slot parked next = fill (open_packet n slot true parked) (λ own. []) (λ own. next_met next)
 
 -- the next reply of a slot is taken, and the next verdict
-pub record TakesReply (old new : List Answers) (slot : ℕ) (next : Option told.Replied) : Type 0 where
+pub record TakesReply (old new : List Answers) (slot : ℕ) (next : Option told.NumberedReply) : Type 0 where
   pub before : Answers
   pub after : Answers
   pub found : before ≡ get_or old slot before
@@ -65,7 +65,7 @@ pub record TakesReply (old new : List Answers) (slot : ℕ) (next : Option told.
   pub rest : after.replies.items ≡ drop 1 before.replies.items
   pub same : after.packets.items ≡ before.packets.items
 
-pub record TakesPacket (old new : List Answers) (slot : ℕ) (next : Option Judged) : Type 0 where
+pub record TakesPacket (old new : List Answers) (slot : ℕ) (next : Option NumberedVerdict) : Type 0 where
   pub before : Answers
   pub after : Answers
   pub found : before ≡ get_or old slot before

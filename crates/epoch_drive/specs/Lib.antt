@@ -1,4 +1,4 @@
-pub mod Told
+pub mod Telling
 pub mod Lines
 pub mod Meant
 pub mod Opened

@@ -5,13 +5,12 @@ use Rattle.control_steps.specs.declared.command.CommandKind.{CommandKind}
 use Rattle.gate_model.specs.Events.{commands_of, packets_of}
 use Rattle.gate_model.specs.declared.event.Event.{Event}
 use Rattle.lawful_run.specs.Accepted as accepted
-use Rattle.lawful_run.specs.Order.{Histories}
+use Rattle.lawful_run.specs.Merging.{Histories}
 use Rattle.lawful_run.specs.Outcomes as made_of
 use Rattle.lawful_run.specs.Run.{by_slot}
 use Rattle.lawful_run.specs.Telling.{counted}
 use Rattle.report_lines.specs.declared.entry.ChargeEntry.TheVariants.{R}
-use Rattle.subscriber.specs.Standing.{SubscriberState}
-use Rattle.at_rest.specs.Rest.{Represents}
+use Rattle.subscriber.specs.Standing.{SubscriberState, Represents}
 use Rattle.slot_replay.specs.Replaying.{AreLate, AreShort, CanReplay, IsLedTo, commands_lent, counts_in}
 use Rattle.slot_replay.specs.Replaying.{counts_of, effects_told, events_of, latest_of, moment_of}
 use Rattle.slot_replay.specs.Replaying.{numbers_in, packet_numbers_in, placed_lent, places_in, places_of}
@@ -19,7 +18,7 @@ use Rattle.slot_replay.specs.Replaying.{replies_in, verdicts_in}
 use Rattle.slot_replay.specs.declared.placed.Placed.{Placed}
 use Rattle.slot_replay.specs.declared.replayed.Replayed.{Replayed}
 use Rattle.epoch_drive.specs.Meant.{AreStanding}
-use Rattle.epoch_drive.specs.Told.{rows_told}
+use Rattle.slot_replay.specs.Replaying.{rows_told}
 use Rattle.epoch_drive.specs.declared.replays.Answers.{Answers}
 use Rattle.epoch_drive.specs.declared.replays.Replays.{Replays}
 use Rattle.epoch_drive.specs.declared.sharing.Share.{Share}

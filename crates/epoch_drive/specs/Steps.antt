@@ -14,7 +14,7 @@ use Rattle.epoch_drive.specs.Meant.{TurnedAll, bound_of, meaning_of}
 use Rattle.epoch_drive.specs.Opened.{open_entries, opened}
 use Rattle.epoch_drive.specs.Replays.{HaveDone}
 use Rattle.epoch_drive.specs.Shares.{AreShares}
-use Rattle.epoch_drive.specs.Told.{line_told}
+use Rattle.epoch_drive.specs.Telling.{line_told}
 use Rattle.epoch_drive.specs.declared.epoch.Epoch.{Epoch}
 use Rattle.epoch_drive.specs.declared.meant.Meant.{Meant}
 use Rattle.epoch_drive.specs.declared.replays.Replays.{Replays}

@@ -3,15 +3,15 @@ ghost use Rattle.std.specs.Prelude.{◌≡◌, ℕ, ◌+◌, ◌≤◌, ◌^◌,
 ghost use Rattle.subscriber.specs.Standing.{SubscriberState};
 ghost use Rattle.trace_lines.specs.Line.{Line};
 ghost use Rattle.lawful_run.specs.Trace.{meant_from};
-ghost use Rattle.lawful_run.specs.Order.{Histories, behind};
+ghost use Rattle.lawful_run.specs.Merging.{Histories, behind};
 ghost use Rattle.lawful_run.specs.Run.{told_in};
 ghost use Rattle.at_rest.specs.Rest.{IsBehind, RepresentsAll, bound_at};
-ghost use Rattle.schedule_run.specs.Told.{AreWorkers, turns_told, turns_behind};
+ghost use Rattle.schedule_run.specs.TurnsTold.{AreWorkers, turns_told, turns_behind};
 ghost use Rattle.driven_run.specs.Driven.{IsDriven};
 ghost use Rattle.driven_run.specs.Runs.{bounds_behind};
 ghost use Rattle.epoch_drive.specs.Lines.{AreLater, latest_behind, rooms_of};
 ghost use Rattle.epoch_drive.specs.Steps.{DoesLines, MayCome};
-ghost use Rattle.epoch_drive.specs.Told.{AreShort, told_by};
+ghost use Rattle.epoch_drive.specs.Telling.{AreShort, told_by};
 
 use crate::Epoch;
 use crate::deciding::{Decided, decide_all};

@@ -1,8 +1,7 @@
 //! What is told of an epoch.
-use charging_book::ChargeRow;
 use packet_steps::LentVerdict;
 use pc_base::{Octets, Place, Reply, Slot};
-use slot_replay::Caused;
+use slot_replay::{Caused, Closed};
 
 /// What is told of a line.
 #[derive(Drop)]
@@ -36,13 +35,6 @@ pub enum Entry<'a> {
         slot: Slot,
         packet: bool,
     },
-}
-
-/// Charging records of a slot, in the order in which they were made.
-#[derive(Drop)]
-pub struct Closed {
-    pub slot: Slot,
-    pub rows: Vec<ChargeRow>,
 }
 
 /// What is told of an epoch: of each line, the effects of its commands by slot, and the charging

@@ -14,7 +14,7 @@ ghost use Rattle.epoch_drive.specs.Joins.{
 };
 ghost use Rattle.epoch_drive.specs.Meant.{IsWithin, meaning_of};
 ghost use Rattle.epoch_drive.specs.Opened.{open_command, open_entries, open_entry, open_packet};
-ghost use Rattle.epoch_drive.specs.Told.{AreShort, IsShortEntry, line_told};
+ghost use Rattle.epoch_drive.specs.Telling.{AreShort, IsShortEntry, line_told};
 
 use crate::epoch::Entry;
 use crate::meant::Meant;
@@ -22,7 +22,7 @@ use crate::replays::Answers;
 use packet_steps::LentVerdict;
 use pc_base::{Outcome as Done, Reply, Slot};
 use schedule_run::Outcome;
-use slot_replay::{Judged, Replied};
+use slot_replay::{NumberedReply, NumberedVerdict};
 use std::alloc::{AllocError, Global};
 
 /// The entries of lines, which are counted on from this number.
@@ -120,7 +120,7 @@ fn packet_entry<'a>(
 }
 
 // What is told next of a slot's commands, and of its packets.
-fn next_reply(answers: &mut Vec<Answers<'_>>, slot: Slot) -> Option<Replied>
+fn next_reply(answers: &mut Vec<Answers<'_>>, slot: Slot) -> Option<NumberedReply>
     requires { slot < length answers.old.items }
     ensures { TakesReply answers.old.items answers.new.items slot result }
 {
@@ -128,7 +128,7 @@ fn next_reply(answers: &mut Vec<Answers<'_>>, slot: Slot) -> Option<Replied>
     own.replies.pop_front()
 }
 
-fn next_packet<'a>(answers: &mut Vec<Answers<'a>>, slot: Slot) -> Option<Judged<'a>>
+fn next_packet<'a>(answers: &mut Vec<Answers<'a>>, slot: Slot) -> Option<NumberedVerdict<'a>>
     requires { slot < length answers.old.items }
     ensures { TakesPacket answers.old.items answers.new.items slot result }
 {
@@ -137,7 +137,7 @@ fn next_packet<'a>(answers: &mut Vec<Answers<'a>>, slot: Slot) -> Option<Judged<
 }
 
 // A command's entry: it has the next reply.
-fn answer<'a>(line: u64, slot: Slot, next: Option<Replied>) -> Entry<'a>
+fn answer<'a>(line: u64, slot: Slot, next: Option<NumberedReply>) -> Entry<'a>
     ensures told { line_told result ≡ told_of_command line slot next }
     ensures short { IsShortEntry result }
 {
@@ -161,7 +161,12 @@ fn answer<'a>(line: u64, slot: Slot, next: Option<Replied>) -> Entry<'a>
 }
 
 // A packet's entry: it has the next verdict.
-fn judgement<'a>(line: u64, slot: Slot, parked: bool, next: Option<Judged<'a>>) -> Entry<'a>
+fn judgement<'a>(
+    line: u64,
+    slot: Slot,
+    parked: bool,
+    next: Option<NumberedVerdict<'a>>,
+) -> Entry<'a>
     ensures told { line_told result ≡ told_of_packet line slot parked next.entry }
     ensures short { IfSome next.entry (λ judged. IsShort judged.verdict) → IsShortEntry result }
 {

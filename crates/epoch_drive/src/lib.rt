@@ -42,4 +42,4 @@ mod replays;
 mod sharing;
 
 pub use driving::drive_epoch;
-pub use epoch::{Closed, Entry, Epoch};
+pub use epoch::{Entry, Epoch};

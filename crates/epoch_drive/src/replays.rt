@@ -1,15 +1,13 @@
 //! What the subscribers make of their commands and packets.
 ghost use Rattle.std.specs.Prelude.{◌≡◌, ◌≤◌, ◌++◌, ◌∷◌, [], length, map, vec_len, IfOk, OnOk};
-ghost use Rattle.slot_replay.specs.Replaying.{effects_told};
+ghost use Rattle.slot_replay.specs.Replaying.{effects_told, rows_told};
 ghost use Rattle.report_lines.specs.declared.entry.ChargeEntry.TheVariants.{R};
 ghost use Rattle.epoch_drive.specs.Replays.{AllCanDo, CanDo, DoesShare, HaveDone};
-ghost use Rattle.epoch_drive.specs.Told.{rows_told};
 
-use crate::epoch::Closed;
 use crate::sharing::Share;
 use charging_book::ChargeRow;
 use pc_base::Slot;
-use slot_replay::{Caused, Judged, Replayed, Replied, replay};
+use slot_replay::{Caused, Closed, NumberedReply, NumberedVerdict, Replayed, replay};
 use std::alloc::{AllocError, Global};
 use std::collections::VecDeque;
 use subscriber::Subscriber;
@@ -17,8 +15,8 @@ use subscriber::Subscriber;
 /// What is told of a slot's commands and packets, to be taken from the front.
 #[derive(Drop)]
 pub struct Answers<'a> {
-    pub replies: VecDeque<Replied>,
-    pub packets: VecDeque<Judged<'a>>,
+    pub replies: VecDeque<NumberedReply>,
+    pub packets: VecDeque<NumberedVerdict<'a>>,
 }
 
 /// By slot: what is told of commands and packets, and all effects and charging records.

@@ -6,7 +6,7 @@ use Rattle.std.proofs.lemmas.List.Elements.{recursion_from_All}
 use Rattle.demux.specs.Trace.{Meaning, packet}
 use Rattle.demux.specs.declared.packet.LentPacket.{LentPacket}
 use Rattle.gate_model.specs.Events.{packets_of}
-use Rattle.report_lines.specs.Records.{Judged}
+use Rattle.report_lines.specs.Records.{PacketTold}
 use Rattle.report_lines.specs.declared.entry.LineEntry.{LineEntry}
 use Rattle.report_lines.specs.declared.entry.LineEntry.TheVariants as line
 use Rattle.lawful_run.specs.Accepted.{Placed, accepted_packet, packets_accepted}
@@ -14,7 +14,7 @@ use Rattle.lawful_run.specs.Answers.{Answers, AnswersAll}
 use Rattle.lawful_run.specs.Bounds.{MeetsBounds, MeetsAs, count_before}
 use Rattle.lawful_run.specs.Setup.{sliced}
 use Rattle.lawful_run.specs.LinesTold.{LineTold, lines_told, EachFrom}
-use Rattle.lawful_run.specs.Order.{Histories}
+use Rattle.lawful_run.specs.Merging.{Histories}
 use Rattle.lawful_run.specs.Telling.{counted}
 use Rattle.lawful_run.proofs.SlotCases.{eqb_same}
 use Rattle.epoch_join.specs.Filling.{Met, Replies, Mets, judged_with, fill, filled, replied_slot, met_slot, others_of}
@@ -128,7 +128,7 @@ map_some true commands p = refl
 map_some false commands p = refl
 
 -- a packet's own bounds
-own_packet : (judged : Judged) (p : LentPacket)
+own_packet : (judged : PacketTold) (p : LentPacket)
     → accepted_packet judged.slot (record { meaning = packet judged.slot p; entry = line.P judged })
     ≡ Some (record { commands = judged.commands; packet = p })
 own_packet judged p =
@@ -136,7 +136,7 @@ own_packet judged p =
     (cond test (Some p) None)) (eqb_same judged.slot)
 
 pub met_bounds : (slices room lane : ℕ) (before : Histories) (front later : List LineTold) (p : LentPacket)
-    (judged : Judged) (mets : List Met) (floors : List ℕ)
+    (judged : PacketTold) (mets : List Met) (floors : List ℕ)
     → floors ≡ command_floors judged.slot (packets_before before judged.slot) []
     (front ++ record { meaning = packet judged.slot p; entry = line.P (judged_with judged mets) } ∷ later)
     → SlotLeft judged.slot (count_before before judged.slot) (packets_before before judged.slot) floors front
@@ -150,7 +150,7 @@ met_bounds slices room lane before front later p judged (m ∷ mets) floors are 
     let slot = judged.slot in
     let commands = count_before before judged.slot in
     let packets = packets_before before judged.slot in
-    let with_met : Judged = judged_with judged (m ∷ mets) in
+    let with_met : PacketTold = judged_with judged (m ∷ mets) in
     let now : LineTold = record { meaning = packet judged.slot p; entry = line.P with_met } in
     let placed : Placed = record { commands = m.commands; packet = p } in
     let is : accepted_packet slot now ≡ Some placed = own_packet with_met p in

@@ -6,7 +6,7 @@ use Rattle.std.proofs.lemmas.Bool.{eqb-true}
 use Rattle.control_steps.specs.declared.command.CommandKind.{CommandKind}
 use Rattle.demux.specs.Trace.{Meaning, command, packet, move, note}
 use Rattle.demux.specs.declared.packet.LentPacket.{LentPacket}
-use Rattle.report_lines.specs.Records.{Noted, Answered, Judged}
+use Rattle.report_lines.specs.Records.{Noted, Answered, PacketTold}
 use Rattle.report_lines.specs.declared.entry.LineEntry.{LineEntry}
 use Rattle.report_lines.specs.declared.entry.LineEntry.TheVariants as line
 use Rattle.report_lines.specs.declared.entry.Refusal.{Refusal}
@@ -23,7 +23,7 @@ pub answer_cases : (P : Meaning → LineEntry → Type 0) (n : ℕ)
     → ((slot slice : ℕ) (text : List ℕ) (noted : Noted) → P (move slot slice text) (line.N noted))
     → ((c : CommandKind) (answered : Answered) → P (command answered.slot c) (line.C answered))
     → ((slot : ℕ) (c : CommandKind) (refused : Refusal) → P (command slot c) (line.F refused))
-    → ((p : LentPacket) (judged : Judged) → P (packet judged.slot p) (line.P judged))
+    → ((p : LentPacket) (judged : PacketTold) → P (packet judged.slot p) (line.P judged))
     → ((slot : ℕ) (p : LentPacket) (refused : Refusal) → P (packet slot p) (line.F refused))
     → (meaning : Meaning) (entry : LineEntry) → Answers n meaning entry → P meaning entry
 answer_cases P n noted moved answered no_command judged no_packet (note text) (line.N it) is = noted text it
@@ -85,7 +85,7 @@ module _ {Y : Type 0} (tell : ℕ → LineEntry → Option Y) (value : Replied �
     (of_command : (slot : ℕ) (answered : Answered) (r : Replied)
     → tell slot (line.C (record answered { number = r.number; reply = r.reply }))
     ≡ cond (answered.slot == slot) (Some (value r)) None)
-    (of_packet : (slot : ℕ) (judged : Judged) → tell slot (line.P judged) ≡ None)
+    (of_packet : (slot : ℕ) (judged : PacketTold) → tell slot (line.P judged) ≡ None)
     (of_refusal : (slot : ℕ) (refused : Refusal) → tell slot (line.F refused) ≡ None) where
   pub replied_told : (slot : ℕ) (entries : List LineEntry) (replies : Replies) (mets : Mets)
       → length (replies slot) ≡ length (filter_map (command_number slot) entries)
@@ -119,7 +119,7 @@ module _ {Y : Type 0} (tell : ℕ → LineEntry → Option Y) (value : Replied �
 module _ {Y : Type 0} (tell : ℕ → LineEntry → Option Y) (value : Met → Y)
     (of_note : (slot : ℕ) (noted : Noted) → tell slot (line.N noted) ≡ None)
     (of_command : (slot : ℕ) (answered : Answered) → tell slot (line.C answered) ≡ None)
-    (of_packet : (slot : ℕ) (judged : Judged) (m : Met)
+    (of_packet : (slot : ℕ) (judged : PacketTold) (m : Met)
     → tell slot (line.P (record judged { number = m.number; commands = m.commands; verdict = m.verdict; place = m.place }))
     ≡ cond (judged.slot == slot) (Some (value m)) None)
     (of_refusal : (slot : ℕ) (refused : Refusal) → tell slot (line.F refused) ≡ None) where
@@ -250,7 +250,7 @@ answered_fits n (move slot slice text) answered (first ∷ others) is = is
 answered_fits n (command slot c) answered (first ∷ others) is = is
 answered_fits n (packet slot p) answered (first ∷ others) is = is
 
-judged_fits : (n : ℕ) (meaning : Meaning) (judged : Judged) (mets : List Met)
+judged_fits : (n : ℕ) (meaning : Meaning) (judged : PacketTold) (mets : List Met)
     → Answers n meaning (line.P judged) → Answers n meaning (line.P (judged_with judged mets))
 judged_fits n meaning judged [] is = is
 judged_fits n (note text) judged (first ∷ others) is = is
@@ -277,7 +277,7 @@ filled_answers n (now ∷ made) (entry ∷ entries) replies mets each = (
 )
 
 -- the packets of filled entries are those of open ones, with their counts
-placed_first : (test : Bool) (own xs : List Met) (judged : Judged) (p : LentPacket) (numbers : List ℕ)
+placed_first : (test : Bool) (own xs : List Met) (judged : PacketTold) (p : LentPacket) (numbers : List ℕ)
     (rest others : List Placed)
     → (test ≡ true → own ≡ xs)
     → length xs ≡ length (cons_option (cond test (Some judged.number) None) numbers)

@@ -10,7 +10,7 @@ use Rattle.lawful_run.specs.Accepted.{commands_accepted, packets_accepted, comma
 use Rattle.lawful_run.specs.Answers.{AnswersAll}
 use Rattle.lawful_run.specs.Bounds.{Rises}
 use Rattle.lawful_run.specs.LinesTold.{lines_told}
-use Rattle.lawful_run.specs.Order.{Histories, ordered, events_in}
+use Rattle.lawful_run.specs.Merging.{Histories, merged, events_in}
 use Rattle.lawful_run.specs.Outcomes as made_of
 use Rattle.lawful_run.specs.Run.{by_slot}
 use Rattle.lawful_run.specs.Telling.{command_number, packet_number, commands_told, reply_told, verdict_told, counted}
@@ -79,7 +79,7 @@ module _ (first : ℕ) (before : Histories) (made : List Meaning) (entries : Lis
   events_same slot =
       let commands = commands_same made entries replies mets slot in
       let packets = packets_filled slot first made entries replies mets answers (as_many_mets slot) in
-      λ i. ordered (length (commands_of (before slot))) (length (packets_of (before slot))) (commands i) (packets i)
+      λ i. merged (length (commands_of (before slot))) (length (packets_of (before slot))) (commands i) (packets i)
 
   pub numbers_joined : (slot : ℕ) → filter_map (command_number slot) (filled entries replies mets)
       ≡ counted (length (commands_of (before slot)))

@@ -10,7 +10,7 @@ use Rattle.demux.specs.Trace.{Meaning}
 use Rattle.demux.specs.declared.packet.LentPacket.{LentPacket}
 use Rattle.pc_base.specs.declared.packet.Verdict.TheVariants.{NoBearer}
 use Rattle.pc_base.specs.declared.reply.Outcome.TheVariants.{Done}
-use Rattle.report_lines.specs.Records.{Answered, Judged}
+use Rattle.report_lines.specs.Records.{Answered, PacketTold}
 use Rattle.report_lines.specs.declared.entry.LineEntry.{LineEntry}
 use Rattle.report_lines.specs.declared.entry.LineEntry.TheVariants as line
 use Rattle.lawful_run.specs.Accepted.{Placed, accepted_command, accepted_packet, commands_accepted, packets_accepted, command_count, is_refused, command_for, packet_for}
@@ -37,7 +37,7 @@ answered_blank : (answered : Answered) (replies : List Replied)
 answered_blank answered [] = refl
 answered_blank answered (first ∷ others) = refl
 
-judged_blank : (judged : Judged) (mets : List Met)
+judged_blank : (judged : PacketTold) (mets : List Met)
     → blank (line.P (judged_with judged mets)) ≡ blank (line.P judged)
 judged_blank judged [] = refl
 judged_blank judged (first ∷ others) = refl
@@ -296,7 +296,7 @@ park_alike parked slot before others same may =
     (sym (parking-outlined parked slot before) ∙ ap (MayPark parked slot) same ∙ parking-outlined parked slot others)
     may
 
-judged_parked : (judged : Judged) (mets : List Met) (before others : List LineTold)
+judged_parked : (judged : PacketTold) (mets : List Met) (before others : List LineTold)
     → map outline before ≡ map outline others
     → MayPark judged.parked judged.slot before
     → MayPark (judged_with judged mets).parked (judged_with judged mets).slot others

@@ -3,7 +3,7 @@ use Rattle.std.specs.Prelude.{ℕ, ◌==◌, if◌then◌else◌, Option, Some, 
 use Rattle.pc_base.specs.declared.packet.Place.{Place}
 use Rattle.pc_base.specs.declared.packet.Verdict.{Verdict}
 use Rattle.pc_base.specs.declared.reply.Reply.{Reply}
-use Rattle.report_lines.specs.Records.{Answered, Judged}
+use Rattle.report_lines.specs.Records.{Answered, PacketTold}
 use Rattle.report_lines.specs.declared.entry.LineEntry.{LineEntry}
 use Rattle.report_lines.specs.declared.entry.LineEntry.TheVariants as line
 
@@ -25,7 +25,7 @@ abbrev pub answered_with : Answered → List Replied → Answered
 answered_with answered [] = answered
 answered_with answered (first ∷ others) = record answered { number = first.number; reply = first.reply }
 
-abbrev pub judged_with : Judged → List Met → Judged
+abbrev pub judged_with : PacketTold → List Met → PacketTold
 judged_with judged [] = judged
 judged_with judged (first ∷ others) = record judged {
   number = first.number;

@@ -10,7 +10,7 @@ use Rattle.lawful_run.specs.Answers.{AnswersAll}
 use Rattle.lawful_run.specs.Bounds.{Rises}
 use Rattle.lawful_run.specs.Setup.{sliced}
 use Rattle.lawful_run.specs.LinesTold.{LineTold, lines_told, EachLine}
-use Rattle.lawful_run.specs.Order.{Histories, ordered, behind}
+use Rattle.lawful_run.specs.Merging.{Histories, merged, behind}
 use Rattle.lawful_run.specs.Outcomes as made_of
 use Rattle.lawful_run.specs.Parking.{ParkedBehindMoves}
 use Rattle.lawful_run.specs.Refusals.{RefusedWhereFull}
@@ -33,7 +33,7 @@ counts_met mets = map (λ (met : Met). met.commands) mets
 -- the events of a slot in an epoch, behind those before, in the order that the counts tell
 abbrev pub events_met : ℕ → List Event → List LineTold → List Met → List Event
 events_met slot before taken mets =
-    ordered (length (commands_of before)) (length (packets_of before)) (commands_accepted slot taken)
+    merged (length (commands_of before)) (length (packets_of before)) (commands_accepted slot taken)
     (with_counts (counts_met mets) (packets_accepted slot taken))
 
 -- A packet meets no more commands than there are, and each that it meets waits for no packet that isn't before it. The

@@ -19,7 +19,7 @@ use Rattle.flow_core.proofs.SlotSums.{own, foreign, count, none_found, sum-push,
 use Rattle.flow_core.proofs.SlotSums.{set_other, set_alone, lists-append, lists-sum}
 use Rattle.flow_core.specs.Steps.{ChangedAt}
 use Rattle.flow_core.proofs.Changes.{changed-map, changed_names}
-use Rattle.lane_core.specs.Order.{Lawful}
+use Rattle.lane_core.specs.Sequence.{Lawful}
 use Rattle.lane_core.proofs.Rules.{lawful_last}
 use Rattle.flow_core.proofs.Runs.{halves-append, now_last, gone_last, standing}
 

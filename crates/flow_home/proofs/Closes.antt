@@ -10,7 +10,7 @@ use Rattle.std.proofs.lemmas.List.{nil_from_length}
 use Rattle.std.proofs.lemmas.List.Sums.{sum_by-append, sum_by-cons, sum_by_push}
 use Rattle.std.proofs.lemmas.Bool.{eqb-true, eqb-false, ltb-true, ltb-false, lt-ltb, le-ltb}
 use Rattle.lane_core.specs.Ends.{sent, taken}
-use Rattle.lane_core.specs.Order.{Lawful}
+use Rattle.lane_core.specs.Sequence.{Lawful}
 use Rattle.flow_core.specs.declared.order.FlowOrder.{FlowOrder}
 use Rattle.flow_core.specs.Desks.{FlowDesk}
 use Rattle.flow_core.specs.Orders.{halves_in, MayFollow, now_of, gone_of}

@@ -6,7 +6,7 @@ use Rattle.std.specs.Option.{option_to_list}
 use Rattle.std.proofs.lemmas.List.Sums.{sum_by-append}
 use base.Stored.{Coded, coded_list}
 use Rattle.lane_core.specs.Ends.{sent, taken}
-use Rattle.lane_core.specs.Order.{Lawful}
+use Rattle.lane_core.specs.Sequence.{Lawful}
 use Rattle.flow_core.specs.declared.order.FlowOrder.{FlowOrder}
 use Rattle.flow_core.specs.Desks.{FlowDesk}
 use Rattle.flow_core.specs.Orders.{halves_in, MayFollow}

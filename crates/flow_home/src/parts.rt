@@ -72,7 +72,7 @@ impl<H: Flow> FlowParts<H> {
         }
     }
 
-    /// Goes on where memory was wanting.
+    /// Goes on where memory ran out.
     pub fn again<R: Wait>(mut self, rt: &R) -> Result<Vec<Home<H>>, FlowParts<H>>
         ensures home { IfOk result (λ homes. map (λ home. H.name home.half) homes.items
             ≡ somes (names_of H.name (admitted_of self))) }

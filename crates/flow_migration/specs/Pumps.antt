@@ -1,7 +1,5 @@
 -- What pumping makes of the state of each slot, and which halves it keeps aside.
 use Rattle.std.specs.Prelude.{◌≡◌, ◌≢◌, ℕ, ◌⊎◌, true, List, [], ◌∷◌, ◌++◌, Option, Some, None}
-use Rattle.worker_core.specs.declared.desks.LaneDesk.{LaneDesk}
-use Rattle.worker_core.specs.Desks.{empties_at, home_count}
 use Rattle.flow_migration.specs.declared.place.FlowPlace.{FlowPlace}
 use Rattle.flow_migration.specs.declared.place.FlowState.{FlowState}
 use Rattle.flow_migration.specs.declared.place.FlowState.TheVariants.{Front, Placed, Recall, Leaving}
@@ -46,10 +44,6 @@ module _ {H I : Type 0} where
 -- no slot is leaving a slice
 abbrev pub NoneLeaves : {H I : Type 0} → ℕ → List (Option (FlowPlace H I)) → Type 0
 NoneLeaves slice places = (slot : ℕ) → leaves (state_at (place_at places slot)) ≢ Some slice
-
--- no half was taken from the lane home of a slice, and no look at it found it empty
-abbrev pub HomeStays : {O H : Type 0} → ℕ → List (LaneDesk O H) → List (LaneDesk O H) → Type 0
-HomeStays slice old new = (home_count new slice ≡ home_count old slice) × (empties_at new slice ≡ empties_at old slice)
 
 module _ {H I : Type 0} (slot_of : H → ℕ) (places new_places : List (Option (FlowPlace H I))) where
   -- a half that is kept aside behind others: where its slot was leaving the slice that it came from, one came home

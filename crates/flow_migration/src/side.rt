@@ -66,10 +66,9 @@ impl<H: Flow> FlowSide<H> {
     ghost use Rattle.flow_migration.specs.Steps.{Served, Drained, Moved, Gave, AtSlot};
     ghost use Rattle.worker_core.specs.BySlot.{Grown};
     ghost use Rattle.flow_migration.specs.Pumps.{EachState, Pumps, IsOffered, KeepsAside, TakesHome, NoneLeaves};
-    ghost use Rattle.flow_migration.specs.Pumps.{HomeStays};
     ghost use Rattle.flow_migration.specs.Queues.{EachShortens, QueuesStay};
     ghost use Rattle.flow_migration.specs.Sides.{AllMetFull, QueuesMetFull};
-    ghost use Rattle.worker_core.specs.Homes.{HomeEnded};
+    ghost use Rattle.worker_core.specs.Homes.{HomeEnded, HomeStays};
     ghost use Rattle.flow_migration.specs.Words.{desks_of, places_of, aside_of, due_of, queue_room_of, admitted_of};
     ghost use Rattle.flow_migration.specs.Words.{asked_of, refused_of, roll_of, accepts_of};
     ghost use Rattle.flow_migration.specs.Words.{MetFull, Enters, Admits};

@@ -27,7 +27,7 @@ use Rattle.packet_steps.specs.Change.{ended, cut, begun, marks, shares_ambr, sha
 use Rattle.gate_model.specs.declared.event.Event.{Event}
 use Rattle.gate_model.specs.declared.event.Event.TheVariants as event
 use Rattle.gate_model.specs.SlotPast.{SlotPast, new_slot, next_version, commanded, met, happens, behind, past_of, records_after, records_made}
-use Rattle.gate_model.specs.Stories.{Told, told_from, story_of}
+use Rattle.gate_model.specs.Stories.{Episode, episodes_from, story_of}
 use Rattle.gate_model.specs.Ledger.{Sent, sent_as, sent_by_verdict, sent_by_fate, sent_by_effect, sent_at, sent_in, charged_as, rows_of_life, ForwardedIsTold, EachPacketInOnePiece, RecordsAreAdded}
 use Rattle.gate_model.proofs.PastSteps.{Keeps, judged_kept, all_released}
 use Rattle.gate_model.proofs.Outcomes.{JudgedAs, ReleasedAs, judged_as, released_as}
@@ -110,23 +110,23 @@ one_judged past packet outcome (JudgedAs.waits b there few same held shown) =
     ap sent_of same ∙ sym (ap (λ more. sent_of past ++ more) shown ∙ append-nil (sent_of past))
 
 told_from_sent : (past : SlotPast) (events : List Event)
-    → sent_of (fold behind past events).packets ≡ sent_of past.packets ++ sent_in (told_from past events)
+    → sent_of (fold behind past events).packets ≡ sent_of past.packets ++ sent_in (episodes_from past events)
 unfolding happens
 told_from_sent past [] = sym (append-nil (sent_of past.packets))
 told_from_sent past (event.Command command ∷ later) =
     let now = (learnt past.packets (next_version past command)).1 in
     told_from_sent (commanded past command) later
-    ∙ ap (λ some. some ++ sent_in (told_from (commanded past command) later))
+    ∙ ap (λ some. some ++ sent_in (episodes_from (commanded past command) later))
     (learnt_sent past.packets (next_version past command))
     ∙ append_assoc (sent_of past.packets) (flat_map sent_by_effect now)
-    (sent_in (told_from (commanded past command) later))
+    (sent_in (episodes_from (commanded past command) later))
 told_from_sent past (event.Packet packet ∷ later) =
     let now = (judged past.packets packet).1 in
     told_from_sent (met past packet) later
-    ∙ ap (λ some. some ++ sent_in (told_from (met past packet) later))
+    ∙ ap (λ some. some ++ sent_in (episodes_from (met past packet) later))
     (one_judged (at_moment past.packets packet.moment) packet (judged past.packets packet)
     (judged_as past.packets packet))
-    ∙ append_assoc (sent_of past.packets) (sent_by_verdict now) (sent_in (told_from (met past packet) later))
+    ∙ append_assoc (sent_of past.packets) (sent_by_verdict now) (sent_in (episodes_from (met past packet) later))
 
 pub forwarded_told : ForwardedIsTold
 forwarded_told slot events = told_from_sent (new_slot slot) events

@@ -19,7 +19,7 @@ use Rattle.packet_steps.specs.Change.{marker_between, marker_for, markers, enb_o
 use Rattle.gate_model.specs.declared.event.Event.{Event}
 use Rattle.gate_model.specs.declared.event.Event.TheVariants as event
 use Rattle.gate_model.specs.SlotPast.{SlotPast, new_slot, next_version, commanded, met, happens, behind, past_of}
-use Rattle.gate_model.specs.Stories.{Told, told_from, story_of}
+use Rattle.gate_model.specs.Stories.{Episode, episodes_from, story_of}
 use Rattle.gate_model.specs.Holding.{is_held, holds, is_fate_of, fates_in, fates_at, waiting, EachHeldPacketOnce}
 use Rattle.gate_model.specs.Ledger.{sent_by_effect}
 use Rattle.gate_model.proofs.Outcomes.{JudgedAs, nothing, ReleasedAs, ends, judged_as, released_as}
@@ -150,34 +150,34 @@ judged_counted : (number : ℕ) (past : Past) (packet : Packet)
 judged_counted number past packet =
     one_judged number (at_moment past packet.moment) packet (judged past packet) (judged_as past packet)
 
-abbrev times_held : ℕ → List Told → ℕ
+abbrev times_held : ℕ → List Episode → ℕ
 times_held number story = count_by (holds number) story
 
-abbrev times_fated : ℕ → List Told → ℕ
-times_fated number story = sum_by (λ (told : Told). fates_at number told.happened) story
+abbrev times_fated : ℕ → List Episode → ℕ
+times_fated number story = sum_by (λ (told : Episode). fates_at number told.happened) story
 
 counted_from : (number : ℕ) (past : SlotPast) (events : List Event)
-    → times_held number (told_from past events) + waiting number past.packets.held
-    ≡ times_fated number (told_from past events) + waiting number (fold behind past events).packets.held
+    → times_held number (episodes_from past events) + waiting number past.packets.held
+    ≡ times_fated number (episodes_from past events) + waiting number (fold behind past events).packets.held
 unfolding happens
 counted_from number past [] = omega arith
 counted_from number past (event.Command command ∷ later) =
-    let told : Told = record { event = event.Command command; happened = (happens past (event.Command command)).1 } in
+    let told : Episode = record { event = event.Command command; happened = (happens past (event.Command command)).1 } in
     omega (
       arith,
       counted_from number (commanded past command) later,
       learnt_counted number past.packets (next_version past command),
-      sum_by-cons (λ (t : Told). cond (holds number t) 1 0) told (told_from (commanded past command) later),
-      sum_by-cons (λ (t : Told). fates_at number t.happened) told (told_from (commanded past command) later),
+      sum_by-cons (λ (t : Episode). cond (holds number t) 1 0) told (episodes_from (commanded past command) later),
+      sum_by-cons (λ (t : Episode). fates_at number t.happened) told (episodes_from (commanded past command) later),
     )
 counted_from number past (event.Packet packet ∷ later) =
-    let told : Told = record { event = event.Packet packet; happened = (happens past (event.Packet packet)).1 } in
+    let told : Episode = record { event = event.Packet packet; happened = (happens past (event.Packet packet)).1 } in
     omega (
       arith,
       counted_from number (met past packet) later,
       judged_counted number past.packets packet,
-      sum_by-cons (λ (t : Told). cond (holds number t) 1 0) told (told_from (met past packet) later),
-      sum_by-cons (λ (t : Told). fates_at number t.happened) told (told_from (met past packet) later),
+      sum_by-cons (λ (t : Episode). cond (holds number t) 1 0) told (episodes_from (met past packet) later),
+      sum_by-cons (λ (t : Episode). fates_at number t.happened) told (episodes_from (met past packet) later),
     )
 
 pub held_once : EachHeldPacketOnce

@@ -10,7 +10,7 @@ use Rattle.gate_model.specs.declared.event.Event.TheVariants as event
 use Rattle.gate_model.specs.declared.event.Happened.{Happened}
 use Rattle.gate_model.specs.declared.event.Happened.TheVariants.{Replied, Judged}
 use Rattle.gate_model.specs.SlotPast.{past_of}
-use Rattle.gate_model.specs.Stories.{Told, story_of}
+use Rattle.gate_model.specs.Stories.{Episode, story_of}
 
 -- whether a verdict is that a packet is held
 abbrev pub is_held : Verdict → Bool
@@ -28,7 +28,7 @@ holds_at number (event.Packet packet) (Judged verdict_) = packet.number == numbe
 holds_at number (event.Packet packet) (Replied reply effects) = false
 holds_at number (event.Command command) happened = false
 
-abbrev pub holds : ℕ → Told → Bool
+abbrev pub holds : ℕ → Episode → Bool
 holds number told = holds_at number told.event told.happened
 
 -- whether an effect is the fate of a packet of a number, and how many of a command's effects are
@@ -52,5 +52,5 @@ waiting number rows = count_by (λ (row : HeldRow). row.packet.number == number)
 abbrev pub EachHeldPacketOnce : Type 0
 EachHeldPacketOnce = (slot : ℕ) (events : List Event) (number : ℕ)
     → count_by (holds number) (story_of slot events)
-    ≡ sum_by (λ (told : Told). fates_at number told.happened) (story_of slot events)
+    ≡ sum_by (λ (told : Episode). fates_at number told.happened) (story_of slot events)
     + waiting number (past_of slot events).packets.held

@@ -15,7 +15,7 @@ use Rattle.gate_model.specs.declared.event.Event.{Event}
 use Rattle.gate_model.specs.declared.event.Happened.{Happened}
 use Rattle.gate_model.specs.declared.event.Happened.TheVariants.{Replied, Judged}
 use Rattle.gate_model.specs.SlotPast.{past_of, records_after, records_made}
-use Rattle.gate_model.specs.Stories.{Told, story_of}
+use Rattle.gate_model.specs.Stories.{Episode, story_of}
 use Rattle.gate_model.specs.Rates.{forwarded_after}
 
 -- A packet that left the gateway: for which life, which way, and how many octets it has. Down, eight octets of the
@@ -54,8 +54,8 @@ sent_at (Replied reply effects) = flat_map sent_by_effect effects
 sent_at (Judged verdict_) = sent_by_verdict verdict_
 
 -- the packets that a story tells as forwarded, by verdicts up and down and by fates down
-abbrev pub sent_in : List Told → List Sent
-sent_in story = flat_map (λ (told : Told). sent_at told.happened) story
+abbrev pub sent_in : List Episode → List Sent
+sent_in story = flat_map (λ (told : Episode). sent_at told.happened) story
 
 -- the same of what is remembered · of a life, as the book hears it
 abbrev pub sent_as : ForwardedRow → Sent

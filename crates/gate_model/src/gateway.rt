@@ -72,7 +72,7 @@ impl Gateway {
         ensures happened { IfOk result (λ happened. happened ≡ (happens self.old event.now).1) }
         ensures past { OnOk result (self.new ≡ (happens self.old event.now).0) }
 
-        // So a gateway that stands for a slot's events stands for them and this one.
+        // So a gateway that represents a slot's events represents them and this one.
         ensures told { (slot : ℕ) (before : List Event) → self.old ≡ past_of slot before
             → IfOk result (λ happened. happened ≡ happened_after slot before event.now) }
         ensures stands { (slot : ℕ) (before : List Event) → self.old ≡ past_of slot before

@@ -63,7 +63,7 @@ impl<H: Traveller> HomeParts<H> {
         }
     }
 
-    /// Goes on where memory was wanting.
+    /// Goes on where memory ran out.
     pub fn again<R: Wait>(mut self, rt: &R) -> Result<Vec<H>, HomeParts<H>>
         ensures home { IfOk result (λ halves. map H.name halves.items ≡ somes (names_of H.name (admitted_of self))) }
         ensures each { IfOk result (λ halves. AtSlots H.name H.slot_of (admitted_of self) halves.items) }

@@ -4,8 +4,8 @@ use mathlib.Core.Option.{some, some-ne-none}
 use lib.ListN.{get_elem?}
 use Rattle.crossbeam_queue.specs.Fifo.{Pushes, Pops, Forks, Merges, Learns}
 use Rattle.crossbeam_queue.proofs.Lists.{at_set, at_snoc}
-use Rattle.lane_core.specs.declared.order.Log.{Log}
-use Rattle.lane_core.specs.Order.{Lawful, log, Fits, Laid}
+use Rattle.lane_core.specs.declared.sequence.Log.{Log}
+use Rattle.lane_core.specs.Sequence.{Lawful, log, Fits, Laid}
 
 module _ {T : Type 0} where
   -- an item of a list that got one more at its end is the last one, or stood there before

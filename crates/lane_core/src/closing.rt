@@ -2,10 +2,10 @@
 ghost use Rattle.std.specs.Prelude.{◌≡◌, ◌≤◌, ◌+◌, ◌++◌, true, length, vec_len, vec_capacity, IfOk, IfErr, OnOk};
 ghost use Rattle.std.specs.Arc.{arc_value};
 ghost use Rattle.crossbeam_queue.specs.Passes.{view, IsPassOf, ruled_capacity};
-ghost use Rattle.lane_core.specs.Order.{Lawful};
+ghost use Rattle.lane_core.specs.Sequence.{Lawful};
 ghost use Rattle.lane_core.specs.Ends.{sender_lane, receiver_lane, sent, taken};
 
-use crate::order::{Drains, Joined, Line, Log};
+use crate::sequence::{Drains, Joined, Line, Log};
 use crate::{Carried, Receiver, Sender};
 use crossbeam_queue::Pass;
 use std::alloc::Global;

@@ -4,7 +4,7 @@ ghost use Rattle.std.specs.Arc.{arc_value};
 ghost use Rattle.crossbeam_queue.specs.Passes.{view, IsPassOf};
 
 use crate::Carried;
-use crate::order::{Line, Log, Sends, Takes};
+use crate::sequence::{Line, Log, Sends, Takes};
 use crossbeam_queue::Pass;
 use std::alloc::Global;
 use std::sync::{Arc, Wait};
@@ -40,7 +40,7 @@ pub struct Receiver<T: Carried> {
 pub struct Full<T>(pub T);
 
 impl<T: Carried> Sender<T> {
-    ghost use Rattle.lane_core.specs.Order.{Lawful};
+    ghost use Rattle.lane_core.specs.Sequence.{Lawful};
     ghost use Rattle.lane_core.specs.Ends.{sender_lane, sent, full_answers, raised};
 
     /// Puts an item last. `Full` hands it back, and comes only from the queue itself.
@@ -88,7 +88,7 @@ impl<T: Carried> Sender<T> {
 }
 
 impl<T: Carried> Receiver<T> {
-    ghost use Rattle.lane_core.specs.Order.{Lawful};
+    ghost use Rattle.lane_core.specs.Sequence.{Lawful};
     ghost use Rattle.lane_core.specs.Ends.{receiver_lane, taken, empty_answers, raised};
 
     /// Takes the first item that is left. `None` comes only from the queue itself.

@@ -27,7 +27,7 @@ mod closing;
 mod did;
 mod ends;
 mod opening;
-mod order;
+mod sequence;
 #[cfg(test)]
 mod tests;
 

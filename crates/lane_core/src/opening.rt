@@ -2,7 +2,7 @@
 ghost use Rattle.std.specs.Prelude.{◌≡◌, ◌≤◌, [], IfOk};
 ghost use Rattle.lane_core.specs.Ends.{sender_lane, receiver_lane, AreNewEnds};
 
-use crate::order::{Line, Parted};
+use crate::sequence::{Line, Parted};
 use crate::{Carried, NoMemory, Receiver, Sender};
 use std::alloc::Global;
 use std::sync::Arc;

@@ -1,4 +1,4 @@
--- The entries of a gateway that answers at once, for the lines of an epoch.
+-- The entries of the sequential gateway, for the lines of an epoch.
 use Rattle.std.proofs.Common.{◌≡◌, ℕ, ◌+◌, ◌==◌, Bool, true, false, Some, None, List, [], ◌∷◌, ◌++◌, length, cond, refl, sym, ap, ◌∙◌}
 use Rattle.std.specs.List.{filter_map, cons_option}
 use Rattle.std.specs.Option.{option_map}
@@ -17,10 +17,10 @@ use Rattle.gate_model.specs.declared.event.Event.TheVariants as event
 use Rattle.lawful_run.specs.Accepted.{commands_accepted, packets_accepted}
 use Rattle.lawful_run.specs.Answers.{AnswersAll}
 use Rattle.lawful_run.specs.AnsweredRun.{entry_after, entries_from, behind_line, with_line, brought}
-use Rattle.lawful_run.specs.AtOnce.{LineAtOnce}
+use Rattle.lawful_run.specs.InSequence.{LineInSequence}
 use Rattle.lawful_run.specs.LinesTold.{LineTold, lines_told, EachFrom}
 use Rattle.demux.specs.Packets.{numbered}
-use Rattle.lawful_run.specs.Order.{Histories}
+use Rattle.lawful_run.specs.Merging.{Histories}
 use Rattle.lawful_run.specs.Outcomes.{replies, verdicts}
 use Rattle.lawful_run.specs.Telling.{command_number, packet_number, reply_told, verdict_told, counted}
 use Rattle.lawful_run.proofs.Counting.{commands-command, commands-packet, packets-packet, packets-command, IsCounted, counted_on}
@@ -36,32 +36,32 @@ answered_each n before (command slot c ∷ made) =
 answered_each n before (packet slot p ∷ made) =
     ((refl, refl), answered_each (n + 1) (behind_line before (packet slot p)) made)
 
--- and is answered at once
-pub answered_at_once : (n : ℕ) (start : Histories) (front : List LineTold) (before : Histories) (made : List Meaning)
+-- and is answered in sequence
+pub answered_in_sequence : (n : ℕ) (start : Histories) (front : List LineTold) (before : Histories) (made : List Meaning)
     → ((slot : ℕ) → IsCounted start slot front (before slot))
-    → EachFrom (LineAtOnce start) front (lines_told made (entries_from n before made))
-answered_at_once n start front before [] counts = tt
-answered_at_once n start front before (note text ∷ made) counts = (
+    → EachFrom (LineInSequence start) front (lines_told made (entries_from n before made))
+answered_in_sequence n start front before [] counts = tt
+answered_in_sequence n start front before (note text ∷ made) counts = (
   tt,
-  answered_at_once (n + 1) start _ (behind_line before (note text)) made
+  answered_in_sequence (n + 1) start _ (behind_line before (note text)) made
       (λ slot. counted_on start slot front (before slot) (note text) (entry_after n before (note text)) refl
       (counts slot)),
 )
-answered_at_once n start front before (move own slice text ∷ made) counts = (
+answered_in_sequence n start front before (move own slice text ∷ made) counts = (
   tt,
-  answered_at_once (n + 1) start _ (behind_line before (move own slice text)) made
+  answered_in_sequence (n + 1) start _ (behind_line before (move own slice text)) made
       (λ slot. counted_on start slot front (before slot) (move own slice text)
       (entry_after n before (move own slice text)) refl (counts slot)),
 )
-answered_at_once n start front before (command own c ∷ made) counts = (
+answered_in_sequence n start front before (command own c ∷ made) counts = (
   tt,
-  answered_at_once (n + 1) start _ (behind_line before (command own c)) made
+  answered_in_sequence (n + 1) start _ (behind_line before (command own c)) made
       (λ slot. counted_on start slot front (before slot) (command own c)
       (entry_after n before (command own c)) refl (counts slot)),
 )
-answered_at_once n start front before (packet own p ∷ made) counts = (
+answered_in_sequence n start front before (packet own p ∷ made) counts = (
   record { commands = counts own; place = refl; parked = refl },
-  answered_at_once (n + 1) start _ (behind_line before (packet own p)) made
+  answered_in_sequence (n + 1) start _ (behind_line before (packet own p)) made
       (λ slot. counted_on start slot front (before slot) (packet own p) (entry_after n before (packet own p)) refl
       (counts slot)),
 )

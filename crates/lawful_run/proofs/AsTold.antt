@@ -17,13 +17,13 @@ use Rattle.lawful_run.specs.Bounds.{Rises, MeetsBounds, MeetsAs, MayMeet, count_
 use Rattle.lawful_run.specs.Setup.{Setup, solo, sliced}
 use Rattle.lawful_run.specs.LinesTold.{LineTold, lines_told, EachFrom}
 use Rattle.lawful_run.specs.Moves.{moves, before_next_move}
-use Rattle.lawful_run.specs.Order.{Histories, ordered}
+use Rattle.lawful_run.specs.Merging.{Histories, merged}
 use Rattle.lawful_run.specs.Placing.{places, numbered_from, EventsStandAsTold}
 use Rattle.lawful_run.specs.Report.{EpochReport}
 use Rattle.lawful_run.specs.Run.{told_in, IsEpochRun}
 use Rattle.lawful_run.specs.Telling.{commands_told}
-use Rattle.lawful_run.proofs.AtOnceSlots.{placed_counts}
-use Rattle.lawful_run.proofs.OrderLemmas.{counts_of}
+use Rattle.lawful_run.proofs.InSequenceSlots.{placed_counts}
+use Rattle.lawful_run.proofs.MergingLemmas.{counts_of}
 
 -- counts that aren't above a most one
 abbrev pub NoneAbove : ℕ → List ℕ → Type 0
@@ -66,30 +66,30 @@ length-drop (suc n) [] within = absurd (omega (arith, within))
 length-drop (suc n) (x ∷ xs) within = let rest = length-drop n xs (omega (arith, within)) in omega (arith, rest)
 
 -- in their order commands are the commands, and packets the packets
-pub ordered-commands : (done next : ℕ) (commands : List CommandKind) (packets : List Placed)
-    → commands_of (ordered done next commands packets) ≡ commands
-ordered-commands done next commands [] = commands-alone commands
-ordered-commands done next commands (p ∷ packets) =
+pub merged-commands : (done next : ℕ) (commands : List CommandKind) (packets : List Placed)
+    → commands_of (merged done next commands packets) ≡ commands
+merged-commands done next commands [] = commands-alone commands
+merged-commands done next commands (p ∷ packets) =
     filter_map-append _ (map event.Command (take (p.commands - done) commands)) _
     ∙ (λ i. commands-alone (take (p.commands - done) commands) i
-    ++ ordered-commands p.commands (next + 1) (drop (p.commands - done) commands) packets i)
+    ++ merged-commands p.commands (next + 1) (drop (p.commands - done) commands) packets i)
     ∙ take-drop (p.commands - done) commands
 
-pub ordered-packets : (done next : ℕ) (commands : List CommandKind) (packets : List Placed)
-    → packets_of (ordered done next commands packets) ≡ numbered_from next packets
-ordered-packets done next commands [] = packets-alone commands
-ordered-packets done next commands (p ∷ packets) =
+pub merged-packets : (done next : ℕ) (commands : List CommandKind) (packets : List Placed)
+    → packets_of (merged done next commands packets) ≡ numbered_from next packets
+merged-packets done next commands [] = packets-alone commands
+merged-packets done next commands (p ∷ packets) =
     filter_map-append _ (map event.Command (take (p.commands - done) commands)) _
     ∙ (λ i. packets-alone (take (p.commands - done) commands) i
-    ++ (numbered next p.packet ∷ ordered-packets p.commands (next + 1) (drop (p.commands - done) commands) packets i))
+    ++ (numbered next p.packet ∷ merged-packets p.commands (next + 1) (drop (p.commands - done) commands) packets i))
 
 -- and before each packet stand as many commands as it tells, where counts rise and none is above all commands
-pub ordered-places : (done next : ℕ) (commands : List CommandKind) (packets : List Placed)
+pub merged-places : (done next : ℕ) (commands : List CommandKind) (packets : List Placed)
     → Rises done (counts_of packets)
     → NoneAbove (done + length commands) (counts_of packets)
-    → places done (ordered done next commands packets) ≡ counts_of packets
-ordered-places done next commands [] rises within = places-alone done commands
-ordered-places done next commands (p ∷ packets) rises within =
+    → places done (merged done next commands packets) ≡ counts_of packets
+merged-places done next commands [] rises within = places-alone done commands
+merged-places done next commands (p ∷ packets) rises within =
     let few : p.commands - done ≤ length commands = omega (arith, rises.0, within.0) in
     let front = length-take (p.commands - done) commands few in
     let rest = length-drop (p.commands - done) commands few in
@@ -98,9 +98,9 @@ ordered-places done next commands (p ∷ packets) rises within =
     omega (arith, rest, rises.0) in
     places-behind done (take (p.commands - done) commands) _
     ∙ ap (λ k. places k (event.Packet (numbered next p.packet)
-    ∷ ordered p.commands (next + 1) (drop (p.commands - done) commands) packets)) here
+    ∷ merged p.commands (next + 1) (drop (p.commands - done) commands) packets)) here
     ∙ ap (λ counts. p.commands ∷ counts)
-    (ordered-places p.commands (next + 1) (drop (p.commands - done) commands) packets rises.1
+    (merged-places p.commands (next + 1) (drop (p.commands - done) commands) packets rises.1
     (subst (λ k. NoneAbove k (counts_of packets)) most within.1))
 
 -- no packet meets more commands than its slot has
@@ -199,9 +199,9 @@ stand_as_told setup slots first before made told slot run =
     let commands : List CommandKind = commands_accepted slot (told_in made told) in
     let packets : List Placed = packets_accepted slot (told_in made told) in
     record {
-      commands = ordered-commands done (length (packets_of (before slot))) commands packets;
-      packets = ordered-packets done (length (packets_of (before slot))) commands packets;
-      counts = ordered-places done (length (packets_of (before slot))) commands packets
+      commands = merged-commands done (length (packets_of (before slot))) commands packets;
+      packets = merged-packets done (length (packets_of (before slot))) commands packets;
+      counts = merged-places done (length (packets_of (before slot))) commands packets
           (subst (Rises done) (sym placed) (run.counts_rise slot))
           (subst (NoneAbove (done + length commands)) (sym placed)
           (counts_within setup slots first before made told slot run))

@@ -11,7 +11,7 @@ use Rattle.gate_model.proofs.Charges.{records_added}
 use Rattle.report_lines.specs.declared.entry.ChargeEntry.TheVariants.{R, O}
 use Rattle.lawful_run.specs.Setup.{Setup}
 use Rattle.lawful_run.specs.Ledger.{row_by, counters_by, rows_told, opens_told}
-use Rattle.lawful_run.specs.Order.{Histories, events_in, behind}
+use Rattle.lawful_run.specs.Merging.{Histories, events_in, behind}
 use Rattle.lawful_run.specs.Outcomes as made_of
 use Rattle.lawful_run.specs.Report.{EpochReport, Report}
 use Rattle.lawful_run.specs.Run.{told_in, IsEpochRun, AreEpochRuns, IsRun, behind_all, no_events}

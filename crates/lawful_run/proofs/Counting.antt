@@ -11,10 +11,10 @@ use Rattle.report_lines.specs.declared.entry.LineEntry.{LineEntry}
 use Rattle.pc_base.specs.declared.packet.Packet.{Packet}
 use Rattle.lawful_run.specs.Accepted.{accepted_command, command_count, command_for}
 use Rattle.lawful_run.specs.AnsweredRun.{with_line}
-use Rattle.lawful_run.specs.Bounds.{count_at_once}
+use Rattle.lawful_run.specs.Bounds.{count_in_sequence}
 use Rattle.lawful_run.specs.LinesTold.{LineTold}
 use Rattle.demux.specs.Packets.{numbered}
-use Rattle.lawful_run.specs.Order.{Histories}
+use Rattle.lawful_run.specs.Merging.{Histories}
 
 -- one command, or packet, more
 pub commands-command : (before : List Event) (c : CommandKind)
@@ -64,7 +64,7 @@ commands-line slot events (packet own p) =
 
 -- the count at a line, where the line isn't refused
 abbrev pub IsCounted : Histories → ℕ → List LineTold → List Event → Type 0
-IsCounted start slot front events = length (commands_of events) ≡ count_at_once start slot front
+IsCounted start slot front events = length (commands_of events) ≡ count_in_sequence start slot front
 
 pub counted_on : (start : Histories) (slot : ℕ) (front : List LineTold) (events : List Event) (made : Meaning)
     (entry : LineEntry)

@@ -10,12 +10,12 @@ use Rattle.gate_model.specs.Events.{commands_of, packets_of}
 use Rattle.gate_model.specs.declared.event.Event.{Event}
 use Rattle.gate_model.specs.declared.event.Event.TheVariants as event
 use Rattle.lawful_run.specs.Accepted.{Placed}
-use Rattle.lawful_run.specs.Order.{CanGo, commands_lent, events_of, ordered}
+use Rattle.lawful_run.specs.Merging.{CanGo, commands_lent, events_of, merged}
 use Rattle.lawful_run.proofs.Counting.{packets-packet}
 
 -- the events in order are as many as commands and packets
 pub ordered_length : (done next : ℕ) (commands : List CommandKind) (packets : List Placed)
-    → length (ordered done next commands packets) ≡ length commands + length packets
+    → length (merged done next commands packets) ≡ length commands + length packets
 ordered_length done next commands [] = length-map commands event.Command ∙ (omega arith)
 ordered_length done next commands (p ∷ packets) =
     let k = p.commands - done in
@@ -25,7 +25,7 @@ ordered_length done next commands (p ∷ packets) =
     sym (length-append (take k commands) (drop k commands)) ∙ ap length (take-append-drop k commands) in
     let later = ordered_length p.commands (next + 1) (drop k commands) packets in
     length-append (map event.Command (take k commands))
-    (event.Packet (numbered next p.packet) ∷ ordered p.commands (next + 1) (drop k commands) packets)
+    (event.Packet (numbered next p.packet) ∷ merged p.commands (next + 1) (drop k commands) packets)
     ∙ omega (arith, front, both, later)
 
 -- commands add no packets
@@ -48,7 +48,7 @@ pub record Goes (Holds : List Event → Type 0) (before all : List Event) (done 
     (packets : List Placed) : Type 0 where
   pub now : List Event
   pub holds : Holds now
-  pub rest : now ++ ordered done (length (packets_of (before ++ now))) left packets ≡ all
+  pub rest : now ++ merged done (length (packets_of (before ++ now))) left packets ≡ all
 
 -- at the start
 pub goes_start : (Holds : List Event → Type 0) (before : List Event) (done : ℕ) (commands : List CommandKind)
@@ -57,8 +57,8 @@ pub goes_start : (Holds : List Event → Type 0) (before : List Event) (done : �
 goes_start Holds before done commands packets is holds = record {
   now = [];
   holds = holds;
-  rest = ap (λ n. ordered n (length (packets_of (before ++ []))) commands packets) is
-      ∙ ap (λ (es : List Event). ordered (length (commands_of before)) (length (packets_of es)) commands packets)
+  rest = ap (λ n. merged n (length (packets_of (before ++ []))) commands packets) is
+      ∙ ap (λ (es : List Event). merged (length (commands_of before)) (length (packets_of es)) commands packets)
       (append-nil before);
 }
 
@@ -78,7 +78,7 @@ goes_on Old New before all number done left p packets goes is holds =
     ap (λ (es : List Event). length (packets_of es)) (sym (append_assoc before front (e ∷ [])))
     ∙ packets-packet (before ++ front) (numbered number p.packet)
     ∙ ap (λ n. n + 1) (packets_stay before goes.now (take k left)) in
-    let rest : ℕ → List Event = λ n. ordered p.commands n (drop k left) packets in
+    let rest : ℕ → List Event = λ n. merged p.commands n (drop k left) packets in
     record {
       now = front ++ e ∷ [];
       holds = holds;
@@ -97,7 +97,7 @@ goes_length : (Holds : List Event → Type 0) (before all : List Event) (done : 
 goes_length Holds before all done left packets goes =
     let whole : length goes.now + (length left + length packets) ≡ length all =
     ap (λ n. length goes.now + n) (sym (ordered_length done (length (packets_of (before ++ goes.now))) left packets))
-    ∙ sym (length-append goes.now (ordered done (length (packets_of (before ++ goes.now))) left packets))
+    ∙ sym (length-append goes.now (merged done (length (packets_of (before ++ goes.now))) left packets))
     ∙ ap length goes.rest in
     omega (arith, whole, length-append before goes.now)
 

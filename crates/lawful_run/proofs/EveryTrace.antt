@@ -1,21 +1,21 @@
--- The entries of a gateway that answers each line at once are a lawful run.
+-- The entries of the sequential gateway are a lawful run.
 use Rattle.std.proofs.Common.{◌≡◌, ℕ, ◌+◌, ◌==◌, Bool, true, false, List, [], ◌∷◌, ◌++◌, length, cond, refl, sym, ap, subst, ◌∙◌, arith, append_assoc, append-nil}
 use Rattle.demux.specs.Trace.{Meaning, command, packet, move, note}
 use Rattle.gate_model.specs.Events.{packets_of}
 use Rattle.gate_model.specs.declared.event.Event.{Event}
 use Rattle.gate_model.specs.declared.event.Event.TheVariants as event
 use Rattle.lawful_run.specs.AnsweredRun.{answered_run, answered_from, answered_epoch, entries_from, behind_lines, behind_epochs, events_after, brought, brings, with_line}
-use Rattle.lawful_run.specs.AtOnce.{LineAtOnce, EpochsAtOnce, AnswersAtOnce}
+use Rattle.lawful_run.specs.InSequence.{LineInSequence, EpochsInSequence, AnswersInSequence}
 use Rattle.lawful_run.specs.Setup.{Setup}
 use Rattle.lawful_run.specs.LinesTold.{lines_told, EachFrom}
 use Rattle.demux.specs.Packets.{numbered}
-use Rattle.lawful_run.specs.Order.{Histories, behind}
+use Rattle.lawful_run.specs.Merging.{Histories, behind}
 use Rattle.lawful_run.specs.Outcomes as made_of
 use Rattle.lawful_run.specs.Run.{by_slot, told_in, IsEpochRun, AreEpochRuns, IsRun, behind_all, no_events}
-use Rattle.lawful_run.proofs.AnsweredLines.{answered_each, answered_at_once, answered_slot}
-use Rattle.lawful_run.proofs.AtOnceSlots.{met_slot, InLineOrder}
+use Rattle.lawful_run.proofs.AnsweredLines.{answered_each, answered_in_sequence, answered_slot}
+use Rattle.lawful_run.proofs.InSequenceSlots.{met_slot, InLineOrder}
 use Rattle.lawful_run.proofs.Counting.{IsCounted}
-use Rattle.lawful_run.proofs.Meets.{at_once_meets}
+use Rattle.lawful_run.proofs.Meets.{in_sequence_meets}
 use Rattle.lawful_run.proofs.Lawful.{within, not_refused, not_parked}
 
 -- the events that a line brings stand behind those before it
@@ -47,14 +47,14 @@ pub counted_none : (before : Histories) (slot : ℕ) → IsCounted before slot [
 counted_none before slot = omega arith
 
 module _ (slots first : ℕ) (before : Histories) (made : List Meaning) where
-  at_once : EachFrom (LineAtOnce before) [] (lines_told made (entries_from first before made))
-  at_once = answered_at_once first before [] before made (counted_none before)
+  in_sequence : EachFrom (LineInSequence before) [] (lines_told made (entries_from first before made))
+  in_sequence = answered_in_sequence first before [] before made (counted_none before)
 
   in_order : (slot : ℕ) → InLineOrder slot (before slot) made (entries_from first before made)
   in_order slot =
       met_slot slot first before [] (before slot) made (entries_from first before made)
       (answered_each first before made)
-      (at_once_meets before [] (lines_told made (entries_from first before made)) at_once) (counted_none before slot)
+      (in_sequence_meets before [] (lines_told made (entries_from first before made)) in_sequence) (counted_none before slot)
 
   pub answered_epoch_lawful : (setup : Setup) → IsEpochRun setup slots first before made
       (answered_epoch slots first before made)
@@ -63,19 +63,19 @@ module _ (slots first : ℕ) (before : Histories) (made : List Meaning) where
     command_numbers = λ slot. (answered_slot slot first before made).command_numbers;
     packet_numbers = λ slot. (answered_slot slot first before made).packet_numbers;
     counts_rise = λ slot. (in_order slot).rises;
-    bounds = within setup before (lines_told made (entries_from first before made)) at_once;
+    bounds = within setup before (lines_told made (entries_from first before made)) in_sequence;
     replies = λ slot. (answered_slot slot first before made).replies
         ∙ sym (ap (made_of.replies slot (before slot)) (in_order slot).events);
     verdicts = λ slot. (answered_slot slot first before made).verdicts
         ∙ sym (ap (made_of.verdicts slot (before slot)) (in_order slot).events);
     effects = λ i. by_slot slots (λ slot. made_of.effects slot (before slot) (sym (in_order slot).events i));
     rows = λ i. by_slot slots (λ slot. made_of.rows slot (before slot) (sym (in_order slot).events i));
-    refusals = not_refused setup before (lines_told made (entries_from first before made)) at_once;
-    parking = not_parked setup before (lines_told made (entries_from first before made)) at_once;
+    refusals = not_refused setup before (lines_told made (entries_from first before made)) in_sequence;
+    parking = not_parked setup before (lines_told made (entries_from first before made)) in_sequence;
   }
 
-  pub answered_epoch_at_once : EachFrom (LineAtOnce before) [] (told_in made (answered_epoch slots first before made))
-  answered_epoch_at_once = at_once
+  pub answered_epoch_in_sequence : EachFrom (LineInSequence before) [] (told_in made (answered_epoch slots first before made))
+  answered_epoch_in_sequence = in_sequence
 
   -- the events behind it are those that its lines bring
   pub behind_answered : behind before (told_in made (answered_epoch slots first before made)) ≡ behind_lines before made
@@ -93,13 +93,13 @@ answered_from_lawful setup slots first before (made ∷ epochs) = (
       (behind_lines before made) epochs),
 )
 
-pub answered_from_at_once : (slots first : ℕ) (before : Histories) (epochs : List (List Meaning))
-    → EpochsAtOnce before epochs (answered_from slots first before epochs)
-answered_from_at_once slots first before [] = tt
-answered_from_at_once slots first before (made ∷ epochs) = (
-  answered_epoch_at_once slots first before made,
-  subst (λ h. EpochsAtOnce h epochs (answered_from slots (first + length made) (behind_lines before made) epochs))
-      (sym (behind_answered slots first before made)) (answered_from_at_once slots (first + length made)
+pub answered_from_in_sequence : (slots first : ℕ) (before : Histories) (epochs : List (List Meaning))
+    → EpochsInSequence before epochs (answered_from slots first before epochs)
+answered_from_in_sequence slots first before [] = tt
+answered_from_in_sequence slots first before (made ∷ epochs) = (
+  answered_epoch_in_sequence slots first before made,
+  subst (λ h. EpochsInSequence h epochs (answered_from slots (first + length made) (behind_lines before made) epochs))
+      (sym (behind_answered slots first before made)) (answered_from_in_sequence slots (first + length made)
       (behind_lines before made) epochs),
 )
 
@@ -118,5 +118,5 @@ answered_is_run setup slots made = record {
   opens = λ i. by_slot slots (λ slot. made_of.opens slot (sym (behind_all_answered slots 1 no_events made) i slot));
 }
 
-pub answered_run_at_once : (slots : ℕ) (made : List (List Meaning)) → AnswersAtOnce made (answered_run slots made)
-answered_run_at_once slots made = answered_from_at_once slots 1 no_events made
+pub answered_run_in_sequence : (slots : ℕ) (made : List (List Meaning)) → AnswersInSequence made (answered_run slots made)
+answered_run_in_sequence slots made = answered_from_in_sequence slots 1 no_events made

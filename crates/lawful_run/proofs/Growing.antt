@@ -1,4 +1,4 @@
--- The run that answers at once grows line by line, and epoch by epoch.
+-- The sequential run grows line by line, and epoch by epoch.
 use Rattle.std.proofs.Common.{◌≡◌, ℕ, zero, suc, ◌+◌, ◌≤◌, List, [], ◌∷◌, ◌++◌, length, map, refl, sym, ap, ◌∙◌, arith, append_assoc, append-nil, length-append}
 use Rattle.std.specs.List.{flat_map}
 use Rattle.demux.specs.Trace.{Meaning}
@@ -11,7 +11,7 @@ use Rattle.gate_model.proofs.Charges.{records_added}
 use Rattle.report_lines.specs.Records.{Effected}
 use Rattle.report_lines.specs.declared.entry.ChargeEntry.TheVariants.{R}
 use Rattle.lawful_run.specs.AnsweredRun.{entry_after, entries_from, brings, brought, with_line, events_after, behind_line, behind_lines, answered_epoch, answered_from, behind_epochs}
-use Rattle.lawful_run.specs.Order.{Histories}
+use Rattle.lawful_run.specs.Merging.{Histories}
 use Rattle.lawful_run.specs.Outcomes as made_of
 use Rattle.lawful_run.specs.Run.{by_slot}
 use Rattle.lawful_run.specs.Telling.{counted}

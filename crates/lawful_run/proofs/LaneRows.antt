@@ -13,7 +13,7 @@ use Rattle.report_lines.specs.declared.entry.ChargeEntry.{ChargeEntry}
 use Rattle.lawful_run.specs.Accepted.{commands_accepted, packets_accepted}
 use Rattle.lawful_run.specs.Bounds.{Rises}
 use Rattle.lawful_run.specs.Setup.{Setup, sliced}
-use Rattle.lawful_run.specs.Order.{events_in}
+use Rattle.lawful_run.specs.Merging.{events_in}
 use Rattle.lawful_run.specs.Outcomes as made_of
 use Rattle.lawful_run.specs.Report.{EpochReport}
 use Rattle.lawful_run.specs.Run.{IsRun, told_in}

@@ -1,15 +1,15 @@
--- What is answered at once is lawful under every setup.
+-- What is answered in sequence is lawful under every setup.
 use Rattle.std.proofs.Common.{◌≡◌, ℕ, ◌+◌, ◌≤◌, Bool, true, false, List, [], ◌∷◌, ◌++◌, cond, sym, subst, arith, length-append}
 use Rattle.std.proofs.lemmas.List.Elements.{filter_map-append}
 use Rattle.report_lines.specs.declared.entry.LineEntry.{LineEntry}
 use Rattle.report_lines.specs.declared.entry.LineEntry.TheVariants as line
 use Rattle.lawful_run.specs.Accepted.{command_count}
-use Rattle.lawful_run.specs.AtOnce.{LineAtOnce, EntryAtOnce}
-use Rattle.lawful_run.specs.Bounds.{MeetsBounds, MeetsAs, MayMeet, count_at_once}
+use Rattle.lawful_run.specs.InSequence.{LineInSequence, EntryInSequence}
+use Rattle.lawful_run.specs.Bounds.{MeetsBounds, MeetsAs, MayMeet, count_in_sequence}
 use Rattle.lawful_run.specs.Setup.{Setup, solo, sliced}
 use Rattle.lawful_run.specs.LinesTold.{LineTold, EachFrom}
 use Rattle.lawful_run.specs.Moves.{is_moved, before_last_move, before_next_move}
-use Rattle.lawful_run.specs.Order.{Histories}
+use Rattle.lawful_run.specs.Merging.{Histories}
 use Rattle.lawful_run.specs.Parking.{ParkedBehindMoves, ParkedAs, MayPark}
 use Rattle.lawful_run.specs.Refusals.{RefusedWhereFull, RefusedAs}
 
@@ -48,11 +48,11 @@ before_last_move-count slot (now ∷ later) =
     (before_last_move-count slot later)
 
 -- what meets just the commands before it is within the bounds of any setup
-pub meets_at_once : (setup : Setup) (start : Histories) (slot : ℕ) (front later : List LineTold) (count : ℕ)
-    → count ≡ count_at_once start slot front
+pub meets_in_sequence : (setup : Setup) (start : Histories) (slot : ℕ) (front later : List LineTold) (count : ℕ)
+    → count ≡ count_in_sequence start slot front
     → MayMeet setup start slot front later count
-meets_at_once solo start slot front later count is = is
-meets_at_once (sliced slices room lane) start slot front later count is =
+meets_in_sequence solo start slot front later count is = is
+meets_in_sequence (sliced slices room lane) start slot front later count is =
     let some_before = before_last_move-count slot front in
     let some_more : command_count slot (front ++ before_next_move slot later) ≡ command_count slot front
     + command_count slot (before_next_move slot later) =
@@ -60,40 +60,40 @@ meets_at_once (sliced slices room lane) start slot front later count is =
     (omega (arith, is, some_before), omega (arith, is, some_more))
 
 pub entry_within : (setup : Setup) (start : Histories) (front : List LineTold) (entry : LineEntry) (later : List LineTold)
-    → EntryAtOnce start front entry → MeetsAs setup start front entry later
+    → EntryInSequence start front entry → MeetsAs setup start front entry later
 entry_within setup start front (line.N noted) later once = tt
 entry_within setup start front (line.C answered) later once = tt
 entry_within setup start front (line.P judged) later once =
-    meets_at_once setup start judged.slot front later judged.commands once.commands
+    meets_in_sequence setup start judged.slot front later judged.commands once.commands
 entry_within setup start front (line.F refused) later once = absurd once
 
 -- nothing is refused, and nothing is parked
 pub entry_not_refused : (setup : Setup) (start : Histories) (front : List LineTold) (now : LineTold) (entry : LineEntry)
-    → EntryAtOnce start front entry → RefusedAs setup front now entry
+    → EntryInSequence start front entry → RefusedAs setup front now entry
 entry_not_refused setup start front now (line.N noted) once = tt
 entry_not_refused setup start front now (line.C answered) once = tt
 entry_not_refused setup start front now (line.P judged) once = tt
 entry_not_refused setup start front now (line.F refused) once = absurd once
 
 pub entry_not_parked : (start : Histories) (front : List LineTold) (entry : LineEntry)
-    → EntryAtOnce start front entry → ParkedAs front entry
+    → EntryInSequence start front entry → ParkedAs front entry
 entry_not_parked start front (line.N noted) once = tt
 entry_not_parked start front (line.C answered) once = tt
 entry_not_parked start front (line.P judged) once =
     subst (λ parked. MayPark parked judged.slot front) (sym once.parked) tt
 entry_not_parked start front (line.F refused) once = absurd once
 
-module _ (setup : Setup) (start : Histories) (lines : List LineTold) (once : EachFrom (LineAtOnce start) [] lines) where
+module _ (setup : Setup) (start : Histories) (lines : List LineTold) (once : EachFrom (LineInSequence start) [] lines) where
   pub within : EachFrom (MeetsBounds setup start) [] lines
   within =
-      each_gives (LineAtOnce start) (MeetsBounds setup start)
+      each_gives (LineInSequence start) (MeetsBounds setup start)
       (λ front now later here. entry_within setup start front now.entry later here) [] lines once
 
   pub not_refused : EachFrom (RefusedWhereFull setup) [] lines
   not_refused =
-      each_gives (LineAtOnce start) (RefusedWhereFull setup)
+      each_gives (LineInSequence start) (RefusedWhereFull setup)
       (λ front now later here. entry_not_refused setup start front now now.entry here) [] lines once
 
   pub not_parked : EachFrom ParkedBehindMoves [] lines
-  not_parked = each_gives (LineAtOnce start) ParkedBehindMoves
+  not_parked = each_gives (LineInSequence start) ParkedBehindMoves
       (λ front now later here. entry_not_parked start front now.entry here) [] lines once

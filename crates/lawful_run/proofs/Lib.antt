@@ -1,9 +1,9 @@
 pub mod SlotCases
-pub mod OrderLemmas
+pub mod MergingLemmas
 pub mod Counting
 pub mod EventByEvent
 pub mod Meets
-pub mod AtOnceSlots
+pub mod InSequenceSlots
 pub mod AnsweredLines
 pub mod Lawful
 pub mod EveryTrace

@@ -2,35 +2,35 @@
 use Rattle.std.proofs.Common.{◌≡◌, List, [], ◌∷◌, ◌++◌}
 use Rattle.report_lines.specs.declared.entry.LineEntry.{LineEntry}
 use Rattle.report_lines.specs.declared.entry.LineEntry.TheVariants as line
-use Rattle.lawful_run.specs.AtOnce.{LineAtOnce, EntryAtOnce}
-use Rattle.lawful_run.specs.Bounds.{MeetsBounds, MeetsAs, count_at_once}
+use Rattle.lawful_run.specs.InSequence.{LineInSequence, EntryInSequence}
+use Rattle.lawful_run.specs.Bounds.{MeetsBounds, MeetsAs, count_in_sequence}
 use Rattle.lawful_run.specs.Setup.{solo}
 use Rattle.lawful_run.specs.LinesTold.{LineTold, EachFrom}
-use Rattle.lawful_run.specs.Order.{Histories}
+use Rattle.lawful_run.specs.Merging.{Histories}
 use Rattle.lawful_run.specs.Refusals.{RefusedWhereFull, RefusedAs}
 
 abbrev pub MeetsOnce : Histories → List LineTold → LineEntry → Type 0
 MeetsOnce start front (line.N noted) = Unit {0}
 MeetsOnce start front (line.C answered) = Unit {0}
-MeetsOnce start front (line.P judged) = judged.commands ≡ count_at_once start judged.slot front
+MeetsOnce start front (line.P judged) = judged.commands ≡ count_in_sequence start judged.slot front
 MeetsOnce start front (line.F refused) = ⊥
 
 abbrev pub LineMeets : Histories → List LineTold → LineTold → List LineTold → Type 0
 LineMeets start front now later = MeetsOnce start front now.entry
 
-once_meets : (start : Histories) (front : List LineTold) (entry : LineEntry) → EntryAtOnce start front entry
+once_meets : (start : Histories) (front : List LineTold) (entry : LineEntry) → EntryInSequence start front entry
     → MeetsOnce start front entry
 once_meets start front (line.N noted) once = tt
 once_meets start front (line.C answered) once = tt
 once_meets start front (line.P judged) once = once.commands
 once_meets start front (line.F refused) once = absurd once
 
--- what is answered at once meets so
-pub at_once_meets : (start : Histories) (front lines : List LineTold) → EachFrom (LineAtOnce start) front lines
+-- what is answered in sequence meets so
+pub in_sequence_meets : (start : Histories) (front lines : List LineTold) → EachFrom (LineInSequence start) front lines
     → EachFrom (LineMeets start) front lines
-at_once_meets start front [] each = tt
-at_once_meets start front (now ∷ later) each =
-    (once_meets start front now.entry each.0, at_once_meets start (front ++ now ∷ []) later each.1)
+in_sequence_meets start front [] each = tt
+in_sequence_meets start front (now ∷ later) each =
+    (once_meets start front now.entry each.0, in_sequence_meets start (front ++ now ∷ []) later each.1)
 
 solo_entry_meets : (start : Histories) (front : List LineTold) (now : LineTold) (entry : LineEntry)
     (later : List LineTold)

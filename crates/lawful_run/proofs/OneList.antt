@@ -2,7 +2,7 @@
 use Rattle.std.proofs.Common.{◌≡◌, ℕ, ◌+◌, ◌==◌, Bool, true, false, Some, None, List, [], ◌∷◌, map, cond, refl, sym, ap, ◌∙◌}
 use Rattle.std.specs.List.{filter_map, cons_option}
 use Rattle.demux.specs.Trace.{Meaning, command, packet, move, note}
-use Rattle.report_lines.specs.Records.{Noted, Answered, Judged}
+use Rattle.report_lines.specs.Records.{Noted, Answered, PacketTold}
 use Rattle.report_lines.specs.Text.{line_without_place}
 use Rattle.report_lines.specs.declared.entry.LineEntry.{LineEntry}
 use Rattle.report_lines.specs.declared.entry.LineEntry.TheVariants as line
@@ -91,7 +91,7 @@ one_answer answered other entries others lines slots same =
       };
     }
 
-one_judgement : (judged other : Judged) (entries others : List LineEntry) → judged.line ≡ other.line
+one_judgement : (judged other : PacketTold) (entries others : List LineEntry) → judged.line ≡ other.line
     → judged.slot ≡ other.slot
     → EachTellsTheSame (line.P judged ∷ entries) (line.P other ∷ others)
     → FirstIsOne (line.P judged) (line.P other) entries others

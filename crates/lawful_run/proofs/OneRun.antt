@@ -8,17 +8,17 @@ use Rattle.report_lines.specs.declared.entry.LineEntry.{LineEntry}
 use Rattle.report_lines.specs.declared.entry.LineEntry.TheVariants as line
 use Rattle.lawful_run.specs.Answers.{AnswersAll}
 use Rattle.lawful_run.specs.AnsweredRun.{answered_run, answered_from, answered_epoch, entries_from, behind_lines, behind_epochs, brought}
-use Rattle.lawful_run.specs.AtOnce.{LineAtOnce, EntryAtOnce, EpochsAtOnce, AnswersAtOnce}
+use Rattle.lawful_run.specs.InSequence.{LineInSequence, EntryInSequence, EpochsInSequence, AnswersInSequence}
 use Rattle.lawful_run.specs.Setup.{Setup, solo}
 use Rattle.lawful_run.specs.LinesTold.{LineTold, lines_told, EachFrom}
-use Rattle.lawful_run.specs.Order.{Histories, events_in, behind}
+use Rattle.lawful_run.specs.Merging.{Histories, events_in, behind}
 use Rattle.lawful_run.specs.Outcomes as made_of
 use Rattle.lawful_run.specs.Report.{EpochReport, Report}
 use Rattle.lawful_run.specs.Run.{by_slot, told_in, IsEpochRun, AreEpochRuns, IsRun, behind_all, no_events}
 use Rattle.lawful_run.specs.Telling.{counted}
-use Rattle.lawful_run.proofs.AtOnceSlots.{met_slot, InLineOrder}
-use Rattle.lawful_run.proofs.EveryTrace.{counted_none, with_brought, answered_epoch_lawful, answered_epoch_at_once}
-use Rattle.lawful_run.proofs.Meets.{LineMeets, MeetsOnce, at_once_meets, solo_meets}
+use Rattle.lawful_run.proofs.InSequenceSlots.{met_slot, InLineOrder}
+use Rattle.lawful_run.proofs.EveryTrace.{counted_none, with_brought, answered_epoch_lawful, answered_epoch_in_sequence}
+use Rattle.lawful_run.proofs.Meets.{LineMeets, MeetsOnce, in_sequence_meets, solo_meets}
 use Rattle.lawful_run.proofs.OneList.{TellTheSame, NotRefused, NoneRefused, one_list}
 
 -- no line is refused
@@ -52,7 +52,7 @@ module _ (setup : Setup) (slots first : ℕ) (before : Histories) (made : List M
   known_run = answered_epoch_lawful slots first before made setup
 
   known_each : EachFrom (LineMeets before) [] (told_in made (answered_epoch slots first before made))
-  known_each = at_once_meets before [] _ (answered_epoch_at_once slots first before made)
+  known_each = in_sequence_meets before [] _ (answered_epoch_in_sequence slots first before made)
 
   known_order : (slot : ℕ) → InLineOrder slot (before slot) made (entries_from first before made)
   known_order slot = met_slot slot first before [] (before slot) made
@@ -99,14 +99,14 @@ module _ (setup : Setup) (slots first : ℕ) (before : Histories) (made : List M
   behind_is_one = λ i slot. (ap (λ events. before slot ++ events) (events_are_one slot)
       ∙ with_brought slot (before slot) made) i
 
--- an entry that was made at once is known from what it tells without its place
+-- an entry that was made in sequence is known from what it tells without its place
 settled : LineEntry → LineEntry
 settled (line.N noted) = line.N noted
 settled (line.C answered) = line.C answered
 settled (line.P judged) = line.P (record judged { place = Some Closing; parked = false })
 settled (line.F refused) = line.F refused
 
-settled_entry : (start : Histories) (front : List LineTold) (entry : LineEntry) → EntryAtOnce start front entry
+settled_entry : (start : Histories) (front : List LineTold) (entry : LineEntry) → EntryInSequence start front entry
     → settled (line_without_place entry) ≡ entry
 unfolding settled
 settled_entry start front (line.N noted) once = refl
@@ -117,7 +117,7 @@ settled_entry start front (line.F refused) once = absurd once
 
 settled_lines : (n : ℕ) (start : Histories) (front : List LineTold) (made : List Meaning)
     (entries : List LineEntry) → AnswersAll n made entries
-    → EachFrom (LineAtOnce start) front (lines_told made entries)
+    → EachFrom (LineInSequence start) front (lines_told made entries)
     → map settled (map line_without_place entries) ≡ entries
 settled_lines n start front [] [] answers each = refl
 settled_lines n start front [] (entry ∷ entries) answers each = absurd answers
@@ -127,25 +127,25 @@ settled_lines n start front (now ∷ made) (entry ∷ entries) answers each =
     let tail = settled_lines (n + 1) start _ made entries answers.1 each.1 in
     λ i. head i ∷ tail i
 
--- where each line is answered at once, the epoch is that of a gateway that does so
+-- where each line is answered in sequence, the epoch is that of the sequential gateway
 pub epoch_is_one : (setup : Setup) (slots first : ℕ) (before : Histories) (made : List Meaning) (told : EpochReport)
-    → IsEpochRun setup slots first before made told → EachFrom (LineAtOnce before) [] (told_in made told)
+    → IsEpochRun setup slots first before made told → EachFrom (LineInSequence before) [] (told_in made told)
     → told ≡ answered_epoch slots first before made
 epoch_is_one setup slots first before made told run once =
-    let each = at_once_meets before [] (told_in made told) once in
+    let each = in_sequence_meets before [] (told_in made told) once in
     let lines : told.lines ≡ entries_from first before made =
     sym (settled_lines first before [] made told.lines run.one_each once)
     ∙ ap (map settled) (lines_are_one setup slots first before made told run each)
     ∙ settled_lines first before [] made (entries_from first before made)
     (answered_epoch_lawful slots first before made setup).one_each
-    (answered_epoch_at_once slots first before made) in
+    (answered_epoch_in_sequence slots first before made) in
     let effects = effects_are_one setup slots first before made told run each in
     let rows = rows_are_one setup slots first before made told run each in
     λ i. record { lines = lines i; effects = effects i; rows = rows i }
 
 pub epochs_are_one : (setup : Setup) (slots first : ℕ) (before : Histories) (epochs : List (List Meaning))
     (others : List EpochReport)
-    → AreEpochRuns setup slots first before epochs others → EpochsAtOnce before epochs others
+    → AreEpochRuns setup slots first before epochs others → EpochsInSequence before epochs others
     → others ≡ answered_from slots first before epochs
 epochs_are_one setup slots first before [] [] run once = refl
 epochs_are_one setup slots first before [] (told ∷ others) run once = absurd run
@@ -153,10 +153,10 @@ epochs_are_one setup slots first before (made ∷ epochs) [] run once = absurd r
 epochs_are_one setup slots first before (made ∷ epochs) (told ∷ others) run once =
     let head = epoch_is_one setup slots first before made told run.0 once.0 in
     let same = behind_is_one setup slots first before made told run.0
-    (at_once_meets before [] (told_in made told) once.0) in
+    (in_sequence_meets before [] (told_in made told) once.0) in
     let tail = epochs_are_one setup slots (first + length made) (behind_lines before made) epochs others
     (subst (λ h. AreEpochRuns setup slots (first + length made) h epochs others) same run.1)
-    (subst (λ h. EpochsAtOnce h epochs others) same once.1) in
+    (subst (λ h. EpochsInSequence h epochs others) same once.1) in
     λ i. head i ∷ tail i
 
 -- what stands behind a run in which each line meets the commands before it
@@ -166,14 +166,14 @@ EpochsMeet before (made ∷ epochs) [] = Unit {0}
 EpochsMeet before (made ∷ epochs) (told ∷ others) =
     EachFrom (LineMeets before) [] (told_in made told) × EpochsMeet (behind before (told_in made told)) epochs others
 
-pub at_once_epochs_meet : (before : Histories) (epochs : List (List Meaning)) (others : List EpochReport)
-    → EpochsAtOnce before epochs others
+pub in_sequence_epochs_meet : (before : Histories) (epochs : List (List Meaning)) (others : List EpochReport)
+    → EpochsInSequence before epochs others
     → EpochsMeet before epochs others
-at_once_epochs_meet before [] others once = tt
-at_once_epochs_meet before (made ∷ epochs) [] once = tt
-at_once_epochs_meet before (made ∷ epochs) (told ∷ others) once = (
-  at_once_meets before [] (told_in made told) once.0,
-  at_once_epochs_meet (behind before (told_in made told)) epochs others once.1,
+in_sequence_epochs_meet before [] others once = tt
+in_sequence_epochs_meet before (made ∷ epochs) [] once = tt
+in_sequence_epochs_meet before (made ∷ epochs) (told ∷ others) once = (
+  in_sequence_meets before [] (told_in made told) once.0,
+  in_sequence_epochs_meet (behind before (told_in made told)) epochs others once.1,
 )
 
 pub solo_epochs_meet : (slots first : ℕ) (before : Histories) (epochs : List (List Meaning)) (others : List EpochReport)
@@ -198,14 +198,14 @@ events_behind setup slots first before (made ∷ epochs) (told ∷ others) runs 
     (subst (λ h. AreEpochRuns setup slots (first + length made) h epochs others) same runs.1)
     (subst (λ h. EpochsMeet h epochs others) same meet.1)
 
--- the run that answers at once is one
+-- the sequential run is one
 pub run_is_one : (setup : Setup) (slots : ℕ) (made : List (List Meaning)) (report : Report)
-    → IsRun setup slots made report → AnswersAtOnce made report
+    → IsRun setup slots made report → AnswersInSequence made report
     → report ≡ answered_run slots made
 run_is_one setup slots made report run once =
     let epochs = epochs_are_one setup slots 1 no_events made report.epochs run.epochs once in
     let events = events_behind setup slots 1 no_events made report.epochs run.epochs
-    (at_once_epochs_meet no_events made report.epochs once) in
+    (in_sequence_epochs_meet no_events made report.epochs once) in
     let opens : report.opens ≡ by_slot slots (λ slot. made_of.opens slot (behind_epochs no_events made slot)) =
     run.opens ∙ (λ i. by_slot slots (λ slot. made_of.opens slot (events i slot))) in
     λ i. record { epochs = epochs i; opens = opens i }

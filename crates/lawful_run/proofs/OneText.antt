@@ -9,7 +9,7 @@ use Rattle.report_lines.specs.declared.entry.Entry.TheVariants as entry
 use Rattle.report_lines.specs.declared.entry.LineEntry.{LineEntry}
 use Rattle.lawful_run.specs.AnsweredRun.{answered_run, answered_from, answered_epoch, behind_lines, behind_epochs}
 use Rattle.lawful_run.specs.Setup.{solo}
-use Rattle.lawful_run.specs.Order.{Histories}
+use Rattle.lawful_run.specs.Merging.{Histories}
 use Rattle.lawful_run.specs.Outcomes as made_of
 use Rattle.lawful_run.specs.Report.{EpochReport, Report, epoch_entries, texts_of, report_text}
 use Rattle.lawful_run.specs.Run.{by_slot, told_in, AreEpochRuns, IsRun, no_events}

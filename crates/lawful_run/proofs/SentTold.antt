@@ -12,7 +12,7 @@ use Rattle.demux.specs.Trace.{Meaning}
 use Rattle.gate_model.specs.Events.{commands_of}
 use Rattle.gate_model.specs.Ledger.{Sent, sent_by_verdict, sent_by_effect, sent_at, sent_in}
 use Rattle.gate_model.specs.SlotPast.{SlotPast, past_of, happens, behind as next_past, effects_after, verdict_after}
-use Rattle.gate_model.specs.Stories.{Told, told_from, story_of}
+use Rattle.gate_model.specs.Stories.{Episode, episodes_from, story_of}
 use Rattle.gate_model.specs.declared.event.Event.{Event}
 use Rattle.gate_model.specs.declared.event.Event.TheVariants as event
 use Rattle.gate_model.proofs.Following.{past-append}
@@ -20,7 +20,7 @@ use Rattle.report_lines.specs.declared.entry.LineEntry.{LineEntry}
 use Rattle.report_lines.specs.declared.entry.LineEntry.TheVariants as line
 use Rattle.lawful_run.specs.Setup.{Setup}
 use Rattle.lawful_run.specs.Ledger.{sent_by_line, sent_by_effected, lines_sent, effects_sent}
-use Rattle.lawful_run.specs.Order.{Histories, behind}
+use Rattle.lawful_run.specs.Merging.{Histories, behind}
 use Rattle.lawful_run.specs.Outcomes as made_of
 use Rattle.lawful_run.specs.Report.{EpochReport, Report}
 use Rattle.lawful_run.specs.Run.{told_in, IsEpochRun, AreEpochRuns, IsRun, behind_all, no_events}
@@ -94,25 +94,25 @@ four_parts xs ys a b c d one two =
 
 -- stories, one behind another
 told-append : (past : SlotPast) (events others : List Event)
-    → told_from past (events ++ others) ≡ told_from past events ++ told_from (fold next_past past events) others
+    → episodes_from past (events ++ others) ≡ episodes_from past events ++ episodes_from (fold next_past past events) others
 told-append past [] others = refl
 told-append past (now ∷ events) others = ap (λ more. record { event = now; happened = (happens past now).1 }
     ∷ more) (told-append (next_past past now) events others)
 
 sent-append : (slot : ℕ) (before events others : List Event)
-    → sent_in (told_from (past_of slot before) (events ++ others))
-    ≡ sent_in (told_from (past_of slot before) events) ++ sent_in (told_from (past_of slot (before ++ events)) others)
+    → sent_in (episodes_from (past_of slot before) (events ++ others))
+    ≡ sent_in (episodes_from (past_of slot before) events) ++ sent_in (episodes_from (past_of slot (before ++ events)) others)
 sent-append slot before events others =
     ap sent_in (told-append (past_of slot before) events others)
-    ∙ flat_map-append (λ (told : Told). sent_at told.happened) (told_from (past_of slot before) events)
-    (told_from (fold next_past (past_of slot before) events) others)
-    ∙ ap (λ past. sent_in (told_from (past_of slot before) events) ++ sent_in (told_from past others))
+    ∙ flat_map-append (λ (told : Episode). sent_at told.happened) (episodes_from (past_of slot before) events)
+    (episodes_from (fold next_past (past_of slot before) events) others)
+    ∙ ap (λ past. sent_in (episodes_from (past_of slot before) events) ++ sent_in (episodes_from past others))
     (sym (past-append slot before events))
 
 -- The packets that events forward are those that their verdicts and their effects tell, of any kind that is looked for.
 module _ (slot : ℕ) (p : Sent → Bool) where
   event_parts : (before events : List Event) → IsPermutation
-      (filter p (sent_in (told_from (past_of slot before) events)))
+      (filter p (sent_in (episodes_from (past_of slot before) events)))
       (filter p (by_verdicts (made_of.verdicts slot before events))
       ++ filter p (flat_map (sent_by_effected slot) (made_of.effects slot before events)))
   unfolding happens
@@ -127,16 +127,16 @@ module _ (slot : ℕ) (p : Sent → Bool) where
       flat_map-append (sent_by_effected slot) (map (made_of.effect_entry slot (length (commands_of before)))
       (effects_after slot before c)) (made_of.effects slot more events)
       ∙ ap (λ xs. xs ++ effects) (own_effects slot (length (commands_of before)) (effects_after slot before c)) in
-      let story_is : sent_in (told_from (past_of slot before) (event.Command c ∷ events)) ≡ sent
-      ++ sent_in (told_from (past_of slot more) events) =
-      ap (λ past. sent ++ sent_in (told_from past events)) (sym (past-append slot before (event.Command c ∷ []))) in
+      let story_is : sent_in (episodes_from (past_of slot before) (event.Command c ∷ events)) ≡ sent
+      ++ sent_in (episodes_from (past_of slot more) events) =
+      ap (λ past. sent ++ sent_in (episodes_from past events)) (sym (past-append slot before (event.Command c ∷ []))) in
       subst (λ xs. IsPermutation xs (filter p verdicts ++ filter p
       (flat_map (sent_by_effected slot) (made_of.effects slot before (event.Command c ∷ events)))))
-      (sym (ap (filter p) story_is ∙ filter-append p sent (sent_in (told_from (past_of slot more) events))))
-      (subst (λ xs. IsPermutation (filter p sent ++ filter p (sent_in (told_from (past_of slot more) events)))
+      (sym (ap (filter p) story_is ∙ filter-append p sent (sent_in (episodes_from (past_of slot more) events))))
+      (subst (λ xs. IsPermutation (filter p sent ++ filter p (sent_in (episodes_from (past_of slot more) events)))
       (filter p verdicts ++ xs))
       (sym (ap (filter p) effects_are ∙ filter-append p sent effects))
-      (four_parts (filter p sent) (filter p (sent_in (told_from (past_of slot more) events))) [] (filter p sent)
+      (four_parts (filter p sent) (filter p (sent_in (episodes_from (past_of slot more) events))) [] (filter p sent)
       (filter p verdicts) (filter p effects)
       (IsPermutation-refl (filter p sent)) (event_parts more events)))
   event_parts before (event.Packet q ∷ events) =
@@ -144,15 +144,15 @@ module _ (slot : ℕ) (p : Sent → Bool) where
       let more : List Event = before ++ event.Packet q ∷ [] in
       let verdicts : List Sent = by_verdicts (made_of.verdicts slot more events) in
       let effects : List Sent = flat_map (sent_by_effected slot) (made_of.effects slot more events) in
-      let story_is : sent_in (told_from (past_of slot before) (event.Packet q ∷ events)) ≡ sent
-      ++ sent_in (told_from (past_of slot more) events) =
-      ap (λ past. sent ++ sent_in (told_from past events)) (sym (past-append slot before (event.Packet q ∷ []))) in
+      let story_is : sent_in (episodes_from (past_of slot before) (event.Packet q ∷ events)) ≡ sent
+      ++ sent_in (episodes_from (past_of slot more) events) =
+      ap (λ past. sent ++ sent_in (episodes_from past events)) (sym (past-append slot before (event.Packet q ∷ []))) in
       subst (λ xs. IsPermutation xs (filter p (sent ++ verdicts) ++ filter p effects))
-      (sym (ap (filter p) story_is ∙ filter-append p sent (sent_in (told_from (past_of slot more) events))))
-      (subst (λ xs. IsPermutation (filter p sent ++ filter p (sent_in (told_from (past_of slot more) events))) (xs
+      (sym (ap (filter p) story_is ∙ filter-append p sent (sent_in (episodes_from (past_of slot more) events))))
+      (subst (λ xs. IsPermutation (filter p sent ++ filter p (sent_in (episodes_from (past_of slot more) events))) (xs
       ++ filter p effects))
       (sym (filter-append p sent verdicts))
-      (four_parts (filter p sent) (filter p (sent_in (told_from (past_of slot more) events))) (filter p sent) []
+      (four_parts (filter p sent) (filter p (sent_in (episodes_from (past_of slot more) events))) (filter p sent) []
       (filter p verdicts) (filter p effects)
       (subst (IsPermutation (filter p sent)) (sym (append-nil (filter p sent)))
       (IsPermutation-refl (filter p sent))) (event_parts more events)))
@@ -161,7 +161,7 @@ module _ (slot : ℕ) (p : Sent → Bool) where
   epoch_parts : (setup : Setup) (slots first : ℕ) (before : Histories) (made : List Meaning) (told : EpochReport)
       → slot < slots
       → IsEpochRun setup slots first before made told
-      → IsPermutation (filter p (sent_in (told_from (past_of slot (before slot)) (now_events before made told slot))))
+      → IsPermutation (filter p (sent_in (episodes_from (past_of slot (before slot)) (now_events before made told slot))))
       (filter p (flat_map (sent_by_line slot) told.lines) ++ filter p (flat_map (sent_by_effected slot) told.effects))
   epoch_parts setup slots first before made told within run =
       let now : List Event = now_events before made told slot in
@@ -174,10 +174,10 @@ module _ (slot : ℕ) (p : Sent → Bool) where
       (λ s. made_of.effects s (before s) (now_events before made told s)) slot 0 slots (omega arith)
       (omega (arith, within))
       (λ s other. other_effects slot s (before s) (now_events before made told s) other) in
-      subst (λ xs. IsPermutation (filter p (sent_in (told_from (past_of slot (before slot)) now))) (filter p xs
+      subst (λ xs. IsPermutation (filter p (sent_in (episodes_from (past_of slot (before slot)) now))) (filter p xs
       ++ filter p (flat_map (sent_by_effected slot) told.effects)))
       (sym lines_are)
-      (subst (λ xs. IsPermutation (filter p (sent_in (told_from (past_of slot (before slot)) now)))
+      (subst (λ xs. IsPermutation (filter p (sent_in (episodes_from (past_of slot (before slot)) now)))
       (filter p (by_verdicts (made_of.verdicts slot (before slot) now)) ++ filter p xs))
       (sym effects_are) (event_parts (before slot) now))
 
@@ -201,7 +201,7 @@ module _ (slot : ℕ) (p : Sent → Bool) where
   parts_from : (setup : Setup) (slots first : ℕ) (before : Histories) (epochs : List (List Meaning))
       (others : List EpochReport) → slot < slots
       → AreEpochRuns setup slots first before epochs others
-      → IsPermutation (filter p (sent_in (told_from (past_of slot (before slot)) (events_told before epochs others))))
+      → IsPermutation (filter p (sent_in (episodes_from (past_of slot (before slot)) (events_told before epochs others))))
       (filter p (lines_sent slot others) ++ filter p (effects_sent slot others))
   unfolding events_told
   parts_from setup slots first before [] [] within runs = IsPermutation-refl []
@@ -211,8 +211,8 @@ module _ (slot : ℕ) (p : Sent → Bool) where
       let now : List Event = now_events before made told slot in
       let next : Histories = behind before (told_in made told) in
       let later : List Event = events_told next epochs others in
-      let here : List Sent = sent_in (told_from (past_of slot (before slot)) now) in
-      let there : List Sent = sent_in (told_from (past_of slot (next slot)) later) in
+      let here : List Sent = sent_in (episodes_from (past_of slot (before slot)) now) in
+      let there : List Sent = sent_in (episodes_from (past_of slot (next slot)) later) in
       let lines : List Sent = flat_map (sent_by_line slot) told.lines in
       let effects : List Sent = flat_map (sent_by_effected slot) told.effects in
       subst (λ xs. IsPermutation xs (filter p (lines ++ lines_sent slot others)

@@ -1,4 +1,4 @@
--- The entries that a gateway makes which answers each line at once: line by line, epoch by epoch.
+-- The entries that the sequential gateway makes: line by line, epoch by epoch.
 use Rattle.std.specs.Prelude.{ℕ, ◌+◌, ◌==◌, false, if◌then◌else◌, Some, List, [], ◌∷◌, ◌++◌, length}
 use Rattle.pc_base.specs.declared.packet.Place.TheVariants.{Closing}
 use Rattle.demux.specs.Trace.{Meaning, command, packet, move, note}
@@ -9,7 +9,7 @@ use Rattle.gate_model.specs.declared.event.Event.TheVariants as event
 use Rattle.report_lines.specs.declared.entry.LineEntry.{LineEntry}
 use Rattle.report_lines.specs.declared.entry.LineEntry.TheVariants as line
 use Rattle.demux.specs.Packets.{numbered}
-use Rattle.lawful_run.specs.Order.{Histories}
+use Rattle.lawful_run.specs.Merging.{Histories}
 use Rattle.lawful_run.specs.Outcomes.{effects, rows, opens}
 use Rattle.lawful_run.specs.Report.{EpochReport, Report}
 use Rattle.lawful_run.specs.Run.{by_slot, no_events}

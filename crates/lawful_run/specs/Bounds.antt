@@ -7,7 +7,7 @@ use Rattle.lawful_run.specs.Accepted.{command_count}
 use Rattle.lawful_run.specs.Setup.{Setup, solo, sliced}
 use Rattle.lawful_run.specs.LinesTold.{LineTold}
 use Rattle.lawful_run.specs.Moves.{before_last_move, before_next_move}
-use Rattle.lawful_run.specs.Order.{Histories}
+use Rattle.lawful_run.specs.Merging.{Histories}
 
 -- the commands of a slot that were accepted before the epoch
 abbrev pub count_before : Histories → ℕ → ℕ
@@ -23,12 +23,12 @@ most_count histories slot before later =
     count_before histories slot + command_count slot (before ++ before_next_move slot later)
 
 -- those that were accepted before the line
-abbrev pub count_at_once : Histories → ℕ → List LineTold → ℕ
-count_at_once histories slot before = count_before histories slot + command_count slot before
+abbrev pub count_in_sequence : Histories → ℕ → List LineTold → ℕ
+count_in_sequence histories slot before = count_before histories slot + command_count slot before
 
 -- a packet meets a count within the bounds, and on one thread just the commands before it
 abbrev pub MayMeet : Setup → Histories → ℕ → List LineTold → List LineTold → ℕ → Type 0
-MayMeet solo histories slot before later commands = commands ≡ count_at_once histories slot before
+MayMeet solo histories slot before later commands = commands ≡ count_in_sequence histories slot before
 MayMeet (sliced slices room lane) histories slot before later commands =
     (least_count histories slot before ≤ commands) × (commands ≤ most_count histories slot before later)
 

@@ -3,7 +3,7 @@ pub mod Report
 pub mod LinesTold
 pub mod Answers
 pub mod Accepted
-pub mod Order
+pub mod Merging
 pub mod Moves
 pub mod Bounds
 pub mod Refusals
@@ -11,7 +11,7 @@ pub mod Parking
 pub mod Telling
 pub mod Outcomes
 pub mod Run
-pub mod AtOnce
+pub mod InSequence
 pub mod AnsweredRun
 pub mod Trace
 pub mod Cut

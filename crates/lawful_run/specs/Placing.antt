@@ -8,7 +8,7 @@ use Rattle.gate_model.specs.declared.event.Event.TheVariants as event
 use Rattle.pc_base.specs.declared.packet.Packet.{Packet}
 use Rattle.lawful_run.specs.Accepted.{Placed, commands_accepted, packets_accepted}
 use Rattle.lawful_run.specs.Setup.{Setup}
-use Rattle.lawful_run.specs.Order.{Histories, events_in}
+use Rattle.lawful_run.specs.Merging.{Histories, events_in}
 use Rattle.lawful_run.specs.Report.{EpochReport}
 use Rattle.lawful_run.specs.Run.{told_in, IsEpochRun}
 use Rattle.lawful_run.specs.Telling.{commands_told}

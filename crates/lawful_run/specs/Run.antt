@@ -8,7 +8,7 @@ use Rattle.lawful_run.specs.Answers.{AnswersAll}
 use Rattle.lawful_run.specs.Bounds.{MeetsBounds, Rises, count_before}
 use Rattle.lawful_run.specs.Setup.{Setup}
 use Rattle.lawful_run.specs.LinesTold.{LineTold, lines_told, EachLine}
-use Rattle.lawful_run.specs.Order.{Histories, events_in, behind}
+use Rattle.lawful_run.specs.Merging.{Histories, events_in, behind}
 use Rattle.lawful_run.specs.Outcomes as made_of
 use Rattle.lawful_run.specs.Parking.{ParkedBehindMoves}
 use Rattle.lawful_run.specs.Refusals.{RefusedWhereFull}

@@ -1,7 +1,7 @@
 -- The setup of the gateway, as far as the entries of a trace depend on it.
 use Rattle.std.specs.Prelude.{ℕ}
 
--- One thread does each line at once. Or slices share the work: so many of them, with room for so many waiting commands
+-- One thread does line after line. Or slices share the work: so many of them, with room for so many waiting commands
 -- or parked packets of a subscriber, and lanes that hold so many items of a slice.
 pub data Setup : Type 0 where
   solo : Setup

@@ -69,7 +69,7 @@ open_epoch (line ∷ lines) = (line ∷ lines) ∷ []
 abbrev pub slots_of : Input → ℕ
 slots_of input = length (book_of input.lines)
 
--- a report that the trace may have under a setup, and that of a gateway which answers at once
+-- a report that the trace may have under a setup, and that of the sequential gateway
 abbrev pub IsReport : Setup → Input → Report → Type 0
 IsReport setup input report = IsRun setup (slots_of input) (epochs_told (slices_of setup) input) report
 

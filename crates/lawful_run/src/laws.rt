@@ -5,10 +5,10 @@ ghost use Rattle.gate_model.specs.declared.event.Event.{Event};
 ghost use Rattle.lawful_run.specs.AnsweredRun.{answered_run, answered_from, answered_epoch, behind_epochs};
 ghost use Rattle.lawful_run.specs.AnsweredRun.{behind_lines};
 ghost use Rattle.lawful_run.specs.AnsweredRun.{entries_from, entry_after, events_after, with_line, brought, brings};
-ghost use Rattle.lawful_run.specs.AtOnce.{AnswersAtOnce};
+ghost use Rattle.lawful_run.specs.InSequence.{AnswersInSequence};
 ghost use Rattle.lawful_run.specs.Setup.{Setup, solo};
 ghost use Rattle.lawful_run.specs.Ledger.{ReportsArePartitions, EachOctetCharged, EachPacketCharged};
-ghost use Rattle.lawful_run.specs.Order.{Histories};
+ghost use Rattle.lawful_run.specs.Merging.{Histories};
 ghost use Rattle.lawful_run.specs.Outcomes.{opens};
 ghost use Rattle.lawful_run.specs.Placing.{EventsStandAsTold};
 ghost use Rattle.lawful_run.specs.Report.{Report, report_text};
@@ -16,20 +16,20 @@ ghost use Rattle.lawful_run.specs.Run.{IsRun, by_slot};
 ghost use Rattle.lawful_run.specs.Trace.{IsReport, answered_report};
 ghost use Rattle.trace_lines.specs.Input.{Input};
 
-/// Every trace has a lawful run that answers at once, whatever the setup.
+/// Every trace has a sequential lawful run, whatever the setup.
 pub fn every_trace_has_a_run()
     ensures lawful { (setup : Setup) (slots : ℕ) (made : List (List Meaning))
         → IsRun setup slots made (answered_run slots made) }
-    ensures at_once { (slots : ℕ) (made : List (List Meaning)) → AnswersAtOnce made (answered_run slots made) }
+    ensures in_sequence { (slots : ℕ) (made : List (List Meaning)) → AnswersInSequence made (answered_run slots made) }
 
     // So has each input, whatever its octets say and wherever it stops.
     ensures report { (setup : Setup) (input : Input) → IsReport setup input (answered_report setup input) }
 {}
 
-/// No other lawful run answers at once, whatever the setup.
-pub fn one_run_answers_at_once()
+/// No other lawful run is sequential, whatever the setup.
+pub fn one_run_answers_in_sequence()
     ensures { (setup : Setup) (slots : ℕ) (made : List (List Meaning)) (report : Report)
-        → IsRun setup slots made report → AnswersAtOnce made report → report ≡ answered_run slots made }
+        → IsRun setup slots made report → AnswersInSequence made report → report ≡ answered_run slots made }
 {}
 
 /// With places left out, one thread has one report.
@@ -38,7 +38,7 @@ pub fn one_text_of_one_thread()
         → IsRun solo slots made report → report_text false report ≡ report_text false (answered_run slots made) }
 {}
 
-/// The run that answers at once grows line by line, and epoch by epoch.
+/// The sequential run grows line by line, and epoch by epoch.
 pub fn runs_grow()
     // A line adds its entry, and what it brings to each slot.
     ensures entries { (n : ℕ) (before : Histories) (made : List Meaning) (now : Meaning)

@@ -1,10 +1,10 @@
-//! Which entries a trace may have: the lawful run, for one thread that answers each line at once and for
-//! slices that share the work.
+//! Which entries a trace may have: the lawful run, of the sequential gateway and of slices that
+//! share the work.
 #![tactic(auto)]
 
 mod laws;
 
 pub use laws::{
-    each_packet_is_charged, events_stand_as_told, every_trace_has_a_run, one_run_answers_at_once,
-    one_text_of_one_thread, runs_grow,
+    each_packet_is_charged, events_stand_as_told, every_trace_has_a_run,
+    one_run_answers_in_sequence, one_text_of_one_thread, runs_grow,
 };

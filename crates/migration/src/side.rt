@@ -81,8 +81,8 @@ impl<H: Traveller> Side<H> {
         }
     }
 
-    /// Admits a half, which is bound for a slice, and offers it there at once. It comes back for want
-    /// of memory alone.
+    /// Admits a half, which is bound for a slice, and offers it there at once. It comes back only
+    /// where memory runs out.
     pub fn admit<R: Wait>(&mut self, rt: &R, half: H, slice: SliceNo, hop: u64) -> Result<(), H>
         requires fresh { is_admitted (place_at (places_of self.old) (H.slot_of (H.name half))) ≡ false }
         requires slice { slice < length (desks_of self.old) }

@@ -1,4 +1,4 @@
--- What counters stand for behind a new version.
+-- What counters represent behind a new version.
 use Rattle.std.proofs.Common.{◌≡◌, ℕ, ◌-◌, ◌^◌, ◌≤◌, ◌↔◌, ◌==◌, nat_lt, true, false, List, [], ◌∷◌, ◌++◌, length, map, filter, All, IsTrue, Option, Some, None, refl, sym, ◌∙◌, ap, subst, append_assoc, le_trans, arith}
 use Rattle.std.specs.List.{Contains, AllByRecursion, fold}
 use Rattle.std.proofs.lemmas.List.Elements.{All-push}

@@ -1,4 +1,4 @@
--- What a bucket stands for behind octets that pass.
+-- What a bucket represents behind octets that pass.
 use Rattle.std.proofs.Common.{◌≡◌, ℕ, ◌≤◌, ◌==◌, ◌&&◌, Bool, true, false, not, cond, List, [], ◌∷◌, ◌++◌, filter, MatchBool, Some, None, sym, ◌∙◌, ap, subst, refl, eq-eqb, le_trans, arith}
 use Rattle.std.specs.List.{Contains}
 use Rattle.std.proofs.lemmas.List.{map_push, append-nil}

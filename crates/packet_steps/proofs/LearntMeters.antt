@@ -1,4 +1,4 @@
--- The meters at a new version stand for the past at it.
+-- The meters at a new version represent the past at it.
 use Rattle.std.proofs.Common.{◌≡◌, ◌≢◌, ℕ, ◌<◌, ◌≤◌, ◌==◌, ◌&&◌, ◌||◌, nat_lt, Bool, true, false, not, cond, List, [], ◌∷◌, length, filter, set, get_or, All, inl, inr, refl, sym, ◌∙◌, ap, subst, arith}
 use Rattle.std.specs.List.{Contains, fold}
 use Rattle.std.proofs.lemmas.Bool.{ne_eqb, eqb-true}

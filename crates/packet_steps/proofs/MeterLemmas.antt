@@ -1,4 +1,4 @@
--- The meters behind octets that pass stand for one row more.
+-- The meters behind octets that pass represent one row more.
 use Rattle.std.proofs.Common.{◌≡◌, ◌≢◌, ℕ, ◌<◌, ◌≤◌, ◌==◌, ◌&&◌, Bool, true, false, not, cond, List, [], ◌∷◌, ◌++◌, length, filter, set, ◌⊎◌, inl, inr, refl, sym, ◌∙◌, ap, subst, le_trans}
 use Rattle.std.specs.List.{Contains}
 use Rattle.std.proofs.lemmas.Bool.{cases_eq, ne_eqb, false≢true}

@@ -1,4 +1,4 @@
--- New counters stand for the past before the first event.
+-- New counters represent the past before the first event.
 use Rattle.std.proofs.Common.{◌≡◌, ◌≤◌, ℕ, Bool, true, false, List, [], ◌∷◌, refl, sym, subst, None, arith}
 use Rattle.std.proofs.lemmas.List.Elements.{All-nil}
 use Rattle.charging_book.specs.Accounts as book

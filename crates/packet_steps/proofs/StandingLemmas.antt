@@ -1,4 +1,4 @@
--- What counters stand for behind a packet.
+-- What counters represent behind a packet.
 use Rattle.std.proofs.Common.{◌≡◌, ℕ, ◌≤◌, ◌↔◌, ◌==◌, ◌||◌, inl, inr, eq-eqb, Bool, true, false, List, [], ◌∷◌, ◌++◌, IsTrue, Option, Some, None, IfSome, unwrap_or, refl, sym, ◌∙◌, ap, subst, arith}
 use Rattle.std.specs.List.{Contains}
 use Rattle.std.proofs.lemmas.List.Elements.{All-push}

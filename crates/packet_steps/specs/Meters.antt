@@ -1,4 +1,4 @@
--- The buckets of a subscriber: which bucket polices what, and what it stands for.
+-- The buckets of a subscriber: which bucket polices what, and what it represents.
 use Rattle.std.specs.Prelude.{◌≡◌, ℕ, ◌≤◌, nat_lt, Bool, true, false, not, ◌&&◌, if◌then◌else◌, List}
 use Rattle.std.specs.Prelude.{length, filter, fold, slice_set, IsTrue}
 use Rattle.std.specs.List.{slice_index_or, Contains}
@@ -57,13 +57,13 @@ learnt_meters before after meters =
     (if nat_lt before.rates after.rates then record meters { shared = new_meter after.up after.down } else meters)
     after.bearers
 
--- a bucket has this rate and stands for these rows, and was not asked later than at a moment
+-- a bucket has this rate and represents these rows, and was not asked later than at a moment
 pub record Polices (b : bucket.BucketState) (rate : ℕ) (rows : List ForwardedRow) (moment : ℕ) : Type 0 where
   pub rate_is : bucket.rate_of b ≡ rate
   pub stands : bucket.StandsFor b (costs rows)
   pub asked : bucket.last_of b ≤ moment
 
--- each bucket stands for what was forwarded under its rate
+-- each bucket represents what was forwarded under its rate
 pub record MetersStand (meters : Meters) (past : Past) : Type 0 where
   pub sized : length meters.own ≡ 11
   pub shared : (up : Bool)

@@ -1,4 +1,4 @@
--- What running counters stand for.
+-- What running counters represent.
 use Rattle.std.specs.Prelude.{◌≡◌, ◌≢◌, ℕ, ◌-◌, ◌^◌, ◌≤◌, ◌↔◌, false}
 use Rattle.std.specs.Prelude.{List, length, Option, IsTrue, All}
 use Rattle.std.specs.List.{Contains}
@@ -30,7 +30,7 @@ abbrev pub OpenAreActive : Past → Type 0
 OpenAreActive past =
     (life : ℕ) → Contains (happenings.lives_of past.charged) life ↔ IsTrue (has_life past.version.bearers life)
 
--- counters stand for a past, with so many rows of its book taken out
+-- counters represent a past, with so many rows of its book taken out
 pub record StandsFor (counters : CountersState) (past : Past) (taken : ℕ) : Type 0 where
   pub meters : MetersStand counters.meters past
   pub charges : book.StandsFor counters.book past.charged taken

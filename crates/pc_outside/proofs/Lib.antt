@@ -4,4 +4,5 @@ pub mod Parts
 pub mod Settling
 pub mod ReadSteps
 pub mod OneAnswerCases
+pub mod ToldLemmas
 mod Rests

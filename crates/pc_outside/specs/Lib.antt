@@ -9,3 +9,4 @@ pub mod Memory
 pub mod Buffer
 pub mod OneAnswer
 pub mod Streams
+pub mod WhereTold

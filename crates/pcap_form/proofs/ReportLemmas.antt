@@ -7,14 +7,15 @@ use Rattle.pc_outside.specs.Fronts.{AppendsFront}
 use Rattle.pcap_form.specs.Record.{Record}
 use Rattle.pcap_form.specs.Capture.{input_capture}
 use Rattle.pcap_form.specs.Trace.{Stamped, lines_from, lines_of, moment_of, stamped, stamped_text, text_of, trace_of}
-use Rattle.pcap_form.specs.Report.{IsCutText, IsFirstText, Reports, Runs, WhereTold, input_text}
+use Rattle.pcap_form.specs.Report.{IsCutText, IsFirstText, Reports, Runs, input_text}
+use Rattle.pc_outside.specs.WhereTold.{WhereTold}
 use Rattle.pcap_form.specs.Progress.{Begins, CutAt, Cuts, Ends, IsSent, Reached, imported_at, imported_without}
 use Rattle.pcap_form.specs.declared.importing.Imported.TheVariants as imported
 use Rattle.pcap_form.specs.declared.importing.Stopped.{Stopped}
 use Rattle.pcap_form.specs.declared.importing.Stopped.TheVariants as stopped
 use Rattle.pcap_form.specs.declared.importing.Unwritten.{Unwritten}
 use Rattle.pcap_form.specs.declared.importing.Unwritten.TheVariants as unwritten
-use Rattle.pcap_form.proofs.ToldLemmas.{told_then}
+use Rattle.pc_outside.proofs.ToldLemmas.{told_map}
 
 -- the lines of first records are the first lines
 lines-front : (first least : ℕ) (done more : List Record)
@@ -34,14 +35,14 @@ trace-front (one ∷ done) more =
     let r = lines-front one.time 0 (one ∷ done) more in
     (text_of r.0, ap text_of r.1 ∙ flat_map-append stamped_text (lines_of (one ∷ done)) r.0)
 
--- the trace of first records is a front of the input's
+-- the trace of first records is a prefix of the input's
 text_begins : (octets : List ℕ) (done : List Record) → Begins octets done
     → (rest : List ℕ) × (input_text octets ≡ trace_of done ++ rest)
 text_begins octets done begins =
     let r = trace-front done begins.0 in
     (r.0, ap trace_of begins.1 ∙ r.1)
 
--- a front of that trace is one of the input's
+-- a prefix of that trace is one of the input's
 cut_text : (octets : List ℕ) (done : List Record) (text more : List ℕ) → Begins octets done
     → trace_of done ≡ text ++ more → IsCutText octets text
 cut_text octets done text more begins parts =
@@ -78,19 +79,19 @@ ends_whole stop start left old mid new waiting now ends sent = record {
   text = trace_of ends.done;
   written = subst (λ t. Appends old new t) (sym ends.waits) (Appends-trans old mid new
       (trace_of ends.closed) waiting ends.written sent.written);
-  report = told_then start left (λ octets rest. Reached stop octets rest ends.done)
+  report = told_map start left (λ octets rest. Reached stop octets rest ends.done)
       (λ octets rest. Reports (imported_at stop) octets rest (trace_of ends.done))
       (λ octets rest reached. reports_at stop octets rest (trace_of ends.done) ends.done refl reached) ends.reached;
 }
 
--- or a front of it
+-- or a prefix of it
 pub ends_cut : (stop : Stopped) (start left old mid new : Option (List ℕ)) (waiting : List ℕ)
     → Ends stop start left old mid waiting
     → AppendsFront mid new waiting → Runs imported.WriteFault start left old new
 ends_cut stop start left old mid new waiting ends cut = record {
   text = trace_of ends.closed ++ cut.front;
   written = Appends-trans old mid new (trace_of ends.closed) cut.front ends.written cut.appended;
-  report = told_then start left (λ octets rest. Reached stop octets rest ends.done)
+  report = told_map start left (λ octets rest. Reached stop octets rest ends.done)
       (λ octets rest. IsCutText octets (trace_of ends.closed ++ cut.front))
       (λ octets rest reached. cut_text octets ends.done (trace_of ends.closed ++ cut.front) cut.rest
       (begins_at stop octets rest ends.done reached)
@@ -114,7 +115,7 @@ pub cuts_run : (why : Unwritten) (start left old new : Option (List ℕ)) → Cu
 cuts_run why start left old new cuts = record {
   text = cuts.text;
   written = cuts.written;
-  report = told_then start left (λ octets rest. Begins octets cuts.done)
+  report = told_map start left (λ octets rest. Begins octets cuts.done)
       (λ octets rest. Reports (imported_without why) octets rest cuts.text)
       (λ octets rest begins. reports_without why octets rest cuts.text cuts.done begins cuts.cut) cuts.reached;
 }

@@ -11,7 +11,7 @@ use Rattle.pcap_form.specs.Record.{Record, record_in, record_len}
 use Rattle.pcap_form.specs.Trace.{Stamped, first_time, lines_from, lines_of, moment_of, stamped, stamped_text, text_of, trace_of}
 use Rattle.pcap_form.specs.Ahead.{Ahead, Gains}
 use Rattle.pcap_form.specs.Reading.{IsThere}
-use Rattle.pcap_form.specs.Report.{WhereTold}
+use Rattle.pc_outside.specs.WhereTold.{WhereTold}
 use Rattle.pcap_form.specs.Progress.{Begins, Cuts, Ends, HasRead, Progress, Reached, Takes}
 use Rattle.pcap_form.specs.declared.importing.Stopped.{Stopped}
 use Rattle.pcap_form.specs.declared.importing.Unwritten.{Unwritten}

@@ -2,7 +2,7 @@
 use Rattle.std.proofs.Common.{◌≡◌, ℕ, List, [], ◌++◌, Option, None, Some, refl, sym, ap, ◌∙◌, subst, append_assoc}
 use Rattle.std.specs.Io.KnownBytes.{prepend_known}
 use Rattle.pcap_form.specs.Ahead.{Ahead, Gains}
-use Rattle.pcap_form.specs.Report.{WhereTold}
+use Rattle.pc_outside.specs.WhereTold.{WhereTold}
 
 -- octets that were given stand behind those held, so what is ahead stays
 pub told_gains : (start left now : Option (List ℕ)) (before behind : Ahead) (P : List ℕ → List ℕ → Type 0)
@@ -39,10 +39,3 @@ pub told_start : (start : Option (List ℕ)) (P : List ℕ → List ℕ → Type
     → WhereTold start (prepend_known [] start) P
 told_start None P holds = tt
 told_start (Some octets) P holds = holds octets
-
-pub told_then : (start now : Option (List ℕ)) (P Q : List ℕ → List ℕ → Type 0)
-    → ((octets rest : List ℕ) → P octets rest → Q octets rest)
-    → WhereTold start now P → WhereTold start now Q
-told_then None now P Q follows holds = tt
-told_then (Some octets) None P Q follows holds = absurd holds
-told_then (Some octets) (Some rest) P Q follows holds = follows octets rest holds

@@ -13,7 +13,7 @@ use Rattle.pcap_form.specs.declared.importing.Unwritten.{Unwritten}
 use Rattle.pcap_form.specs.declared.importing.Unwritten.TheVariants as unwritten
 use Rattle.pcap_form.specs.declared.importing.Imported.{Imported}
 use Rattle.pcap_form.specs.declared.importing.Imported.TheVariants as imported
-use Rattle.pcap_form.specs.Report.{WhereTold}
+use Rattle.pc_outside.specs.WhereTold.{WhereTold}
 
 -- the octets before those ahead are a header and these records, whatever comes behind
 pub record HasRead (octets ahead : List ℕ) (head : CaptureHead) (room : ℕ) (done : List Record) : Type 0 where

@@ -1,18 +1,12 @@
 -- What an import wrote, by how it ended.
 use Rattle.std.specs.Prelude.{◌≡◌, ◌≢◌, ℕ, ◌<◌, ◌^◌, List, [], ◌++◌, length, Option, None, Some}
 use Rattle.std.specs.Io.KnownBytes.{Appends}
+use Rattle.pc_outside.specs.WhereTold.{WhereTold}
 use Rattle.pcap_form.specs.Capture.{broken, bad, big, ended, capture_of, input_capture, stop_of}
 use Rattle.pcap_form.specs.Record.{Record}
 use Rattle.pcap_form.specs.Trace.{trace_of}
 use Rattle.pcap_form.specs.declared.importing.Imported.{Imported}
 use Rattle.pcap_form.specs.declared.importing.Imported.TheVariants as imported
-
--- This holds of the octets that a source had and of those that it has left. A source that told the former tells
--- the latter too; of one that didn't nothing is said.
-abbrev pub WhereTold : Option (List ℕ) → Option (List ℕ) → (List ℕ → List ℕ → Type 0) → Type 0
-WhereTold None now holds = Unit {0}
-WhereTold (Some octets) None holds = ⊥
-WhereTold (Some octets) (Some left) holds = holds octets left
 
 -- the trace of an input's capture, as far as it goes
 abbrev pub input_text : List ℕ → List ℕ

@@ -4,7 +4,7 @@ use Rattle.std.proofs.KnownBytes.{Appends-nil}
 use Rattle.lawful_run.specs.Setup.{Setup}
 use Rattle.audit_run.specs.Findings.{Finds}
 use Rattle.audit_run.specs.Report.{Reports}
-use Rattle.audit_run.specs.Report.{Audits as AuditsThere, WhereTold as WhereToldThere}
+use Rattle.audit_run.specs.Report.{Audits as AuditsThere}
 use Rattle.audit_run.specs.Texts.{big, ended, long, texts_of}
 use Rattle.audit_run.specs.declared.auditing.Audited.{Audited}
 use Rattle.audit_run.specs.declared.auditing.Audited.TheVariants as audited
@@ -12,7 +12,8 @@ use Rattle.audit_run.proofs.OneFinding.{one_finding}
 use Rattle.pepc.specs.Audit.{AuditReports, Audits, Settles, status_of}
 use Rattle.trace_run.specs.declared.status.Status.{Status}
 use Rattle.trace_run.specs.declared.status.Status.TheVariants as status
-use Rattle.trace_run.specs.Told.{WhereTold}
+use Rattle.pc_outside.specs.WhereTold.{WhereTold}
+use Rattle.pc_outside.proofs.ToldLemmas.{told_map}
 
 reports_are : (one : Audited) (setup : Setup) (octets left text : List ℕ) → Reports one setup octets left text
     → AuditReports (status_of one) setup octets left text
@@ -24,19 +25,12 @@ reports_are audited.NoMemory setup octets left text reports = reports
 reports_are audited.LineLong setup octets left text reports = reports
 reports_are audited.TooLong setup octets left text reports = reports
 
-told_are : (start left : Option (List ℕ)) (P Q : List ℕ → List ℕ → Type 0)
-    → ((octets rest : List ℕ) → P octets rest → Q octets rest)
-    → WhereToldThere start left P → WhereTold start left Q
-told_are None left P Q follows told = tt
-told_are (Some octets) None P Q follows told = absurd told
-told_are (Some octets) (Some rest) P Q follows told = follows octets rest told
-
 pub audits_are : (setup : Setup) (one : Audited) (start left old new : Option (List ℕ))
     → AuditsThere one setup start left old new → Audits setup (status_of one) start left old new
 audits_are setup one start left old new audits = record {
   text = audits.text;
   written = audits.written;
-  report = told_are start left (λ octets rest. Reports one setup octets rest audits.text)
+  report = told_map start left (λ octets rest. Reports one setup octets rest audits.text)
       (λ octets rest. AuditReports (status_of one) setup octets rest audits.text)
       (λ octets rest reports. reports_are one setup octets rest audits.text reports) audits.report;
 }

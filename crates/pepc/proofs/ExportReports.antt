@@ -18,9 +18,9 @@ use Rattle.trace_run.specs.Lines.{Begins, Reached, Stops}
 use Rattle.trace_run.specs.Status.{status_at, status_without}
 use Rattle.trace_run.specs.Report.{IsBad, IsDone, IsLong}
 use Rattle.trace_run.specs.Takers.{LinesCut}
-use Rattle.trace_run.specs.Told.{WhereTold}
+use Rattle.pc_outside.specs.WhereTold.{WhereTold}
 use Rattle.trace_run.proofs.EndingLemmas.{stop_is}
-use Rattle.trace_run.proofs.ToldLemmas.{told_map}
+use Rattle.pc_outside.proofs.ToldLemmas.{told_map}
 
 -- the capture of first lines is a prefix of that of all
 export-front : (done more : List Line) → export_of (done ++ more) ≡ export_of done ++ flat_map record_of more
@@ -120,7 +120,7 @@ nothing_exported failed start sink = record { text = []; written = Appends-nil s
     told None = tt
     told (Some octets) = record { first = []; rest = (input_of octets).lines; parts = refl; capture = inl refl }
 
--- Where the input stops at its end and nothing failed, memory alone can be wanting.
+-- Where the input stops at its end and nothing failed, memory alone can run out.
 pub export_complete : (ending : Status) (source_failed sink_failed : Type 0) (octets : List ℕ)
     (start left old new : Option (List ℕ)) → start ≡ Some octets
     → (input_of octets).stop ≡ ended → (source_failed → ⊥) → (sink_failed → ⊥)

@@ -7,15 +7,16 @@ use Rattle.gate_model.specs.SlotPast.{records_after}
 use Rattle.report_lines.specs.declared.entry.ChargeEntry.TheVariants.{R}
 use Rattle.std.proofs.lemmas.List.{drop_all}
 use Rattle.lawful_run.specs.AnsweredRun.{brings, brought, events_after}
-use Rattle.lawful_run.specs.Order.{Histories}
+use Rattle.lawful_run.specs.Merging.{Histories}
 use Rattle.lawful_run.specs.Outcomes as made_of
 use Rattle.lawful_run.specs.Run.{by_slot}
 use Rattle.lawful_run.proofs.EveryTrace.{with_brought}
 use Rattle.lawful_run.proofs.Growing.{brought-push, effects-append, rows-append, by_slot-more}
+use Rattle.slot_replay.specs.Replaying.{effects_caused, rows_closed}
 use Rattle.slot_replay.specs.declared.replayed.Caused.{Caused}
-use Rattle.pepc.specs.declared.gathered.Closed.{Closed}
+use Rattle.slot_replay.specs.declared.replayed.Closed.{Closed}
 use Rattle.pepc.specs.declared.gathered.Gathered.{Gathered}
-use Rattle.pepc.specs.Gathering.{CausedBelow, ClosedBelow, Gathers, IsEmpty, caused_entries, closed_entries, charges_text, closing_text, effects_for, effects_text, rows_for}
+use Rattle.pepc.specs.Gathering.{CausedBelow, ClosedBelow, Gathers, IsEmpty, charges_text, closing_text, effects_for, effects_text, rows_for}
 use Rattle.pepc.proofs.InSlots.{none_beyond}
 
 -- the outcomes of one line more are those of its own event behind all before it
@@ -117,11 +118,11 @@ pub closing_more : (gathered : Gathered) (slots more : ℕ) (before : Histories)
 closing_more gathered slots more before made gathers =
     let effects = by_slot-more slots more (λ slot. made_of.effects slot (before slot) (brought slot (before slot) made))
     (λ slot beyond. sym (gathers.effects slot)
-    ∙ none_beyond (λ (caused : Caused). caused.slot) caused_entries slots gathered.effects.items
+    ∙ none_beyond (λ (caused : Caused). caused.slot) effects_caused slots gathered.effects.items
     gathers.effects_below slot beyond) in
     let rows = by_slot-more slots more (λ slot. made_of.rows slot (before slot) (brought slot (before slot) made))
     (λ slot beyond. sym (gathers.rows slot)
-    ∙ none_beyond (λ (closed : Closed). closed.slot) closed_entries slots gathered.rows.items gathers.rows_below
+    ∙ none_beyond (λ (closed : Closed). closed.slot) rows_closed slots gathered.rows.items gathers.rows_below
     slot beyond) in
     λ i. effects_text (effects i) ++ charges_text (rows i)
 

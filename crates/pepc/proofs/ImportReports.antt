@@ -2,7 +2,6 @@
 use Rattle.std.proofs.Common.{◌≡◌, ℕ, inl, inr, List, [], Option, None, Some, refl, sym, ◌∙◌, subst}
 use Rattle.std.proofs.KnownBytes.{Appends-nil}
 use Rattle.pcap_form.specs.Report.{Reports, Runs}
-use Rattle.pcap_form.specs.Report.{WhereTold as WhereToldThere}
 use Rattle.pcap_form.specs.declared.importing.Imported.{Imported}
 use Rattle.pcap_form.specs.declared.importing.Imported.TheVariants as imported
 use Rattle.pcap_form.specs.Capture.{bad, big, ended, input_capture, stop_of}
@@ -10,7 +9,8 @@ use Rattle.trace_run.specs.declared.status.Status.{Status}
 use Rattle.trace_run.specs.declared.status.Status.TheVariants as status
 use Rattle.pepc.specs.Import.{ImportReports, Imports, status_of}
 use Rattle.trace_run.specs.Report.{IsDone}
-use Rattle.trace_run.specs.Told.{WhereTold}
+use Rattle.pc_outside.specs.WhereTold.{WhereTold}
+use Rattle.pc_outside.proofs.ToldLemmas.{told_map}
 
 reports_are : (one : Imported) (octets left text : List ℕ) → Reports one octets left text
     → ImportReports (status_of one) octets left text
@@ -21,20 +21,13 @@ reports_are imported.NoMemory octets left text reports = reports
 reports_are imported.TooLong octets left text reports = reports
 reports_are imported.BadCapture octets left text reports = reports
 
-told_are : (start left : Option (List ℕ)) (P Q : List ℕ → List ℕ → Type 0)
-    → ((octets rest : List ℕ) → P octets rest → Q octets rest)
-    → WhereToldThere start left P → WhereTold start left Q
-told_are None left P Q follows told = tt
-told_are (Some octets) None P Q follows told = absurd told
-told_are (Some octets) (Some rest) P Q follows told = follows octets rest told
-
 pub imports_are : (one : Imported) (failed : Type 0) (start left old new : Option (List ℕ))
     → Runs one start left old new
     → Imports (status_of one) failed start left old new
 imports_are one failed start left old new runs = record {
   text = runs.text;
   written = runs.written;
-  report = told_are start left (λ octets rest. Reports one octets rest runs.text)
+  report = told_map start left (λ octets rest. Reports one octets rest runs.text)
       (λ octets rest. ImportReports (status_of one) octets rest runs.text)
       (λ octets rest reports. reports_are one octets rest runs.text reports) runs.report;
 }
@@ -49,7 +42,7 @@ nothing_imported failed start sink = record { text = []; written = Appends-nil s
     told None = tt
     told (Some octets) = record { first = []; rest = (input_capture octets).records; parts = refl; trace = refl }
 
--- Where the capture ends cleanly and nothing failed, memory alone can be wanting.
+-- Where the capture ends cleanly and nothing failed, memory alone can run out.
 pub import_complete : (ending : Status) (source_failed sink_failed : Type 0) (octets : List ℕ)
     (start left old new : Option (List ℕ)) → start ≡ Some octets
     → stop_of octets ≡ ended → (source_failed → ⊥) → (sink_failed → ⊥)

@@ -8,7 +8,7 @@ use Rattle.demux.specs.Resolved.{book_after, book_behind, decided}
 use Rattle.demux.specs.Texts.{move_note}
 use Rattle.demux.specs.Trace.{Meaning, book_of, decisions, destination_after, meant, move, note}
 use Rattle.demux.proofs.TraceLemmas.{book_of-push, destination_after-push}
-use Rattle.lawful_run.specs.Order.{Histories}
+use Rattle.lawful_run.specs.Merging.{Histories}
 use Rattle.lawful_run.specs.Trace.{settled_by}
 use Rattle.subscriber.specs.Standing as subscribers
 use Rattle.pepc.specs.declared.solo.Solo.{Solo}
@@ -88,7 +88,7 @@ stands_later solo story moment le stands = record {
   gathered = stands.gathered;
 }
 
--- what is told and what is stood for, by what the line means
+-- what is told and what is represented, by what the line means
 pub told_so : (done : List Line) (line : Line) (book : List (List ℕ)) (made : Decision) (story : Story)
     (old new : List ℕ) → IsDecided done line book made
     → new ≡ old ++ entry_line story (meant_by done made) → new ≡ old ++ entry_line story (meant_next done line)

@@ -8,12 +8,12 @@ use Rattle.lawful_run.proofs.OneRun.{run_is_one}
 use Rattle.pepc.specs.Report.{IsSoloReport, slices}
 use Rattle.trace_run.specs.Report.{IsText}
 
--- it is that of a gateway which answers each line at once
+-- it is that of the sequential gateway
 report_is : (input : Input) (text : List ℕ) → IsText IsSoloReport false input text
     → text ≡ report_text false (answered_report solo input)
 report_is input text told =
     told.written ∙ ap (report_text false) (run_is_one solo (slots_of input)
-    (epochs_told slices input) told.report told.allowed.lawful told.allowed.at_once)
+    (epochs_told slices input) told.report told.allowed.lawful told.allowed.in_sequence)
 
 pub one_report : (input : Input) (text other : List ℕ) → IsText IsSoloReport false input text
     → IsText IsSoloReport false input other → text ≡ other

@@ -1,4 +1,4 @@
--- What a gateway that answers at once tells.
+-- What the sequential gateway tells.
 use Rattle.std.proofs.Common.{◌≡◌, ℕ, ◌+◌, ◌≤◌, false, List, [], ◌++◌, length, flat_map, Option, refl, sym, ap, ◌∙◌, arith, append-nil, append_assoc}
 use Rattle.trace_lines.specs.Input.{Input}
 use Rattle.trace_lines.specs.Line.{Line}
@@ -13,7 +13,7 @@ use Rattle.lawful_run.specs.Trace.{answered_report, epochs_from, epochs_told, me
 use Rattle.lawful_run.proofs.BookGrows.{book_grows_all}
 use Rattle.lawful_run.proofs.CutEpochs.{cut_means}
 use Rattle.lawful_run.proofs.CutLines.{cut_nothing, epochs_are}
-use Rattle.lawful_run.proofs.EveryTrace.{answered_is_run, answered_run_at_once}
+use Rattle.lawful_run.proofs.EveryTrace.{answered_is_run, answered_run_in_sequence}
 use Rattle.trace_run.specs.declared.ending.Ending.{Ending}
 use Rattle.trace_run.specs.declared.status.Status.TheVariants as status
 use Rattle.trace_run.specs.Lines.{stop_of}
@@ -28,14 +28,14 @@ use Rattle.pepc.specs.Standing.{events_of, story_of}
 use Rattle.pepc.proofs.RunLemmas.{ending_waits}
 use Rattle.pepc.proofs.TextLemmas.{whole_text}
 
--- the report of a gateway that answers at once
+-- the report of the sequential gateway
 text_of : (input : Input) (text : List ℕ) → text ≡ report_text false (answered_report solo input)
     → IsText IsSoloReport false input text
 text_of input text said = record {
   report = answered_report solo input;
   allowed = record {
     lawful = answered_is_run solo (slots_of input) (epochs_told slices input);
-    at_once = answered_run_at_once (slots_of input) (epochs_told slices input);
+    in_sequence = answered_run_in_sequence (slots_of input) (epochs_told slices input);
   };
   written = said;
 }
@@ -52,7 +52,7 @@ says_epochs closed text cut said =
       report = answered_report solo input;
       allowed = record {
         lawful = answered_is_run solo (slots_of input) (epochs_told slices input);
-        at_once = answered_run_at_once (slots_of input) (epochs_told slices input);
+        in_sequence = answered_run_in_sequence (slots_of input) (epochs_told slices input);
       };
       written = said (length (book_of (lines_in closed))) (omega arith)
           ∙ ap (λ made. texts_of false (flat_map epoch_entries

@@ -3,7 +3,7 @@ use Rattle.std.proofs.Common.{◌≡◌, ℕ, ◌+◌, ◌<◌, ◌^◌, ◌==�
 use Rattle.bearer_state.specs.declared.version.ActiveBearer.{ActiveBearer}
 use Rattle.gate_model.proofs.Outcomes.{length-gpdu}
 use Rattle.ipv4_packet.specs.Fields.{source_of}
-use Rattle.packet_steps.specs.declared.lent.LentVerdict.{LentVerdict as Judged}
+use Rattle.packet_steps.specs.declared.lent.LentVerdict.{LentVerdict}
 use Rattle.packet_steps.specs.declared.lent.LentVerdict.TheVariants as lent
 use Rattle.packet_steps.specs.Messages.{gpdu}
 use Rattle.packet_steps.specs.Past.{Past, row_for, with_held, with_row}
@@ -81,7 +81,7 @@ judged_so past packet =
     (judged_by_way now packet packet.way) (now, verdict.NoBearer)
     (way_so now packet packet.way) tt
 
-short_of : (told : Judged) (n : ℕ) → GoesDownAs n (verdict_of told) → n < 2 ^ 16 → IsShort told
+short_of : (told : LentVerdict) (n : ℕ) → GoesDownAs n (verdict_of told) → n < 2 ^ 16 → IsShort told
 short_of (lent.Up life octets) n is few = tt
 short_of (lent.Down life peer octets) n is few = omega (arith, few, is, length-gpdu peer octets.now)
 short_of lent.NoBearer n is few = tt
@@ -90,7 +90,7 @@ short_of (lent.Idle life) n is few = tt
 short_of (lent.Held life message) n is few = tt
 short_of (lent.Policed life) n is few = tt
 
-pub is_short : (told : Judged) (past : Past) (packet : Packet) → verdict_of told ≡ (judged past packet).1
+pub is_short : (told : LentVerdict) (past : Past) (packet : Packet) → verdict_of told ≡ (judged past packet).1
     → length packet.octets < 2 ^ 16 → IsShort told
 is_short told past packet same few =
     short_of told (length packet.octets) (subst (GoesDownAs (length packet.octets)) (sym same)

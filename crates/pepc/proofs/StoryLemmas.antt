@@ -1,4 +1,4 @@
--- What a gateway stands for, behind one line more.
+-- What a gateway represents, behind one line more.
 use Rattle.std.proofs.Common.{◌≡◌, ◌≢◌, ℕ, ◌+◌, ◌<◌, ◌≤◌, ◌==◌, Bool, true, false, if◌then◌else◌, Option, Some, None, IfSome, List, [], ◌∷◌, ◌++◌, length, map, set, get_or, length-set, refl, sym, ap, subst, ◌∙◌, inl, inr, arith, append-nil, length-append}
 use Rattle.std.proofs.lemmas.Bool.{cases_eq, eqb-true, eq-eqb, ne_eqb}
 use Rattle.control_steps.specs.declared.command.CommandKind.{CommandKind}
@@ -14,7 +14,7 @@ use Rattle.pc_base.specs.declared.reply.Reply.{Reply}
 use Rattle.report_lines.specs.declared.entry.ChargeEntry.TheVariants.{R}
 use Rattle.report_lines.specs.declared.entry.Entry.TheVariants as entry
 use Rattle.report_lines.specs.declared.entry.LineEntry.TheVariants as line_entry
-use Rattle.lawful_run.specs.Order.{Histories}
+use Rattle.lawful_run.specs.Merging.{Histories}
 use Rattle.lawful_run.specs.Outcomes as made_of
 use Rattle.pepc.specs.Entries.{judged_by, text_line}
 use Rattle.gate_model.specs.declared.event.Event.{Event}
@@ -27,7 +27,7 @@ use Rattle.lawful_run.proofs.EveryTrace.{with_brought}
 use Rattle.lawful_run.proofs.Growing.{events_after-push}
 use Rattle.pepc.specs.declared.gathered.Gathered.{Gathered}
 use Rattle.pepc.specs.declared.solo.Solo.{Solo}
-use Rattle.at_rest.specs.Rest.{Represents}
+use Rattle.subscriber.specs.Standing.{Represents}
 use Rattle.std.proofs.lemmas.Option.{get_or_from_slice_get}
 use Rattle.pepc.specs.Gathering.{AddsEffects, AddsRows, CausedBelow, ClosedBelow, Gathers, effects_for, rows_for}
 use Rattle.pepc.specs.Places.{HasAt}
@@ -106,7 +106,7 @@ stands_noted solo new story now stands nothing book same gathered = record {
       stands.gathered (λ slot. nothing slot (events_of story slot)));
 }
 
--- the subscriber of one slot was set to one that stands for what the line brought it
+-- the subscriber of one slot was set to one that represents what the line brought it
 pub stands_next : (solo new : Solo) (story : Story) (now : Meaning) (bound : ℕ
     → ℕ) (latest own place : ℕ) (held : subscribers.SubscriberState)
     → Stands solo story → own < length story.book → place ≡ own

@@ -5,8 +5,8 @@ use Rattle.entry_counts.proofs.CountLemmas.{counts_of-append}
 use Rattle.trace_lines.specs.Input.{ended}
 use Rattle.trace_lines.specs.Line.{Line}
 use Rattle.trace_maker.specs.Generated.{made}
-use Rattle.trace_maker.specs.Order.{AreInOrder}
-use Rattle.trace_maker.proofs.OrderLemmas.{made_in_order}
+use Rattle.trace_maker.specs.Numbering.{AreInOrder}
+use Rattle.trace_maker.proofs.NumberingLemmas.{made_in_order}
 use Rattle.trace_maker.proofs.ReadLemmas.{length-made, made_is_read}
 use Rattle.lawful_run.specs.Report.{texts_of}
 use Rattle.report_lines.specs.declared.entry.Entry.{Entry}

@@ -9,7 +9,7 @@ use Rattle.gate_model.specs.declared.event.Event.{Event}
 use Rattle.report_lines.specs.declared.entry.Entry.{Entry}
 use Rattle.report_lines.specs.declared.entry.Entry.TheVariants as entry
 use Rattle.lawful_run.specs.AnsweredRun.{answered_epoch, answered_from, answered_run, behind_epochs, behind_lines, brought, entries_from, entry_after, events_after}
-use Rattle.lawful_run.specs.Order.{Histories}
+use Rattle.lawful_run.specs.Merging.{Histories}
 use Rattle.lawful_run.specs.Outcomes.{effects, opens, rows}
 use Rattle.lawful_run.specs.Report.{EpochReport, epoch_entries, report_text, texts_of}
 use Rattle.lawful_run.specs.Run.{by_slot, no_events}

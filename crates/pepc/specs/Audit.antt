@@ -9,7 +9,7 @@ use Rattle.audit_run.specs.declared.auditing.Audited.TheVariants as audited
 use Rattle.trace_run.specs.declared.status.Status.{Status}
 use Rattle.trace_run.specs.declared.status.Status.TheVariants as status
 use Rattle.trace_run.specs.Report.{IsDone}
-use Rattle.trace_run.specs.Told.{WhereTold}
+use Rattle.pc_outside.specs.WhereTold.{WhereTold}
 
 -- the gateway whose report it should be
 abbrev pub audit_setup : Bool → ℕ → ℕ → ℕ → Setup

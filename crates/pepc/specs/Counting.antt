@@ -2,7 +2,7 @@
 use Rattle.std.specs.Prelude.{◌≡◌, ℕ, ◌+◌, ◌≤◌, false, List, ◌++◌, length}
 use Rattle.entry_counts.specs.Counts.{Counts as EntryCounts, all_held, counts_of, plus}
 use Rattle.trace_lines.specs.Line.{Line}
-use Rattle.trace_maker.specs.Order.{AreInOrder}
+use Rattle.trace_maker.specs.Numbering.{AreInOrder}
 use Rattle.trace_run.specs.declared.epoch.Size.{Size}
 use Rattle.trace_run.specs.Reporting.{Standing}
 use Rattle.pepc.specs.declared.solo.Solo.{Solo}

@@ -2,7 +2,7 @@
 use Rattle.std.specs.Prelude.{ℕ, false, Some, List, [], ◌∷◌, ◌++◌}
 use Rattle.pc_base.specs.declared.packet.Place.TheVariants.{Closing}
 use Rattle.pc_base.specs.declared.packet.Verdict.{Verdict}
-use Rattle.report_lines.specs.Records.{Judged as JudgedEntry}
+use Rattle.report_lines.specs.Records.{PacketTold}
 use Rattle.report_lines.specs.Text.{entry_text, shown}
 use Rattle.report_lines.specs.declared.entry.Entry.{Entry}
 
@@ -10,8 +10,8 @@ use Rattle.report_lines.specs.declared.entry.Entry.{Entry}
 abbrev pub text_line : Entry → List ℕ
 text_line told = entry_text (shown false told) ++ 10 ∷ []
 
--- the verdict on a slot's packet of this number, behind so many of its commands, handled at once
-abbrev pub judged_by : ℕ → ℕ → ℕ → ℕ → Verdict → JudgedEntry
+-- the verdict on a slot's packet of this number, behind so many of its commands, handled in sequence
+abbrev pub judged_by : ℕ → ℕ → ℕ → ℕ → Verdict → PacketTold
 judged_by line slot number commands verdict = record {
   line = line;
   slot = slot;

@@ -7,7 +7,7 @@ use Rattle.pcap_form.specs.Export.{export_of}
 use Rattle.trace_run.specs.declared.status.Status.{Status}
 use Rattle.trace_run.specs.declared.status.Status.TheVariants as status
 use Rattle.trace_run.specs.Report.{IsBad, IsLong, Taken}
-use Rattle.trace_run.specs.Told.{WhereTold}
+use Rattle.pc_outside.specs.WhereTold.{WhereTold}
 
 -- the capture of an input's lines
 abbrev pub input_export : List ℕ → List ℕ

@@ -1,32 +1,25 @@
 -- What waits for the end of an epoch, as entries by slot.
 use Rattle.std.specs.Prelude.{◌≡◌, ℕ, ◌<◌, ◌==◌, if◌then◌else◌, false, All, List}
-use Rattle.std.specs.Prelude.{[], ◌++◌, map, flat_map}
+use Rattle.std.specs.Prelude.{[], ◌++◌, flat_map}
 use Rattle.demux.specs.Trace.{Meaning}
 use Rattle.report_lines.specs.Records.{Effected}
 use Rattle.report_lines.specs.declared.entry.ChargeEntry.{ChargeEntry}
-use Rattle.report_lines.specs.declared.entry.ChargeEntry.TheVariants.{R}
 use Rattle.lawful_run.specs.AnsweredRun.{brought}
-use Rattle.lawful_run.specs.Order.{Histories}
-use Rattle.lawful_run.specs.Outcomes.{effects, rows, effect_entry}
+use Rattle.lawful_run.specs.Merging.{Histories}
+use Rattle.lawful_run.specs.Outcomes.{effects, rows}
 use Rattle.trace_run.specs.Entries as texts
 use Rattle.lawful_run.specs.Run.{by_slot}
+use Rattle.slot_replay.specs.Replaying.{effects_caused, rows_closed}
 use Rattle.slot_replay.specs.declared.replayed.Caused.{Caused}
-use Rattle.pepc.specs.declared.gathered.Closed.{Closed}
+use Rattle.slot_replay.specs.declared.replayed.Closed.{Closed}
 use Rattle.pepc.specs.declared.gathered.Gathered.{Gathered}
 
--- the effects of a command as entries, and charging records of a slot
-abbrev pub caused_entries : Caused → List Effected
-caused_entries caused = map (effect_entry caused.slot caused.command) caused.effects
-
-abbrev pub closed_entries : Closed → List ChargeEntry
-closed_entries closed = map (R closed.slot) closed.rows.items
-
--- those of a slot, in the order in which they were made
+-- the effects of a slot's commands as entries, and its charging records, in the order in which they were made
 abbrev pub effects_for : ℕ → List Caused → List Effected
-effects_for slot all = flat_map (λ (caused : Caused). if caused.slot == slot then caused_entries caused else []) all
+effects_for slot all = flat_map (λ (caused : Caused). if caused.slot == slot then effects_caused caused else []) all
 
 abbrev pub rows_for : ℕ → List Closed → List ChargeEntry
-rows_for slot all = flat_map (λ (closed : Closed). if closed.slot == slot then closed_entries closed else []) all
+rows_for slot all = flat_map (λ (closed : Closed). if closed.slot == slot then rows_closed closed else []) all
 
 -- they are all of slots below so many
 abbrev pub CausedBelow : ℕ → List Caused → Type 0

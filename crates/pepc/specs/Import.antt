@@ -7,7 +7,7 @@ use Rattle.pcap_form.specs.declared.importing.Imported.TheVariants as imported
 use Rattle.pcap_form.specs.Capture.{bad, big, ended, stop_of}
 use Rattle.trace_run.specs.declared.status.Status.{Status}
 use Rattle.trace_run.specs.declared.status.Status.TheVariants as status
-use Rattle.trace_run.specs.Told.{WhereTold}
+use Rattle.pc_outside.specs.WhereTold.{WhereTold}
 
 abbrev pub status_of : Imported → Status
 status_of imported.Ended = status.Ok

@@ -8,7 +8,7 @@ use Rattle.report_lines.specs.declared.entry.LineEntry.{LineEntry}
 use Rattle.report_lines.specs.declared.entry.LineEntry.TheVariants as line_entry
 use Rattle.lawful_run.specs.AnsweredRun.{answered_from, behind_epochs, entries_from}
 use Rattle.lawful_run.specs.Cut.{lines_in}
-use Rattle.lawful_run.specs.Order.{Histories}
+use Rattle.lawful_run.specs.Merging.{Histories}
 use Rattle.lawful_run.specs.Outcomes.{opens}
 use Rattle.lawful_run.specs.Report.{epoch_entries, texts_of}
 use Rattle.lawful_run.specs.Run.{by_slot, no_events}

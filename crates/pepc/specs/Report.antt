@@ -1,7 +1,7 @@
 -- The report of a trace that one thread answers.
 use Rattle.std.specs.Prelude.{ℕ}
 use Rattle.trace_lines.specs.Input.{Input}
-use Rattle.lawful_run.specs.AtOnce.{AnswersAtOnce}
+use Rattle.lawful_run.specs.InSequence.{AnswersInSequence}
 use Rattle.lawful_run.specs.Setup.{solo}
 use Rattle.lawful_run.specs.Report.{Report}
 use Rattle.lawful_run.specs.Trace.{IsReport, epochs_told}
@@ -10,7 +10,7 @@ use Rattle.lawful_run.specs.Trace.{IsReport, epochs_told}
 abbrev pub slices : ℕ
 slices = 64
 
--- A report that one thread may give of an input: its run is lawful, and each line is answered at once.
+-- A report that one thread may give of an input: its run is lawful, and sequential.
 pub record IsSoloReport (input : Input) (report : Report) : Type 0 where
   pub lawful : IsReport solo input report
-  pub at_once : AnswersAtOnce (epochs_told slices input) report
+  pub in_sequence : AnswersInSequence (epochs_told slices input) report

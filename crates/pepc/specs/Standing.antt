@@ -10,7 +10,7 @@ use Rattle.gate_model.specs.declared.event.Event.{Event}
 use Rattle.report_lines.specs.declared.entry.Entry.TheVariants as entry
 use Rattle.subscriber.specs.Standing as subscribers
 use Rattle.lawful_run.specs.AnsweredRun.{behind_lines, brings, entry_after}
-use Rattle.lawful_run.specs.Order.{Histories}
+use Rattle.lawful_run.specs.Merging.{Histories}
 use Rattle.lawful_run.specs.Trace.{settled_by}
 use Rattle.pepc.specs.declared.solo.Solo.{Solo}
 use Rattle.pepc.specs.Entries.{text_line}

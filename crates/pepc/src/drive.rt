@@ -4,7 +4,7 @@ ghost use Rattle.command_words.specs.Job.{LanesInRange, TurnsInRange};
 ghost use Rattle.drive_run.specs.Driven.{IsDrivenReport, turns_in};
 ghost use Rattle.pc_outside.specs.Faults.{Rises};
 ghost use Rattle.pepc.specs.Drive.{schedule_asked, turns_asked};
-ghost use Rattle.schedule_run.specs.Told.{AreWorkers};
+ghost use Rattle.schedule_run.specs.TurnsTold.{AreWorkers};
 ghost use Rattle.trace_run.specs.Report.{Runs};
 
 use command_words::{Lanes, Turns as AskedTurns};

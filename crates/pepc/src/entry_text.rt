@@ -1,4 +1,4 @@
-//! The lines of a report that only a gateway of its own has: of an order to move, and of a packet handled at once.
+//! The lines of a report that only a gateway of its own has: of an order to move, and of a packet handled in sequence.
 ghost use Rattle.std.specs.Prelude.{◌≡◌, ◌++◌, OnOk};
 ghost use Rattle.demux.specs.Texts.{move_note};
 ghost use Rattle.packet_steps.specs.Lent.{verdict_of};

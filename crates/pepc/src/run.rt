@@ -1,4 +1,4 @@
-//! The command `solo`: a gateway that answers at once, and the report that it tells.
+//! The command `solo`: the sequential gateway, and the report that it tells.
 ghost use Rattle.std.specs.Prelude.{◌≡◌, ◌≤◌, ◌++◌, false, OnOk};
 ghost use Rattle.pc_outside.specs.Faults.{Rises};
 ghost use Rattle.trace_run.specs.Report.{Runs};

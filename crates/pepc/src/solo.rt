@@ -1,11 +1,11 @@
-//! The gateway on one thread: each line is answered at once.
+//! The sequential gateway, on one thread: each line is answered before the next.
 ghost use Rattle.std.specs.Prelude.{◌≡◌, ℕ, ◌≤◌, ◌<◌, ◌^◌, ◌==◌, ◌+◌, ◌∷◌, ◌++◌, [], List};
 ghost use Rattle.std.specs.Prelude.{flat_map, length, map, find, None, OnOk, IfOk};
 ghost use Rattle.demux.specs.Resolved.{IsDue, book_with, slot_of};
 ghost use Rattle.demux.specs.declared.decision.Whose.TheVariants.{New};
 ghost use Rattle.demux.specs.Texts.{move_note};
 ghost use Rattle.demux.specs.Trace.{Meaning, note as noted, command as commanded, packet as carried};
-ghost use Rattle.lawful_run.specs.Order.{Histories};
+ghost use Rattle.lawful_run.specs.Merging.{Histories};
 ghost use Rattle.lawful_run.specs.Outcomes.{opens};
 ghost use Rattle.lawful_run.specs.Run.{by_slot, no_events};
 ghost use Rattle.trace_lines.specs.Line.{Line};

@@ -1,4 +1,4 @@
--- What a bucket stands for, behind an ask.
+-- What a bucket represents, behind an ask.
 use Rattle.std.proofs.Common.{◌≡◌, ℕ, ◌+◌, ◌-◌, ◌*◌, ◌≤◌, ◌⊎◌, inl, inr, List, [], ◌∷◌, ◌++◌, length, min, All, refl, ap, sym, ◌∙◌, append_assoc, length-append, le_trans, arith}
 use Rattle.std.proofs.Math.Nat.{min-le_left, le-min}
 use Rattle.std.proofs.lemmas.List.Elements.{All-push}
@@ -70,7 +70,7 @@ conforms_joined rate passed last later past high nothing conforms = record {
       omega (arith, without, since, whole, brought);
 }
 
--- a full bucket stands for nothing that passed
+-- a full bucket represents nothing that passed
 pub stands_full : (rate level : ℕ) → level ≡ burst rate → StandsFor (record { rate = rate; level = level; last = 0 }) []
 stands_full rate level full = record {
   past = λ k d inside. omega arith;
@@ -83,7 +83,7 @@ stands_full rate level full = record {
   );
 }
 
--- a bucket whose level and moment have moved on stands for what it stood for
+-- a bucket whose level and moment have moved on represents what it represented
 pub stands_moved : (bucket : BucketState) (passed : List Cost) (at rate level : ℕ) → StandsFor bucket passed
     → bucket.last ≤ at
     → rate ≡ bucket.rate → level ≡ level_at bucket at

@@ -17,7 +17,7 @@ use Rattle.gate_model.proofs.FewCharges.{events_few}
 use Rattle.lawful_run.specs.Accepted.{Placed, accepted_command, accepted_packet, command_for, commands_accepted, commands_before, is_refused, packet_for, packets_accepted}
 use Rattle.lawful_run.specs.Answers.{Answers, AnswersAll}
 use Rattle.lawful_run.specs.LinesTold.{LineTold, lines_told}
-use Rattle.lawful_run.specs.Order.{Histories, behind, ordered}
+use Rattle.lawful_run.specs.Merging.{Histories, behind, merged}
 use Rattle.lawful_run.specs.Outcomes as made_of
 use Rattle.lawful_run.specs.Report.{EpochReport, entries_of, epoch_entries}
 use Rattle.lawful_run.specs.Run.{AreEpochRuns, IsEpochRun, behind_all, no_events, told_in}
@@ -186,13 +186,13 @@ numbered_in next placed is few = record {
 
 ordered_in : (done next : ℕ) (commands : List CommandKind) (packets : List Placed)
     → AllByRecursion IsCommandInRange commands → AllByRecursion PlacedIn packets → next + length packets < 2 ^ 40
-    → AllByRecursion EventIn (ordered done next commands packets)
+    → AllByRecursion EventIn (merged done next commands packets)
 ordered_in done next commands [] own others few =
     mapped IsCommandInRange EventIn event.Command (λ c is. is) commands own
 ordered_in done next commands (p ∷ packets) own others few =
     let k : ℕ = p.commands - done in
     each_append EventIn (map event.Command (take k commands))
-    (event.Packet (numbered next p.packet) ∷ ordered p.commands (next + 1) (drop k commands) packets)
+    (event.Packet (numbered next p.packet) ∷ merged p.commands (next + 1) (drop k commands) packets)
     (mapped IsCommandInRange EventIn event.Command (λ c is. is) (take k commands)
     (taken IsCommandInRange k commands own)) (
       numbered_in next p others.0 (omega (arith, few)),

@@ -9,7 +9,7 @@ use Rattle.pc_base.specs.declared.effect.Effect.TheVariants as effect
 use Rattle.gate_model.specs.Events.{commands_of}
 use Rattle.gate_model.specs.Holding.{fates_at, fates_in, holds, is_fate_of, is_held}
 use Rattle.gate_model.specs.SlotPast.{SlotPast, commanded, effects_after, happens, met, past_of, verdict_after}
-use Rattle.gate_model.specs.Stories.{Told, told_from}
+use Rattle.gate_model.specs.Stories.{Episode, episodes_from}
 use Rattle.gate_model.specs.declared.event.Event.{Event}
 use Rattle.gate_model.specs.declared.event.Event.TheVariants as event
 use Rattle.gate_model.proofs.Following.{past-append}
@@ -68,38 +68,38 @@ found_in p (x ∷ xs) some =
     found_first p (p x) x xs refl (omega (arith, some, count-cons p x xs)) (found_in p xs)
 
 -- what a story tells of a number
-held_in : ℕ → List Told → ℕ
+held_in : ℕ → List Episode → ℕ
 held_in number story = count_by (holds number) story
 
 module _ (slot number : ℕ) where
   holds_are : (before events : List Event)
-      → count_by (holds number) (told_from (past_of slot before) events)
+      → count_by (holds number) (episodes_from (past_of slot before) events)
       ≡ count_by (holds_mark number) (marks slot before events)
   unfolding happens
   holds_are before [] = refl
   holds_are before (event.Command c ∷ events) =
       let past : SlotPast = past_of slot before in
-      let told : Told = record { event = event.Command c; happened = (happens past (event.Command c)).1 } in
+      let told : Episode = record { event = event.Command c; happened = (happens past (event.Command c)).1 } in
       let more : List Event = before ++ event.Command c ∷ [] in
-      let story : told_from (commanded past c) events ≡ told_from (past_of slot more) events =
-      ap (λ p. told_from p events) (sym (past-append slot before (event.Command c ∷ []))) in
+      let story : episodes_from (commanded past c) events ≡ episodes_from (past_of slot more) events =
+      ap (λ p. episodes_from p events) (sym (past-append slot before (event.Command c ∷ []))) in
       omega (
         arith,
-        count-cons (holds number) told (told_from (commanded past c) events),
+        count-cons (holds number) told (episodes_from (commanded past c) events),
         ap (count_by (holds number)) story,
         holds_are more events,
       )
   holds_are before (event.Packet p ∷ events) =
       let past : SlotPast = past_of slot before in
-      let told : Told = record { event = event.Packet p; happened = (happens past (event.Packet p)).1 } in
+      let told : Episode = record { event = event.Packet p; happened = (happens past (event.Packet p)).1 } in
       let more : List Event = before ++ event.Packet p ∷ [] in
       let mark : Mark =
       record { number = p.number; commands = length (commands_of before); verdict = verdict_after slot before p } in
-      let story : told_from (met past p) events ≡ told_from (past_of slot more) events =
-      ap (λ q. told_from q events) (sym (past-append slot before (event.Packet p ∷ []))) in
+      let story : episodes_from (met past p) events ≡ episodes_from (past_of slot more) events =
+      ap (λ q. episodes_from q events) (sym (past-append slot before (event.Packet p ∷ []))) in
       omega (
         arith,
-        count-cons (holds number) told (told_from (met past p) events),
+        count-cons (holds number) told (episodes_from (met past p) events),
         count-cons (holds_mark number) mark (marks slot more events),
         ap (count_by (holds number)) story,
         holds_are more events,
@@ -121,20 +121,20 @@ module _ (slot number : ℕ) where
       )
 
   fates_are : (before events : List Event)
-      → sum_by (λ (told : Told). fates_at number told.happened) (told_from (past_of slot before) events)
+      → sum_by (λ (told : Episode). fates_at number told.happened) (episodes_from (past_of slot before) events)
       ≡ count_by (tells_fate slot number) (made_of.effects slot before events)
   unfolding happens
   fates_are before [] = refl
   fates_are before (event.Command c ∷ events) =
       let past : SlotPast = past_of slot before in
-      let told : Told = record { event = event.Command c; happened = (happens past (event.Command c)).1 } in
+      let told : Episode = record { event = event.Command c; happened = (happens past (event.Command c)).1 } in
       let more : List Event = before ++ event.Command c ∷ [] in
-      let story : told_from (commanded past c) events ≡ told_from (past_of slot more) events =
-      ap (λ p. told_from p events) (sym (past-append slot before (event.Command c ∷ []))) in
+      let story : episodes_from (commanded past c) events ≡ episodes_from (past_of slot more) events =
+      ap (λ p. episodes_from p events) (sym (past-append slot before (event.Command c ∷ []))) in
       omega (
         arith,
-        sum_by-cons (λ (t : Told). fates_at number t.happened) told (told_from (commanded past c) events),
-        ap (sum_by (λ (t : Told). fates_at number t.happened)) story,
+        sum_by-cons (λ (t : Episode). fates_at number t.happened) told (episodes_from (commanded past c) events),
+        ap (sum_by (λ (t : Episode). fates_at number t.happened)) story,
         own_fates (length (commands_of before)) (effects_after slot before c),
         count-append (tells_fate slot number)
             (map (made_of.effect_entry slot (length (commands_of before))) (effects_after slot before c))
@@ -143,14 +143,14 @@ module _ (slot number : ℕ) where
       )
   fates_are before (event.Packet p ∷ events) =
       let past : SlotPast = past_of slot before in
-      let told : Told = record { event = event.Packet p; happened = (happens past (event.Packet p)).1 } in
+      let told : Episode = record { event = event.Packet p; happened = (happens past (event.Packet p)).1 } in
       let more : List Event = before ++ event.Packet p ∷ [] in
-      let story : told_from (met past p) events ≡ told_from (past_of slot more) events =
-      ap (λ q. told_from q events) (sym (past-append slot before (event.Packet p ∷ []))) in
+      let story : episodes_from (met past p) events ≡ episodes_from (past_of slot more) events =
+      ap (λ q. episodes_from q events) (sym (past-append slot before (event.Packet p ∷ []))) in
       omega (
         arith,
-        sum_by-cons (λ (t : Told). fates_at number t.happened) told (told_from (met past p) events),
-        ap (sum_by (λ (t : Told). fates_at number t.happened)) story,
+        sum_by-cons (λ (t : Episode). fates_at number t.happened) told (episodes_from (met past p) events),
+        ap (sum_by (λ (t : Episode). fates_at number t.happened)) story,
         fates_are more events,
       )
 

@@ -12,10 +12,10 @@ use Rattle.gate_model.specs.declared.event.Event.{Event}
 use Rattle.gate_model.specs.declared.event.Event.TheVariants as event
 use Rattle.pc_base.specs.declared.effect.Effect.{Effect}
 use Rattle.pc_base.specs.declared.effect.Effect.TheVariants as effect
-use Rattle.report_lines.specs.Records.{Effected, Judged}
+use Rattle.report_lines.specs.Records.{Effected, PacketTold}
 use Rattle.report_lines.specs.declared.entry.LineEntry.{LineEntry}
 use Rattle.report_lines.specs.declared.entry.LineEntry.TheVariants as line
-use Rattle.lawful_run.specs.Order.{Histories, behind}
+use Rattle.lawful_run.specs.Merging.{Histories, behind}
 use Rattle.lawful_run.specs.Outcomes as made_of
 use Rattle.lawful_run.specs.Report.{EpochReport}
 use Rattle.lawful_run.specs.Run.{AreEpochRuns, IsEpochRun, behind_all, no_events, told_in}
@@ -29,7 +29,7 @@ use Rattle.report_laws.proofs.Marks.{Mark, epoch_numbers, first_same, mark_told,
 
 -- the marks that a mark of a slot is among stand in lines
 pub record MarkTold (slot : ℕ) (lines : List LineEntry) (mark : Mark) : Type 0 where
-  pub judged : Judged
+  pub judged : PacketTold
   pub stands : Contains lines (line.P judged)
   pub of_slot : judged.slot ≡ slot
   pub same : mark ≡ record { number = judged.number; commands = judged.commands; verdict = judged.verdict }
@@ -43,7 +43,7 @@ told_later slot entry lines mark told = record {
   same = told.same;
 }
 
-told_first : (slot : ℕ) (test : Bool) (judged : Judged) (lines : List LineEntry) (mark : Mark)
+told_first : (slot : ℕ) (test : Bool) (judged : PacketTold) (lines : List LineEntry) (mark : Mark)
     → (judged.slot == slot) ≡ test
     → Contains (cons_option (cond test (Some (record {
       number = judged.number;

@@ -13,7 +13,7 @@ use Rattle.pc_base.specs.declared.packet.Verdict.{Verdict}
 use Rattle.report_lines.specs.declared.entry.LineEntry.{LineEntry}
 use Rattle.report_lines.specs.declared.entry.LineEntry.TheVariants as line
 use Rattle.lawful_run.specs.Accepted.{Placed, packets_accepted}
-use Rattle.lawful_run.specs.Order.{Histories, behind}
+use Rattle.lawful_run.specs.Merging.{Histories, behind}
 use Rattle.lawful_run.specs.Outcomes as made_of
 use Rattle.lawful_run.specs.Placing.{numbered_from, places}
 use Rattle.lawful_run.specs.Report.{EpochReport, Report}

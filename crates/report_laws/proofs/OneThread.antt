@@ -1,4 +1,4 @@
--- A lawful run of one thread without its places is that of the gateway that answers at once, which slices may report too.
+-- A lawful run of one thread without its places is that of the sequential gateway, which slices may report too.
 use Rattle.std.proofs.Common.{◌≡◌, ℕ, ◌+◌, false, List, [], ◌∷◌, ◌++◌, length, map, refl, sym, ap, ◌∙◌, subst}
 use Rattle.std.specs.List.{flat_map}
 use Rattle.std.proofs.lemmas.List.{map-append}
@@ -9,7 +9,7 @@ use Rattle.report_lines.specs.declared.entry.ChargeEntry.{ChargeEntry}
 use Rattle.report_lines.specs.declared.entry.Entry.TheVariants as entry
 use Rattle.report_lines.specs.declared.entry.LineEntry.{LineEntry}
 use Rattle.lawful_run.specs.AnsweredRun.{answered_from, answered_run, behind_epochs, behind_lines}
-use Rattle.lawful_run.specs.Order.{Histories}
+use Rattle.lawful_run.specs.Merging.{Histories}
 use Rattle.lawful_run.specs.Outcomes as made_of
 use Rattle.lawful_run.specs.Report.{EpochReport, Report, epoch_entries}
 use Rattle.lawful_run.specs.Run.{AreEpochRuns, IsRun, by_slot, no_events, told_in}

@@ -16,7 +16,7 @@ use Rattle.lawful_run.specs.Answers.{Answers, AnswersAll}
 use Rattle.lawful_run.specs.Bounds.{MayMeet, MeetsAs, MeetsBounds, Rises, count_before}
 use Rattle.lawful_run.specs.LinesTold.{EachFrom, LineTold, lines_told}
 use Rattle.lawful_run.specs.Moves.{before_last_move, before_next_move, is_moved, moves}
-use Rattle.lawful_run.specs.Order.{Histories, behind, events_in, ordered}
+use Rattle.lawful_run.specs.Merging.{Histories, behind, events_in, merged}
 use Rattle.lawful_run.specs.Outcomes as made_of
 use Rattle.lawful_run.specs.Parking.{ParkedAs, ParkedBehindMoves}
 use Rattle.lawful_run.specs.Refusals.{MayRefuse, RefusedAs, RefusedWhereFull, different, is_move, is_packet, lane_load, slot_of}
@@ -259,7 +259,7 @@ events_same : (before : List Event) (made : List Meaning) (told : EpochReport) (
     → events_in before (told_in made (epoch_shown told)) slot ≡ events_in before (told_in made told) slot
 events_same before made told slot =
     let lines = told_bare made told.lines in
-    λ i. ordered (length (commands_of before)) (length (packets_of before))
+    λ i. merged (length (commands_of before)) (length (packets_of before))
     ((ap (commands_accepted slot) lines ∙ commands_same slot (told_in made told)) i)
     ((ap (packets_accepted slot) lines ∙ packets_same slot (told_in made told)) i)
 

@@ -4,7 +4,7 @@ use Rattle.demux.specs.Trace.{Meaning}
 use Rattle.gate_model.specs.Holding.{is_fate_of, is_held}
 use Rattle.pc_base.specs.declared.effect.Effect.{Effect}
 use Rattle.pc_base.specs.declared.effect.Effect.TheVariants as effect
-use Rattle.report_lines.specs.Records.{Effected, Judged}
+use Rattle.report_lines.specs.Records.{Effected, PacketTold}
 use Rattle.report_lines.specs.declared.entry.LineEntry.{LineEntry}
 use Rattle.report_lines.specs.declared.entry.LineEntry.TheVariants as line
 use Rattle.lawful_run.specs.Report.{EpochReport, Report}
@@ -32,7 +32,7 @@ AtMostOneFate = (setup : Setup) (slots : ℕ) (made : List (List Meaning)) (repo
 
 -- A packet of this number was held, and the command of that number stands behind it.
 pub record WasHeld (lines : List LineEntry) (slot number command : ℕ) : Type 0 where
-  pub judged : Judged
+  pub judged : PacketTold
   pub stands : Contains lines (line.P judged)
   pub of_slot : judged.slot ≡ slot
   pub of_packet : judged.number ≡ number

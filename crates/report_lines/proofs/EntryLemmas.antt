@@ -19,9 +19,9 @@ use Rattle.report_lines.specs.declared.entry.Entry.TheVariants as entry
 use Rattle.report_lines.specs.declared.entry.LineEntry.TheVariants as line
 use Rattle.report_lines.specs.declared.entry.ChargeEntry.TheVariants as charge
 use Rattle.report_lines.specs.declared.entry.Refusal.{Refusal}
-use Rattle.report_lines.specs.Ranges.{IsNumber, IsSlot, IsOctets, IsAnswered, IsJudged, IsMoment, AreCounters, IsFate, IsEffected, IsEntry}
+use Rattle.report_lines.specs.Ranges.{IsNumber, IsSlot, IsOctets, IsAnswered, IsPacketTold, IsMoment, AreCounters, IsFate, IsEffected, IsEntry}
 use Rattle.report_lines.specs.Reading.{next, at_end, any_number, slot, outcome_of, why_of, refused_of, message_of, moment_of, verdict_of, fate_of, place_of, head_of, counters_at, is_note, note_of, answered_of, judged_of, refusal_of, marker_of, settlement_of, row_with, row_of, open_of, slot_row, slot_open}
-use Rattle.report_lines.specs.Records.{Noted, Answered, Judged, Effected, IsNote, IsPrintable}
+use Rattle.report_lines.specs.Records.{Noted, Answered, PacketTold, Effected, IsNote, IsPrintable}
 use Rattle.report_lines.specs.Text.{line_fields, effect_fields, charge_fields, counters_fields, counters_of, row_fields, ending, verdict_fields, fate_fields, place_fields}
 use Rattle.report_lines.specs.Words.{outcome_word, why_word, refused_word, message_word, moment_word}
 use Rattle.report_lines.proofs.WordLemmas.{outcome_given, outcome_taken, why_given, why_taken, refused_given, refused_taken, message_taken, moment_given, moment_taken}
@@ -69,8 +69,8 @@ answered_taken told is =
     rw (head, outcome, message) refl
 
 -- P
-pub judged_given : (texts : List (List ℕ)) (told : Judged) → judged_of texts ≡ Some told
-    → (codes "P" ∷ texts ≡ line_fields (line.P told)) × IsJudged told
+pub judged_given : (texts : List (List ℕ)) (told : PacketTold) → judged_of texts ≡ Some told
+    → (codes "P" ∷ texts ≡ line_fields (line.P told)) × IsPacketTold told
 judged_given texts told read =
     let head = bound (head_of texts) _ told read in
     let commands = bound (any_number head.0.1) _ told head.2 in
@@ -99,7 +99,7 @@ judged_given texts told read =
       },
     )
 
-pub judged_taken : (told : Judged) → IsJudged told
+pub judged_taken : (told : PacketTold) → IsPacketTold told
     → judged_of (decimal told.line ∷ decimal told.slot ∷ decimal told.number ∷ decimal told.commands
     ∷ verdict_fields told.verdict (place_fields told.place told.parked))
     ≡ Some told

@@ -34,8 +34,8 @@ use Rattle.report_lines.specs.declared.entry.LineEntry.TheVariants as line
 use Rattle.report_lines.specs.declared.entry.Refusal.{Refusal}
 use Rattle.report_lines.specs.declared.entry.ChargeEntry.{ChargeEntry}
 use Rattle.report_lines.specs.declared.entry.ChargeEntry.TheVariants as charge
-use Rattle.report_lines.specs.Ranges.{IsNumber, IsSlot, IsAnswered, IsJudged, IsOctets, IsVerdict, IsFate, IsPlace, IsMoment, AreCounters, IsLineEntry, IsEffect, IsChargeEntry, IsEntry}
-use Rattle.report_lines.specs.Records.{Noted, Answered, Judged, Effected, IsPrintable}
+use Rattle.report_lines.specs.Ranges.{IsNumber, IsSlot, IsAnswered, IsPacketTold, IsOctets, IsVerdict, IsFate, IsPlace, IsMoment, AreCounters, IsLineEntry, IsEffect, IsChargeEntry, IsEntry}
+use Rattle.report_lines.specs.Records.{Noted, Answered, PacketTold, Effected, IsPrintable}
 use Rattle.report_lines.specs.Reading.{note_of, answered_of, judged_of, refusal_of, marker_of, settlement_of, slot_row, slot_open, entry_of_fields, entry_of}
 use Rattle.report_lines.specs.Text.{verdict_fields, fate_fields, place_fields, counters_fields, counters_of, row_fields, ending, line_fields, effect_fields, charge_fields, entry_text, line_shown, shown}
 use Rattle.report_lines.specs.Words.{outcome_word, why_word, message_word, moment_word, place_word, refused_word}
@@ -253,7 +253,7 @@ answer_shown told is = (
   ),
 )
 
-judgement_shown : (told : Judged) → IsJudged told → AreWords (line_fields (line.P told))
+judgement_shown : (told : PacketTold) → IsPacketTold told → AreWords (line_fields (line.P told))
 judgement_shown told is = (
   word_shown (codes "P") refl,
   (
@@ -319,7 +319,7 @@ entry_read (entry.Charge (charge.O slot counters)) is =
     ∙ ap (λ both. option_map (λ c. entry.Charge (charge.O c.0 c.1)) both) (slot_open_taken slot counters is)
 
 -- the other way round: a text that is read is the text of what was read
-pub record Told (texts : List (List ℕ)) (told : Entry) : Type 0 where
+pub record ReadBack (texts : List (List ℕ)) (told : Entry) : Type 0 where
   pub text : joined texts ≡ entry_text told
   pub is_entry : IsEntry told
 
@@ -333,14 +333,14 @@ mapped f None told read = cc
 
 told_by : (letter word : List ℕ) (texts : List (List ℕ)) (told : Entry) → letter ≡ word
     → joined (word ∷ texts) ≡ entry_text told → IsEntry told
-    → Told (letter ∷ texts) told
+    → ReadBack (letter ∷ texts) told
 told_by letter word texts told is text is_entry =
     record { text = ap (λ l. joined (l ∷ texts)) is ∙ text; is_entry = is_entry }
 
 letter_is : (letter known : List ℕ) (texts : List (List ℕ)) (told : Entry) (b : Bool) (here others : Option Entry)
     → bytes_eq letter known ≡ b
-    → (here ≡ Some told → Told (known ∷ texts) told) → (others ≡ Some told → Told (letter ∷ texts) told)
-    → (if b then here else others) ≡ Some told → Told (letter ∷ texts) told
+    → (here ≡ Some told → ReadBack (known ∷ texts) told) → (others ≡ Some told → ReadBack (letter ∷ texts) told)
+    → (if b then here else others) ≡ Some told → ReadBack (letter ∷ texts) told
 letter_is letter known texts told true here others test known_then rest read =
     let same : letter ≡ known = (bytes_eq-Decides letter known).0 test in
     let is = known_then read in
@@ -353,7 +353,7 @@ joined_note at [] note same some = absurd (omega (arith, ap length same))
 joined_note at (text ∷ rest) note same some = ap (λ n. codes "N" ++ 32 ∷ (decimal at ++ 32 ∷ n)) same
 
 n_told : (texts : List (List ℕ)) (told : Entry) → option_map (λ n. entry.Line (line.N n)) (note_of texts)
-    ≡ Some told → Told (codes "N" ∷ texts) told
+    ≡ Some told → ReadBack (codes "N" ∷ texts) told
 n_told texts told read =
     let some = mapped (λ n. entry.Line (line.N n)) (note_of texts) told read in
     let is = note_given texts some.0 some.1 in
@@ -364,7 +364,7 @@ n_told texts told read =
     })
 
 c_told : (texts : List (List ℕ)) (told : Entry) → option_map (λ a. entry.Line (line.C a)) (answered_of texts)
-    ≡ Some told → Told (codes "C" ∷ texts) told
+    ≡ Some told → ReadBack (codes "C" ∷ texts) told
 c_told texts told read =
     let some = mapped (λ a. entry.Line (line.C a)) (answered_of texts) told read in
     let is = answered_given texts some.0 some.1 in
@@ -372,7 +372,7 @@ c_told texts told read =
     rw (← same) (record { text = ap joined is.0; is_entry = is.1 })
 
 p_told : (texts : List (List ℕ)) (told : Entry) → option_map (λ j. entry.Line (line.P j)) (judged_of texts)
-    ≡ Some told → Told (codes "P" ∷ texts) told
+    ≡ Some told → ReadBack (codes "P" ∷ texts) told
 p_told texts told read =
     let some = mapped (λ j. entry.Line (line.P j)) (judged_of texts) told read in
     let is = judged_given texts some.0 some.1 in
@@ -380,7 +380,7 @@ p_told texts told read =
     rw (← same) (record { text = ap joined is.0; is_entry = is.1 })
 
 f_told : (texts : List (List ℕ)) (told : Entry) → option_map (λ r. entry.Line (line.F r)) (refusal_of texts)
-    ≡ Some told → Told (codes "F" ∷ texts) told
+    ≡ Some told → ReadBack (codes "F" ∷ texts) told
 f_told texts told read =
     let some = mapped (λ r. entry.Line (line.F r)) (refusal_of texts) told read in
     let is = refusal_given texts some.0 some.1 in
@@ -388,7 +388,7 @@ f_told texts told read =
     rw (← same) (record { text = ap joined is.0; is_entry = (is.1, is.2) })
 
 m_told : (texts : List (List ℕ)) (told : Entry) → option_map (λ e. entry.Effect e) (marker_of texts) ≡ Some told
-    → Told (codes "M" ∷ texts) told
+    → ReadBack (codes "M" ∷ texts) told
 m_told texts told read =
     let some = mapped (λ (e : Effected). entry.Effect e) (marker_of texts) told read in
     let is = marker_given texts some.0 some.1 in
@@ -396,7 +396,7 @@ m_told texts told read =
     rw (← same) (record { text = ap joined is.0; is_entry = is.1 })
 
 h_told : (texts : List (List ℕ)) (told : Entry) → option_map (λ e. entry.Effect e) (settlement_of texts)
-    ≡ Some told → Told (codes "H" ∷ texts) told
+    ≡ Some told → ReadBack (codes "H" ∷ texts) told
 h_told texts told read =
     let some = mapped (λ (e : Effected). entry.Effect e) (settlement_of texts) told read in
     let is = settlement_given texts some.0 some.1 in
@@ -404,7 +404,7 @@ h_told texts told read =
     rw (← same) (record { text = ap joined is.0; is_entry = is.1 })
 
 r_told : (texts : List (List ℕ)) (told : Entry) → option_map (λ r. entry.Charge (charge.R r.0 r.1))
-    (slot_row texts) ≡ Some told → Told (codes "R" ∷ texts) told
+    (slot_row texts) ≡ Some told → ReadBack (codes "R" ∷ texts) told
 r_told texts told read =
     let some = mapped (λ r. entry.Charge (charge.R r.0 r.1)) (slot_row texts) told read in
     let is = slot_row_given texts some.0 some.1 in
@@ -412,7 +412,7 @@ r_told texts told read =
     rw (← same) (record { text = ap joined is.0; is_entry = is.1 })
 
 o_told : (texts : List (List ℕ)) (told : Entry) → option_map (λ c. entry.Charge (charge.O c.0 c.1))
-    (slot_open texts) ≡ Some told → Told (codes "O" ∷ texts) told
+    (slot_open texts) ≡ Some told → ReadBack (codes "O" ∷ texts) told
 o_told texts told read =
     let some = mapped (λ c. entry.Charge (charge.O c.0 c.1)) (slot_open texts) told read in
     let is = slot_open_given texts some.0 some.1 in
@@ -422,7 +422,7 @@ o_told texts told read =
 no_letter : {P : Type 0} (told : Entry) → None ≡ Some told → P
 no_letter told read = cc
 
-fields_told : (texts : List (List ℕ)) (told : Entry) → entry_of_fields texts ≡ Some told → Told texts told
+fields_told : (texts : List (List ℕ)) (told : Entry) → entry_of_fields texts ≡ Some told → ReadBack texts told
 fields_told [] told read = cc
 fields_told (letter ∷ texts) told read =
     letter_is letter (codes "N") texts told (bytes_eq letter (codes "N")) _ _ refl (n_told texts told)

@@ -7,7 +7,7 @@ use Rattle.pc_base.specs.declared.packet.Verdict.{Verdict}
 use Rattle.pc_base.specs.declared.packet.Verdict.TheVariants as verdict
 use Rattle.text_fields.specs.Fields.{joined, behind}
 use Rattle.report_lines.specs.declared.entry.LineEntry.TheVariants as line
-use Rattle.report_lines.specs.Records.{Judged}
+use Rattle.report_lines.specs.Records.{PacketTold}
 use Rattle.report_lines.specs.Text.{verdict_fields, place_fields, without_place, line_fields, line_shown}
 
 pub joined-behind : (first : List ℕ) (texts : List (List ℕ)) → joined (first ∷ texts) ≡ first ++ behind texts
@@ -31,11 +31,11 @@ verdict_fields-append (verdict.Held life message) more = refl
 verdict_fields-append (verdict.Policed life) more = refl
 
 -- the numbers in front of a verdict
-abbrev counted : Judged → List (List ℕ)
+abbrev counted : PacketTold → List (List ℕ)
 counted told = decimal told.line ∷ decimal told.slot ∷ decimal told.number ∷ decimal told.commands ∷ []
 
 -- a judgement, and what stands behind its verdict
-judged-behind : (told : Judged) (more : List (List ℕ))
+judged-behind : (told : PacketTold) (more : List (List ℕ))
     → joined (codes "P" ∷ decimal told.line ∷ decimal told.slot ∷ decimal told.number ∷ decimal told.commands
     ∷ verdict_fields told.verdict more)
     ≡ joined (line_fields (line.P (without_place told))) ++ behind more
@@ -46,19 +46,19 @@ judged-behind told more =
     ∙ ap (λ text. text ++ behind more) (sym (joined-behind (codes "P") (counted told
     ++ verdict_fields told.verdict [])))
 
-judged_shown : (told : Judged) (places : Bool) → places ≡ true
+judged_shown : (told : PacketTold) (places : Bool) → places ≡ true
     → joined (line_fields (line_shown places (line.P told)))
     ≡ joined (line_fields (line.P (without_place told))) ++ behind (place_fields told.place told.parked)
 judged_shown told true is = judged-behind told (place_fields told.place told.parked)
 judged_shown told false is = cc
 
-judged_alone : (told : Judged) (places : Bool) → places ≡ false
+judged_alone : (told : PacketTold) (places : Bool) → places ≡ false
     → joined (line_fields (line_shown places (line.P told))) ≡ joined (line_fields (line.P (without_place told)))
 judged_alone told true is = cc
 judged_alone told false is = refl
 
 -- what was appended behind a judgement, or the judgement alone
-pub shown_by : (told : Judged) (places : Bool) (answer : Result (Unit {0}) AllocError) (old mid new : List ℕ)
+pub shown_by : (told : PacketTold) (places : Bool) (answer : Result (Unit {0}) AllocError) (old mid new : List ℕ)
     (fields : List (List ℕ)) → places ≡ true
     → mid ≡ old ++ joined (line_fields (line.P (without_place told))) → fields ≡ place_fields told.place told.parked
     → OnOk answer (new ≡ mid ++ behind fields) → OnOk answer (new ≡ old
@@ -69,13 +69,13 @@ shown_by told places (Ok done) old mid new fields is front same appended =
     ∙ ap (λ f. old ++ (alone ++ behind f)) same ∙ ap (λ text. old ++ text) (sym (judged_shown told places is))
 shown_by told places (Err why) old mid new fields is front same appended = tt
 
-pub alone_by : (told : Judged) (places : Bool) (old new : List ℕ) → places ≡ false
+pub alone_by : (told : PacketTold) (places : Bool) (old new : List ℕ) → places ≡ false
     → new ≡ old ++ joined (line_fields (line.P (without_place told)))
     → new ≡ old ++ joined (line_fields (line_shown places (line.P told)))
 alone_by told places old new is front = front ∙ ap (λ text. old ++ text) (sym (judged_alone told places is))
 
 -- what was appended behind a judgement without its place
-pub placed_by : (told : Judged) (answer : Result (Unit {0}) AllocError) (old mid new : List ℕ)
+pub placed_by : (told : PacketTold) (answer : Result (Unit {0}) AllocError) (old mid new : List ℕ)
     → mid ≡ old ++ joined (line_fields (line.P (without_place told)))
     → OnOk answer (new ≡ mid ++ behind (place_fields told.place told.parked))
     → OnOk answer (new ≡ old ++ joined (line_fields (line.P told)))

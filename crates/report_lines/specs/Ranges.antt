@@ -15,7 +15,7 @@ use Rattle.report_lines.specs.declared.entry.LineEntry.{LineEntry}
 use Rattle.report_lines.specs.declared.entry.LineEntry.TheVariants as line
 use Rattle.report_lines.specs.declared.entry.ChargeEntry.{ChargeEntry}
 use Rattle.report_lines.specs.declared.entry.ChargeEntry.TheVariants as charge
-use Rattle.report_lines.specs.Records.{Answered, Judged, Effected, IsNote, KeepsPlace}
+use Rattle.report_lines.specs.Records.{Answered, PacketTold, Effected, IsNote, KeepsPlace}
 use Rattle.report_lines.specs.Text.{counters_of}
 
 -- a number of 64 bits
@@ -67,7 +67,7 @@ pub record IsAnswered (answered : Answered) : Type 0 where
   pub number : IsNumber answered.number
   pub message : IfSome answered.reply.message IsOctets
 
-pub record IsJudged (judged : Judged) : Type 0 where
+pub record IsPacketTold (judged : PacketTold) : Type 0 where
   pub line : IsNumber judged.line
   pub slot : IsSlot judged.slot
   pub number : IsNumber judged.number
@@ -79,7 +79,7 @@ pub record IsJudged (judged : Judged) : Type 0 where
 abbrev pub IsLineEntry : LineEntry → Type 0
 IsLineEntry (line.N noted) = IsNumber noted.line × IsNote noted.note
 IsLineEntry (line.C answered) = IsAnswered answered
-IsLineEntry (line.P judged) = IsJudged judged
+IsLineEntry (line.P judged) = IsPacketTold judged
 IsLineEntry (line.F refused) = IsNumber refused.line × IsSlot refused.slot
 
 abbrev pub IsEffect : Effect → Type 0

@@ -27,7 +27,7 @@ use Rattle.report_lines.specs.declared.entry.Entry.TheVariants as entry
 use Rattle.report_lines.specs.declared.entry.LineEntry.TheVariants as line
 use Rattle.report_lines.specs.declared.entry.Refusal.{Refusal}
 use Rattle.report_lines.specs.declared.entry.ChargeEntry.TheVariants as charge
-use Rattle.report_lines.specs.Records.{Noted, Answered, Judged, Effected}
+use Rattle.report_lines.specs.Records.{Noted, Answered, PacketTold, Effected}
 
 -- what was read, with the fields behind it
 abbrev pub Taken : Type 0 → Type 0
@@ -212,7 +212,7 @@ answered_of texts = do
       })
       message.1
 
-abbrev pub judged_of : List (List ℕ) → Option Judged
+abbrev pub judged_of : List (List ℕ) → Option PacketTold
 judged_of texts = do
   head ← head_of texts
   commands ← any_number head.1

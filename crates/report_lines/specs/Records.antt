@@ -23,7 +23,7 @@ pub record Answered : Type 0 where
 
 -- the verdict on a packet of a slot, behind so many of the slot's commands; where it was handled, and whether it was
 -- parked
-pub record Judged : Type 0 where
+pub record PacketTold : Type 0 where
   pub line : ℕ
   pub slot : ℕ
   pub number : ℕ

@@ -17,7 +17,7 @@ use Rattle.report_lines.specs.declared.entry.LineEntry.{LineEntry}
 use Rattle.report_lines.specs.declared.entry.LineEntry.TheVariants as line
 use Rattle.report_lines.specs.declared.entry.ChargeEntry.{ChargeEntry}
 use Rattle.report_lines.specs.declared.entry.ChargeEntry.TheVariants as charge
-use Rattle.report_lines.specs.Records.{Judged}
+use Rattle.report_lines.specs.Records.{PacketTold}
 use Rattle.report_lines.specs.Words.{outcome_word, why_word, message_word, moment_word, place_word, refused_word}
 
 -- a verdict, a fate and a place, each in front of further fields
@@ -101,7 +101,7 @@ abbrev pub entry_text : Entry → List ℕ
 entry_text told = joined (entry_fields told)
 
 -- the entry as it is shown: without its place, where places aren't
-abbrev pub without_place : Judged → Judged
+abbrev pub without_place : PacketTold → PacketTold
 without_place judged = record judged { place = None; parked = false }
 
 abbrev pub line_without_place : LineEntry → LineEntry

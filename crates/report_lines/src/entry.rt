@@ -142,9 +142,9 @@ pub struct Judgement {
 }
 
 impl Model for Judgement {
-    ghost use Rattle.report_lines.specs.Records.{Judged, KeepsVerdict, KeepsPlace};
+    ghost use Rattle.report_lines.specs.Records.{PacketTold, KeepsVerdict, KeepsPlace};
 
-    ghost Value = { Judged };
+    ghost Value = { PacketTold };
 
     ghost view = { λ held. record {
       line = held.line;

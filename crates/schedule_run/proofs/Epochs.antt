@@ -9,7 +9,7 @@ use Rattle.slice_schedule.specs.Front.{Outcome}
 use Rattle.slice_schedule.specs.Turns.{draws, drawn_of, next_state, state_behind}
 use Rattle.slice_schedule.specs.Schedule.{Driven, line_of, behind_line, behind_lines, outcomes, turned}
 use Rattle.schedule_run.specs.Lines.{asked, driven_by}
-use Rattle.schedule_run.specs.Told.{AreWorkers, turns_told, turns_behind, told_first, turns_after, lines_of}
+use Rattle.schedule_run.specs.TurnsTold.{AreWorkers, turns_told, turns_behind, told_first, turns_after, lines_of}
 use Rattle.schedule_run.specs.declared.ask.Ask.{Ask}
 use Rattle.schedule_run.specs.declared.turns.Turns.{Turns}
 use Rattle.schedule_run.specs.declared.turns.Turns.TheVariants as turns

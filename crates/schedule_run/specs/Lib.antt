@@ -1,5 +1,5 @@
 pub mod Lines
-pub mod Told
+pub mod TurnsTold
 pub mod Plan
 pub mod Numbers
 pub mod Parts

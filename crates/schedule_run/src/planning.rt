@@ -9,7 +9,7 @@ ghost use Rattle.schedule_run.specs.Lines.{asked, driven_by, bound_in};
 ghost use Rattle.schedule_run.specs.Owing.{IsOwing};
 ghost use Rattle.schedule_run.specs.Plan.{mets_of};
 ghost use Rattle.schedule_run.specs.Setups.{bounds_of};
-ghost use Rattle.schedule_run.specs.Told.{AreWorkers, turns_told, turns_behind, told_first, turns_after, lines_of};
+ghost use Rattle.schedule_run.specs.TurnsTold.{AreWorkers, turns_told, turns_behind, told_first, turns_after, lines_of};
 ghost use Rattle.schedule_run.specs.Worlds.{world_of};
 
 use crate::front::{line_done, pump};

@@ -219,7 +219,7 @@ pub fn clear_flow_home(numbers: &mut Numbers, slice: usize) -> Result<(), AllocE
 /// A control half comes.
 pub fn hold_control(numbers: &mut Numbers, slice: usize, slot: usize) -> Result<(), AllocError>
     ensures { OnOk result (world_of numbers.new ≡ world.on_control (world_of numbers.old) slice
-        (λ worker. control.told worker (world.come slot))) }
+        (λ worker. control.behind_order worker (world.come slot))) }
 {
     reach_control(&mut numbers.controls, numbers.alloc, slice)?;
     let worker = &mut numbers.controls[slice];
@@ -234,7 +234,7 @@ pub fn mark_control(
     until: usize,
 ) -> Result<(), AllocError>
     ensures { OnOk result (world_of numbers.new ≡ world.on_control (world_of numbers.old) slice
-        (λ worker. control.told worker (world.go slot until))) }
+        (λ worker. control.behind_order worker (world.go slot until))) }
 {
     reach_control(&mut numbers.controls, numbers.alloc, slice)?;
     let worker = &mut numbers.controls[slice];

@@ -230,7 +230,7 @@ fn go_or_work(
 /// Does an order of a control worker.
 fn tell(numbers: &mut Numbers, slice: usize, order: ControlOrder) -> Result<(), AllocError>
     ensures { OnOk result (world_of numbers.new ≡ world.on_control (world_of numbers.old) slice
-        (λ worker. control.told worker (control_order order))) }
+        (λ worker. control.behind_order worker (control_order order))) }
 {
     match order {
         ControlOrder::Come(slot) => hold_control(numbers, slice, slot),

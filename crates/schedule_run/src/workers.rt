@@ -235,7 +235,7 @@ impl ControlNumbers {
 
     /// A half comes.
     pub fn hold(&mut self, slot: usize) -> Result<(), AllocError>
-        ensures { OnOk result (self.new ≡ control.told self.old (world.come slot)) }
+        ensures { OnOk result (self.new ≡ control.behind_order self.old (world.come slot)) }
     {
         self.once = still_once(self.once, self.held.as_slice(), slot);
         self.last = higher(self.last, slot);
@@ -245,7 +245,7 @@ impl ControlNumbers {
 
     /// A half is marked: it goes home once so many commands are done.
     pub fn mark(&mut self, slot: usize, until: usize)
-        ensures { self.new ≡ control.told self.old (world.go slot until) }
+        ensures { self.new ≡ control.behind_order self.old (world.go slot until) }
     {
         self.called = true;
         mark_all(&mut self.held, slot, until);

@@ -4,7 +4,7 @@ use Rattle.std.proofs.lemmas.List.Sums.{sum_by-append}
 use Rattle.slice_schedule.specs.Slots.{Standing, absent, front, placed, recalled, leaving, is_placed, is_absent, SlotNow, fresh_slot, destination}
 use Rattle.slice_schedule.specs.Halves.{learn, may_handle, handle}
 use Rattle.slice_schedule.specs.World.{World, Rooms, ControlOrder, come, go, FlowOrder, arrive, item, leave, order_room, home_room, has_room, slot_at, on_slot, control_at, on_control, flow_at, on_flow, cursor_next}
-use Rattle.slice_schedule.specs.ControlTurns.{place_done, sent_home, slot_held, half_turned, has_worked, next_place, cursor_at, work_round, work_all, go_or_work, control_turn_by, control_turn, told}
+use Rattle.slice_schedule.specs.ControlTurns.{place_done, sent_home, slot_held, half_turned, has_worked, next_place, cursor_at, work_round, work_all, go_or_work, control_turn_by, control_turn, behind_order}
 use Rattle.slice_schedule.specs.FlowTurns.{orders_taken, Going, more, round, over, Doing, doing, go_home, left, handled, obeyed, next_order, order_step_at, order_step, take_orders, learn_next, turn_end, flow_turn}
 use Rattle.slice_schedule.specs.Front.{back, control_back, control_home, flow_back, flow_home, control_ordered, control_offer_at, control_offer, flow_ordered, flow_offer_at, flow_offer, drain_at, drain, controls_home, controls_offered, flows_home, flows_offered, pumped, control_called, control_recalled}
 use Rattle.slice_schedule.specs.Schedule.{turned}
@@ -188,7 +188,7 @@ module _ (W : World → Type 0) (steps : Steps W) where
       → W (control_turn_by rooms slice world orders)
   control_turn_by_keeps rooms slice world [] all = go_or_work_keeps rooms slice world all
   control_turn_by_keeps rooms slice world (order ∷ orders) all =
-      steps.controls world slice (λ worker. told (record worker { orders = orders }) order) all
+      steps.controls world slice (λ worker. behind_order (record worker { orders = orders }) order) all
 
   -- turns of data workers
   abbrev pub DoingHolds : Doing → Type 0

@@ -12,9 +12,9 @@ use Rattle.slice_schedule.specs.World.{cursor_behind, cursor_next}
 abbrev pub marked : (slot until : ℕ) → HeldControl → HeldControl
 marked slot until held = if held.slot == slot then record held { until = Some until } else held
 
-abbrev pub told : ControlNow → ControlOrder → ControlNow
-told worker (come slot) = record worker { held = worker.held ++ record { slot = slot; until = None } ∷ [] }
-told worker (go slot until) = record worker { held = map (marked slot until) worker.held }
+abbrev pub behind_order : ControlNow → ControlOrder → ControlNow
+behind_order worker (come slot) = record worker { held = worker.held ++ record { slot = slot; until = None } ∷ [] }
+behind_order worker (go slot until) = record worker { held = map (marked slot until) worker.held }
 
 -- the place of the first half that goes home: it is marked, and has done its commands
 abbrev pub is_done : SlotNow → Option ℕ → Bool
@@ -84,7 +84,7 @@ go_or_work rooms slice world =
 abbrev pub control_turn_by : Rooms → ℕ → World → List ControlOrder → World
 control_turn_by rooms slice world [] = go_or_work rooms slice world
 control_turn_by rooms slice world (order ∷ orders) =
-    on_control world slice (λ worker. told (record worker { orders = orders }) order)
+    on_control world slice (λ worker. behind_order (record worker { orders = orders }) order)
 
 abbrev pub control_turn : Rooms → ℕ → World → World
 control_turn rooms slice world = control_turn_by rooms slice world (control_at world slice).orders

@@ -2,8 +2,7 @@
 use Rattle.std.proofs.Common.{◌≡◌, ℕ, List, [], length, sym, ap, subst, append-nil}
 use Rattle.gate_model.specs.SlotPast.{records_after}
 use Rattle.gate_model.specs.declared.event.Event.{Event}
-use Rattle.subscriber.specs.Standing.{SubscriberState, StandsFor}
-use Rattle.at_rest.specs.Rest.{Represents}
+use Rattle.subscriber.specs.Standing.{SubscriberState, StandsFor, Represents}
 use Rattle.slot_replay.specs.Replaying.{effects_told, numbers_in, packet_numbers_in, replies_in, verdicts_in, Plays}
 use Rattle.slot_replay.specs.declared.replayed.Replayed.{Replayed}
 

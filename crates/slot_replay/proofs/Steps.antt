@@ -21,9 +21,9 @@ use Rattle.lawful_run.proofs.Counting.{commands-command, commands-packet, packet
 use Rattle.lawful_run.proofs.Growing.{effects-append, replies-push, verdicts-push}
 use Rattle.slot_replay.specs.Replaying.{AreLate, CanPlay, Plays, effects_told, latest_of, numbers_in, packet_numbers_in, replies_in, verdicts_in}
 use Rattle.slot_replay.specs.declared.placed.Placed.{Placed}
-use Rattle.slot_replay.specs.declared.replayed.Judged.{Judged}
+use Rattle.slot_replay.specs.declared.replayed.NumberedVerdict.{NumberedVerdict}
 use Rattle.slot_replay.specs.declared.replayed.Replayed.{Replayed}
-use Rattle.slot_replay.specs.declared.replayed.Replied.{Replied}
+use Rattle.slot_replay.specs.declared.replayed.NumberedReply.{NumberedReply}
 
 -- one number more
 counted-push : (first n : ℕ) → counted first (suc n) ≡ counted first n ++ (first + n) ∷ []
@@ -64,7 +64,7 @@ plays_command old new replayed after slot own number before now c reply effects 
     affects stands replies packets effects_more =
     let e : Event = event.Command c in
     let led = plays.led in
-    let r : Replied = record { number = number; reply = reply } in
+    let r : NumberedReply = record { number = number; reply = reply } in
     let so_far : List Effected = made_of.effects slot before now in
     let met : number ≡ length (commands_of (before ++ now)) = numbered_so ∙ plays.stands.commands in
     let entry : Effect → Effected = made_of.effect_entry slot (length (commands_of (before ++ now))) in
@@ -77,14 +77,14 @@ plays_command old new replayed after slot own number before now c reply effects 
       stands = subst (λ (es : List Event). StandsFor new slot es (length (records_after slot before)))
           (append_assoc before now (e ∷ [])) stands;
       led = record {
-        replies = ap replies_in replies ∙ map_push (λ (x : Replied). x.reply) replayed.replies.items r
+        replies = ap replies_in replies ∙ map_push (λ (x : NumberedReply). x.reply) replayed.replies.items r
             ∙ ap (λ xs. xs ++ reply ∷ []) led.replies
             ∙ ap (λ x. made_of.replies slot before now ++ x ∷ []) replied ∙ sym (replies-push slot before now e);
         verdicts = ap verdicts_in packets ∙ led.verdicts ∙ sym (append-nil (made_of.verdicts slot before now))
             ∙ sym (verdicts-push slot before now e);
         effects = effects_more ∙ ap (λ xs. xs ++ map (made_of.effect_entry own number) effects) led.effects
             ∙ ap (λ xs. so_far ++ xs) (entries ∙ sym made) ∙ sym (effects-append slot before now (e ∷ []));
-        numbers = ap numbers_in replies ∙ map_push (λ (x : Replied). x.number) replayed.replies.items r
+        numbers = ap numbers_in replies ∙ map_push (λ (x : NumberedReply). x.number) replayed.replies.items r
             ∙ ap (λ xs. xs ++ number ∷ []) led.numbers
             ∙ counted_more (length (commands_of before)) (length (commands_of now))
             (length (commands_of (now ++ e ∷ []))) number (commands-command now c) (met ∙ commands_both before now);
@@ -94,7 +94,7 @@ plays_command old new replayed after slot own number before now c reply effects 
     }
 
 pub plays_packet : (old new : SubscriberState) (replayed after : Replayed) (slot : ℕ) (before now : List Event)
-    (p : Packet) (j : Judged)
+    (p : Packet) (j : NumberedVerdict)
     → Plays old replayed slot before now
     → j.number ≡ old.packets → verdict_of j.verdict ≡ verdict_after slot (before ++ now) p
     → StandsFor new slot ((before ++ now) ++ event.Packet p ∷ []) (length (records_after slot before))
@@ -111,14 +111,14 @@ plays_packet old new replayed after slot before now p j plays numbered_so judged
       led = record {
         replies = ap replies_in replies ∙ led.replies ∙ sym (append-nil (made_of.replies slot before now))
             ∙ sym (replies-push slot before now e);
-        verdicts = ap verdicts_in packets ∙ map_push (λ (x : Judged). verdict_of x.verdict) replayed.packets.items j
+        verdicts = ap verdicts_in packets ∙ map_push (λ (x : NumberedVerdict). verdict_of x.verdict) replayed.packets.items j
             ∙ ap (λ xs. xs ++ verdict_of j.verdict ∷ []) led.verdicts
             ∙ ap (λ x. made_of.verdicts slot before now ++ x ∷ []) judged ∙ sym (verdicts-push slot before now e);
         effects = ap effects_told effects ∙ led.effects ∙ sym (append-nil (made_of.effects slot before now))
             ∙ sym (effects-append slot before now (e ∷ []));
         numbers = ap numbers_in replies ∙ led.numbers
             ∙ ap (counted (length (commands_of before))) (sym (commands-packet now p));
-        packet_numbers = ap packet_numbers_in packets ∙ map_push (λ (x : Judged). x.number) replayed.packets.items j
+        packet_numbers = ap packet_numbers_in packets ∙ map_push (λ (x : NumberedVerdict). x.number) replayed.packets.items j
             ∙ ap (λ xs. xs ++ j.number ∷ []) led.packet_numbers
             ∙ counted_more (length (packets_of before)) (length (packets_of now))
             (length (packets_of (now ++ e ∷ []))) j.number (packets-packet now p) (met ∙ packets_both before now);

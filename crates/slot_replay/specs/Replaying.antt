@@ -5,22 +5,24 @@ use Rattle.pc_base.specs.declared.packet.Verdict.{Verdict}
 use Rattle.pc_base.specs.declared.reply.Reply.{Reply}
 use Rattle.report_lines.specs.Lent.{IsShort}
 use Rattle.report_lines.specs.Records.{Effected}
+use Rattle.report_lines.specs.declared.entry.ChargeEntry.{ChargeEntry}
+use Rattle.report_lines.specs.declared.entry.ChargeEntry.TheVariants.{R}
 use Rattle.packet_steps.specs.Lent.{verdict_of}
 use Rattle.gate_model.specs.Events.{commands_of, packets_of}
 use Rattle.gate_model.specs.SlotPast.{records_after}
 use Rattle.gate_model.specs.declared.event.Event.{Event}
-use Rattle.subscriber.specs.Standing.{SubscriberState, StandsFor, last_of}
+use Rattle.subscriber.specs.Standing.{SubscriberState, StandsFor, last_of, Represents}
 use Rattle.lawful_run.specs.Accepted as accepted
-use Rattle.lawful_run.specs.Order.{CanGo}
-pub use Rattle.lawful_run.specs.Order.{commands_lent, events_of}
+use Rattle.lawful_run.specs.Merging.{CanGo}
+pub use Rattle.lawful_run.specs.Merging.{commands_lent, events_of}
 use Rattle.lawful_run.specs.Outcomes as made_of
 use Rattle.lawful_run.specs.Telling.{counted}
-use Rattle.at_rest.specs.Rest.{Represents}
 use Rattle.slot_replay.specs.declared.placed.Placed.{Placed}
 use Rattle.slot_replay.specs.declared.replayed.Caused.{Caused}
-use Rattle.slot_replay.specs.declared.replayed.Judged.{Judged}
+use Rattle.slot_replay.specs.declared.replayed.Closed.{Closed}
+use Rattle.slot_replay.specs.declared.replayed.NumberedVerdict.{NumberedVerdict}
 use Rattle.slot_replay.specs.declared.replayed.Replayed.{Replayed}
-use Rattle.slot_replay.specs.declared.replayed.Replied.{Replied}
+use Rattle.slot_replay.specs.declared.replayed.NumberedReply.{NumberedReply}
 
 -- the packets, each with the count of commands before it
 abbrev pub placed_so : Placed → accepted.Placed
@@ -57,28 +59,35 @@ effects_caused caused = map (made_of.effect_entry caused.slot caused.command) ca
 abbrev pub effects_told : List Caused → List Effected
 effects_told effects = flat_map effects_caused effects
 
+-- charging records, the same
+abbrev pub rows_closed : Closed → List ChargeEntry
+rows_closed closed = map (R closed.slot) closed.rows.items
+
+abbrev pub rows_told : List Closed → List ChargeEntry
+rows_told rows = flat_map rows_closed rows
+
 -- what is told of commands, and of packets
-abbrev pub replies_in : List Replied → List Reply
-replies_in replies = map (λ (r : Replied). r.reply) replies
+abbrev pub replies_in : List NumberedReply → List Reply
+replies_in replies = map (λ (r : NumberedReply). r.reply) replies
 
-abbrev pub numbers_in : List Replied → List ℕ
-numbers_in replies = map (λ (r : Replied). r.number) replies
+abbrev pub numbers_in : List NumberedReply → List ℕ
+numbers_in replies = map (λ (r : NumberedReply). r.number) replies
 
-abbrev pub verdicts_in : List Judged → List Verdict
-verdicts_in packets = map (λ (j : Judged). verdict_of j.verdict) packets
+abbrev pub verdicts_in : List NumberedVerdict → List Verdict
+verdicts_in packets = map (λ (j : NumberedVerdict). verdict_of j.verdict) packets
 
-abbrev pub packet_numbers_in : List Judged → List ℕ
-packet_numbers_in packets = map (λ (j : Judged). j.number) packets
+abbrev pub packet_numbers_in : List NumberedVerdict → List ℕ
+packet_numbers_in packets = map (λ (j : NumberedVerdict). j.number) packets
 
-abbrev pub counts_in : List Judged → List ℕ
-counts_in packets = map (λ (j : Judged). j.commands) packets
+abbrev pub counts_in : List NumberedVerdict → List ℕ
+counts_in packets = map (λ (j : NumberedVerdict). j.commands) packets
 
-abbrev pub places_in : List Judged → List Place
-places_in packets = map (λ (j : Judged). j.place) packets
+abbrev pub places_in : List NumberedVerdict → List Place
+places_in packets = map (λ (j : NumberedVerdict). j.place) packets
 
 -- each verdict can be written: what goes down is no longer than IPv4 allows
-abbrev pub AreShort : List Judged → Type 0
-AreShort packets = All (λ (judged : Judged). IsShort judged.verdict) packets
+abbrev pub AreShort : List NumberedVerdict → Type 0
+AreShort packets = All (λ (judged : NumberedVerdict). IsShort judged.verdict) packets
 
 -- What was replayed is what these events lead to behind those before.
 pub record IsLedTo (replayed : Replayed) (slot : ℕ) (before now : List Event) : Type 0 where

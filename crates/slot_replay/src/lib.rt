@@ -9,5 +9,5 @@ mod replayed;
 mod replaying;
 
 pub use placed::Placed;
-pub use replayed::{Caused, Judged, Replayed, Replied};
+pub use replayed::{Caused, Closed, NumberedReply, NumberedVerdict, Replayed};
 pub use replaying::replay;

@@ -7,7 +7,7 @@ use std::collections::VecDeque;
 
 /// The reply to the slot's command of this number.
 #[derive(Drop)]
-pub struct Replied {
+pub struct NumberedReply {
     pub number: u64,
     pub reply: Reply,
 }
@@ -15,7 +15,7 @@ pub struct Replied {
 /// The verdict on the slot's packet of this number, told to stand behind so many of its commands, and where it
 /// was handled. Its octets lie in its line.
 #[derive(Drop)]
-pub struct Judged<'a> {
+pub struct NumberedVerdict<'a> {
     pub number: u64,
     pub commands: u64,
     pub place: Place,
@@ -30,12 +30,19 @@ pub struct Caused {
     pub effects: Effects,
 }
 
+/// Charging records of a slot, in the order in which they were made.
+#[derive(Drop)]
+pub struct Closed {
+    pub slot: Slot,
+    pub rows: Vec<ChargeRow>,
+}
+
 /// What the events of a slot in an epoch lead to, each kind in the order of the events: replies and
 /// verdicts, to be taken from the front, effects and charging records.
 #[derive(Drop)]
 pub struct Replayed<'a> {
-    pub replies: VecDeque<Replied>,
-    pub packets: VecDeque<Judged<'a>>,
+    pub replies: VecDeque<NumberedReply>,
+    pub packets: VecDeque<NumberedVerdict<'a>>,
     pub effects: Vec<Caused>,
     pub rows: Vec<ChargeRow>,
 }

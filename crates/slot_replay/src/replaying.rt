@@ -4,14 +4,13 @@ ghost use Rattle.gate_model.specs.declared.event.Event.{Event};
 ghost use Rattle.demux.specs.Packets.{numbered};
 ghost use Rattle.lawful_run.specs.Outcomes.{rows, effect_entry};
 ghost use Rattle.report_lines.specs.declared.entry.ChargeEntry.TheVariants.{R};
-ghost use Rattle.subscriber.specs.Standing.{last_of};
-ghost use Rattle.at_rest.specs.Rest.{Represents};
+ghost use Rattle.subscriber.specs.Standing.{last_of, Represents};
 ghost use Rattle.slot_replay.specs.Replaying.{AreLate, AreShort, CanPlay, CanReplay, IsLedTo, KeepsPackets, Plays};
 ghost use Rattle.slot_replay.specs.Replaying.{commands_lent, counts_in, counts_of, effects_told, events_of};
 ghost use Rattle.slot_replay.specs.Replaying.{latest_of, moment_of, placed_lent, places_in, places_of};
 
 use crate::lending::lend_again;
-use crate::{Caused, Judged, Placed, Replayed, Replied};
+use crate::{Caused, NumberedReply, NumberedVerdict, Placed, Replayed};
 use control_steps::Command;
 use packet_steps::Effects;
 use pc_base::{NoMemory, Slot};
@@ -107,7 +106,7 @@ fn do_command(
     let slot = subscriber.slot();
     let number = subscriber.commands();
     let (reply, effects) = subscriber.command(alloc, command)?;
-    replayed.replies.push_back(Replied { number, reply })?;
+    replayed.replies.push_back(NumberedReply { number, reply })?;
     note_effects(&mut replayed.effects, slot, number, effects)
 }
 
@@ -156,7 +155,7 @@ fn do_packet<'a>(
     // Below 2^16, as a verdict that is told asks.
     let _len = packet.ip.total_len();
     let handled = subscriber.judge(packet.moment, packet.way, &packet.ip)?;
-    let judged = Judged {
+    let judged = NumberedVerdict {
         number: handled.number,
         commands: placed.commands,
         place: placed.place,

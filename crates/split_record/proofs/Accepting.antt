@@ -6,7 +6,7 @@ use Rattle.std.proofs.lemmas.List.Elements.{All-nil, All-cons, All-head, All-tai
 use Rattle.subscriber.specs.Standing.{commands_met, last_of}
 use Rattle.control_half.specs.declared.items.CommandItem.{CommandItem}
 use Rattle.counter_half.specs.declared.items.FlowItem.{FlowItem}
-use Rattle.counter_half.specs.Told.{AreLate}
+use Rattle.counter_half.specs.Tells.{AreLate}
 use Rattle.split_record.specs.Accepted.{MayStand, AreNumbered}
 use Rattle.split_record.specs.Rejoined.{start_of, unbound, commands_sent, AreAccepted, IsSameFront}
 use Rattle.split_record.specs.declared.front.FrontEnd.{FrontEnd}

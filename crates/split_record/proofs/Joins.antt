@@ -1,4 +1,4 @@
--- What halves tell is interleaved as the lines of an epoch are ordered.
+-- What halves tell is interleaved as the lines of an epoch are merged.
 use Rattle.std.proofs.Common.{◌≡◌, ℕ, ◌+◌, ◌-◌, List, [], ◌∷◌, ◌++◌, map, take, drop, refl, ap, sym, ◌∙◌}
 use Rattle.pc_base.specs.declared.packet.Packet.{Packet}
 use Rattle.control_steps.specs.declared.command.CommandKind.{CommandKind}
@@ -6,7 +6,7 @@ use Rattle.demux.specs.Packets.{numbered}
 use Rattle.gate_model.specs.declared.event.Event.{Event}
 use Rattle.gate_model.specs.declared.event.Event.TheVariants as event
 use Rattle.lawful_run.specs.Accepted.{Placed, commands_accepted, packets_accepted}
-use Rattle.lawful_run.specs.Order.{ordered}
+use Rattle.lawful_run.specs.Merging.{merged}
 use Rattle.subscriber.specs.Standing.{commands_met}
 use Rattle.counter_half.specs.declared.items.FlowItem.{FlowItem}
 use Rattle.counter_half.specs.Handled.{met_in}
@@ -25,7 +25,7 @@ some_left x xs is = absurd (let no : ⊥ = cc in no)
 
 interleaved_as : (done next : ℕ) (commands : List CommandKind) (items : List FlowItem) (placed : List Placed)
     (counts : List ℕ) → map packet_in items ≡ numbered_from next placed
-    → interleaved done commands (met_in (handled_as items counts)) ≡ ordered done next commands (with_counts counts placed)
+    → interleaved done commands (met_in (handled_as items counts)) ≡ merged done next commands (with_counts counts placed)
 interleaved_as done next commands [] [] counts are = refl
 interleaved_as done next commands [] (p ∷ placed) counts are =
     none_left (numbered next p.packet) (numbered_from (next + 1) placed) are
@@ -46,7 +46,7 @@ pub events_are : EventsAreOfLines
 events_are start slot before taken lines commands items judged stands are =
     interleaved_as (commands_met start) start.packets (commands_in commands) items (packets_accepted slot lines)
     (counts_told judged) are.packets_are
-    ∙ (λ i. ordered (stands.commands i) (stands.packets i) (are.commands_are i)
+    ∙ (λ i. merged (stands.commands i) (stands.packets i) (are.commands_are i)
     (with_counts (counts_told judged) (packets_accepted slot lines)))
 
 same_counts : (placed : List Placed) → with_counts (map (λ (p : Placed). p.commands) placed) placed ≡ placed
@@ -56,4 +56,4 @@ same_counts (p ∷ placed) = ap (λ (l : List Placed). p ∷ l) (same_counts pla
 pub counts_are : CountsAreTold
 counts_are slot before lines counts told =
     (λ i. events_met slot before lines (sym told i))
-    ∙ ap (ordered _ _ (commands_accepted slot lines)) (same_counts (packets_accepted slot lines))
+    ∙ ap (merged _ _ (commands_accepted slot lines)) (same_counts (packets_accepted slot lines))

@@ -8,7 +8,7 @@ use Rattle.lawful_run.specs.Telling.{counted}
 use Rattle.control_half.specs.declared.items.CommandItem.{CommandItem}
 use Rattle.control_half.specs.declared.items.CommandDone.{CommandDone}
 use Rattle.control_half.specs.Controlled.{session_behind, stepped, replied, replies_to, versions_left}
-use Rattle.counter_half.specs.Told.{versions_in, versions_behind}
+use Rattle.counter_half.specs.Tells.{versions_in, versions_behind}
 use Rattle.split_record.specs.Finishing.{commands_in}
 use Rattle.split_record.proofs.Orders.{replies_by}
 

@@ -1,4 +1,4 @@
--- Counters that are known to stand for a past do so: how they do is known from the past itself.
+-- Counters that are known to represent a past do so: how they do is known from the past itself.
 use Rattle.std.proofs.Common.{ℕ, List, [], ◌∷◌}
 use Rattle.std.proofs.Math.Logic.{∥∥₁_elim}
 use Rattle.std.proofs.Props.{props}

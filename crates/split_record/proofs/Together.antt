@@ -1,4 +1,4 @@
--- The halves have nothing left to do: what they noted, and what their subscriber stands for.
+-- The halves have nothing left to do: what they noted, and what their subscriber represents.
 use Rattle.std.proofs.Common.{◌≡◌, ℕ, ◌+◌, ◌-◌, ◌<◌, ◌≤◌, ◌^◌, true, length, arith, List, [], ◌∷◌, ◌++◌, map, take, drop, All}
 use Rattle.std.proofs.Common.{refl, ap, sym, ◌∙◌, subst, unwrap_or}
 use Rattle.std.proofs.lemmas.List.{length-map, map-append}
@@ -26,7 +26,7 @@ use Rattle.counter_half.specs.declared.items.PacketDone.{PacketDone}
 use Rattle.counter_half.specs.declared.items.VersionDone.{VersionDone}
 use Rattle.counter_half.specs.Handled.{Handled, Note, HasHandled, AreMet, noted, note_of, items_in, counts_in, met_in, met_of}
 use Rattle.counter_half.specs.Interleaved.{Met, rises}
-use Rattle.counter_half.specs.Told.{events_made, versions_in, moments_in, AreLate, last_moment, IsLawful, Tells, TellsLawfully}
+use Rattle.counter_half.specs.Tells.{events_made, versions_in, moments_in, AreLate, last_moment, IsLawful, Tells, TellsLawfully}
 use Rattle.split_record.specs.Accepted.{AreNumbered}
 use Rattle.split_record.specs.Finishing.{Comes, Notes, AreBounded, handled_as, counts_told, commands_in, events_told}
 use Rattle.split_record.proofs.Floors.{Low, floors_of}
@@ -125,7 +125,7 @@ module _ (start : SubscriberState) (commands : List CommandItem) (items : List F
     bounded = subst (AreBounded first commands) (sym handled_is) (bounded slot numbered);
   }
 
-  -- behind the events of a slot that the subscriber stood for
+  -- behind the events of a slot that the subscriber represented
   module _ (version : VersionState) (old : counters.CountersState) (dones : List VersionDone)
       (tells : TellsLawfully start learnt handled version old judged dones)
       (late : AreLate (unwrap_or (last_of start) 0) (map (λ (i : FlowItem). i.packet.moment) items))

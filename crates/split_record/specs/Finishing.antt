@@ -15,7 +15,7 @@ use Rattle.counter_half.specs.declared.items.PacketDone.{PacketDone}
 use Rattle.counter_half.specs.declared.items.VersionDone.{VersionDone}
 use Rattle.counter_half.specs.Handled.{Handled, noted, note_of}
 use Rattle.counter_half.specs.Interleaved.{rises}
-use Rattle.counter_half.specs.Told.{events_made, told, last_moment}
+use Rattle.counter_half.specs.Tells.{events_made, effect_entries, last_moment}
 
 -- each item with how many commands stand before it
 abbrev pub handled_as : List FlowItem → List ℕ → List Handled
@@ -51,7 +51,7 @@ AllMeetBehind early first commands handled = (before : List Handled) (h : Handle
     → handled ≡ before ++ h ∷ after → early ≤ length before → MeetsAll first commands h
 
 -- A subscriber was split, and these commands and items were accepted since. What came of them is what the one-thread
--- gateway makes of them in the order told, behind the events before the split; and one record stands for them all.
+-- gateway makes of them in the order told, behind the events before the split; and one record represents them all.
 pub record Comes (start : SubscriberState) (slot : ℕ) (before : List Event) (taken : ℕ) (commands : List CommandItem)
     (items : List FlowItem) (record_now : SubscriberState) (replied : List CommandDone) (judged : List PacketDone)
     (done : List VersionDone) (rows : List Charged) : Type 0 where
@@ -61,7 +61,7 @@ pub record Comes (start : SubscriberState) (slot : ℕ) (before : List Event) (t
       ≡ replies slot before (events_told start commands items judged)
   pub verdicts_are : map (λ (d : PacketDone). d.verdict) judged
       ≡ verdicts slot before (events_told start commands items judged)
-  pub effects_are : flat_map (told slot) done ≡ effects slot before (events_told start commands items judged)
+  pub effects_are : flat_map (effect_entries slot) done ≡ effects slot before (events_told start commands items judged)
   pub last_is : last_of record_now ≡ last_moment (last_of start) (map (λ (i : FlowItem). i.packet.moment) items)
   pub rows_are : rows ≡ drop taken (records_after slot (before ++ events_told start commands items judged))
 

@@ -7,7 +7,7 @@ use Rattle.gate_model.specs.Events.{commands_of, packets_of}
 use Rattle.gate_model.specs.declared.event.Event.{Event}
 use Rattle.lawful_run.specs.Accepted.{Placed, commands_accepted, packets_accepted}
 use Rattle.lawful_run.specs.LinesTold.{LineTold}
-use Rattle.lawful_run.specs.Order.{ordered, events_in}
+use Rattle.lawful_run.specs.Merging.{merged, events_in}
 use Rattle.subscriber.specs.Standing.{SubscriberState, StandsFor}
 use Rattle.control_half.specs.declared.items.CommandItem.{CommandItem}
 use Rattle.counter_half.specs.declared.items.FlowItem.{FlowItem}
@@ -36,7 +36,7 @@ pub record AreOfLines (slot next : ℕ) (lines : List LineTold) (commands : List
 -- the epoch's events of a slot, where its packets meet so many commands
 abbrev pub events_met : ℕ → List Event → List LineTold → List ℕ → List Event
 events_met slot before lines counts =
-    ordered (length (commands_of before)) (length (packets_of before)) (commands_accepted slot lines)
+    merged (length (commands_of before)) (length (packets_of before)) (commands_accepted slot lines)
     (with_counts counts (packets_accepted slot lines))
 
 -- the events that the halves tell are the epoch's, at the counts that they noted

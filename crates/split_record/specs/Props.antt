@@ -3,7 +3,7 @@ use Rattle.std.specs.Prelude.{ℕ, ◌+◌, ◌≤◌, List, [], ◌∷◌, All}
 use Rattle.std.specs.Coded.{Coded-set, coded_ℕ, le_prop, ×_prop, Π_prop, Unit-prop}
 use Rattle.control_half.specs.declared.items.CommandItem.{CommandItem}
 use Rattle.counter_half.specs.declared.items.FlowItem.{FlowItem}
-use Rattle.counter_half.specs.Told.{AreLate}
+use Rattle.counter_half.specs.Tells.{AreLate}
 use Rattle.split_record.specs.Accepted.{MayStand, AreNumbered}
 use Rattle.split_record.specs.Rejoined.{AreAccepted}
 use Rattle.split_record.specs.declared.front.FrontEnd.{FrontEnd}

@@ -13,7 +13,7 @@ use Rattle.control_half.specs.declared.items.CommandItem.{CommandItem}
 use Rattle.counter_half.specs.declared.half.FlowHalf.{FlowHalf}
 use Rattle.counter_half.specs.declared.items.FlowItem.{FlowItem}
 use Rattle.counter_half.specs.Half as flow
-use Rattle.counter_half.specs.Told.{AreLate}
+use Rattle.counter_half.specs.Tells.{AreLate}
 use Rattle.split_record.specs.Accepted.{MayStand, AreNumbered}
 use Rattle.split_record.specs.Finishing.{Comes, Notes}
 use Rattle.split_record.specs.declared.front.FrontEnd.{FrontEnd}

@@ -13,7 +13,7 @@ use crate::parts::Commanded;
 use crate::{Finished, NoMemory};
 use bearer_state::Version;
 use control_half::{Batch, Controller};
-use counter_half::{FlowItem, FlowState};
+use counter_half::{FlowItem, HalfState};
 use pc_base::{Place, SliceNo};
 use std::alloc::Global;
 use subscriber::Subscriber;
@@ -24,7 +24,7 @@ pub(crate) struct Closing {
     pub(crate) control: Commanded,
     /// How many of the commands that were left in the lane are applied.
     pub(crate) applied: usize,
-    pub(crate) state: FlowState,
+    pub(crate) state: HalfState,
     /// A batch in hand, which is learnt before the others.
     pub(crate) taken: Option<Batch<Version>>,
     /// Batches that aren't learnt, in the order in which they are published.
@@ -286,7 +286,7 @@ impl Closing {
         let Closing { control, state, .. } = self;
         let Commanded { controller, .. } = control;
         let Controller { session, notes, .. } = controller;
-        let FlowState {
+        let HalfState {
             version,
             mut counters,
             done,

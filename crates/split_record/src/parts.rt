@@ -105,7 +105,7 @@ impl RecordParts {
         }
     }
 
-    /// Goes on where memory was wanting.
+    /// Goes on where memory ran out.
     pub fn again<R: Wait>(self, rt: &R) -> Result<Finished, RecordParts>
         ensures finished { IfOk result (λ made. Finishes (start_in self.origin) (commands_in self.origin)
             (items_in_all self.origin) (bound_for self.origin) made) }

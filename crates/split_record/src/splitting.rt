@@ -5,7 +5,7 @@ ghost use Rattle.split_record.specs.Rejoined.{IsSplit};
 
 use crate::FrontEnd;
 use control_half::ControlHalf;
-use counter_half::{FlowHalf, FlowRest, FlowState};
+use counter_half::{FlowHalf, FlowRest, HalfState};
 use lane_core::lane;
 use std::alloc::Global;
 use std::snapshot::Snapshot;
@@ -69,7 +69,7 @@ pub fn split(
         }
         Err(session) => {
             let FlowRest { state, .. } = flow.into_rest();
-            let FlowState {
+            let HalfState {
                 version,
                 counters,
                 ..

@@ -69,7 +69,7 @@ pub events_are_few : (subscriber : SubscriberState) (slot : ℕ) (events : List 
 events_are_few subscriber slot events taken room stands =
     omega (arith, room.few, all_counted events, stands.commands, stands.packets)
 
--- and what stands for few events has room
+-- and what represents few events has room
 pub room_behind : EventsBoundCounts → FewEventsLeaveRoom
 room_behind bound subscriber slot events taken stands few =
     let is = bound slot events in

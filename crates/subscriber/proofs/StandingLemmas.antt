@@ -1,4 +1,4 @@
--- A subscriber stands for one event more.
+-- A subscriber represents one event more.
 use Rattle.std.proofs.Common.{◌≡◌, ℕ, ◌+◌, List, [], ◌∷◌, ◌++◌, length, refl, sym, ap, ◌∙◌, subst, arith}
 use Rattle.pc_base.specs.declared.packet.Packet.{Packet}
 use Rattle.bearer_state.specs.Session.{SessionState, new_session}
@@ -90,7 +90,7 @@ packet_stands versions judges old new slot events taken packet stands session ve
       packets = omega (arith, packets, stands.packets, packets_more events packet);
     }
 
--- what counters learn of a command, behind the events that they stood for
+-- what counters learn of a command, behind the events that they represented
 pub record Learns (stood : counters.CountersState) (before after : VersionState) (slot : ℕ) (events : List Event)
     (taken : ℕ) (command : CommandKind) : Type 0 where
   pub stands : counters.StandsFor stood (past_of slot events).packets taken
@@ -116,7 +116,7 @@ learns follow old slot events taken command stood before after session room stan
       follows = subst (λ (v : VersionState). counters.Follows packets v) (sym next) (follow slot events command few);
     }
 
--- with its session put back a subscriber stands for what it stood for
+-- with its session put back a subscriber represents what it represented
 abbrev put_back : SessionState → SubscriberState → SubscriberState
 put_back session subscriber = record subscriber { session = session }
 

@@ -1,4 +1,4 @@
--- A subscriber at rest as contracts see it, and the events that it stands for.
+-- A subscriber at rest as contracts see it, and the events that it represents.
 use Rattle.std.specs.Prelude.{◌≡◌, ℕ, ◌+◌, List, length, Option}
 use Rattle.pc_base.specs.declared.packet.Packet.{Packet}
 use Rattle.pc_base.specs.declared.packet.Way.{Way}
@@ -7,7 +7,7 @@ use Rattle.bearer_state.specs.Version.{VersionState}
 use Rattle.packet_steps.specs.Standing as counters
 use Rattle.gate_model.specs.declared.event.Event.{Event}
 use Rattle.gate_model.specs.Events.{FewEvents, commands_of, packets_of}
-use Rattle.gate_model.specs.SlotPast.{past_of, session_after, version_after}
+use Rattle.gate_model.specs.SlotPast.{past_of, records_after, session_after, version_after}
 
 -- the session, the version that packets go by, the running counters, how many packets came, and the slice that the
 -- subscriber is bound for
@@ -25,7 +25,7 @@ commands_met subscriber = subscriber.version.number
 abbrev pub last_of : SubscriberState → Option ℕ
 last_of subscriber = counters.last_of subscriber.counters
 
--- A subscriber stands for the events of a slot, with so many of their charging records taken out: it has their session,
+-- A subscriber represents the events of a slot, with so many of their charging records taken out: it has their session,
 -- its version, their packets' counters, and their counts.
 pub record StandsFor (subscriber : SubscriberState) (slot : ℕ) (events : List Event) (taken : ℕ) : Type 0 where
   pub session : subscriber.session ≡ session_after slot events
@@ -34,8 +34,12 @@ pub record StandsFor (subscriber : SubscriberState) (slot : ℕ) (events : List 
   pub commands : commands_met subscriber ≡ length (commands_of events)
   pub packets : subscriber.packets ≡ length (packets_of events)
 
+-- It represents events of its slot, of which all charging records were taken out.
+abbrev pub Represents : SubscriberState → ℕ → List Event → Type 0
+Represents subscriber slot events = StandsFor subscriber slot events (length (records_after slot events))
+
 -- Where memory ran out at a command, the session may have done it, or not: for packets, records and counters the
--- subscriber stands for the events before all the same.
+-- subscriber represents the events before all the same.
 abbrev pub StandsForPackets : SubscriberState → ℕ → List Event → ℕ → Type 0
 StandsForPackets subscriber slot events taken =
     StandsFor (record subscriber { session = session_after slot events }) slot events taken

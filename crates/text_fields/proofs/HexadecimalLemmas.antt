@@ -56,7 +56,7 @@ value_of_lower : (digit value : ℕ) → value < 16 → lower digit ≡ slice_in
 value_of_lower digit value small is = let computed = digit_computed value small in grind (arith, nat_tests)
 
 -- what a decoded pair and its rest were made of
-record Parts (high low : ℕ) (behind : Result (List ℕ) FromHexError) (octets : List ℕ) : Type 0 where
+record DigitPair (high low : ℕ) (behind : Result (List ℕ) FromHexError) (octets : List ℕ) : Type 0 where
   first : ℕ
   second : ℕ
   rest : List ℕ
@@ -70,7 +70,7 @@ parts : (high low at : ℕ) (h l : Option ℕ) (behind : Result (List ℕ) FromH
     → hex_digit_value low ≡ l
     → (((digit_or_error high at h >>= (λ x. digit_or_error low (at + 1) l >>= (λ y. Ok (x * 16 + y)))) >>=
     (λ octet. behind >>= (λ rest. Ok (octet ∷ rest)))) ≡ Ok octets)
-    → Parts high low behind octets
+    → DigitPair high low behind octets
 parts high low at (Some first) (Some second) (Ok rest) octets is_h is_l decoded = record {
   first = first;
   second = second;

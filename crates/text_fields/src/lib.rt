@@ -27,7 +27,6 @@ mod hexadecimal;
 mod kept;
 mod laws;
 mod number;
-mod writing;
 
 pub use address::read_address;
 pub use fields::{cut, has_empty_field, next_piece};
@@ -39,4 +38,3 @@ pub use laws::{
     one_text_of_octets,
 };
 pub use number::read_number;
-pub use writing::{push_field, push_number};

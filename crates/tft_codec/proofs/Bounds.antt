@@ -138,7 +138,7 @@ pub contents_bound : (cs : List Component) → AreComponents cs → length (cont
 unfolding room_of
 contents_bound cs kept = contents_room cs [] (fresh_from_distinct [] (map type_octet cs) kept.differ)
 
--- a front of the contents, and one component more
+-- a prefix of the contents, and one component more
 pub front_bound : (cs : List Component) (i : ℕ) (d : Component) → i < length cs → AreComponents cs
     → length (contents (take i cs)) + length (component_text (get_or cs i d)) ≤ 44
 front_bound cs i d within kept =

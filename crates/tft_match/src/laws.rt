@@ -2,7 +2,7 @@
 ghost use Rattle.tft_match.specs.Choice.{OneFilterDecides};
 ghost use Rattle.tft_match.specs.Chosen.{ChosenIsTaken};
 
-/// Where the rows stand for different bearers in the order of their indices, and no two filters of a
+/// Where the rows are of different bearers in the order of their indices, and no two filters of a
 /// row have one identifier, it is one filter that decides.
 pub fn one_filter_decides()
     ensures { OneFilterDecides }

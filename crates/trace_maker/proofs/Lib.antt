@@ -2,5 +2,5 @@ pub mod Steps
 pub mod KindLemmas
 pub mod WritingLemmas
 pub mod TextLemmas
-pub mod OrderLemmas
+pub mod NumberingLemmas
 pub mod ReadLemmas

@@ -7,8 +7,8 @@ use Rattle.trace_lines.specs.Text.{line_text}
 use Rattle.trace_lines.proofs.InputLemmas.{at_end, whole_line}
 use Rattle.trace_lines.proofs.MeaningLemmas.{meaning_taken, text_means}
 use Rattle.trace_maker.specs.Generated.{attach_lines, drawn_lines, line_drawn, made, row_of, text_of}
-use Rattle.trace_maker.specs.Order.{AreInOrder}
-use Rattle.trace_maker.proofs.OrderLemmas.{made_in_order}
+use Rattle.trace_maker.specs.Numbering.{AreInOrder}
+use Rattle.trace_maker.proofs.NumberingLemmas.{made_in_order}
 
 read_from : (lines : List Line) (number least room : ℕ) → AreInOrder number least lines → 0 < room
     → input_within (length (text_of lines) + room) number least (text_of lines) ≡ record { lines = lines; stop = ended }

@@ -20,7 +20,7 @@ use Rattle.text_fields.proofs.PlainLemmas.{IsLow, low_decimal, low_address, digi
 use Rattle.trace_lines.specs.Line.{IsOctets}
 use Rattle.trace_lines.specs.Text.{arguments, kind_word}
 use Rattle.trace_lines.proofs.FormLemmas.{are_octets}
-use Rattle.trace_maker.specs.Order.{IsShort}
+use Rattle.trace_maker.specs.Numbering.{IsShort}
 use Rattle.trace_maker.specs.Packets.{server, packet, uplink, downlink}
 use Rattle.trace_maker.specs.Plan.{line_of}
 use Rattle.trace_maker.specs.Said.{IsSaid, imsi_of, kind_of}

@@ -1,6 +1,6 @@
 pub mod Draws
 pub mod Generated
-pub mod Order
+pub mod Numbering
 pub mod Packets
 pub mod Plan
 pub mod Said

@@ -2,7 +2,7 @@
 ghost use Rattle.std.specs.Prelude.{◌≡◌, ℕ, ◌+◌, ◌≤◌, length};
 ghost use Rattle.trace_lines.specs.Input.{ended, input_of};
 ghost use Rattle.trace_maker.specs.Generated.{made, text_of};
-ghost use Rattle.trace_maker.specs.Order.{AreInOrder};
+ghost use Rattle.trace_maker.specs.Numbering.{AreInOrder};
 
 /// The text of a generated trace says its lines: none is refused, and the trace stops at its end.
 pub fn a_made_trace_is_read()

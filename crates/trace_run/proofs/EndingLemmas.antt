@@ -20,9 +20,9 @@ use Rattle.trace_run.specs.Next.{Tells}
 use Rattle.trace_run.specs.Report.{IsBad, IsCutText, IsDone, IsEpochsText, IsFaultText, IsLong, IsText, Reports, Runs, input_with}
 use Rattle.trace_run.specs.Reporting.{IsDue, SaysEpochs}
 use Rattle.trace_run.specs.Status.{status_at}
-use Rattle.trace_run.specs.Told.{WhereTold}
+use Rattle.pc_outside.specs.WhereTold.{WhereTold}
 use Rattle.trace_run.proofs.ReadLemmas.{begins_more, fails_so, none_left, stops_so, told_next}
-use Rattle.trace_run.proofs.ToldLemmas.{told_map}
+use Rattle.pc_outside.proofs.ToldLemmas.{told_map}
 
 -- ---- where the lines end
 

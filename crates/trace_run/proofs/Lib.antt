@@ -1,4 +1,3 @@
-pub mod ToldLemmas
 pub mod NextLemmas
 pub mod ReadLemmas
 pub mod EndingLemmas

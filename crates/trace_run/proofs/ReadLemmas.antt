@@ -10,8 +10,8 @@ use Rattle.trace_run.specs.declared.reading.Next.{Next}
 use Rattle.trace_run.specs.declared.reading.Next.TheVariants as next
 use Rattle.trace_run.specs.Next.{SaysLine, Says, Tells}
 use Rattle.trace_run.specs.Lines.{HasRead, Stops, Fails}
-use Rattle.trace_run.specs.Told.{WhereTold}
-use Rattle.trace_run.proofs.ToldLemmas.{told_then}
+use Rattle.pc_outside.specs.WhereTold.{WhereTold}
+use Rattle.pc_outside.proofs.ToldLemmas.{told_then}
 
 after_lines-push : (done : List Line) (line : Line) (input : Input)
     → after_lines done (after_lines (line ∷ []) input) ≡ after_lines (done ++ line ∷ []) input

@@ -20,9 +20,9 @@ use Rattle.trace_run.specs.Report.{Runs}
 use Rattle.trace_run.specs.Reporting.{AnsweredAs, BreaksOff, HasWritten, IsDue, SaysEpochs, Standing}
 use Rattle.trace_run.specs.Status.{status_at, status_without}
 use Rattle.trace_run.specs.Takers.{IsNextOf, LinesCut}
-use Rattle.trace_run.specs.Told.{WhereTold}
+use Rattle.pc_outside.specs.WhereTold.{WhereTold}
 use Rattle.trace_run.proofs.EndingLemmas.{begins_of, runs_cut, runs_epochs_cut, runs_unwritten, runs_whole}
-use Rattle.trace_run.proofs.ToldLemmas.{told_map}
+use Rattle.pc_outside.proofs.ToldLemmas.{told_map}
 
 -- the next line's number counts the lines of the open epoch
 pub counts_next : (size : Size) (done open_ : List Line) (latest : ℕ) (line : Line) → Counts size (length done + 1) open_

@@ -12,7 +12,7 @@ use Rattle.trace_run.specs.declared.reading.Next.TheVariants as next
 use Rattle.trace_run.specs.Lines.{Begins, Reached}
 use Rattle.trace_run.specs.Next.{IsNext, Tells}
 use Rattle.trace_run.specs.Takers.{IsNextOf, LinesCut, LinesEnd, TakenSoFar}
-use Rattle.trace_run.specs.Told.{WhereTold}
+use Rattle.pc_outside.specs.WhereTold.{WhereTold}
 use Rattle.trace_run.proofs.EndingLemmas.{reached_last}
 use Rattle.trace_run.proofs.ReadLemmas.{begins_more, begins_so, told_more, told_next, GivesLine}
 

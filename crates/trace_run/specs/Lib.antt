@@ -1,4 +1,3 @@
-pub mod Told
 pub mod Entries
 pub mod Next
 pub mod Cut

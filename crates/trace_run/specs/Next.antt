@@ -7,7 +7,7 @@ use Rattle.trace_lines.specs.Line.{Line}
 use Rattle.trace_lines.specs.Text.{line_text}
 use Rattle.trace_lines.specs.declared.bad.LineBad.{LineBad}
 use Rattle.trace_lines.specs.declared.bad.LineBad.TheVariants as why
-use Rattle.trace_run.specs.Told.{WhereTold}
+use Rattle.pc_outside.specs.WhereTold.{WhereTold}
 use Rattle.trace_run.specs.declared.reading.Next.{Next}
 use Rattle.trace_run.specs.declared.reading.Next.TheVariants as next
 
@@ -38,7 +38,7 @@ abbrev pub Tells : Next → ℕ → ℕ → ℕ → ℕ → Option (List ℕ) �
 Tells what number least room after start now =
     WhereTold start now (λ octets rest. Says what number least room after octets rest)
 
--- a line takes room: for an octet at least and the newline, which may be wanting behind the last one
+-- a line takes room: for an octet at least and the newline, which may be absent behind the last one
 abbrev pub TakesRoom : Next → ℕ → ℕ → Type 0
 TakesRoom (next.Line line len) room after = after + 2 ≤ room
 TakesRoom (next.Last line len) room after = (after < room) × (2 ≤ room)

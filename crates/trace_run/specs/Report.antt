@@ -11,7 +11,7 @@ use Rattle.lawful_run.specs.Report.{Report, epoch_entries, report_text, texts_of
 use Rattle.lawful_run.specs.Trace.{is_whole}
 use Rattle.trace_run.specs.declared.status.Status.{Status}
 use Rattle.trace_run.specs.declared.status.Status.TheVariants as status
-use Rattle.trace_run.specs.Told.{WhereTold}
+use Rattle.pc_outside.specs.WhereTold.{WhereTold}
 
 -- Which reports an input may have is a relation, and whether places are told in its text a choice; the definitions
 -- below hold for any of them. The text is that of a report that the input may have.
@@ -105,6 +105,6 @@ pub record Runs (may_have : Input → Report → Type 0) (places : Bool) (ending
   pub written : Appends old new text
   pub report : WhereTold start left (λ octets rest. Reports may_have places ending source_failed octets rest text)
 
--- Where the input ends with its last line and nothing failed, memory alone can be wanting.
+-- Where the input ends with its last line and nothing failed, memory alone can run out.
 abbrev pub IsDone : Status → Type 0
 IsDone ending = (ending ≡ status.Ok) ⊎ (ending ≡ status.NoMemory)

@@ -5,7 +5,7 @@ use Rattle.trace_run.specs.declared.ending.Ending.{Ending}
 use Rattle.trace_run.specs.declared.ending.Unwritten.{Unwritten}
 use Rattle.trace_run.specs.declared.ending.Unwritten.TheVariants as unwritten
 use Rattle.trace_run.specs.Lines.{Begins, HasRead, Reached}
-use Rattle.trace_run.specs.Told.{WhereTold}
+use Rattle.pc_outside.specs.WhereTold.{WhereTold}
 
 -- a line that may come behind these, the last of which has this moment
 pub record IsNextOf (done : List Line) (latest : ℕ) (line : Line) : Type 0 where

@@ -6,14 +6,14 @@ ghost use Rattle.report_lines.specs.declared.entry.ChargeEntry.TheVariants.{R};
 ghost use Rattle.report_lines.specs.declared.entry.Entry.TheVariants as entry;
 ghost use Rattle.report_lines.specs.declared.entry.LineEntry.TheVariants as line_entry;
 ghost use Rattle.report_lines.specs.Lent.{IsShort};
-ghost use Rattle.slot_replay.specs.Replaying.{effects_caused, effects_told};
+ghost use Rattle.slot_replay.specs.Replaying.{effects_caused, effects_told, rows_closed, rows_told};
 ghost use Rattle.trace_lines.specs.Word.{word_of};
 ghost use Rattle.trace_run.specs.Entries.{charges_text, effects_text, line_of};
 
 use charging_book::ChargeRow;
 use packet_steps::LentVerdict;
 use pc_base::{Effect, Place, Reply, Slot};
-use slot_replay::Caused;
+use slot_replay::{Caused, Closed};
 use std::alloc::AllocError;
 use text_fields::Text;
 use trace_lines::LineBad;
@@ -164,13 +164,28 @@ fn push_row(report: &mut Text, slot: Slot, row: &ChargeRow) -> Result<(), AllocE
     end_line(report)
 }
 
-/// Appends the lines of a slot's charging records, in their order.
-pub fn push_rows(report: &mut Text, slot: Slot, rows: &[ChargeRow]) -> Result<(), AllocError>
+fn push_rows(report: &mut Text, slot: Slot, rows: &[ChargeRow]) -> Result<(), AllocError>
     ensures { (places : Bool) → OnOk result (report.new ≡ report.old
         ++ charges_text places (map (R slot) rows.now)) }
 {
     for row in rows {
         push_row(report, slot, row)?;
+    }
+    Ok(())
+}
+
+fn push_closed(report: &mut Text, closed: &Closed) -> Result<(), AllocError>
+    ensures { (places : Bool) → OnOk result (report.new ≡ report.old ++ charges_text places (rows_closed closed.now)) }
+{
+    push_rows(report, closed.slot, closed.rows.as_slice())
+}
+
+/// Appends the lines of charging records, in their order.
+pub fn push_records(report: &mut Text, records: &[Closed]) -> Result<(), AllocError>
+    ensures { (places : Bool) → OnOk result (report.new ≡ report.old ++ charges_text places (rows_told records.now)) }
+{
+    for closed in records {
+        push_closed(report, closed)?;
     }
     Ok(())
 }

@@ -15,11 +15,9 @@ mod taking;
 pub use ending::{Ending, Unwritten, status_at, status_without, write_octets, write_report};
 pub use entries::{
     end_line, push_answer, push_bad, push_effects, push_note, push_packet, push_placed,
-    push_refusal, push_rows,
+    push_records, push_refusal,
 };
-pub use epoch::Size;
 pub use opens::push_opens;
-pub use reading::{Next, next_line};
 pub use reporting::{Epochs, Reporter, run_report};
 pub use status::{Status, fault_text};
 pub use taking::{LineTaker, run_lines};

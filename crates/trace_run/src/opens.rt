@@ -1,16 +1,15 @@
 //! The open counters of subscribers.
 ghost use Rattle.std.specs.Prelude.{◌≡◌, ℕ, ◌<◌, ◌==◌, ◌++◌, Bool, List, find, flat_map, get_or, length, OnOk};
 ghost use Rattle.std.specs.Option.{option_copied};
-ghost use Rattle.at_rest.specs.Rest.{Represents};
 ghost use Rattle.bearer_state.specs.declared.version.ActiveBearer.{ActiveBearer};
 ghost use Rattle.charging_book.specs.Rows.{Counters};
 ghost use Rattle.gate_model.specs.declared.event.Event.{Event};
-ghost use Rattle.lawful_run.specs.Order.{Histories};
+ghost use Rattle.lawful_run.specs.Merging.{Histories};
 ghost use Rattle.lawful_run.specs.Outcomes.{opens};
 ghost use Rattle.lawful_run.specs.Run.{by_slot};
 ghost use Rattle.report_lines.specs.declared.entry.ChargeEntry.TheVariants.{O};
 ghost use Rattle.report_lines.specs.declared.entry.Entry.TheVariants as entry;
-ghost use Rattle.subscriber.specs.Standing.{StandsFor, SubscriberState};
+ghost use Rattle.subscriber.specs.Standing.{StandsFor, SubscriberState, Represents};
 ghost use Rattle.trace_run.specs.Entries.{charges_text, line_of, open_for};
 
 use crate::entries::end_line;

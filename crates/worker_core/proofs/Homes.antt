@@ -1,14 +1,15 @@
 -- How the lanes home are emptied, one after another.
-use Rattle.std.proofs.Common.{◌≡◌, ◌≢◌, ℕ, ◌+◌, ◌<◌, ◌≤◌, inl, inr, Bool, true, false, true≢false, List, [], ◌∷◌}
+use Rattle.std.proofs.Common.{◌≡◌, ◌≢◌, ℕ, ◌+◌, ◌<◌, ◌≤◌, ◌⊎◌, inl, inr, Bool, true, false, true≢false, List, [], ◌∷◌}
 use Rattle.std.proofs.Common.{length, map, get_or, refl, sym, ap, ◌∙◌, subst, arith, length-append}
 use Rattle.std.specs.Prelude.{nat_eq}
 use Rattle.std.proofs.lemmas.Bool.{eqb-true, eqb-false}
+use Rattle.std.proofs.lemmas.Simd.{map-map}
 use Rattle.lane_core.specs.declared.ends.Receiver.{Receiver}
 use Rattle.lane_core.specs.Ends.{taken, full_answers, empty_answers, raised}
 use Rattle.worker_core.specs.declared.desks.LaneDesk.{LaneDesk}
 use Rattle.worker_core.specs.Counts.{Rises}
 use Rattle.worker_core.specs.Desks.{homes_of, fulls_at, empties_at, home_count, Taken, Empty}
-use Rattle.worker_core.specs.Homes.{HomeEnded, TookOne, TookFrom}
+use Rattle.worker_core.specs.Homes.{HomeEnded, HomeStays, TookOne, TookFrom}
 use Rattle.worker_core.proofs.Rising.{rises_raised}
 use Rattle.worker_core.proofs.AtDesks.{at_now, at_before, at_other, at_same}
 
@@ -74,8 +75,7 @@ took_full slice admitted aside desks full = record {
 -- so many halves were taken from a lane home, and it wasn't empty yet
 pub record Taking {O H A : Type 0} (slice done : ℕ) (aside new_aside : List A)
     (desks now : List (LaneDesk O H)) : Type 0 where
-  pub others : (other : ℕ) → other ≢ slice → (home_count now other ≡ home_count desks other)
-      × (empties_at now other ≡ empties_at desks other)
+  pub others : (other : ℕ) → other ≢ slice → HomeStays other desks now
   pub so_many : home_count now slice ≡ home_count desks slice + done
   pub empties : empties_at now slice ≡ empties_at desks slice
   pub aside_grows : length aside ≤ length new_aside
@@ -135,44 +135,66 @@ module _ {O H A : Type 0} (slice : ℕ) (first : List A) (desks : List (LaneDesk
     fulls = taking.fulls;
   }
 
--- the lanes home of the slices below this one were emptied, and no other one was touched
-pub record TakenBelow {O H A : Type 0} (slice admitted : ℕ) (new_aside : List A)
+-- those of the chosen lanes home that are below this slice were emptied, and no other one was touched
+pub record TakenBelow {O H A : Type 0} (chosen : ℕ → Bool) (slice admitted : ℕ) (new_aside : List A)
     (desks now : List (LaneDesk O H)) : Type 0 where
-  pub ended : (low : ℕ) → low < slice → HomeEnded (length new_aside) admitted low desks now
-  pub others : (high : ℕ) → slice ≤ high → (home_count now high ≡ home_count desks high)
-      × (empties_at now high ≡ empties_at desks high)
+  pub ended : (low : ℕ) → low < slice → chosen low ≡ true → HomeEnded (length new_aside) admitted low desks now
+  pub others : (other : ℕ) → (slice ≤ other) ⊎ (chosen other ≡ false) → HomeStays other desks now
   pub fulls : (other : ℕ) → fulls_at now other ≡ fulls_at desks other
 
-pub below_none : {O H A : Type 0} (admitted : ℕ) (aside : List A) (desks : List (LaneDesk O H))
-    → TakenBelow 0 admitted aside desks desks
-below_none admitted aside desks = record {
-  ended = λ low within. absurd (omega arith);
-  others = λ high above. (refl, refl);
-  fulls = λ other. refl;
-}
+later : (chosen : ℕ → Bool) (slice other : ℕ) → (slice + 1 ≤ other) ⊎ (chosen other ≡ false)
+    → (slice ≤ other) ⊎ (chosen other ≡ false)
+later chosen slice other (inl above) = inl (omega arith)
+later chosen slice other (inr isnt) = inr isnt
 
-module _ {O H A : Type 0} (slice admitted : ℕ) (aside new_aside : List A)
+apart_from : (chosen : ℕ → Bool) (slice other : ℕ) → chosen slice ≡ true
+    → (slice + 1 ≤ other) ⊎ (chosen other ≡ false) → other ≢ slice
+apart_from chosen slice other is (inl above) e = absurd (omega arith)
+apart_from chosen slice other is (inr isnt) e = true≢false (sym is ∙ ap chosen (sym e) ∙ isnt)
+
+module _ {O H A : Type 0} (chosen : ℕ → Bool) where
+  pub below_none : (admitted : ℕ) (aside : List A) (desks : List (LaneDesk O H))
+      → TakenBelow chosen 0 admitted aside desks desks
+  below_none admitted aside desks = record {
+    ended = λ low within is. absurd (omega arith);
+    others = λ other out. (refl, refl);
+    fulls = λ other. refl;
+  }
+
+  -- one that isn't chosen is passed
+  pub below_passed : (slice admitted : ℕ) (aside : List A) (desks now : List (LaneDesk O H)) → chosen slice ≡ false
+      → TakenBelow chosen slice admitted aside desks now → TakenBelow chosen (slice + 1) admitted aside desks now
+  below_passed slice admitted aside desks now isnt had = record {
+    ended = λ low within is. elim (nat_eq low slice) as (λ b. nat_eq low slice ≡ b
+        → HomeEnded (length aside) admitted low desks now) [
+          | true ↦ λ e. absurd (true≢false (sym is ∙ ap chosen (eqb-true low slice e) ∙ isnt))
+          | false ↦ λ e. let apart : low ≢ slice = eqb-false low slice e in had.ended low (omega arith) is
+        ] refl;
+    others = λ other out. had.others other (later chosen slice other out);
+    fulls = had.fulls;
+  }
+
+module _ {O H A : Type 0} (chosen : ℕ → Bool) (slice admitted : ℕ) (aside new_aside : List A)
     (desks now new : List (LaneDesk O H)) where
-  pub below_more : (was : ℕ) → TakenBelow slice was aside desks now → was ≡ admitted
+  pub below_more : (was : ℕ) → chosen slice ≡ true → TakenBelow chosen slice was aside desks now → was ≡ admitted
       → TookFrom slice admitted aside new_aside now new
-      → length new_aside ≤ admitted → TakenBelow (slice + 1) admitted new_aside desks new
-  below_more was had same_count took few = record {
-    ended = λ low within. elim (nat_eq low slice) as (λ b. nat_eq low slice ≡ b
+      → length new_aside ≤ admitted → TakenBelow chosen (slice + 1) admitted new_aside desks new
+  below_more was chose had same_count took few = record {
+    ended = λ low within is. elim (nat_eq low slice) as (λ b. nat_eq low slice ≡ b
         → HomeEnded (length new_aside) admitted low desks new) [
           | true ↦ λ e. subst (λ (n : ℕ). HomeEnded (length new_aside) admitted n desks new)
               (sym (eqb-true low slice e)) here
           | false ↦ λ e. let apart : low ≢ slice = eqb-false low slice e in still low apart
-              (had.ended low (omega arith))
+              (had.ended low (omega arith) is)
         ] refl;
-    others = λ high above. let apart : high ≢ slice = λ e. absurd (omega arith) in (
-      (took.others high apart).0 ∙ (had.others high (omega arith)).0,
-      (took.others high apart).1
-          ∙ (had.others high (omega arith)).1,
-    );
+    others = λ other out.
+        let before = had.others other (later chosen slice other out) in
+        let after = took.others other (apart_from chosen slice other chose out) in
+        (after.0 ∙ before.0, after.1 ∙ before.1);
     fulls = λ other. took.fulls other ∙ had.fulls other;
   } where
-    same : (home_count now slice ≡ home_count desks slice) × (empties_at now slice ≡ empties_at desks slice)
-    same = had.others slice (omega arith)
+    same : HomeStays slice desks now
+    same = had.others slice (inl (omega arith))
 
     here : HomeEnded (length new_aside) admitted slice desks new
     here = elim took.ended [
@@ -193,25 +215,32 @@ module _ {O H A : Type 0} (slice admitted : ℕ) (aside new_aside : List A)
       ]
     ]
 
+-- what is counted of the ends of the lanes home stays as they do
+by_homes : {O H : Type 0} (desks now : List (LaneDesk O H)) → homes_of now ≡ homes_of desks → (slice : ℕ)
+    (count : Receiver H → ℕ) → get_or (map (λ (desk : LaneDesk O H). count desk.home) now) slice 0
+    ≡ get_or (map (λ (desk : LaneDesk O H). count desk.home) desks) slice 0
+by_homes {O} {H} desks now homes slice count = ap (λ l. get_or l slice 0)
+    (sym (map-map count (λ (desk : LaneDesk O H). desk.home) now) ∙ ap (map count) homes
+    ∙ map-map count (λ (desk : LaneDesk O H). desk.home) desks)
+
 -- how the lanes home ended stays, while orders are given
 pub ended_since : {O H A : Type 0} (admitted was : ℕ) (aside old_aside : List A) (slice : ℕ)
     (first desks now : List (LaneDesk O H))
     → homes_of now ≡ homes_of desks → aside ≡ old_aside → admitted ≡ was
     → HomeEnded (length old_aside) was slice first desks
     → HomeEnded (length aside) admitted slice first now
-ended_since {O} {H} {A} admitted was aside old_aside slice first desks now homes same alike ended = elim ended [
-  | inl rose ↦ inl (subst (Rises (empties_at first slice)) (sym (by_homes empty_answers)) rose)
+ended_since admitted was aside old_aside slice first desks now homes same alike ended = elim ended [
+  | inl rose ↦ inl (subst (Rises (empties_at first slice)) (sym (by_homes desks now homes slice empty_answers)) rose)
   | inr more ↦ elim more [
-    | inl many ↦ inr (inl (by_homes (λ home. length (taken home)) ∙ many))
+    | inl many ↦ inr (inl (by_homes desks now homes slice (λ home. length (taken home)) ∙ many))
     | inr full ↦ inr (inr (ap length same ∙ full ∙ sym alike))
   ]
-] where
-  map_map : {X Y : Type 0} (f : X → Y) (g : Y → ℕ) (xs : List X) → map (λ x. g (f x)) xs ≡ map g (map f xs)
-  map_map f g [] = refl
-  map_map f g (x ∷ xs) = ap (λ l. g (f x) ∷ l) (map_map f g xs)
+]
 
-  by_homes : (count : Receiver H → ℕ) → get_or (map (λ (desk : LaneDesk O H). count desk.home) now) slice 0
-      ≡ get_or (map (λ (desk : LaneDesk O H). count desk.home) desks) slice 0
-  by_homes count = ap (λ l. get_or l slice 0)
-      (map_map (λ (desk : LaneDesk O H). desk.home) count now ∙ ap (map count) homes
-      ∙ sym (map_map (λ (desk : LaneDesk O H). desk.home) count desks))
+-- and that one wasn't touched
+pub stays_since : {O H : Type 0} (slice : ℕ) (first desks now : List (LaneDesk O H)) → homes_of now ≡ homes_of desks
+    → HomeStays slice first desks → HomeStays slice first now
+stays_since slice first desks now homes stays = (
+  by_homes desks now homes slice (λ home. length (taken home)) ∙ stays.0,
+  by_homes desks now homes slice empty_answers ∙ stays.1,
+)

@@ -266,7 +266,7 @@ pub names_kept : {H N : Type 0} (name : H → N) (held : List H) (i : ℕ) (old 
     → map name (set held i new) ≡ map name held
 names_kept name held i old new is same = map-set_same name held i new old (same ∙ ap name is)
 
--- one value of a list, whatever stands for none
+-- one value of a list, whatever the default
 get_any : {H : Type 0} (xs : List H) (k : ℕ) (a b : H) → k < length xs → get_or xs k a ≡ get_or xs k b
 get_any [] k a b within = absurd (omega arith)
 get_any (x ∷ xs) zero a b within = refl

@@ -11,23 +11,25 @@ HomeEnded aside admitted slice old new =
     ⊎ (home_count new slice ≡ home_count old slice + 64)
     ⊎ (aside ≡ admitted)
 
+-- no half was taken from the lane home of a slice, and no look at it found it empty
+abbrev pub HomeStays : {O H : Type 0} → ℕ → List (LaneDesk O H) → List (LaneDesk O H) → Type 0
+HomeStays slice old new = (home_count new slice ≡ home_count old slice) × (empties_at new slice ≡ empties_at old slice)
+
 -- a look at the lane home of a slice: a half was taken, or none, since the lane was empty or no more may be kept
 -- aside
 pub record TookOne {O H A : Type 0} (went : Bool) (slice admitted : ℕ) (aside new_aside : List A)
     (old new : List (LaneDesk O H)) : Type 0 where
-  pub others : (other : ℕ) → other ≢ slice → (home_count new other ≡ home_count old other)
-      × (empties_at new other ≡ empties_at old other)
+  pub others : (other : ℕ) → other ≢ slice → HomeStays other old new
   pub more : went ≡ true → (home_count new slice ≡ home_count old slice + 1)
       × (empties_at new slice ≡ empties_at old slice)
   pub ended : went ≡ false → Rises (empties_at old slice) (empties_at new slice) ⊎ (length new_aside ≡ admitted)
   pub aside_grows : length aside ≤ length new_aside
   pub fulls : (other : ℕ) → fulls_at new other ≡ fulls_at old other
 
--- the lane home of a slice was emptied as far as it may be at once
+-- the lane home of a slice was emptied as far as it may be in one go
 pub record TookFrom {O H A : Type 0} (slice admitted : ℕ) (aside new_aside : List A)
     (old new : List (LaneDesk O H)) : Type 0 where
-  pub others : (other : ℕ) → other ≢ slice → (home_count new other ≡ home_count old other)
-      × (empties_at new other ≡ empties_at old other)
+  pub others : (other : ℕ) → other ≢ slice → HomeStays other old new
   pub ended : HomeEnded (length new_aside) admitted slice old new
   pub aside_grows : length aside ≤ length new_aside
   pub fulls : (other : ℕ) → fulls_at new other ≡ fulls_at old other

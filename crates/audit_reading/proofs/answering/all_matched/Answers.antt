@@ -2,7 +2,7 @@ use Rattle.std.proofs.Common.{◌≡◌, ◌+◌, ◌^◌, [], length, drop, sym
 use Rattle.std.specs.Global.{Vec}
 use Rattle.std.specs.Prelude.{option_map}
 use Rattle.std.proofs.lemmas.List.{drop_all, map-append}
-use Rattle.audit_sentences.specs.declared.told.Told.{Told}
+use Rattle.audit_sentences.specs.declared.told_line.ToldLine.{ToldLine}
 use Rattle.audit_sentences.specs.Meant.{lines_of}
 use Rattle.audit_reading.specs.Answering.{matched_all, matched_on}
 use Rattle.audit_reading.specs.Holding.{epochs_held, epochs_meant, meant_of}
@@ -41,12 +41,12 @@ loop-epoch-preserved c = record {
       (all_step c.loop-epoch.behind (epochs_held c.loop-epoch.all.items) (epochs_held c.push.new.self.items)
       c.args.epochs.now c.loop-epoch.epoch-index c.epoch-item.result (lent c.args.entries.now)
       (lines_of c.in-Some.lines.items) _ c.loop-epoch-test.true c.epoch-item.is
-      (ap (option_map (λ (lines : Vec Told). lines_of lines.items)) (sym c.in-Some.is) ∙ c.in_ok-lines.ensures
+      (ap (option_map (λ (lines : Vec ToldLine). lines_of lines.items)) (sym c.in-Some.is) ∙ c.in_ok-lines.ensures
       ∙ ap (λ e. matched_on (c.loop-epoch.behind + 1) [] (meant_of e)
       (drop c.loop-epoch.behind (lent c.args.entries.now)))
       c.deref.ensures.value)
       (ap epochs_held c.in_ok-push.ensures.items
-      ∙ map-append (λ (epoch : Vec Told). lines_of epoch.items) c.loop-epoch.all.items _)
+      ∙ map-append (λ (epoch : Vec ToldLine). lines_of epoch.items) c.loop-epoch.all.items _)
       c.loop-epoch.invariant.same);
 }
 

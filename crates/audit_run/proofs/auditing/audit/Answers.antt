@@ -1,6 +1,6 @@
 use Rattle.std.proofs.Common.{subst}
 use Rattle.audit_run.specs.Progress.{Reached}
-use Rattle.audit_run.specs.Report.{WhereTold}
+use Rattle.pc_outside.specs.WhereTold.{WhereTold}
 use Rattle.audit_run.proofs.auditing.audit.Goals as goal
 
 pub returns-in-Ended-clause-audits : goal.returns-in-Ended-clause-audits

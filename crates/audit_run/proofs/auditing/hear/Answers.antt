@@ -1,7 +1,7 @@
 use Rattle.std.proofs.Common.{List, ◌∷◌, [], ◌++◌, length, refl, sym, ap, ◌∙◌, subst, arith}
 use Rattle.std.specs.Io.KnownBytes.{prepend_known}
 use Rattle.audit_run.specs.Progress.{HasRead, Reached}
-use Rattle.audit_run.specs.Report.{WhereTold}
+use Rattle.pc_outside.specs.WhereTold.{WhereTold}
 use Rattle.audit_run.specs.Texts.{Text}
 use Rattle.audit_run.specs.declared.auditing.Stopped.TheVariants as stopped
 use Rattle.audit_run.proofs.ReadLemmas.{ends_big, ends_ended, ends_fault, ends_last, ends_long, read_more, room_of_last, room_of_whole}

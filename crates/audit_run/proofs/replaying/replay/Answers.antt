@@ -4,7 +4,7 @@ use Rattle.std.proofs.lemmas.List.{length-map}
 use Rattle.lawful_run.specs.LinesTold.{LineTold}
 use Rattle.lawful_run.specs.Run.{no_events}
 use Rattle.audit_sentences.specs.Meant.{line_told, lines_of}
-use Rattle.audit_sentences.specs.declared.told.Told.{Told}
+use Rattle.audit_sentences.specs.declared.told_line.ToldLine.{ToldLine}
 use Rattle.audit_reading.proofs.RestLemmas.{drop_mapped}
 use Rattle.audit_reading.specs.Holding.{epochs_held}
 use Rattle.audit_run.specs.Epochs.{AllCanGoOn}
@@ -28,7 +28,7 @@ take-requires c =
     let i = c.loop-lines.lines-index in
     let all = epochs_held c.args.epochs.now in
     let parts : drop i all ≡ lines_of c.deref.result.now ∷ drop (i + 1) all =
-    drop_mapped (λ (e : Vec Told). lines_of e.items) c.args.epochs.now i c.lines-item.result c.loop-lines-test.true
+    drop_mapped (λ (e : Vec ToldLine). lines_of e.items) c.args.epochs.now i c.lines-item.result c.loop-lines-test.true
     c.lines-item.is ∙ ap (λ xs. lines_of xs ∷ drop (i + 1) all) (sym c.deref.ensures.value) in
     can_take c.args.setup.now c.args.slots all (drop i all) (drop (i + 1) all) c.deref.result.now c.loop-lines.run
     c.requires.few_slots c.loop-lines.invariant parts
@@ -38,7 +38,7 @@ loop-lines-preserved c =
     let i = c.loop-lines.lines-index in
     let all = epochs_held c.args.epochs.now in
     let parts : drop i all ≡ lines_of c.deref.result.now ∷ drop (i + 1) all =
-    drop_mapped (λ (e : Vec Told). lines_of e.items) c.args.epochs.now i c.lines-item.result c.loop-lines-test.true
+    drop_mapped (λ (e : Vec ToldLine). lines_of e.items) c.args.epochs.now i c.lines-item.result c.loop-lines-test.true
     c.lines-item.is ∙ ap (λ xs. lines_of xs ∷ drop (i + 1) all) (sym c.deref.ensures.value) in
     goes_next c.args.setup.now c.args.slots all (drop i all) (drop (i + 1) all) (lines_of c.deref.result.now)
     c.loop-lines.run c.take.new.self c.loop-lines.invariant parts

@@ -1,5 +1,5 @@
 use Rattle.lawful_run.specs.Cut.{lines_in}
-use Rattle.epoch_drive.specs.Told.{told_by}
+use Rattle.epoch_drive.specs.Telling.{told_by}
 use Rattle.drive_run.specs.Standing.{events_behind}
 use Rattle.drive_run.proofs.StandLemmas.{next_so, stands_more, workers_still}
 use Rattle.drive_run.proofs.epochs.drive_lines.Goals as goal

@@ -1,5 +1,6 @@
 use Rattle.std.proofs.Common.{◌≡◌, ◌++◌, ap, ◌∙◌}
-use Rattle.epoch_drive.specs.Told.{rows_told, told_by}
+use Rattle.slot_replay.specs.Replaying.{rows_told}
+use Rattle.epoch_drive.specs.Telling.{told_by}
 use Rattle.trace_run.specs.Entries.{charges_text, effects_text, lines_text}
 use Rattle.drive_run.specs.Standing.{noted}
 use Rattle.packet_steps.proofs.ResultLemmas.{on_ok}

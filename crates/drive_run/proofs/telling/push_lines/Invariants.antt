@@ -1,5 +1,5 @@
 use Rattle.std.proofs.Common.{◌≡◌, ◌++◌, map, take}
-use Rattle.epoch_drive.specs.Told.{line_told}
+use Rattle.epoch_drive.specs.Telling.{line_told}
 use Rattle.trace_run.specs.Entries.{lines_text}
 use Rattle.drive_run.proofs.telling.push_lines.Given as goal
 

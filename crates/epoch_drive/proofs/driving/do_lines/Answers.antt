@@ -3,7 +3,7 @@ use Rattle.std.proofs.lemmas.List.{length-map}
 use Rattle.epoch_join.specs.Filling.{filled}
 use Rattle.slice_schedule.specs.Front.{Outcome}
 use Rattle.schedule_run.specs.Lines.{asked}
-use Rattle.schedule_run.specs.Told.{turns_behind, turns_told}
+use Rattle.schedule_run.specs.TurnsTold.{turns_behind, turns_told}
 use Rattle.subscriber.specs.Standing.{SubscriberState}
 use Rattle.epoch_drive.specs.Joins.{mets_at, replies_at}
 use Rattle.epoch_drive.specs.Meant.{bound_of, meaning_of}

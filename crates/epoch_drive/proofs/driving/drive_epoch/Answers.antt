@@ -1,5 +1,5 @@
 use Rattle.std.proofs.Common.{◌≡◌, ℕ, ◌+◌, List, length, refl, sym, ap, subst, arith}
-use Rattle.schedule_run.specs.Told.{turns_told}
+use Rattle.schedule_run.specs.TurnsTold.{turns_told}
 use Rattle.subscriber.specs.Standing.{SubscriberState}
 use Rattle.at_rest.specs.Rest.{AreAtRest, Rest}
 use Rattle.epoch_drive.specs.Lines.{latest_behind, rooms_of}

@@ -5,7 +5,7 @@ use Rattle.epoch_join.specs.Filling.{filled}
 use Rattle.epoch_drive.specs.Joins.{mets_at, replies_at}
 use Rattle.epoch_drive.specs.Meant.{IsWithin, meaning_of}
 use Rattle.epoch_drive.specs.Opened.{open_entries}
-use Rattle.epoch_drive.specs.Told.{AreShort, IsShortEntry}
+use Rattle.epoch_drive.specs.Telling.{AreShort, IsShortEntry}
 use Rattle.epoch_drive.specs.declared.epoch.Entry.{Entry}
 use Rattle.epoch_drive.proofs.EntryLemmas.{Joins, joins_next}
 use Rattle.epoch_drive.proofs.joining.join.Goals as goal

@@ -4,7 +4,7 @@ use Rattle.epoch_join.specs.Filling.{filled}
 use Rattle.epoch_drive.specs.Joins.{AllShort, mets_at, replies_at}
 use Rattle.epoch_drive.specs.Meant.{IsWithin, meaning_of}
 use Rattle.epoch_drive.specs.Opened.{open_entries}
-use Rattle.epoch_drive.specs.Told.{AreShort}
+use Rattle.epoch_drive.specs.Telling.{AreShort}
 use Rattle.epoch_drive.proofs.EntryLemmas.{Joins}
 use Rattle.epoch_drive.proofs.joining.join.Given as goal
 

@@ -1,5 +1,5 @@
 use Rattle.std.proofs.Common.{ap, length}
-use Rattle.report_lines.specs.Records.{Judged}
+use Rattle.report_lines.specs.Records.{PacketTold}
 use Rattle.report_lines.specs.Text.{place_fields}
 use Rattle.report_lines.proofs.WritingLemmas.{shown_by, alone_by, cut_back}
 use Rattle.report_lines.proofs.writing.push_judgement.Goals as goal
@@ -10,7 +10,7 @@ returns-then-places-clause-appended c =
     c.push_unplaced.new.out c.push_place_behind.new.out
     (place_fields c.judgement.inside.place c.judgement.inside.parked) c.if-places.true
     c.in_ok-push_unplaced.ensures.appended
-    (ap (λ (told : Judged). place_fields told.place told.parked) c.judgement.view_is)
+    (ap (λ (told : PacketTold). place_fields told.place told.parked) c.judgement.view_is)
     c.push_place_behind.ensures.appended
 
 pub returns-then-places-clause-kept : goal.returns-then-places-clause-kept

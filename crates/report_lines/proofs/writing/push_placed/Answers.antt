@@ -1,12 +1,12 @@
 use Rattle.std.proofs.Common.{ap, length}
 use Rattle.packet_steps.specs.Lent.{verdict_of}
-use Rattle.report_lines.specs.Records.{Judged}
+use Rattle.report_lines.specs.Records.{PacketTold}
 use Rattle.report_lines.proofs.WritingLemmas.{placed_by, cut_back}
 use Rattle.report_lines.proofs.writing.push_placed.Goals as goal
 
 pub returns-clause-appended : goal.returns-clause-appended
 returns-clause-appended c =
-    let told : Judged = record {
+    let told : PacketTold = record {
       line = c.args.line;
       slot = c.args.slot;
       number = c.args.number;

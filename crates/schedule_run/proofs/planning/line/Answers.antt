@@ -4,7 +4,7 @@ use Rattle.slice_schedule.specs.Front.{Done, line_done}
 use Rattle.slice_schedule.specs.Schedule.{turned_all}
 use Rattle.schedule_run.specs.Lines.{asked}
 use Rattle.schedule_run.specs.Setups.{bounds_of}
-use Rattle.schedule_run.specs.Told.{told_first}
+use Rattle.schedule_run.specs.TurnsTold.{told_first}
 use Rattle.schedule_run.proofs.planning.line.Goals as goal
 
 pub returns-clause-outcome : goal.returns-clause-outcome

@@ -6,7 +6,7 @@ use Rattle.packet_steps.specs.Lent.{verdict_of}
 use Rattle.report_lines.specs.Lent.{IsShort}
 use Rattle.slot_replay.specs.Lending.{HasOctets, verdict_with}
 use Rattle.slot_replay.specs.Replaying.{AreShort}
-use Rattle.slot_replay.specs.declared.replayed.Judged.{Judged}
+use Rattle.slot_replay.specs.declared.replayed.NumberedVerdict.{NumberedVerdict}
 use Rattle.slot_replay.proofs.Octets.{lent_octets, with_own}
 use Rattle.slot_replay.proofs.Steps.{plays_packet, room_for}
 use Rattle.slot_replay.proofs.replaying.do_packet.Goals as goal
@@ -40,5 +40,5 @@ returns-clause-short c = λ short.
     let few : length c.octets.result.now < 2 ^ 16 =
     omega (arith, ap length c.octets.ensures.octets, c.total_len-len.ensures.len, c.total_len-len.type_inv) in
     subst AreShort (sym c.in_ok-push_back.ensures.items)
-    (All-push (λ (judged : Judged). IsShort judged.verdict) c.args.replayed.now.packets.items _ short
+    (All-push (λ (judged : NumberedVerdict). IsShort judged.verdict) c.args.replayed.now.packets.items _ short
     (c.lend_again.ensures.short few))

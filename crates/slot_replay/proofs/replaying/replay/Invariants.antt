@@ -1,6 +1,6 @@
 use Rattle.std.proofs.Common.{◌≡◌, ℕ, ◌≤◌, List, length, take, drop}
 use Rattle.gate_model.specs.declared.event.Event.{Event}
-use Rattle.at_rest.specs.Rest.{Represents}
+use Rattle.subscriber.specs.Standing.{Represents}
 use Rattle.slot_replay.specs.Replaying.{AreLate, AreShort, Plays, counts_in, counts_of, latest_of, moment_of, placed_so, places_in, places_of}
 use Rattle.lawful_run.proofs.EventByEvent.{GoesAt}
 use Rattle.slot_replay.proofs.replaying.replay.Given as goal

@@ -1,4 +1,4 @@
-use Rattle.trace_maker.proofs.OrderLemmas.{made_in_order}
+use Rattle.trace_maker.proofs.NumberingLemmas.{made_in_order}
 use Rattle.trace_maker.proofs.ReadLemmas.{length-made}
 use Rattle.trace_maker.proofs.laws.made_lines_stand_in_order.Goals as goal
 

@@ -1,5 +1,5 @@
 use Rattle.std.proofs.Common.{sym, subst, ◌∙◌}
-use Rattle.at_rest.specs.Rest.{Represents}
+use Rattle.subscriber.specs.Standing.{Represents}
 use Rattle.lawful_run.specs.Outcomes.{opens}
 use Rattle.trace_run.proofs.OpenLemmas.{opens_more}
 use Rattle.trace_run.proofs.opens.push_opens.Goals as goal

@@ -1,9 +1,8 @@
 use Rattle.std.proofs.Common.{◌≡◌, ◌++◌, ◌<◌, ℕ, Bool, get_or, length}
-use Rattle.at_rest.specs.Rest.{Represents}
-use Rattle.lawful_run.specs.Order.{Histories}
+use Rattle.lawful_run.specs.Merging.{Histories}
 use Rattle.lawful_run.specs.Outcomes.{opens}
 use Rattle.lawful_run.specs.Run.{by_slot}
-use Rattle.subscriber.specs.Standing.{SubscriberState}
+use Rattle.subscriber.specs.Standing.{SubscriberState, Represents}
 use Rattle.trace_run.specs.Entries.{charges_text}
 use Rattle.trace_run.proofs.opens.push_opens.Given as goal
 

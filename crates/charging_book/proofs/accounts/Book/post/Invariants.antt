@@ -7,7 +7,7 @@ use Rattle.charging_book.specs.Posted.{pieces_after, rows_after, AllMayBePosted}
 use Rattle.charging_book.specs.Postings.{happening_of, MayAllFollow}
 use Rattle.charging_book.proofs.accounts.Book.post.Given as goal
 
--- the copy stands for what was posted so far, and its pieces went on by it
+-- the copy represents what was posted so far, and its pieces went on by it
 abbrev pub invariant-loop-posting : goal.invariant-loop-posting
 invariant-loop-posting l = record {
   stands : (happened : List Happening) (taken : ℕ) → StandsFor l.fn.self happened taken

@@ -3,8 +3,7 @@ use Rattle.flow_migration.specs.Pumps.{KeepsAside}
 use Rattle.flow_migration.specs.Places.{place_at}
 use Rattle.flow_migration.specs.Words.{Roll}
 use Rattle.flow_migration.proofs.Passes.{met_in_all, queues_in_all}
-use Rattle.worker_core.proofs.Homes.{ended_since}
-use Rattle.flow_migration.proofs.Marks.{stays_since}
+use Rattle.worker_core.proofs.Homes.{ended_since, stays_since}
 use Rattle.flow_migration.proofs.Pumps.{each_pumped, keeps_on}
 use Rattle.flow_migration.proofs.Queues.{pump_shortens, rests_at, moved_same}
 use Rattle.flow_migration.proofs.side.FlowSide.pump.Goals as goal

@@ -3,7 +3,8 @@ use Rattle.flow_migration.specs.Words.{Roll}
 use Rattle.worker_core.specs.Homes.{HomeEnded}
 use Rattle.flow_migration.specs.Pumps.{NoneLeaves}
 use Rattle.flow_migration.specs.Due.{IsMarked, marked_at}
-use Rattle.flow_migration.proofs.Marks.{marked_none, marked_more, unmarked, left_alone}
+use Rattle.worker_core.proofs.Homes.{below_none}
+use Rattle.flow_migration.proofs.Marks.{marked_more, unmarked, left_alone}
 use Rattle.flow_migration.proofs.Pumps.{takes_none, takes_then}
 use Rattle.flow_migration.proofs.side.FlowSide.take_all.Goals as goal
 
@@ -12,7 +13,7 @@ loop-slice-init g c = (
   refl,
   refl,
   takes_none (λ half. g.H.Flow.slot_at (g.H.Flow.name half)) _ _,
-  marked_none c.leaving-marks.result _ _ _,
+  below_none (marked_at c.leaving-marks.result) _ _ _,
 )
 
 pub loop-slice-preserved : goal.loop-slice-preserved

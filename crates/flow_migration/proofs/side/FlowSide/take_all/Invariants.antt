@@ -1,7 +1,8 @@
 use Rattle.std.proofs.Common.{◌≡◌, vec_len}
 use Rattle.flow_migration.specs.Pumps.{TakesHome}
 use Rattle.flow_migration.specs.Words.{roll_of}
-use Rattle.flow_migration.proofs.Marks.{TakenMarked}
+use Rattle.flow_migration.specs.Due.{marked_at}
+use Rattle.worker_core.proofs.Homes.{TakenBelow}
 use Rattle.flow_migration.proofs.side.FlowSide.take_all.Given as goal
 
 abbrev pub invariant-loop-slice : goal.invariant-loop-slice
@@ -10,4 +11,4 @@ invariant-loop-slice g l =
     × (vec_len l.self.desks ≡ vec_len l.fn.self.desks)
     × TakesHome (λ half. g.H.Flow.slot_at (g.H.Flow.name half)) l.fn.self.places.items l.self.places.items
     l.fn.self.aside.items l.self.aside.items
-    × TakenMarked l.marks l.slice l.self.admitted l.self.aside.items l.fn.self.desks.items l.self.desks.items
+    × TakenBelow (marked_at l.marks) l.slice l.self.admitted l.self.aside.items l.fn.self.desks.items l.self.desks.items

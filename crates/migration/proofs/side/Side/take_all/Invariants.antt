@@ -1,4 +1,4 @@
-use Rattle.std.proofs.Common.{◌≡◌, vec_len}
+use Rattle.std.proofs.Common.{◌≡◌, true, vec_len}
 use Rattle.migration.specs.Words.{roll_of}
 use Rattle.worker_core.proofs.Homes.{TakenBelow}
 use Rattle.migration.specs.Passes.{Passes}
@@ -9,7 +9,7 @@ abbrev pub invariant-loop-slice : goal.invariant-loop-slice
 invariant-loop-slice g l =
     (roll_of g.H.Traveller.name l.self ≡ roll_of g.H.Traveller.name l.fn.self)
     × (vec_len l.self.desks ≡ vec_len l.fn.self.desks)
-    × TakenBelow l.slice l.self.admitted l.self.aside.items l.fn.self.desks.items l.self.desks.items
+    × TakenBelow (λ _. true) l.slice l.self.admitted l.self.aside.items l.fn.self.desks.items l.self.desks.items
     × Passes (λ half. g.H.Traveller.slot_of (g.H.Traveller.name half)) g.H.Traveller.hop_of l.fn.self.places.items
     l.self.places.items l.fn.self.aside.items l.self.aside.items
     l.fn.self.desks.items l.self.desks.items

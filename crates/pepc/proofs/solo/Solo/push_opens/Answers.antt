@@ -1,6 +1,5 @@
 use Rattle.std.proofs.Common.{◌++◌, ◌<◌, ℕ, false, List, get_or, length, ap, sym, subst, ◌∙◌}
-use Rattle.at_rest.specs.Rest.{Represents}
-use Rattle.subscriber.specs.Standing.{SubscriberState}
+use Rattle.subscriber.specs.Standing.{SubscriberState, Represents}
 use Rattle.lawful_run.specs.Outcomes.{opens}
 use Rattle.lawful_run.specs.Run.{by_slot}
 use Rattle.packet_steps.proofs.ResultLemmas.{on_ok}

@@ -3,7 +3,7 @@ use Rattle.subscriber.specs.Standing.{SubscriberState, commands_met}
 use Rattle.control_half.specs.Published.{in_kept, in_batches}
 use Rattle.counter_half.specs.Handled.{HasHandled, items_in, places_in}
 use Rattle.counter_half.specs.State.{learnt_by}
-use Rattle.counter_half.specs.Told.{TellsLawfully}
+use Rattle.counter_half.specs.Tells.{TellsLawfully}
 use Rattle.counter_half.specs.declared.items.FlowItem.{FlowItem}
 use Rattle.split_record.specs.Origin.{start_in, commands_in, items_in_all, commands_left, handled_early}
 use Rattle.split_record.specs.Places.{at_closing}

@@ -6,7 +6,7 @@ use Rattle.counter_half.specs.Handled.{Handled, items_in, places_in}
 use Rattle.counter_half.specs.declared.half.FlowHalf.{FlowHalf}
 use Rattle.std.proofs.lemmas.List.{length-map}
 use Rattle.counter_half.specs.declared.items.FlowItem.{FlowItem}
-use Rattle.counter_half.specs.declared.flow_state.FlowState.{FlowState}
+use Rattle.counter_half.specs.declared.half_state.HalfState.{HalfState}
 use Rattle.split_record.specs.Places.{at_closing}
 use Rattle.split_record.specs.Rejoined.{AreAccepted, start_of, commands_sent}
 use Rattle.split_record.specs.declared.front.FrontEnd.{FrontEnd}
@@ -34,10 +34,10 @@ invariant_of-result-clause-whole c =
       started = ap (λ (n : flow.Named). n.started) c.into_rest.ensures.name ∙ one.started ∙ ap start_of (sym is.front);
       sent_are = ap commands_sent (sym is.front);
       items = (λ i. handled_by (is.flow i) ++ (is.left i).items)
-          ∙ ap (λ (s : FlowState). items_in s.handled.items ++ c.args.left.items) (sym c.into_rest.ensures.state);
-      early = ap (λ (s : FlowState). length s.handled.items) c.into_rest.ensures.state
+          ∙ ap (λ (s : HalfState). items_in s.handled.items ++ c.args.left.items) (sym c.into_rest.ensures.state);
+      early = ap (λ (s : HalfState). length s.handled.items) c.into_rest.ensures.state
           ∙ sym (length-map (c.args.flow.inner.value.state.handled.items) (λ (h : Handled). h.0))
           ∙ ap (λ (f : FlowHalf). length (handled_by f)) (sym is.flow);
-      places = ap (λ (s : FlowState). places_in s.notes.items ++ at_closing c.args.left.items)
+      places = ap (λ (s : HalfState). places_in s.notes.items ++ at_closing c.args.left.items)
           c.into_rest.ensures.state ∙ (λ i. places_of (sym is.flow i) ++ at_closing (sym is.left i).items);
     })

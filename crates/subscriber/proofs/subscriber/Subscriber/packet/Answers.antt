@@ -13,7 +13,7 @@ overflow_add-self c =
     let sum : c.self.inside.packets + 1 < 2 ^ 64 = omega (arith, c.requires.room.few, is) in
     omega (arith, sum)
 
--- what the counters stood for, of a list of events
+-- what the counters represented, of a list of events
 record Judges (c : goal.After-self-1) (slot : ℕ) (events : List Event) (taken : ℕ) : Type 0 where
   stood : counters.StandsFor c.self.inside.counters (past_of slot events).packets taken
   before : (past_of slot events).packets.version ≡ c.self.inside.version

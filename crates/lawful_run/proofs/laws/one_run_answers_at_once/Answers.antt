@@ -1,5 +1,0 @@
-use Rattle.lawful_run.proofs.OneRun.{run_is_one}
-use Rattle.lawful_run.proofs.laws.one_run_answers_at_once.Goals as goal
-
-pub returns : goal.returns
-returns c = run_is_one
