@@ -16,11 +16,11 @@ use Rattle.demux.specs.Texts.{move_note}
 use Rattle.demux.specs.Trace.{Meaning, command, move, note, book_of, decisions, destination_after, meant}
 use Rattle.demux.proofs.TraceLemmas.{book_of-push, destination_after-push}
 use Rattle.control_steps.specs.declared.command.CommandKind.{CommandKind}
-use Rattle.lawful_run.specs.Order.{Histories}
+use Rattle.lawful_run.specs.Merging.{Histories}
 use Rattle.lawful_run.specs.Trace.{meant_from, settled_by}
 use Rattle.gate_model.specs.declared.event.Event.{Event}
-use Rattle.subscriber.specs.Standing.{SubscriberState, StandsFor}
-use Rattle.at_rest.specs.Rest.{AreAtRest, HasEvents, IsAtRest, NewOneIsAtRest, Represents, destination_or}
+use Rattle.subscriber.specs.Standing.{SubscriberState, StandsFor, Represents}
+use Rattle.at_rest.specs.Rest.{AreAtRest, HasEvents, IsAtRest, NewOneIsAtRest, destination_or}
 use Rattle.at_rest.specs.Meant.{Admits, AreStanding, GoesOrStays, HasItsMoment, IsAdmitted, IsWithin, Moves, Stand, Stays, Turned, bound_of, meaning_of, meant_next}
 use Rattle.at_rest.specs.declared.meant.Meant.{Meant}
 use Rattle.at_rest.specs.declared.meant.Meant.TheVariants as now

@@ -7,10 +7,10 @@ use Rattle.demux.specs.Texts.{move_note}
 use Rattle.demux.specs.Trace.{Meaning, command, packet, move, note, book_of, destination_after, meaning}
 use Rattle.demux.specs.declared.decision.Whose.{Whose}
 use Rattle.demux.specs.declared.decision.Whose.TheVariants.{Known, New}
-use Rattle.lawful_run.specs.Order.{Histories}
+use Rattle.lawful_run.specs.Merging.{Histories}
 use Rattle.lawful_run.specs.Trace.{meant_from, settled_by}
-use Rattle.subscriber.specs.Standing.{SubscriberState, StandsFor, last_of}
-use Rattle.at_rest.specs.Rest.{AreAtRest, Represents, destination_or}
+use Rattle.subscriber.specs.Standing.{SubscriberState, StandsFor, last_of, Represents}
+use Rattle.at_rest.specs.Rest.{AreAtRest, destination_or}
 use Rattle.at_rest.specs.declared.meant.Meant.{Meant}
 use Rattle.at_rest.specs.declared.meant.Meant.TheVariants as meant
 
