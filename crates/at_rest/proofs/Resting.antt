@@ -1,11 +1,11 @@
 -- Subscribers between two epochs.
-use Rattle.std.proofs.Common.{◌≡◌, ℕ, ◌≤◌, arith, [], length, ap, sym, subst, unwrap_or}
+use Rattle.std.proofs.Common.{◌≤◌, arith, [], length, ap, sym, subst, unwrap_or}
 use Rattle.std.proofs.Math.Logic.{∥∥₁_elim, ∥∥₁_map}
 use Rattle.std.proofs.Props.{props}
 use Rattle.gate_model.specs.SlotPast.{records_after}
 use Rattle.bearer_state.specs.Session.{SessionState}
-use Rattle.subscriber.specs.Standing.{SubscriberState, FewEventsLeaveRoom, HasRoom}
-use Rattle.at_rest.specs.Rest.{HasEvents, IsAtRest, RestLeavesRoom, RestGoesOn, NewOneIsAtRest}
+use Rattle.subscriber.specs.Standing.{FewEventsLeaveRoom, HasRoom}
+use Rattle.at_rest.specs.Rest.{HasEvents, RestLeavesRoom, RestGoesOn, NewOneIsAtRest}
 
 pub room_left : FewEventsLeaveRoom → RestLeavesRoom
 room_left few_leave slices lines latest slot subscriber few rest =

@@ -1,5 +1,5 @@
 -- The gateway between two epochs: what it keeps, and the events that its subscribers represent.
-use Rattle.std.specs.Prelude.{◌≡◌, ℕ, ◌<◌, ◌≤◌, Option, Some, None, List, [], ◌∷◌}
+use Rattle.std.specs.Prelude.{◌≡◌, ℕ, ◌<◌, ◌≤◌, Option, Some, None, List, []}
 use Rattle.std.specs.Prelude.{length, get_or, slice_get, unwrap_or}
 use Rattle.trace_lines.specs.Line.{Line}
 use Rattle.demux.specs.Destinations.{home_slice}

@@ -8,33 +8,14 @@ use Rattle.report_lines.specs.declared.entry.LineEntry.TheVariants as line
 use Rattle.lawful_run.specs.Accepted.{Placed, accepted_command, accepted_packet, packets_accepted, command_count}
 use Rattle.lawful_run.specs.Answers.{Answers, AnswersAll}
 use Rattle.lawful_run.specs.LinesTold.{LineTold, lines_told}
-use Rattle.lawful_run.specs.Moves.{moves, is_moved, before_last_move}
+use Rattle.lawful_run.specs.Moves.{moves, before_last_move}
 use Rattle.epoch_join.specs.Floors.{command_floor, packet_floor, floor_for, command_floors, packet_floors}
-use Rattle.epoch_join.proofs.Ceilings.{is_moved-behind, packets_accepted-append, command_count-append}
+use Rattle.epoch_join.proofs.Ceilings.{packets_accepted-append, command_count-append}
+use Rattle.epoch_join.proofs.LastMoves.{last_move-push}
 use Rattle.epoch_join.proofs.Bounding.{map_some}
 use Rattle.epoch_join.proofs.Fillings.{answer_cases}
 use Rattle.slice_schedule.specs.Accounts.{Account, commanded, received, moved_on, account_after, account_of}
 use Rattle.driven_run.specs.Driven.{asks_of, driven, outcome_told}
-
--- the last move before a line more
-pub is_moved-last : (slot : ℕ) (front : List LineTold) (now : LineTold) → moves slot now ≡ false
-    → is_moved slot (front ++ now ∷ []) ≡ is_moved slot front
-is_moved-last slot [] now none = ap (λ test. test || false) none
-is_moved-last slot (first ∷ front) now none =
-    ap (λ rest. moves slot first || rest) (is_moved-last slot front now none)
-
-last_move-push : (slot : ℕ) (front : List LineTold) (now : LineTold) (test : Bool) → moves slot now ≡ test
-    → before_last_move slot (front ++ now ∷ []) ≡ cond test front (before_last_move slot front)
-last_move-push slot [] now true is = refl
-last_move-push slot [] now false is = refl
-last_move-push slot (first ∷ front) now true is =
-    ap (λ moved. cond moved (first ∷ before_last_move slot (front ++ now ∷ [])) [])
-    (is_moved-behind slot front (now ∷ []) (ap (λ test. test || false) is))
-    ∙ ap (λ rest. first ∷ rest) (last_move-push slot front now true is)
-last_move-push slot (first ∷ front) now false is =
-    let moved = is_moved-last slot front now is in
-    let rest = last_move-push slot front now false is in
-    λ i. cond (moved i) (first ∷ rest i) []
 
 -- an account behind some lines
 pub record IsAccount (slot : ℕ) (front : List LineTold) (account : Account) : Type 0 where

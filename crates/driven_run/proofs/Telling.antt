@@ -23,17 +23,12 @@ use Rattle.epoch_join.proofs.Fillings.{answer_cases}
 use Rattle.slice_schedule.specs.Front.{Outcome}
 use Rattle.slice_schedule.specs.Tallies.{Tally, with_command_line, with_packet_line, with_move, tally_after}
 use Rattle.driven_run.specs.Driven.{asks_of, outcome_told}
-use Rattle.driven_run.proofs.Accounting.{is_moved-last}
+use Rattle.epoch_join.specs.Marks.{AllParked, marks_since}
+use Rattle.epoch_join.proofs.LastMoves.{is_moved-last, since-move, since-other}
 
 -- how many lines move a slot
 abbrev pub move_times : ℕ → List LineTold → ℕ
 move_times slot lines = count_by (moves slot) lines
-
-abbrev pub AllParked : List Bool → Type 0
-AllParked marks = All (λ parked. IsTrue parked) marks
-
-abbrev pub marks_since : ℕ → List LineTold → List Bool
-marks_since slot lines = filter_map (parked_told slot) (behind_last_move slot lines)
 
 -- what the lines before tell of a slot
 pub record IsTally (slot : ℕ) (front : List LineTold) (tally : Tally) : Type 0 where
@@ -52,31 +47,6 @@ record Brings (slot : ℕ) (now : LineTold) (old new : Tally) : Type 0 where
   pub more_moves : new.moves ≡ old.moves + cond (moves slot now) 1 0
   pub parked : new.parked ≡ true
       → (moves slot now ≡ true) ⊎ ((old.parked ≡ true) × AllParked (cons_option (parked_told slot now) []))
-
--- the lines since the last move, with one more
-cond-push : (test : Bool) (some others : List LineTold) (now : LineTold)
-    → cond test (some ++ now ∷ []) (others ++ now ∷ []) ≡ cond test some others ++ now ∷ []
-cond-push true some others now = refl
-cond-push false some others now = refl
-
-since-move : (slot : ℕ) (front : List LineTold) (now : LineTold) → moves slot now ≡ true
-    → behind_last_move slot (front ++ now ∷ []) ≡ []
-since-move slot [] now is = ap (λ test. cond (test || false) [] (now ∷ [])) is
-since-move slot (first ∷ front) now is =
-    ap (λ moved. cond (moves slot first || moved) (behind_last_move slot (front ++ now ∷ []))
-    (first ∷ front ++ now ∷ [])) (is_moved-behind slot front (now ∷ []) (ap (λ test. test || false) is))
-    ∙ ap (λ test. cond test (behind_last_move slot (front ++ now ∷ [])) (first ∷ front ++ now ∷ []))
-    (or_right (moves slot first) true refl)
-    ∙ since-move slot front now is
-
-since-other : (slot : ℕ) (front : List LineTold) (now : LineTold) → moves slot now ≡ false
-    → behind_last_move slot (front ++ now ∷ []) ≡ behind_last_move slot front ++ now ∷ []
-since-other slot [] now is = ap (λ test. cond (test || false) [] (now ∷ [])) is
-since-other slot (first ∷ front) now is =
-    let moved = is_moved-last slot front now is in
-    let rest = since-other slot front now is in
-    (λ i. cond (moves slot first || moved i) (rest i) (first ∷ front ++ now ∷ []))
-    ∙ cond-push (is_moved slot (first ∷ front)) (behind_last_move slot front) (first ∷ front) now
 
 -- moves
 moved_by : (slot : ℕ) (front : List LineTold) (now : LineTold) (test : Bool) (old new : ℕ) → moves slot now ≡ test

@@ -76,7 +76,7 @@ late_floors slot packets front middle (now ∷ later) moved =
     (command_floors slot packets lines later)) (sym (append_assoc front middle (now ∷ []))) rest)
 
 -- floors of lines one behind the other
-cons_option-append : {X : Type 0} (own : Option X) (xs ys : List X)
+pub cons_option-append : {X : Type 0} (own : Option X) (xs ys : List X)
     → cons_option own (xs ++ ys) ≡ cons_option own xs ++ ys
 cons_option-append None xs ys = refl
 cons_option-append (Some x) xs ys = refl

@@ -3,3 +3,4 @@ pub mod Ceilings
 pub mod Fillings
 pub mod Bounding
 pub mod Joining
+pub mod LastMoves

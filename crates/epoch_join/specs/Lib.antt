@@ -1,3 +1,5 @@
 pub mod Filling
 pub mod Floors
 pub mod Joined
+pub mod Marks
+pub mod Opened

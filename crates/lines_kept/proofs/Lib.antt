@@ -1,0 +1,4 @@
+pub mod Pushes
+pub mod Parts
+pub mod Loads
+pub mod Keeps
