@@ -1,5 +1,5 @@
 -- What is written of what was heard, and what it comes to.
-use Rattle.std.proofs.Common.{◌≡◌, ℕ, List, [], ◌++◌, Option, None, Some, true, false, refl, sym, ap, ◌∙◌, subst}
+use Rattle.std.proofs.Common.{◌≡◌, ℕ, List, [], ◌++◌, Option, None, Some, is_some, true, false, refl, sym, ap, ◌∙◌, subst}
 use Rattle.std.specs.Io.KnownBytes.{Appends}
 use Rattle.std.proofs.KnownBytes.{Appends-nil}
 use Rattle.audit_reading.specs.Setups.{input_with}
@@ -22,6 +22,14 @@ use Rattle.balance_run.specs.Said.{HasBadLine, IsBalanced, IsTrace}
 use Rattle.balance_run.specs.Written.{text_of}
 use Rattle.balance_run.specs.declared.balancing.Balanced.{Balanced}
 use Rattle.balance_run.specs.declared.balancing.Balanced.TheVariants as ending_of
+
+pub none_of : (found : Option BadAt) → is_some found ≡ false → found ≡ None
+none_of None is = refl
+none_of (Some at) is = cc
+
+pub some_of : (found : Option BadAt) → is_some found ≡ true → (at : BadAt) × (found ≡ Some at)
+some_of None is = cc
+some_of (Some at) is = (at, refl)
 
 -- no line of the trace is refused · one is
 trace_heard_whole : (heard : Heard) (texts : List Text) → HasHeard heard texts → heard.bad ≡ None → IsTrace texts
@@ -125,14 +133,7 @@ report_said slices most heard start left old texts hears good outside =
       refl,
     ))
 
-pub fault_said : (slices most : ℕ) (start left old : Option (List ℕ)) (texts : List Text)
-    → WhereTold start left (λ octets rest. Reached stopped_at.ReadFault octets rest texts)
-    → Balances ending_of.ReadFault slices most start left old old
-fault_said slices most start left old texts =
-    nothing_said ending_of.ReadFault slices most start left old
-    (λ octets rest. Reached stopped_at.ReadFault octets rest texts) (λ octets rest at. (at, refl))
-
-pub long_said : (slices most : ℕ) (heard : Heard) (start left old : Option (List ℕ)) (texts : List Text)
+long_said : (slices most : ℕ) (heard : Heard) (start left old : Option (List ℕ)) (texts : List Text)
     → HasHeard heard texts → heard.bad ≡ None
     → WhereTold start left (λ octets rest. Reached stopped_at.LineLong octets rest texts)
     → Balances ending_of.LineLong slices most start left old old
@@ -141,7 +142,7 @@ long_said slices most heard start left old texts hears good =
     (λ octets rest. Reached stopped_at.LineLong octets rest texts)
     (λ octets rest at. (at.0, subst IsTrace (sym at.1) (trace_heard_whole heard texts hears good), refl))
 
-pub big_said : (slices most : ℕ) (heard : Heard) (start left old : Option (List ℕ)) (texts : List Text)
+big_said : (slices most : ℕ) (heard : Heard) (start left old : Option (List ℕ)) (texts : List Text)
     → HasHeard heard texts → heard.bad ≡ None
     → WhereTold start left (λ octets rest. Reached stopped_at.TooLong octets rest texts)
     → Balances ending_of.TooLong slices most start left old old
@@ -158,7 +159,7 @@ lines_read stopped_at.ReadFault octets rest texts other at = absurd (other refl)
 lines_read stopped_at.LineLong octets rest texts other at = at.1
 lines_read stopped_at.TooLong octets rest texts other at = at.1
 
-pub bad_said : (stop : Stopped) (slices most : ℕ) (heard : Heard) (at : BadAt) (start left old : Option (List ℕ))
+bad_said : (stop : Stopped) (slices most : ℕ) (heard : Heard) (at : BadAt) (start left old : Option (List ℕ))
     (texts : List Text) → (stop ≡ stopped_at.ReadFault → ⊥) → HasHeard heard texts → heard.bad ≡ Some at
     → WhereTold start left (λ octets rest. Reached stop octets rest texts)
     → Balances ending_of.BadLine slices most start left old old
@@ -169,6 +170,42 @@ bad_said stop slices most heard at start left old texts other hears bad =
           (bad_line_heard heard texts at hears bad),
       refl,
     ))
+
+-- a stop behind which nothing is read, unless a line of the trace is refused
+module _ (result : Balanced) (slices most : ℕ) (heard : Heard) (start left old : Option (List ℕ)) (texts : List Text)
+    (hears : HasHeard heard texts)
+    (refused : (at : BadAt) → heard.bad ≡ Some at → result ≡ ending_of.BadLine) where
+  abbrev Ends : Balanced → Type 0
+  Ends ending = Balances ending slices most start left old old
+
+  refused_so : (stop : Stopped) (at : BadAt) → (stop ≡ stopped_at.ReadFault → ⊥) → heard.bad ≡ Some at
+      → WhereTold start left (λ octets rest. Reached stop octets rest texts) → Ends result
+  refused_so stop at other is reached =
+      subst Ends (sym (refused at is)) (bad_said stop slices most heard at start left old texts other hears is reached)
+
+  pub long_so : (heard.bad ≡ None → result ≡ ending_of.LineLong)
+      → WhereTold start left (λ octets rest. Reached stopped_at.LineLong octets rest texts) → Ends result
+  long_so other reached = go heard.bad refl
+    where
+      go : (found : Option BadAt) → heard.bad ≡ found → Ends result
+      go None is = subst Ends (sym (other is)) (long_said slices most heard start left old texts hears is reached)
+      go (Some at) is = refused_so stopped_at.LineLong at (λ same. cc) is reached
+
+  pub big_so : (heard.bad ≡ None → result ≡ ending_of.TooLong)
+      → WhereTold start left (λ octets rest. Reached stopped_at.TooLong octets rest texts) → Ends result
+  big_so other reached = go heard.bad refl
+    where
+      go : (found : Option BadAt) → heard.bad ≡ found → Ends result
+      go None is = subst Ends (sym (other is)) (big_said slices most heard start left old texts hears is reached)
+      go (Some at) is = refused_so stopped_at.TooLong at (λ same. cc) is reached
+
+-- and where all was read
+pub refused_said : (slices most : ℕ) (heard : Heard) (at : BadAt) (start left old : Option (List ℕ)) (texts : List Text)
+    → HasHeard heard texts → heard.bad ≡ Some at
+    → WhereTold start left (λ octets rest. Reached stopped_at.Ended octets rest texts)
+    → Balances ending_of.BadLine slices most start left old old
+refused_said slices most heard at start left old texts =
+    bad_said stopped_at.Ended slices most heard at start left old texts (λ same. cc)
 
 -- lines have one list of entries, and so one text with planned moves
 pub one_text : (slices most : ℕ) (texts : List Text) (one other : List ℕ) → IsBalanced slices most texts one

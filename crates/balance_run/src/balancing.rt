@@ -1,8 +1,9 @@
 //! A trace levelled, from its input to what is written.
 ghost use Rattle.std.specs.Prelude.{◌≡◌, ◌+◌, ◌<◌, ◌≤◌, ◌^◌, ℕ, List, Option, length, vec_len};
-ghost use Rattle.std.specs.Prelude.{IfOk, None};
+ghost use Rattle.std.specs.Prelude.{IfOk, None, Some};
 ghost use Rattle.pc_outside.specs.Faults.{Rises};
 ghost use Rattle.pc_outside.specs.WhereTold.{WhereTold};
+ghost use Rattle.audit_reading.specs.declared.setup.BadAt.{BadAt};
 ghost use Rattle.audit_run.specs.Heard.{HasHeard};
 ghost use Rattle.audit_run.specs.Progress.{Reached};
 ghost use Rattle.audit_run.specs.Texts.{Text};
@@ -75,11 +76,23 @@ fn write<K: Sink>(text: &[u8], sink: &mut K) -> Balanced
     }
 }
 
+// A refused line of the trace goes before what stands behind it.
+fn unless_refused(heard: &Heard, ending: Balanced) -> Balanced
+    ensures refused { (at : BadAt) → heard.now.bad ≡ Some at → result ≡ Balanced.BadLine }
+    ensures other { heard.now.bad ≡ None → result ≡ ending }
+    ensures read_fault { result ≡ Balanced.ReadFault → ending ≡ Balanced.ReadFault }
+    ensures write_fault { result ≡ Balanced.WriteFault → ending ≡ Balanced.WriteFault }
+{
+    match heard.bad {
+        Some(_) => Balanced::BadLine,
+        None => ending,
+    }
+}
+
 // Levels what was heard of an input that ended as it should.
 fn level<K: Sink>(alloc: Global, slices: u8, most: u32, heard: &Heard, sink: &mut K) -> Balanced
     requires least { 1 ≤ slices }
     requires most { slices ≤ 64 }
-    requires good { heard.now.bad ≡ None }
     requires few { vec_len heard.now.lines + 1 < 2 ^ 40 }
     ensures balances { (start left : Option (List ℕ)) (texts : List Text) → HasHeard heard.now texts
         → WhereTold start left (λ octets rest. Reached Stopped.Ended octets rest texts)
@@ -88,6 +101,9 @@ fn level<K: Sink>(alloc: Global, slices: u8, most: u32, heard: &Heard, sink: &mu
     ensures later { K.faults sink.old ≤ K.faults sink.new }
     ensures write_fault { result ≡ Balanced.WriteFault → Rises (K.faults sink.old) (K.faults sink.new) }
 {
+    if heard.bad.is_some() {
+        return Balanced::BadLine;
+    }
     if heard.outside {
         return Balanced::BadReport;
     }
@@ -135,10 +151,9 @@ pub fn balance<S: Source, K: Sink>(
         Err(AllocError) => return Balanced::NoMemory,
     };
     match stop {
-        Stopped::ReadFault => Balanced::ReadFault,
-        _ if heard.bad.is_some() => Balanced::BadLine,
-        Stopped::LineLong => Balanced::LineLong,
-        Stopped::TooLong => Balanced::TooLong,
         Stopped::Ended => level(alloc, slices, most, &heard, sink),
+        Stopped::ReadFault => Balanced::ReadFault,
+        Stopped::LineLong => unless_refused(&heard, Balanced::LineLong),
+        Stopped::TooLong => unless_refused(&heard, Balanced::TooLong),
     }
 }
