@@ -1,11 +1,11 @@
-use Rattle.std.proofs.Common.{◌≡◌, ◌+◌, ap, ◌∙◌, subst, inl, inr, arith}
+use Rattle.std.proofs.Common.{◌≡◌, ◌+◌, ap, ◌∙◌, subst, arith}
 use Rattle.bearer_state.specs.Version.{VersionState, version_of}
 use Rattle.control_steps.specs.Table.{controlled}
 use Rattle.packet_steps.specs.Change.{learnt}
 use Rattle.gate_model.specs.SlotPast.{past_of}
 use Rattle.subscriber.specs.Standing.{SubscriberState}
 use Rattle.packet_steps.specs.Running.{brought, Advances}
-use Rattle.subscriber.proofs.StandingLemmas.{learns, command_stands, still_stands}
+use Rattle.subscriber.proofs.StandingLemmas.{learns, command_stands}
 use Rattle.subscriber.proofs.subscriber.Subscriber.command.Goals as goal
 
 pub version-requires : goal.version-requires
