@@ -19,8 +19,8 @@ pub fn one_thread_is_lawful_on_slices()
     ensures { OneThreadIsLawful }
 {}
 
-/// An audit finds nothing to refute in a report that one thread made of a trace: held against one thread, or against 64
-/// slices with any room and lanes.
+/// An audit finds nothing to refute in a report that one thread made of a trace: held against one thread, or against
+/// 64 slices with any room and lanes.
 pub fn own_report_is_confirmed()
     ensures yes { OwnReportIsConfirmed }
     ensures only { OwnReportIsNeverRefuted }
