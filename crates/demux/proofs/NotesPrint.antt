@@ -84,12 +84,12 @@ words_are_note text is = note_of text (words_some text is) (words_print text is)
 some_before : (one other : List ℕ) → 0 < length one → 0 < length (one ++ 32 ∷ other)
 some_before one other some = omega (arith, some, length-append one (32 ∷ other))
 
-pub told_is_note : (word octets : List ℕ) → 0 < length word → Prints word → Small octets → IsNote (told word octets)
+pub told_is_note : (word octets : List ℕ) → 0 < length word → Prints word → Small octets → IsNote (octets_note word octets)
 told_is_note word octets some prints small =
-    note_of (told word octets) (some_before word (encode_lower octets) some)
+    note_of (octets_note word octets) (some_before word (encode_lower octets) some)
     (behind_space word (encode_lower octets) prints (octets_print octets small))
 
-pub words_told : (word octets : List ℕ) → is_words word ≡ true → Small octets → IsNote (told word octets)
+pub words_told : (word octets : List ℕ) → is_words word ≡ true → Small octets → IsNote (octets_note word octets)
 words_told word octets is small = told_is_note word octets (words_some word is) (words_print word is) small
 
 replied_is_note : (word : List ℕ) (reply : Option (List ℕ)) → 0 < length word → Prints word → IfSome reply Small
