@@ -1,5 +1,6 @@
 //! How many packets of each slot a report tells.
-ghost use Rattle.std.specs.Prelude.{◌≡◌, ◌==◌, ℕ, ◌+◌, ◌<◌, ◌≤◌, ◌^◌, ◌++◌, ◌∷◌, [], IfOk, OnOk, count_by, filter_map, get_or, length};
+ghost use Rattle.std.specs.Prelude.{◌≡◌, ◌==◌, ℕ, ◌+◌, ◌<◌, ◌≤◌, ◌^◌, ◌++◌, ◌∷◌, [], IfOk, OnOk, count_by};
+ghost use Rattle.std.specs.Prelude.{filter_map, get_or, length};
 ghost use Rattle.balance_run.specs.Packets.{packet_in};
 ghost use Rattle.balance_run.specs.Writing.{IsTold};
 

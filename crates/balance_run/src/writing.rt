@@ -1,5 +1,6 @@
 //! The trace that is written, line after line.
-ghost use Rattle.std.specs.Prelude.{◌≡◌, ℕ, ◌+◌, ◌<◌, ◌≤◌, ◌^◌, ◌++◌, ◌∷◌, [], All, List, map, get_or, set, length, sum_by, IfOk, OnOk};
+ghost use Rattle.std.specs.Prelude.{◌≡◌, ℕ, ◌+◌, ◌<◌, ◌≤◌, ◌^◌, ◌++◌, ◌∷◌, [], All, List, map, get_or, set};
+ghost use Rattle.std.specs.Prelude.{length, sum_by, IfOk, OnOk};
 ghost use Rattle.balance_plan.specs.Loads.{IsBelow, SlotsRise};
 ghost use Rattle.demux.specs.Destinations.{bound_for, home_slice};
 ghost use Rattle.demux.specs.Resolved.{IsDecision, IsDue, book_behind, book_with};
