@@ -1,0 +1,4 @@
+pub mod PieceLemmas
+pub mod MeterLemmas
+pub mod PlanLemmas
+pub mod BroughtLemmas

@@ -1,0 +1,5 @@
+use Rattle.parts_laws.proofs.BroughtLemmas.{versions_are_alike}
+use Rattle.parts_laws.proofs.laws.versions_are_alike.Goals as goal
+
+pub returns : goal.returns
+returns c = versions_are_alike
