@@ -19,7 +19,7 @@ use Rattle.charging_book.proofs.Places.{none_of_all, distinct-push}
 use Rattle.gate_model.proofs.Members.{In, of_map, in_map, of_find, contains_in, in_contains}
 use Rattle.parts_laws.specs.Alike.{piece_for, life_of, ArePiecesAlike, AlikePiecesStayAlike}
 
-abbrev lives : List Piece → List ℕ
+abbrev pub lives : List Piece → List ℕ
 lives pieces = map life_of pieces
 
 -- what is looked up behind a change of pieces
@@ -50,7 +50,7 @@ find_pushed life (p ∷ ps) new =
       | false ↦ rest
     ]
 
-abbrev left_out : ℕ → Piece → Bool
+abbrev pub left_out : ℕ → Piece → Bool
 left_out gone piece = not (is_of gone piece)
 
 find_gone : (life : ℕ) (pieces : List Piece) → piece_for life (filter (left_out life) pieces) ≡ None
@@ -82,7 +82,7 @@ find_left life gone (p ∷ ps) differs =
     ]
 
 -- lives behind a change
-lives_mapped : (f : Piece → Piece) → ((p : Piece) → (f p).counts.life ≡ p.counts.life) → (pieces : List Piece)
+pub lives_mapped : (f : Piece → Piece) → ((p : Piece) → (f p).counts.life ≡ p.counts.life) → (pieces : List Piece)
     → lives (map f pieces) ≡ lives pieces
 lives_mapped f same [] = refl
 lives_mapped f same (p ∷ ps) = let here = same p in let rest = lives_mapped f same ps in cc
@@ -186,16 +186,16 @@ made_alike (closed life why) pieces others alike =
     rows_alike life (λ piece. row_from piece.counts (moments_in piece) why ∷ []) pieces others alike
 
 -- what is done to the pieces of a life keeps lives
-abbrev goes : ℕ → (Piece → Piece) → Piece → Piece
+abbrev pub goes : ℕ → (Piece → Piece) → Piece → Piece
 goes life f piece = cond (is_of life piece) (f piece) piece
 
-goes_keeps : (life : ℕ) (f : Piece → Piece) → ((p : Piece) → (f p).counts.life ≡ p.counts.life) → (p : Piece)
+pub goes_keeps : (life : ℕ) (f : Piece → Piece) → ((p : Piece) → (f p).counts.life ≡ p.counts.life) → (p : Piece)
     → (goes life f p).counts.life ≡ p.counts.life
 goes_keeps life f same p =
     let is = same p in
     elim (is_of life p) as (λ t. (cond t (f p) p).counts.life ≡ p.counts.life) [ true ↦ is | false ↦ refl ]
 
-one_keeps : (p : Forwarded) (piece : Piece) → (with_one p piece).counts.life ≡ piece.counts.life
+pub one_keeps : (p : Forwarded) (piece : Piece) → (with_one p piece).counts.life ≡ piece.counts.life
 one_keeps p piece =
     elim (fill (counts_with p piece)) as
     (λ t. (cond t (next_behind (counts_with p piece)) (piece_of (counts_with p piece) (moments_with p piece))).counts.life
@@ -242,7 +242,7 @@ alike_pushed new pieces others none alike =
     }
 
 -- the lives of the book of pieces are theirs
-lives_are : (pieces : List Piece) → map (λ (c : Counters). c.life) (map counts_in pieces) ≡ lives pieces
+pub lives_are : (pieces : List Piece) → map (λ (c : Counters). c.life) (map counts_in pieces) ≡ lives pieces
 lives_are [] = refl
 lives_are (p ∷ ps) = ap (λ ls. p.counts.life ∷ ls) (lives_are ps)
 

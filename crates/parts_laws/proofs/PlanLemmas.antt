@@ -70,7 +70,7 @@ plans_alike version old other pieces others packet alike =
     (way_alike version old other packet packet.way alike.meters alike.held)
 
 -- what is planned to pass is of an active bearer
-abbrev IsOfBearer : VersionState → Plan → Type 0
+abbrev pub IsOfBearer : VersionState → Plan → Type 0
 IsOfBearer version plan.NoBearer = Unit {0}
 IsOfBearer version plan.Spoof = Unit {0}
 IsOfBearer version (plan.Idle life) = Unit {0}
@@ -129,7 +129,7 @@ way_of version old packet Down =
     down_of version old packet (bearer_for version packet.octets)
     (found_chosen version.bearers (chosen version.rows packet.octets))
 
-plan_of : (version : VersionState) (old : CountersState) (packet : Packet)
+pub plan_of : (version : VersionState) (old : CountersState) (packet : Packet)
     → IsOfBearer version (planned version old packet)
 plan_of version old packet =
     let known = way_of version old packet packet.way in

@@ -10,10 +10,15 @@ use Rattle.charging_book.specs.Parts.{ArePiecesOf}
 use Rattle.charging_book.specs.Posted.{is_of, pieces_after, rows_after, AllMayBePosted}
 use Rattle.bearer_state.specs.declared.version.ActiveBearer.{ActiveBearer}
 use Rattle.bearer_state.specs.Qos.{is_guaranteed}
-use Rattle.bearer_state.specs.Version.{VersionState, IsVersion}
+use Rattle.bearer_state.specs.Bearer.{AreBearers}
+use Rattle.bearer_state.specs.Session.{SessionState, IsSession}
+use Rattle.bearer_state.specs.Version.{VersionState, IsVersion, version_of}
+use Rattle.control_steps.specs.declared.command.CommandKind.{CommandKind}
+use Rattle.control_steps.specs.Table.{controlled}
 use Rattle.packet_steps.specs.declared.meters.Meters.{Meters}
 use Rattle.packet_steps.specs.Meters.{own_meter}
 use Rattle.packet_steps.specs.Standing.{CountersState}
+use Rattle.packet_steps.specs.Parts.{PartsState, IsMadeOf, buckets_in}
 use Rattle.packet_steps.specs.Running.{planned, charged_by, GoesOn, brought, Advances}
 
 -- the piece of a life
@@ -89,3 +94,18 @@ pub record VersionsAreAlike : Type 0 where
       → AllMayBePosted pieces (brought before after old).charged
       → Advances before after old new → Advances before after other next
       → AreChargedAlike after old other new next pieces others (brought before after old).charged
+
+-- So do the bearers of any session at a command.
+abbrev pub SessionsKeepPlaces : Type 0
+SessionsKeepPlaces = (session : SessionState) (command : CommandKind) (number next : ℕ) → IsSession session
+    → AreBearers session.bearers
+    → KeepPlaces (version_of session number) (version_of (controlled session command).0 next)
+
+-- Counters that were made of parts under a version are like those that the parts were read of, in whatever order the
+-- pieces are.
+abbrev pub MadeOnesAreAlike : Type 0
+MadeOnesAreAlike = (version : VersionState) (counters other : CountersState) (pieces : List Piece) (parts : PartsState)
+    → length counters.meters.own ≡ 11 → ArePiecesOf counters.book pieces → IsMadeOf version parts other
+    → parts.last ≡ counters.last → parts.buckets ≡ buckets_in version.bearers counters.meters
+    → parts.held ≡ counters.held → ArePiecesAlike pieces parts.pieces
+    → AreAlike version counters other pieces parts.pieces

@@ -5,4 +5,7 @@
 
 mod laws;
 
-pub use laws::{alike_pieces_stay_alike, packets_are_alike, versions_are_alike};
+pub use laws::{
+    alike_pieces_stay_alike, made_ones_are_alike, packets_are_alike, pieces_may_be_charged,
+    versions_are_alike,
+};
