@@ -59,7 +59,7 @@ fn whole_lines(octets: &[u8]) -> &[u8] {
 }
 
 // What is due where a read fails behind so many octets: of a trace the answer to its whole lines, of a capture that to
-// all octets, of an audit nothing.
+// all octets, of an audit and of planned moves nothing.
 fn due(
     alloc: Global,
     row: &Call,
@@ -69,7 +69,7 @@ fn due(
 ) -> Result<Vec<u8>, AllocError> {
     let taken = input.get(..octets).unwrap_or(input);
     let given = match row.word(3) {
-        b"audit" => return Ok(Vec::new(alloc)),
+        b"audit" | b"balance" => return Ok(Vec::new(alloc)),
         b"import" => taken,
         _ => whole_lines(taken),
     };

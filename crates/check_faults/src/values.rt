@@ -60,6 +60,11 @@ pub fn words(alloc: Global, row: &Call, text: &mut String) -> Result<(), AllocEr
             push_told(text, ", lane ", &lane)?;
             text.push('\n')
         }
+        Some(Job::Balance { slices, most }) => {
+            push_told(text, "balance: ", &slices)?;
+            push_told(text, " slices, at most ", &most)?;
+            text.push('\n')
+        }
     }
 }
 
@@ -150,6 +155,7 @@ pub fn statuses(text: &mut String) -> Result<(), AllocError> {
         Status::TooLong,
         Status::Refuted,
         Status::BadCapture,
+        Status::BadReport,
     ];
     for status in all {
         push_told(text, "", &status.code())?;

@@ -5,7 +5,7 @@ use Rattle.std.specs.Option.{option_map_or}
 use Rattle.std.specs.Str.Parse.{digits_value}
 use Rattle.text_fields.specs.Fields.{pieces}
 use Rattle.text_fields.specs.Number.{is_decimal, number_in}
-use Rattle.command_words.specs.Job.{Command, IsInRange, LanesInRange, TurnsInRange, audit_job, commands, drive_job, has_number, job_of, lanes_audit, lanes_by, lanes_of, make_job, number_of, number_or, solo_audit, turns_of}
+use Rattle.command_words.specs.Job.{Command, IsInRange, LanesInRange, TurnsInRange, audit_job, balance_job, commands, drive_job, has_number, job_of, lanes_audit, lanes_by, lanes_of, make_job, number_of, number_or, solo_audit, turns_of}
 use Rattle.command_words.specs.Options.{Given, given_once, has_flag, value_of}
 use Rattle.command_words.specs.Turns.{comma, last_worker, most_turns, numbers_in, turns_asked, turns_in}
 use Rattle.command_words.specs.Words.{Text}
@@ -226,6 +226,21 @@ audit_keeps given asked is = go (has_flag (codes "solo") given) is
     go true e = solo_keeps given asked e
     go false e = lanes_keep given asked e
 
+balance_keeps : (given : List Given) (asked : Job) → balance_job given ≡ Some asked → IsInRange asked
+balance_keeps given asked is =
+    go (number_of (codes "slices") 1 64 2 given) (number_of (codes "most") 1 16 4 given)
+    (λ n e. number_within (codes "slices") 1 64 2 given n (lit≤ tt, lit≤ tt) e)
+    (λ n e. number_within (codes "most") 1 16 4 given n (lit≤ tt, lit≤ tt) e) is
+  where
+    go : (slices most : Option ℕ) → ((n : ℕ) → slices ≡ Some n → IsWithin 1 64 n)
+        → ((n : ℕ) → most ≡ Some n → IsWithin 1 16 n)
+        → option_and_then (λ s. option_map (λ m. job.Balance s m) most) slices ≡ Some asked → IsInRange asked
+    go None most few small e = absurd (cc)
+    go (Some s) None few small e = absurd (cc)
+    go (Some s) (Some m) few small e =
+        let same : job.Balance s m ≡ asked = cc in
+        subst IsInRange same ((few s refl).0, (few s refl).1, (small m refl).0, (small m refl).1)
+
 abbrev AllKeep : List Command → Type 0
 AllKeep [] = Unit {0}
 AllKeep (command ∷ rest) = Keeps command × AllKeep rest
@@ -236,7 +251,10 @@ bare_keeps is range given asked e = let same : is ≡ asked = cc in subst IsInRa
 all_keep : AllKeep commands
 all_keep = (
   bare_keeps job.Solo tt,
-  (drive_keeps, (make_keeps, (bare_keeps job.Import tt, (bare_keeps job.Export tt, (audit_keeps, tt))))),
+  (
+    drive_keeps,
+    (make_keeps, (bare_keeps job.Import tt, (bare_keeps job.Export tt, (audit_keeps, (balance_keeps, tt))))),
+  ),
 )
 
 found_keeps : (of : List Command) (word : Text) (command : Command) → AllKeep of

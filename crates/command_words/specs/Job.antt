@@ -76,6 +76,12 @@ lanes_audit given = option_map (λ (lanes : Lanes). job.Audit false lanes.slices
 abbrev pub audit_job : List Given → Option Job
 audit_job given = if has_flag (codes "solo") given then solo_audit given else lanes_audit given
 
+-- the slices of `balance`, and the most moves behind a FENCE
+abbrev pub balance_job : List Given → Option Job
+balance_job given =
+    option_and_then (λ slices. option_map (λ most. job.Balance slices most) (number_of (codes "most") 1 16 4 given))
+    (number_of (codes "slices") 1 64 2 given)
+
 -- a command without options
 abbrev pub bare : Text → Job → Command
 bare name is = record { name = name; forms = []; job = λ given. Some is }
@@ -93,6 +99,9 @@ abbrev pub audit_forms : List Form
 audit_forms = without_value (codes "solo") ∷ with_value (codes "slices") ∷ with_value (codes "room")
     ∷ with_value (codes "lane") ∷ []
 
+abbrev pub balance_forms : List Form
+balance_forms = with_value (codes "slices") ∷ with_value (codes "most") ∷ []
+
 abbrev pub drive_command : Command
 drive_command = record { name = codes "drive"; forms = drive_forms; job = drive_job }
 
@@ -102,6 +111,9 @@ make_command = record { name = codes "make"; forms = make_forms; job = make_job 
 abbrev pub audit_command : Command
 audit_command = record { name = codes "audit"; forms = audit_forms; job = audit_job }
 
+abbrev pub balance_command : Command
+balance_command = record { name = codes "balance"; forms = balance_forms; job = balance_job }
+
 -- The commands of the program.
 abbrev pub commands : List Command
 commands = bare (codes "solo") job.Solo
@@ -110,6 +122,7 @@ commands = bare (codes "solo") job.Solo
     ∷ bare (codes "import") job.Import
     ∷ bare (codes "export") job.Export
     ∷ audit_command
+    ∷ balance_command
     ∷ []
 
 -- the command of the first word, with the options that the others give
@@ -144,3 +157,4 @@ IsInRange job.Export = Unit {0}
 IsInRange (job.Audit solo slices room lane) =
     (1 ≤ slices) × (slices ≤ 64) × (IsTrue solo → slices ≡ 64) × (1 ≤ room) × (room ≤ 256) × (1 ≤ lane)
     × (lane ≤ 16384)
+IsInRange (job.Balance slices most) = (1 ≤ slices) × (slices ≤ 64) × (1 ≤ most) × (most ≤ 16)

@@ -41,4 +41,10 @@ pub enum Job {
         room: u32,
         lane: u32,
     },
+    /// `balance`: write a trace with moves planned by a report of it, over 1 to 64 slices, at most so many
+    /// (1 to 16) behind each `FENCE`.
+    Balance {
+        slices: u8,
+        most: u32,
+    },
 }

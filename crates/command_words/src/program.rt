@@ -2,7 +2,7 @@
 ghost use Rattle.std.specs.Prelude.{◌≡◌, IfOk, false, take};
 ghost use Rattle.clap.specs.Words.{app_of, rule_of, shape_of};
 ghost use Rattle.clap.specs.declared.builder.command.Command.TheViews.{out-Command as fields_of};
-ghost use Rattle.command_words.specs.Job.{audit_command, drive_command, make_command};
+ghost use Rattle.command_words.specs.Job.{audit_command, balance_command, drive_command, make_command};
 ghost use Rattle.command_words.specs.Options.{with_value, without_value};
 ghost use Rattle.command_words.specs.Program.{command_shape, no_commands, option_rule, program_app};
 
@@ -70,6 +70,15 @@ fn audit<'a>(alloc: Global) -> Result<Command<'a>, AllocError>
         .arg(with_value(alloc, "lane"))
 }
 
+fn balance<'a>(alloc: Global) -> Result<Command<'a>, AllocError>
+    ensures shape { IfOk result (λ command. shape_of command ≡ command_shape balance_command) }
+    ensures local { IfOk result (λ command. (fields_of command).has_globals ≡ false) }
+{
+    Command::new(alloc, "balance")
+        .arg(with_value(alloc, "slices"))?
+        .arg(with_value(alloc, "most"))
+}
+
 // The program without its commands: one is wanted, and there are no help texts.
 fn no_commands<'a>(alloc: Global) -> Command<'a>
     ensures { app_of result ≡ no_commands }
@@ -92,5 +101,6 @@ pub fn program<'a>(alloc: Global) -> Result<Command<'a>, AllocError>
         .subcommand(make(alloc)?)?
         .subcommand(Command::new(alloc, "import"))?
         .subcommand(Command::new(alloc, "export"))?
-        .subcommand(audit(alloc)?)
+        .subcommand(audit(alloc)?)?
+        .subcommand(balance(alloc)?)
 }

@@ -6,8 +6,8 @@ ghost use Rattle.std.specs.Option.{option_map, option_map_or};
 ghost use Rattle.std.specs.String.{string_bytes};
 ghost use Rattle.clap.specs.Words.{first_value, found_of, subcommand_rows_of};
 ghost use Rattle.text_fields.specs.Number.{number_in};
-ghost use Rattle.command_words.specs.Job.{Command, IsInRange, asked_of, audit_forms, audit_job, commands, has_number};
-ghost use Rattle.command_words.specs.Job.{job_of};
+ghost use Rattle.command_words.specs.Job.{Command, IsInRange, asked_of, audit_forms, audit_job, balance_forms};
+ghost use Rattle.command_words.specs.Job.{balance_job, commands, has_number, job_of};
 ghost use Rattle.command_words.specs.Job.{LanesInRange, drive_forms, drive_job, lanes_audit, lanes_by, make_forms};
 ghost use Rattle.command_words.specs.Job.{make_job, solo_audit};
 ghost use Rattle.command_words.specs.Options.{Given};
@@ -163,6 +163,14 @@ fn lanes(matches: &ArgMatches<'_>) -> Option<Lanes>
     Some(Lanes { slices, room, lane })
 }
 
+fn balance_job(matches: &ArgMatches<'_>) -> Option<Job>
+    ensures { (given : List Given) → Gives matches.now balance_forms given → result ≡ balance_job given }
+{
+    let slices = octet_number(matches, "slices", 1, 64, 2)?;
+    let most = small_number(matches, "most", 1, 16, 4)?;
+    Some(Job::Balance { slices, most })
+}
+
 fn drive_job(alloc: Global, matches: &ArgMatches<'_>) -> Result<Option<Job>, AllocError>
     ensures { (given : List Given) → Gives matches.now drive_forms given
         → IfOk result (λ asked. asked ≡ drive_job given) }
@@ -212,6 +220,7 @@ fn job_named(alloc: Global, name: &str, matches: &ArgMatches<'_>) -> Result<Opti
         "import" => Ok(Some(Job::Import)),
         "export" => Ok(Some(Job::Export)),
         "audit" => Ok(audit_job(matches)),
+        "balance" => Ok(balance_job(matches)),
         _ => Ok(None),
     }
 }

@@ -75,6 +75,7 @@ audit_complete setup ending source_failed sink_failed octets start left old new 
         subst (λ f. Settles f status.Refuted)
         (one_finding setup (texts_of octets).lines (Some reports.1.0) found reports.1.1.finds finds) (inl refl)
     by_status status.BadCapture l text reports read write = absurd reports
+    by_status status.BadReport l text reports read write = absurd reports
 
     by_left : (l : Option (List ℕ)) → WhereTold (Some octets) l (λ o rest. AuditReports ending setup o rest runs.text)
         → Settles found ending

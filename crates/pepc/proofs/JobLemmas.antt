@@ -12,6 +12,7 @@ use Rattle.pepc.specs.Jobs.{Completes, Does}
 use Rattle.pepc.specs.Make.{IsMakeFront, Made, Makes}
 use Rattle.trace_run.specs.Report.{IsDone}
 use Rattle.pepc.proofs.AuditReports.{audit_complete, nothing_audited, nothing_settles}
+use Rattle.pepc.proofs.BalanceReports.{balance_complete, nothing_balanced}
 use Rattle.pepc.proofs.ExportReports.{export_complete, nothing_exported}
 use Rattle.pepc.proofs.ImportReports.{import_complete, nothing_imported}
 use Rattle.pepc.proofs.ReportLemmas.{nothing_runs}
@@ -44,6 +45,7 @@ nothing_done (Some job.Import) source_failed start old = nothing_imported source
 nothing_done (Some job.Export) source_failed start old = nothing_exported source_failed start old
 nothing_done (Some (job.Audit solo slices room lane)) source_failed start old =
     nothing_audited (audit_setup solo slices room lane) start old
+nothing_done (Some (job.Balance slices most)) source_failed start old = nothing_balanced slices most start old
 
 pub nothing_completes : (asked : Option Job) (start : Option (List ℕ)) → Completes asked status.NoMemory start
 nothing_completes None start = tt
@@ -53,6 +55,7 @@ nothing_completes (Some (job.Make seed subs lines summary)) start = inr refl
 nothing_completes (Some job.Import) start = λ octets is stop. inr refl
 nothing_completes (Some job.Export) start = λ octets is stop. inr refl
 nothing_completes (Some (job.Audit solo slices room lane)) start = λ octets is stop found finds. nothing_settles found
+nothing_completes (Some (job.Balance slices most)) start = λ octets is stop good each. inr refl
 
 make_complete : (ending : Status) (sink_failed : Type 0) (summary : Bool) (lines : List Line) (text : List ℕ)
     → (sink_failed → ⊥) → (ending ≡ status.WriteFault → sink_failed) → Made ending summary lines text
@@ -67,6 +70,7 @@ make_complete status.LineLong sink_failed summary lines text no_sink write is = 
 make_complete status.TooLong sink_failed summary lines text no_sink write is = absurd is
 make_complete status.Refuted sink_failed summary lines text no_sink write is = absurd is
 make_complete status.BadCapture sink_failed summary lines text no_sink write is = absurd is
+make_complete status.BadReport sink_failed summary lines text no_sink write is = absurd is
 
 -- a job that ends with this status, where nothing failed
 pub job_completes : (asked : Job) (ending : Status) (source_failed sink_failed : Type 0)
@@ -96,3 +100,8 @@ job_completes (job.Audit solo slices room lane) ending source_failed sink_failed
     λ octets is stop found finds.
     audit_complete (audit_setup solo slices room lane) ending source_failed sink_failed octets start left old new found is
     stop no_source no_sink read write finds does
+job_completes (job.Balance slices most) ending source_failed sink_failed start left old new no_source no_sink read write
+    usage does =
+    λ octets is stop good each.
+    balance_complete slices most ending source_failed sink_failed octets start left old new is stop good each no_source
+    no_sink read write does

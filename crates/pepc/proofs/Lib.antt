@@ -16,3 +16,4 @@ pub mod ExportLemmas
 pub mod ExportReports
 pub mod ImportReports
 pub mod AuditReports
+pub mod BalanceReports

@@ -37,6 +37,7 @@ AuditReports status.TooLong setup octets left text = ((texts_of octets).stop ≡
 AuditReports status.Refuted setup octets left text =
     IsReadWhole octets left × ((k : ℕ) × SaysWhole setup octets text (Some k))
 AuditReports status.BadCapture setup octets left text = ⊥
+AuditReports status.BadReport setup octets left text = ⊥
 
 -- octets were appended to what a sink tells, and they say what is found of those that a source told
 pub record Audits (setup : Setup) (ending : Status) (start left old new : Option (List ℕ)) : Type 0 where

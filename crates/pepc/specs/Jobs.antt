@@ -8,7 +8,10 @@ use Rattle.trace_run.specs.declared.status.Status.{Status}
 use Rattle.drive_run.specs.Driven.{IsDrivenReport}
 use Rattle.audit_run.specs.Findings.{Finds}
 use Rattle.audit_run.specs.Texts as texts
+use Rattle.audit_run.specs.Said.{HasNoEntry, report_texts}
+use Rattle.balance_run.specs.Said.{IsTrace}
 use Rattle.pepc.specs.Audit.{Audits, Settles, audit_setup}
+use Rattle.pepc.specs.Balance.{Balances}
 use Rattle.pepc.specs.Drive.{schedule_asked}
 use Rattle.pepc.specs.Export.{Exports}
 use Rattle.pepc.specs.Import.{Imports}
@@ -31,6 +34,8 @@ Does (Some job.Import) ending source_failed start left old new = Imports ending 
 Does (Some job.Export) ending source_failed start left old new = Exports ending source_failed start left old new
 Does (Some (job.Audit solo slices room lane)) ending source_failed start left old new =
     Audits (audit_setup solo slices room lane) ending start left old new
+Does (Some (job.Balance slices most)) ending source_failed start left old new =
+    Balances slices most ending start left old new
 
 -- Where nothing failed and the octets end as they should, a job is done, unless memory ran out.
 abbrev pub Completes : Option Job → Status → Option (List ℕ) → Type 0
@@ -47,3 +52,6 @@ Completes (Some job.Export) ending start =
 Completes (Some (job.Audit solo slices room lane)) ending start =
     (octets : List ℕ) → start ≡ Some octets → (texts.texts_of octets).stop ≡ texts.ended → (found : Option ℕ)
     → Finds (audit_setup solo slices room lane) (texts.texts_of octets).lines found → Settles found ending
+Completes (Some (job.Balance slices most)) ending start =
+    (octets : List ℕ) → start ≡ Some octets → (texts.texts_of octets).stop ≡ texts.ended
+    → IsTrace (texts.texts_of octets).lines → ¬ HasNoEntry (report_texts (texts.texts_of octets).lines) → IsDone ending

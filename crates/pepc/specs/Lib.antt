@@ -7,6 +7,7 @@ pub mod Counting
 pub mod Make
 pub mod Progress
 pub mod Audit
+pub mod Balance
 pub mod Export
 pub mod ExportProgress
 pub mod Import

@@ -3,6 +3,7 @@
 #![tactic(auto)]
 
 mod audit;
+mod balance;
 mod drive;
 mod entry_text;
 mod export;

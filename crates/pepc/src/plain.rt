@@ -6,6 +6,7 @@ ghost use Rattle.pc_outside.specs.Faults.{Rises};
 ghost use Rattle.pepc.specs.Jobs.{Completes, Does};
 
 use crate::audit::audit;
+use crate::balance::balance;
 use crate::drive::drive;
 use crate::export::export;
 use crate::import::import;
@@ -61,14 +62,15 @@ fn do_job<S: Source, K: Sink>(alloc: Global, asked: Job, source: &mut S, sink: &
             };
             audit(alloc, &setup, source, sink)
         }
+        Job::Balance { slices, most } => balance(alloc, slices, most, source, sink),
     }
 }
 
 /// Does what the words say, without the program's name. `solo` and `drive` read a trace from the source and write
 /// its report to the sink, epoch by epoch, as one thread answers it or under a schedule of turns; `make` writes a
 /// generated trace, or the summary of its report; `import` makes a trace of a capture, and `export` a capture of a
-/// trace; `audit` reads a trace and a report of it, and writes whether the report is a lawful one. Other words are
-/// Usage.
+/// trace; `audit` reads a trace and a report of it, and writes whether the report is a lawful one, and `balance` the
+/// trace with planned moves. Other words are Usage.
 pub fn run_plain<S: Source, K: Sink>(
     alloc: Global,
     words: &[String],

@@ -330,6 +330,7 @@ complete may_have places ending source_failed sink_failed octets start left old 
         absurd (not_big (sym stop ∙ reports.0))
     by_status status.Refuted l text reports read write usage = absurd reports
     by_status status.BadCapture l text reports read write usage = absurd reports
+    by_status status.BadReport l text reports read write usage = absurd reports
 
     by_left : (l : Option (List ℕ)) → WhereTold (Some octets) l
         (λ o rest. Reports may_have places ending source_failed o rest runs.text) → IsDone ending

@@ -97,6 +97,7 @@ Reports may_have places status.TooLong source_failed octets left text =
     ((input_of octets).stop ≡ big) × IsText may_have places (input_of octets) text
 Reports may_have places status.Refuted source_failed octets left text = ⊥
 Reports may_have places status.BadCapture source_failed octets left text = ⊥
+Reports may_have places status.BadReport source_failed octets left text = ⊥
 
 -- octets were appended to what a sink tells, and they are the report of what a source told
 pub record Runs (may_have : Input → Report → Type 0) (places : Bool) (ending : Status) (source_failed : Type 0)

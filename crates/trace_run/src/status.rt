@@ -25,6 +25,8 @@ pub enum Status {
     Refuted,
     /// The octets are no capture from some place on; the trace of the records before was written.
     BadCapture,
+    /// A line of the report is no entry; nothing was written.
+    BadReport,
 }
 
 impl Status {
@@ -43,6 +45,7 @@ impl Status {
             Status::TooLong => 8,
             Status::Refuted => 9,
             Status::BadCapture => 10,
+            Status::BadReport => 12,
         }
     }
 }
@@ -62,5 +65,6 @@ pub fn fault_text(status: Status) -> &'static str
         Status::TooLong => "pepc: input too long",
         Status::Refuted => "pepc: report refuted",
         Status::BadCapture => "pepc: bad capture",
+        Status::BadReport => "pepc: bad report",
     }
 }

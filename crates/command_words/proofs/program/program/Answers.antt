@@ -15,5 +15,7 @@ returns c =
     ∙ ap₂ with_subcommand three (ap (λ (app : App). app.top) c.new-2.ensures.app) in
     let five = c.in_ok-subcommand-5.ensures.shape c.new-3.ensures.local
     ∙ ap₂ with_subcommand four (ap (λ (app : App). app.top) c.new-3.ensures.app) in
-    IfOk-weaker c.subcommand-6.result _ _ (λ program adds. adds.shape c.in_ok-audit.ensures.local
-    ∙ ap₂ with_subcommand five c.in_ok-audit.ensures.shape) c.subcommand-6.ensures
+    let six = c.in_ok-subcommand-6.ensures.shape c.in_ok-audit.ensures.local
+    ∙ ap₂ with_subcommand five c.in_ok-audit.ensures.shape in
+    IfOk-weaker c.subcommand-7.result _ _ (λ program adds. adds.shape c.in_ok-balance.ensures.local
+    ∙ ap₂ with_subcommand six c.in_ok-balance.ensures.shape) c.subcommand-7.ensures

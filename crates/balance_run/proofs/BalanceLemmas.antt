@@ -1,0 +1,217 @@
+-- What is written of what was heard, and what it comes to.
+use Rattle.std.proofs.Common.{◌≡◌, ℕ, List, [], ◌++◌, Option, None, Some, is_some, true, false, refl, sym, ap, ◌∙◌, subst}
+use Rattle.std.specs.Io.KnownBytes.{Appends}
+use Rattle.std.proofs.KnownBytes.{Appends-nil}
+use Rattle.audit_reading.specs.Setups.{input_with}
+use Rattle.audit_reading.specs.declared.setup.BadAt.{BadAt}
+use Rattle.audit_run.specs.Heard.{HasHeard}
+use Rattle.audit_run.specs.Progress.{Reached}
+use Rattle.pc_outside.specs.WhereTold.{WhereTold}
+use Rattle.pc_outside.proofs.ToldLemmas.{told_map}
+use Rattle.audit_run.specs.Said.{HasNoEntry, report_texts, trace_said}
+use Rattle.audit_run.specs.Texts.{Text, texts_of}
+use Rattle.audit_run.specs.declared.auditing.Stopped.{Stopped}
+use Rattle.audit_run.specs.declared.auditing.Stopped.TheVariants as stopped_at
+use Rattle.audit_run.specs.declared.heard.Heard.{Heard}
+use Rattle.audit_run.proofs.HeardLemmas.{entries_heard, outside_heard, said_heard}
+use Rattle.audit_run.proofs.OneFinding.{one_list}
+use Rattle.trace_lines.specs.Input.{Input}
+use Rattle.balance_run.specs.Balance.{balanced}
+use Rattle.balance_run.specs.Report.{Balances, IsWrittenAs, Reports}
+use Rattle.balance_run.specs.Said.{HasBadLine, IsBalanced, IsTrace}
+use Rattle.balance_run.specs.Written.{text_of}
+use Rattle.balance_run.specs.declared.balancing.Balanced.{Balanced}
+use Rattle.balance_run.specs.declared.balancing.Balanced.TheVariants as ending_of
+
+pub none_of : (found : Option BadAt) → is_some found ≡ false → found ≡ None
+none_of None is = refl
+none_of (Some at) is = cc
+
+pub some_of : (found : Option BadAt) → is_some found ≡ true → (at : BadAt) × (found ≡ Some at)
+some_of None is = cc
+some_of (Some at) is = (at, refl)
+
+-- no line of the trace is refused · one is
+trace_heard_whole : (heard : Heard) (texts : List Text) → HasHeard heard texts → heard.bad ≡ None → IsTrace texts
+trace_heard_whole heard texts hears good =
+    ap (λ (input : Input). input.stop) (said_heard heard texts hears ∙ ap (input_with heard.lines.items) good)
+
+bad_line_heard : (heard : Heard) (texts : List Text) (at : BadAt) → HasHeard heard texts → heard.bad ≡ Some at
+    → HasBadLine texts
+bad_line_heard heard texts at hears bad = record {
+  number = at.number;
+  why = at.why;
+  stop = ap (λ (input : Input). input.stop) (said_heard heard texts hears ∙ ap (input_with heard.lines.items) bad);
+}
+
+balanced_heard : (slices most : ℕ) (heard : Heard) (texts : List Text) (text : List ℕ) → HasHeard heard texts
+    → heard.bad ≡ None → heard.outside ≡ false
+    → text ≡ text_of (balanced slices most heard.entries.items heard.lines.items)
+    → IsBalanced slices most texts text
+balanced_heard slices most heard texts text hears good inside is = record {
+  trace = trace_heard_whole heard texts hears good;
+  entries = heard.entries.items;
+  report = entries_heard heard texts hears inside;
+  written = is
+      ∙ ap (λ (input : Input). text_of (balanced slices most heard.entries.items input.lines))
+      (sym (said_heard heard texts hears));
+}
+
+-- the text was written, or a prefix of it
+pub written_so : (ending : Balanced) (slices most : ℕ) (heard : Heard) (start left old new : Option (List ℕ))
+    (texts : List Text) (text : List ℕ) → IsWrittenAs ending old new text → HasHeard heard texts
+    → heard.bad ≡ None → heard.outside ≡ false
+    → text ≡ text_of (balanced slices most heard.entries.items heard.lines.items)
+    → WhereTold start left (λ octets rest. Reached stopped_at.Ended octets rest texts)
+    → Balances ending slices most start left old new
+written_so ending_of.Written slices most heard start left old new texts text wrote hears good inside is reached = record {
+  text = text;
+  written = wrote;
+  report = told_map start left (λ octets rest. Reached stopped_at.Ended octets rest texts)
+      (λ octets rest. Reports ending_of.Written slices most octets rest text)
+      (λ octets rest at. (
+        at.0,
+        subst (λ ts. IsBalanced slices most ts text) (sym at.1)
+            (balanced_heard slices most heard texts text hears good inside is),
+      )) reached;
+}
+written_so ending_of.WriteFault slices most heard start left old new texts text wrote hears good inside is reached =
+    record {
+      text = wrote.front;
+      written = wrote.appended;
+      report = told_map start left (λ octets rest. Reached stopped_at.Ended octets rest texts)
+          (λ octets rest. Reports ending_of.WriteFault slices most octets rest wrote.front)
+          (λ octets rest at. (
+            at.0,
+            record {
+              more = wrote.rest;
+              whole = subst (λ ts. IsBalanced slices most ts (wrote.front ++ wrote.rest)) (sym at.1)
+                  (balanced_heard slices most heard texts (wrote.front ++ wrote.rest) hears good inside
+                  (sym wrote.parts ∙ is));
+            },
+          )) reached;
+    }
+written_so ending_of.ReadFault slices most heard start left old new texts text wrote hears good inside is reached =
+    absurd wrote
+written_so ending_of.NoMemory slices most heard start left old new texts text wrote hears good inside is reached =
+    absurd wrote
+written_so ending_of.BadLine slices most heard start left old new texts text wrote hears good inside is reached =
+    absurd wrote
+written_so ending_of.LineLong slices most heard start left old new texts text wrote hears good inside is reached =
+    absurd wrote
+written_so ending_of.TooLong slices most heard start left old new texts text wrote hears good inside is reached =
+    absurd wrote
+written_so ending_of.BadReport slices most heard start left old new texts text wrote hears good inside is reached =
+    absurd wrote
+
+-- nothing is written
+nothing_said : (ending : Balanced) (slices most : ℕ) (start left old : Option (List ℕ)) (P : List ℕ → List ℕ → Type 0)
+    → ((octets rest : List ℕ) → P octets rest → Reports ending slices most octets rest [])
+    → WhereTold start left P → Balances ending slices most start left old old
+nothing_said ending slices most start left old P follows told = record {
+  text = [];
+  written = Appends-nil old;
+  report = told_map start left P (λ octets rest. Reports ending slices most octets rest []) follows told;
+}
+
+pub memory_said : (slices most : ℕ) (start left old : Option (List ℕ)) (P : List ℕ → List ℕ → Type 0)
+    → WhereTold start left P → Balances ending_of.NoMemory slices most start left old old
+memory_said slices most start left old P =
+    nothing_said ending_of.NoMemory slices most start left old P (λ octets rest at. refl)
+
+pub report_said : (slices most : ℕ) (heard : Heard) (start left old : Option (List ℕ)) (texts : List Text)
+    → HasHeard heard texts → heard.bad ≡ None → heard.outside ≡ true
+    → WhereTold start left (λ octets rest. Reached stopped_at.Ended octets rest texts)
+    → Balances ending_of.BadReport slices most start left old old
+report_said slices most heard start left old texts hears good outside =
+    nothing_said ending_of.BadReport slices most start left old
+    (λ octets rest. Reached stopped_at.Ended octets rest texts)
+    (λ octets rest at. (
+      at.0,
+      subst IsTrace (sym at.1) (trace_heard_whole heard texts hears good),
+      subst (λ ts. HasNoEntry (report_texts ts)) (sym at.1) (outside_heard heard texts hears outside),
+      refl,
+    ))
+
+long_said : (slices most : ℕ) (heard : Heard) (start left old : Option (List ℕ)) (texts : List Text)
+    → HasHeard heard texts → heard.bad ≡ None
+    → WhereTold start left (λ octets rest. Reached stopped_at.LineLong octets rest texts)
+    → Balances ending_of.LineLong slices most start left old old
+long_said slices most heard start left old texts hears good =
+    nothing_said ending_of.LineLong slices most start left old
+    (λ octets rest. Reached stopped_at.LineLong octets rest texts)
+    (λ octets rest at. (at.0, subst IsTrace (sym at.1) (trace_heard_whole heard texts hears good), refl))
+
+big_said : (slices most : ℕ) (heard : Heard) (start left old : Option (List ℕ)) (texts : List Text)
+    → HasHeard heard texts → heard.bad ≡ None
+    → WhereTold start left (λ octets rest. Reached stopped_at.TooLong octets rest texts)
+    → Balances ending_of.TooLong slices most start left old old
+big_said slices most heard start left old texts hears good =
+    nothing_said ending_of.TooLong slices most start left old
+    (λ octets rest. Reached stopped_at.TooLong octets rest texts)
+    (λ octets rest at. (at.0, subst IsTrace (sym at.1) (trace_heard_whole heard texts hears good), refl))
+
+-- these lines were read, whatever stopped them but the source
+lines_read : (stop : Stopped) (octets rest : List ℕ) (texts : List Text) → (stop ≡ stopped_at.ReadFault → ⊥)
+    → Reached stop octets rest texts → (texts_of octets).lines ≡ texts
+lines_read stopped_at.Ended octets rest texts other at = at.1
+lines_read stopped_at.ReadFault octets rest texts other at = absurd (other refl)
+lines_read stopped_at.LineLong octets rest texts other at = at.1
+lines_read stopped_at.TooLong octets rest texts other at = at.1
+
+bad_said : (stop : Stopped) (slices most : ℕ) (heard : Heard) (at : BadAt) (start left old : Option (List ℕ))
+    (texts : List Text) → (stop ≡ stopped_at.ReadFault → ⊥) → HasHeard heard texts → heard.bad ≡ Some at
+    → WhereTold start left (λ octets rest. Reached stop octets rest texts)
+    → Balances ending_of.BadLine slices most start left old old
+bad_said stop slices most heard at start left old texts other hears bad =
+    nothing_said ending_of.BadLine slices most start left old (λ octets rest. Reached stop octets rest texts)
+    (λ octets rest reached. (
+      subst HasBadLine (sym (lines_read stop octets rest texts other reached))
+          (bad_line_heard heard texts at hears bad),
+      refl,
+    ))
+
+-- a stop behind which nothing is read, unless a line of the trace is refused
+module _ (result : Balanced) (slices most : ℕ) (heard : Heard) (start left old : Option (List ℕ)) (texts : List Text)
+    (hears : HasHeard heard texts)
+    (refused : (at : BadAt) → heard.bad ≡ Some at → result ≡ ending_of.BadLine) where
+  abbrev Ends : Balanced → Type 0
+  Ends ending = Balances ending slices most start left old old
+
+  refused_so : (stop : Stopped) (at : BadAt) → (stop ≡ stopped_at.ReadFault → ⊥) → heard.bad ≡ Some at
+      → WhereTold start left (λ octets rest. Reached stop octets rest texts) → Ends result
+  refused_so stop at other is reached =
+      subst Ends (sym (refused at is)) (bad_said stop slices most heard at start left old texts other hears is reached)
+
+  pub long_so : (heard.bad ≡ None → result ≡ ending_of.LineLong)
+      → WhereTold start left (λ octets rest. Reached stopped_at.LineLong octets rest texts) → Ends result
+  long_so other reached = go heard.bad refl
+    where
+      go : (found : Option BadAt) → heard.bad ≡ found → Ends result
+      go None is = subst Ends (sym (other is)) (long_said slices most heard start left old texts hears is reached)
+      go (Some at) is = refused_so stopped_at.LineLong at (λ same. cc) is reached
+
+  pub big_so : (heard.bad ≡ None → result ≡ ending_of.TooLong)
+      → WhereTold start left (λ octets rest. Reached stopped_at.TooLong octets rest texts) → Ends result
+  big_so other reached = go heard.bad refl
+    where
+      go : (found : Option BadAt) → heard.bad ≡ found → Ends result
+      go None is = subst Ends (sym (other is)) (big_said slices most heard start left old texts hears is reached)
+      go (Some at) is = refused_so stopped_at.TooLong at (λ same. cc) is reached
+
+-- and where all was read
+pub refused_said : (slices most : ℕ) (heard : Heard) (at : BadAt) (start left old : Option (List ℕ)) (texts : List Text)
+    → HasHeard heard texts → heard.bad ≡ Some at
+    → WhereTold start left (λ octets rest. Reached stopped_at.Ended octets rest texts)
+    → Balances ending_of.BadLine slices most start left old old
+refused_said slices most heard at start left old texts =
+    bad_said stopped_at.Ended slices most heard at start left old texts (λ same. cc)
+
+-- lines have one list of entries, and so one text with planned moves
+pub one_text : (slices most : ℕ) (texts : List Text) (one other : List ℕ) → IsBalanced slices most texts one
+    → IsBalanced slices most texts other → one ≡ other
+one_text slices most texts one other is also =
+    is.written
+    ∙ ap (λ entries. text_of (balanced slices most entries (trace_said texts).lines))
+    (one_list (report_texts texts) is.entries also.entries is.report also.report)
+    ∙ sym also.written

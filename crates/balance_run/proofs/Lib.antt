@@ -1,0 +1,5 @@
+pub mod PacketLemmas
+pub mod LoadLemmas
+pub mod WriterLemmas
+pub mod ApartLemmas
+pub mod BalanceLemmas

@@ -1,0 +1,20 @@
+//! What the definitions mean, each the contract of a function that does nothing.
+ghost use Rattle.std.specs.Prelude.{◌≡◌, ℕ, List};
+ghost use Rattle.audit_run.specs.Texts.{Text};
+ghost use Rattle.balance_run.specs.Balance.{balanced};
+ghost use Rattle.balance_run.specs.Said.{IsBalanced};
+ghost use Rattle.balance_run.specs.Written.{without_planned};
+ghost use Rattle.report_lines.specs.declared.entry.Entry.{Entry};
+ghost use Rattle.trace_lines.specs.Line.{Line};
+
+/// What is written, without the planned moves, is the trace.
+pub fn planned_moves_apart()
+    ensures { (slices most : ℕ) (entries : List Entry) (lines : List Line)
+        → without_planned (balanced slices most entries lines) ≡ lines }
+{}
+
+/// The lines of an input have one text with planned moves.
+pub fn one_balanced_text()
+    ensures { (slices most : ℕ) (texts : List Text) (one other : List ℕ) → IsBalanced slices most texts one
+        → IsBalanced slices most texts other → one ≡ other }
+{}
