@@ -16,4 +16,5 @@ pub record HearsMore (slot : ℕ) (before now : List Event) : Type 0 where
   pub may : MayAllFollow (charged_after slot before) more
 
 abbrev pub FewEventsHearMore : Type 0
-FewEventsHearMore = (slot : ℕ) (before now : List Event) → FewEvents (length (before ++ now)) → HearsMore slot before now
+FewEventsHearMore = (slot : ℕ) (before now : List Event) → FewEvents (length (before ++ now))
+    → HearsMore slot before now

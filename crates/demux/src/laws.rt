@@ -22,8 +22,9 @@ pub fn line_by_line()
         → meanings slices (lines ++ line ∷ []) ≡ meanings slices lines ++ meaning slices lines line ∷ [] }
 {}
 
-/// What a line means is in its ranges, behind any lines: the slot is one of the pool, numbers of one octet and addresses
-/// fit, a template is one, a packet has octets, no more than IPv4 allows, and the moment of its line, and a note prints.
+/// What a line means is in its ranges, behind any lines: the slot is one of the pool, numbers of one octet and
+/// addresses fit, a template is one, a packet is no longer than IPv4 allows and has the moment of its line, and a note
+/// prints.
 pub fn meanings_are_in_range()
     ensures { (slices : ℕ) (before : List Line) (line : Line) → IsLine line
         → IsInRange (meaning slices before line) }

@@ -19,8 +19,8 @@ pub record IsOwnRun (octets text : List ℕ) : Type 0 where
   pub wrote : Reports IsSoloReport false status.Ok (Unit {0}) octets left text
   pub read : (texts_of (audited_octets octets text)).stop ≡ ended
 
--- Where no count of faults rises, a run of `audit` over it has status 0, unless memory runs out: of one thread, or of 64
--- slices with any room and lanes.
+-- Where no count of faults rises, a run of `audit` over it has status 0, unless memory runs out: of one thread, or of
+-- 64 slices with any room and lanes.
 abbrev pub OwnRunIsConfirmed : Type 0
 OwnRunIsConfirmed = (octets text : List ℕ) (alone : Bool) (room lane : ℕ) (ending : Status) → IsOwnRun octets text
     → Completes (Some (job.Audit alone 64 room lane)) ending (Some (audited_octets octets text)) → IsDone ending

@@ -19,19 +19,20 @@ pub fn one_thread_is_lawful_on_slices()
     ensures { OneThreadIsLawful }
 {}
 
-/// An audit finds nothing to refute in a report that one thread made of a trace: held against one thread, or against 64
-/// slices with any room and lanes.
+/// An audit finds nothing to refute in a report that one thread made of a trace: held against one thread, or against
+/// 64 slices with any room and lanes.
 pub fn own_report_is_confirmed()
     ensures yes { OwnReportIsConfirmed }
     ensures only { OwnReportIsNeverRefuted }
 
-    // So it is of octets: those of a trace whose lines are all good, and behind `REPORT` the text that one thread writes.
+    // So it is of octets: those of a trace whose lines are all good, and behind `REPORT` the text that one thread
+    // writes.
     ensures text { OwnTextIsConfirmed }
     ensures text_only { OwnTextIsNeverRefuted }
 {}
 
-/// What `solo` wrote of a trace with status 0 is confirmed by `audit`, which is given the trace, the line `REPORT` and that
-/// text: where nothing fails to be read or written its status is 0, unless memory runs out, and it is never 9.
+/// What `solo` wrote of a trace with status 0 is confirmed by `audit`, which is given the trace, the line `REPORT` and
+/// that text: where nothing fails to be read or written its status is 0, unless memory runs out, and it is never 9.
 pub fn own_run_is_confirmed()
     ensures done { OwnRunIsConfirmed }
     ensures never { OwnRunIsNeverRefuted }
@@ -49,8 +50,8 @@ pub fn told_have_octets()
     ensures { ToldHaveOctets }
 {}
 
-/// Each entry of a report that an input may have, without its place, is one that a report can hold, whatever the input's
-/// octets say. So `report_lines::read` reads it again from its text.
+/// Each entry of a report that an input may have, without its place, is one that a report can hold, whatever the
+/// input's octets say. So `report_lines::read` reads it again from its text.
 pub fn entries_are_in_range()
     ensures { EntriesAreInRange }
 {}
