@@ -148,8 +148,8 @@ pub record DroveAll (first now : Driver) (done : List Line) (closed : List (List
     (bad : Option LineBad) (text : List ℕ) : Type 0 where
   pub told : List EpochReport
   pub driven : AreDriven (rooms_in (schedule_of first)) (homes (schedule_of first))
-      (turns_by_epoch (turns_in first.turns) first.gateway.slices (closed ++ open_epoch open_)) (length (book_of done)) 1
-      no_events (meant_all (schedule_of first) closed open_ bad) told
+      (turns_by_epoch (turns_in first.turns) first.gateway.slices (closed ++ open_epoch open_))
+      (length (book_of done)) 1 no_events (meant_all (schedule_of first) closed open_ bad) told
   pub represents : AreStanding now.gateway.subscribers.items
       (behind_all no_events (meant_all (schedule_of first) closed open_ bad) told)
   pub slots : length now.gateway.subscribers.items ≡ length (book_of done)

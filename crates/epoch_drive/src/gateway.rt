@@ -128,7 +128,8 @@ impl Gateway {
             → OnOk result (IsBehind (rest_of self.new) (prior ++ taken)) }
         ensures bounds { (start : Rest) (taken prior : List Line) → HasTaken start taken self.old lines.now
             → MayCome start taken → IsBehind start prior → OnOk result ((slot : ℕ)
-            → bound_at (rest_of self.new) slot ≡ bounds_behind (bound_at start) (meant_from start.slices prior taken) slot) }
+            → bound_at (rest_of self.new) slot
+            ≡ bounds_behind (bound_at start) (meant_from start.slices prior taken) slot) }
         ensures rests { (start : Rest) (taken : List Line) → HasTaken start taken self.old lines.now
             → MayCome start taken → OnOk result (IsResting (rest_of self.new) self.new) }
         ensures setup { (start : Rest) (taken : List Line) → HasTaken start taken self.old lines.now
