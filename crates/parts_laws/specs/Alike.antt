@@ -53,7 +53,8 @@ pub record AreMetersAlike (bearers : List ActiveBearer) (meters others : Meters)
       → own_meter meters b.index ≡ own_meter others b.index
 
 -- counters that hold the same under a version, with these pieces
-pub record AreAlike (version : VersionState) (counters other : CountersState) (pieces others : List Piece) : Type 0 where
+pub record AreAlike (version : VersionState) (counters other : CountersState)
+    (pieces others : List Piece) : Type 0 where
   pub meters : AreMetersAlike version.bearers counters.meters other.meters
   pub pieces_are : ArePiecesOf counters.book pieces
   pub others_are : ArePiecesOf other.book others

@@ -25,7 +25,8 @@ abbrev pub AreWithin : ℕ → List Piece → Type 0
 AreWithin most pieces = AllByRecursion (λ (piece : Piece). IsBounded most piece.counts) pieces
 
 -- these may be posted one after another, and leave the pieces of a version, whose counts rose by one at each at most
-pub record MayBeCharged (version : VersionState) (most : ℕ) (pieces : List Piece) (happened : List Happening) : Type 0 where
+pub record MayBeCharged (version : VersionState) (most : ℕ) (pieces : List Piece)
+    (happened : List Happening) : Type 0 where
   pub may : AllMayBePosted pieces happened
   pub open_then : AreOpen version (pieces_after pieces happened)
   pub within : AreWithin (most + length happened) (pieces_after pieces happened)
