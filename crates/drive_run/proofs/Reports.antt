@@ -1,5 +1,5 @@
 -- The report of a run, by the epochs that were driven.
-use Rattle.std.proofs.Common.{◌≡◌, ℕ, ◌+◌, ◌≤◌, Bool, Option, None, Some, List, [], ◌∷◌, ◌++◌, codes, length, flat_map, map, refl, sym, ap, ap₂, subst, ◌∙◌, arith, length-append, append_assoc, append-nil}
+use Rattle.std.proofs.Common.{◌≡◌, ℕ, ◌+◌, ◌%◌, ◌≤◌, Bool, Option, None, Some, List, [], ◌∷◌, ◌++◌, codes, length, flat_map, map, refl, sym, ap, ap₂, subst, ◌∙◌, arith, length-append, append_assoc, append-nil}
 use Rattle.trace_lines.specs.Input.{Stop, ended}
 use Rattle.trace_lines.specs.Line.{Line}
 use Rattle.trace_lines.specs.Word.{word_of}
@@ -18,7 +18,13 @@ use Rattle.lawful_run.proofs.CutLines.{cut_closed, cut_nothing, epochs_are, leng
 use Rattle.at_rest.specs.Rest.{IsBehind, Rest, RepresentsAll, bound_at, new_rest}
 use Rattle.slice_schedule.specs.World.{Rooms}
 use Rattle.schedule_run.specs.TurnsTold.{AreWorkers}
+use Rattle.epoch_drive.specs.Kept.{AreNone}
 use Rattle.epoch_drive.specs.Lines.{AreLater, latest_behind}
+use Rattle.at_rest.specs.Meant.{AreStanding, Stand}
+use Rattle.epoch_drive.specs.Taken.{HasTaken, IsResting, MayCome}
+use Rattle.epoch_drive.specs.declared.gateway.Gateway.{Gateway}
+use Rattle.epoch_drive.specs.declared.kept.EpochLines.{EpochLines}
+use Rattle.epoch_drive.proofs.Keeping.{lines_begin}
 use Rattle.driven_run.specs.Driven.{IsDriven}
 use Rattle.driven_run.specs.Noted.{with_note}
 use Rattle.driven_run.specs.Runs.{AreDriven}
@@ -30,37 +36,70 @@ use Rattle.trace_run.specs.Takers.{IsNextOf}
 use Rattle.trace_run.specs.declared.ending.Ending.{Ending}
 use Rattle.trace_run.specs.declared.ending.Ending.TheVariants.{Ended, ReadFault, BadLine, LineLong, TooLong}
 use Rattle.drive_run.specs.Driven.{IsDrivenReport, Schedule, Turns, drawn, listed, rooms_in, turns_by_epoch, turns_for, turns_in, turns_left}
-use Rattle.drive_run.specs.Standing.{Drives, Drove, DroveAll, DroveOn, Stands, bad_at, driven_text, events_behind, homes, meant_all, meant_in, noted, noted_meant, schedule_of}
+use Rattle.drive_run.specs.Standing.{Drove, DroveAll, DroveLines, DroveOn, Stands, bad_at, driven_text, events_behind, homes, meant_all, meant_in, noted, noted_meant, schedule_of}
 use Rattle.drive_run.specs.declared.driver.Driver.{Driver}
 use Rattle.lawful_run.proofs.BookGrows.{book_grows_all}
 use Rattle.drive_run.proofs.EpochLemmas.{behind_all-push, driven_untold, length-turns_for, told_length, turns_by_epoch-push}
 use Rattle.drive_run.proofs.StandLemmas.{drives_more}
 use Rattle.trace_run.proofs.EntryLemmas.{epochs_text-push, lines-append, texts-append}
 
+-- ---- between two epochs
+
+-- the gateway still represents the events, and has as many subscribers as its book has slots
+stand_still : (rest : Rest) (gateway : Gateway) (lines : EpochLines) (events : Histories) → HasTaken rest [] gateway lines
+    → RepresentsAll rest events → AreStanding gateway.subscribers.items events
+stand_still rest gateway lines events has represents =
+    has.are.turned.keep events (record { each = represents.each; beyond = represents.beyond })
+
+slots_so : (rest : Rest) (gateway : Gateway) (lines : EpochLines) (done : List Line) → HasTaken rest [] gateway lines
+    → IsBehind rest done → length gateway.subscribers.items ≡ length (book_of done)
+slots_so rest gateway lines done has behind =
+    let stand : Stand rest.slices gateway.book gateway.subscribers.items (done ++ []) =
+    has.are.turned.stand done (record { book_is = behind.book; bounds = behind.bounds }) in
+    has.are.turned.many ∙ ap length stand.book_is ∙ ap (λ all. length (book_of all)) (append-nil done)
+
+-- the lines of the open epoch may come
+pub may_come : (first now : Driver) (done : List Line) (latest : ℕ) (closed : List (List Line)) (open_ : List Line)
+    (sent waiting : List ℕ) → (so_far : Drove first now done latest closed open_ sent waiting)
+    → MayCome so_far.start open_
+may_come first now done latest closed open_ sent waiting so_far = record {
+  later = so_far.later;
+  few = omega (
+    arith,
+    so_far.few,
+    so_far.stands.behind.count,
+    ap length so_far.parts,
+    length-append (lines_in closed) open_,
+  );
+}
+
 -- ---- the first line
 
-pub begins_so : (now : Driver) (slices room lane : ℕ) → now.rest ≡ new_rest slices room lane
-    → RepresentsAll now.rest no_events → IsBehind now.rest [] → now.lines.items ≡ [] → AreWorkers slices now.turns
-    → Drove now now [] 0 [] [] [] []
-begins_so now slices room lane is represents behind none workers = record {
+pub begins_so : (now : Driver) (rest : Rest) (slices room lane : ℕ) → rest ≡ new_rest slices room lane
+    → RepresentsAll rest no_events → IsBehind rest [] → IsResting rest now.gateway → AreNone [] now.lines
+    → AreWorkers slices now.turns → Drove now now [] 0 [] [] [] []
+begins_so now rest slices room lane is represents behind resting none workers = record {
+  start = rest;
   told = [];
   stands = record {
     represents = represents;
     behind = behind;
-    bounds = behind.bounds;
-    same_slices = refl;
-    same_room = refl;
-    same_lane = refl;
+    bounds = λ slot.
+        behind.bounds slot ∙ ap (λ k. slot % k) (sym resting.set_up.same_slices);
+    same_slices = sym resting.set_up.same_slices;
+    same_room = sym resting.set_up.same_room;
+    same_lane = sym resting.set_up.same_lane;
     goes_on = refl;
     driven = λ slots known. tt;
   };
   parts = refl;
   few = omega arith;
-  kept = none;
+  taken = lines_begin rest now.gateway now.lines resting
+      (subst (λ ss. AreNone ss now.lines) (sym (ap (λ (r : Rest). r.subscribers) is)) none);
   places = refl;
-  workers = subst (λ (rest : Rest). AreWorkers rest.slices now.turns) (sym is) workers;
+  workers = subst (λ (r : Rest). AreWorkers r.slices now.turns) (sym is) workers;
   later = tt;
-  latest_is = ap (λ (rest : Rest). rest.latest) is;
+  latest_is = ap (λ (r : Rest). r.latest) is;
   said = refl;
   waits = refl;
 }
@@ -78,22 +117,21 @@ latest-push latest (first ∷ lines) line = latest-push first.moment lines line
 
 pub takes_so : (first old now : Driver) (done : List Line) (latest : ℕ) (closed : List (List Line)) (open_ : List Line)
     (sent waiting : List ℕ) (line : Line) → Drove first old done latest closed open_ sent waiting
-    → IsNextOf done latest line → (now.rest ≡ old.rest) × (now.turns ≡ old.turns) × (now.places ≡ old.places)
-    → now.lines.items ≡ old.lines.items ++ line ∷ []
+    → IsNextOf done latest line → (now.turns ≡ old.turns) × (now.places ≡ old.places)
+    → ((start : Rest) (taken : List Line) → HasTaken start taken old.gateway old.lines
+    → HasTaken start (taken ++ line ∷ []) now.gateway now.lines)
     → Drove first now (done ++ line ∷ []) line.moment closed (open_ ++ line ∷ []) sent waiting
-takes_so first old now done latest closed open_ sent waiting line so_far next same pushed = record {
+takes_so first old now done latest closed open_ sent waiting line so_far next same takes = record {
+  start = so_far.start;
   told = so_far.told;
-  stands = subst (λ rest. Stands (schedule_of first) rest now.turns closed so_far.told) (sym same.0)
-      (subst (λ given. Stands (schedule_of first) old.rest given closed so_far.told) (sym same.1) so_far.stands);
+  stands = subst (λ given. Stands (schedule_of first) so_far.start given closed so_far.told) (sym same.0) so_far.stands;
   parts = ap (λ lines. lines ++ line ∷ []) so_far.parts ∙ append_assoc (lines_in closed) open_ (line ∷ []);
   few = omega (arith, next.few, length-append done (line ∷ []));
-  kept = pushed ∙ ap (λ lines. lines ++ line ∷ []) so_far.kept;
-  places = same.2 ∙ so_far.places;
-  workers = subst (λ rest. AreWorkers rest.slices now.turns) (sym same.0)
-      (subst (AreWorkers old.rest.slices) (sym same.1) so_far.workers);
-  later = subst (λ rest. AreLater rest.latest (open_ ++ line ∷ [])) (sym same.0)
-      (later-push old.rest.latest open_ line so_far.later (omega (arith, next.late, so_far.latest_is)));
-  latest_is = latest-push now.rest.latest open_ line;
+  taken = takes so_far.start open_ so_far.taken;
+  places = same.1 ∙ so_far.places;
+  workers = subst (AreWorkers so_far.start.slices) (sym same.0) so_far.workers;
+  later = later-push so_far.start.latest open_ line so_far.later (omega (arith, next.late, so_far.latest_is));
+  latest_is = latest-push so_far.start.latest open_ line;
   said = so_far.said;
   waits = so_far.waits;
 }
@@ -197,11 +235,12 @@ pub closes_so : (first old now : Driver) (done : List Line) (latest : ℕ) (clos
     → DroveOn first old now done latest closed open_ sent None n text
     → Drove first now done latest (closed ++ open_ ∷ []) [] (sent ++ text) []
 closes_so first old now done latest closed open_ sent n text on = record {
+  start = on.rest;
   told = on.so_far.told ++ on.entry ∷ [];
   stands = on.stands;
   parts = on.so_far.parts ∙ sym (lines_in-push closed open_) ∙ sym (append-nil (lines_in (closed ++ open_ ∷ [])));
   few = on.so_far.few;
-  kept = on.kept;
+  taken = on.opened;
   places = on.places;
   workers = on.workers;
   later = tt;
@@ -213,54 +252,44 @@ closes_so first old now done latest closed open_ sent n text on = record {
 -- what driving its lines gives
 pub drives_on : (first old now : Driver) (done : List Line) (latest : ℕ) (closed : List (List Line))
     (open_ : List Line) (sent : List ℕ) (bad : Option LineBad) (n : ℕ) (before after : List ℕ)
-    → Drove first old done latest closed open_ sent before
-    → ((schedule : Schedule) (closed : List (List Line)) (told : List EpochReport)
-    → Stands schedule old.rest old.turns closed told
-    → Drives schedule old.rest old.turns closed told old.lines.items bad n old.places before after now.rest now.turns)
-    → now.rest.latest ≡ latest_behind old.rest.latest old.lines.items → AreWorkers now.rest.slices now.turns
-    → now.lines.items ≡ [] → now.places ≡ old.places
-    → DroveOn first old now done latest closed open_ sent bad n after
-drives_on first old now done latest closed open_ sent bad n before after so_far drives later workers none places =
+    → (so_far : Drove first old done latest closed open_ sent before)
+    → DroveLines (schedule_of first) so_far.start old.turns closed so_far.told open_ bad n old.places before after
+    now.gateway now.lines now.turns
+    → now.places ≡ old.places → DroveOn first old now done latest closed open_ sent bad n after
+drives_on first old now done latest closed open_ sent bad n before after so_far drives places =
     let schedule = schedule_of first in
-    let so : Drove first old done latest closed open_ sent [] =
-    subst (Drove first old done latest closed open_ sent) so_far.waits so_far in
-    let it : Drives schedule old.rest old.turns closed so.told open_ bad n first.places [] after now.rest now.turns =
-    subst (λ lines. Drives schedule old.rest old.turns closed so.told lines bad n first.places [] after now.rest
-    now.turns) so.kept
-    (subst (λ p. Drives schedule old.rest old.turns closed so.told old.lines.items bad n p [] after now.rest
+    let so : Drove first old done latest closed open_ sent [] = record {
+      start = so_far.start;
+      told = so_far.told;
+      stands = so_far.stands;
+      parts = so_far.parts;
+      few = so_far.few;
+      taken = so_far.taken;
+      places = so_far.places;
+      workers = so_far.workers;
+      later = so_far.later;
+      latest_is = so_far.latest_is;
+      said = so_far.said;
+      waits = refl;
+    } in
+    let it : DroveLines schedule so.start old.turns closed so.told open_ bad n first.places [] after now.gateway
+    now.lines now.turns =
+    subst (λ p. DroveLines schedule so.start old.turns closed so.told open_ bad n p [] after now.gateway now.lines
     now.turns) so.places
-    (subst (λ text. Drives schedule old.rest old.turns closed so.told old.lines.items bad n old.places text after
-    now.rest now.turns) so_far.waits (drives schedule closed so.told so.stands))) in
+    (subst (λ text. DroveLines schedule so.start old.turns closed so.told open_ bad n old.places text after now.gateway
+    now.lines now.turns) so_far.waits drives) in
     record {
       so_far = so;
-      entry = it.now;
-      next = it.next;
-      stands = it.stands;
-      kept = none;
+      entry = it.drives.now;
+      next = it.drives.next;
+      rest = it.rest;
+      stands = it.drives.stands;
+      opened = it.opened;
       places = places ∙ so.places;
-      workers = workers;
-      latest_is = later ∙ ap (latest_behind old.rest.latest) so.kept ∙ so.latest_is;
-      said = it.said;
+      workers = it.workers;
+      latest_is = it.latest ∙ so.latest_is;
+      said = it.drives.said;
     }
-
-pub drives_from : (first old now : Driver) (done : List Line) (latest : ℕ) (closed : List (List Line))
-    (open_ : List Line) (sent : List ℕ) (bad : Option LineBad) (n : ℕ) (before after : List ℕ) (rest : Rest)
-    (lines : List Line) → rest ≡ old.rest → lines ≡ old.lines.items
-    → Drove first old done latest closed open_ sent before
-    → ((schedule : Schedule) (closed : List (List Line)) (told : List EpochReport)
-    → Stands schedule rest old.turns closed told
-    → Drives schedule rest old.turns closed told lines bad n old.places before after now.rest now.turns)
-    → now.rest.latest ≡ latest_behind rest.latest lines → AreWorkers now.rest.slices now.turns
-    → now.lines.items ≡ [] → now.places ≡ old.places
-    → DroveOn first old now done latest closed open_ sent bad n after
-drives_from first old now done latest closed open_ sent bad n before after rest lines is_rest is_lines so_far drives
-    later workers none places =
-    drives_on first old now done latest closed open_ sent bad n before after so_far
-    (λ schedule closed told stands. subst (λ r. Drives schedule r old.turns closed told old.lines.items bad n old.places
-    before after now.rest now.turns) is_rest
-    (subst (λ l. Drives schedule rest old.turns closed told l bad n old.places before after now.rest now.turns) is_lines
-    (drives schedule closed told (subst (λ r. Stands schedule r old.turns closed told) (sym is_rest) stands))))
-    (later ∙ ap₂ (λ (r : Rest) l. latest_behind r.latest l) is_rest is_lines) workers none places
 
 -- its lines and a bad line's note are driven
 noted_driven : (rooms : Rooms) (bounds : ℕ → ℕ) (turned : List (List ℕ)) (slots first : ℕ) (before : Histories)
@@ -353,20 +382,20 @@ all_so first old now done latest closed open_ sent bad n text counted some on =
     let same : length (turns_for (turns_in old.turns) schedule.slices (length open_)) ≡ length made =
     length-turns_for (turns_in old.turns) schedule.slices (length open_)
     ∙ sym (length-meant_from schedule.slices (lines_in closed) open_) in
-    let with_bad : IsDriven (rooms_in schedule) (bound_at old.rest)
+    let with_bad : IsDriven (rooms_in schedule) (bound_at on.so_far.start)
     (turns_for (turns_in old.turns) schedule.slices (length open_)) slots (1 + length (lines_in closed)) before
     (made ++ noted_meant bad) (noted_entry on.entry bad n) =
-    subst (λ m. IsDriven (rooms_in schedule) (bound_at old.rest)
+    subst (λ m. IsDriven (rooms_in schedule) (bound_at on.so_far.start)
     (turns_for (turns_in old.turns) schedule.slices (length open_)) slots (1 + length (lines_in closed)) before
     (made ++ noted_meant bad) (noted_entry on.entry bad m)) number
-    (noted_driven (rooms_in schedule) (bound_at old.rest)
+    (noted_driven (rooms_in schedule) (bound_at on.so_far.start)
     (turns_for (turns_in old.turns) schedule.slices (length open_)) slots (1 + length (lines_in closed)) before made
     on.entry bad same is) in
     let closed_known : length (book_of (lines_in closed)) ≤ slots =
     omega (arith, known, book_grows_all (lines_in closed) open_) in
     let driven = some_lines schedule (turns_in old.turns) closed (told ++ noted_entry on.entry bad n ∷ []) open_
     (noted_meant bad) slots on.so_far.stands.goes_on (some_noted open_ bad some)
-    (drives_more schedule old.rest old.turns closed told (made ++ noted_meant bad)
+    (drives_more schedule on.so_far.start old.turns closed told (made ++ noted_meant bad)
     (turns_for (turns_in old.turns) schedule.slices (length open_)) (noted_entry on.entry bad n) slots on.so_far.stands
     closed_known with_bad) in
     let many = told_length (rooms_in schedule) (homes schedule) (turns_by_epoch schedule.turns schedule.slices closed)
@@ -384,10 +413,12 @@ all_so first old now done latest closed open_ sent bad n text counted some on =
     record {
       told = told ++ noted_entry on.entry bad n ∷ [];
       driven = driven;
-      represents = subst (RepresentsAll now.rest) (events ∙ ap (λ epochs. behind_all no_events epochs
+      represents = stand_still on.rest now.gateway now.lines _ on.opened
+          (subst (RepresentsAll on.rest) (events ∙ ap (λ epochs. behind_all no_events epochs
           (told ++ noted_entry on.entry bad n ∷ []))
-          (own_so schedule closed open_ bad (some_noted open_ bad some))) on.stands.represents;
-      behind = subst (IsBehind now.rest) (lines_in-push closed open_ ∙ sym on.so_far.parts) on.stands.behind;
+          (own_so schedule closed open_ bad (some_noted open_ bad some))) on.stands.represents);
+      slots = slots_so on.rest now.gateway now.lines done on.opened
+          (subst (IsBehind on.rest) (lines_in-push closed open_ ∙ sym on.so_far.parts) on.stands.behind);
       places = on.places;
       said = on_text first.places told on.entry bad n sent text on.so_far.said on.said;
     }
@@ -404,9 +435,11 @@ none_so first now done latest closed sent waiting so_far =
       told = so_far.told;
       driven = driven_whole schedule closed so_far.told slots
           (so_far.stands.driven slots (omega (arith, ap (λ lines. length (book_of lines)) parts)));
-      represents = subst (RepresentsAll now.rest) (ap (λ epochs. behind_all no_events epochs so_far.told)
-          (sym (append-nil (meant_in schedule closed)))) so_far.stands.represents;
-      behind = subst (IsBehind now.rest) (sym parts) so_far.stands.behind;
+      represents = stand_still so_far.start now.gateway now.lines _ so_far.taken
+          (subst (RepresentsAll so_far.start) (ap (λ epochs. behind_all no_events epochs so_far.told)
+          (sym (append-nil (meant_in schedule closed)))) so_far.stands.represents);
+      slots = slots_so so_far.start now.gateway now.lines done so_far.taken
+          (subst (IsBehind so_far.start) (sym parts) so_far.stands.behind);
       places = so_far.places;
       said = ap (λ w. sent ++ w) so_far.waits ∙ append-nil sent ∙ so_far.said;
     }
@@ -423,20 +456,20 @@ same_note TooLong n = refl
 pub due_so : (first now : Driver) (done : List Line) (closed : List (List Line)) (open_ : List Line)
     (ending : Ending) (sent text after : List ℕ) → IsCut done closed open_
     → (all : DroveAll first now done closed open_ (bad_at ending) (sent ++ text))
-    → after ≡ text ++ charges_text first.places (by_slot (length now.rest.book)
+    → after ≡ text ++ charges_text first.places (by_slot (length now.gateway.subscribers.items)
     (λ slot. opens slot (behind_all no_events (meant_all (schedule_of first) closed open_ (bad_at ending)) all.told slot)))
     → IsDue (IsDrivenReport (schedule_of first)) first.places ending done (sent ++ after)
 due_so first now done closed open_ ending sent text after cut all appended =
     let schedule = schedule_of first in
     let bad = bad_at ending in
     let report = report_of schedule done closed open_ bad all.told in
-    let slots : length now.rest.book ≡ length (book_of done) = ap length all.behind.book in
+    let slots : length now.gateway.subscribers.items ≡ length (book_of done) = all.slots in
     record {
       report = report;
       allowed = is_report schedule done closed open_ (stop_of ending (length done + 1)) bad all.told cut
           (same_note ending (length done + 1)) all.driven;
       written = ap (λ t. sent ++ t) appended
-          ∙ sym (append_assoc sent text (charges_text first.places (by_slot (length now.rest.book)
+          ∙ sym (append_assoc sent text (charges_text first.places (by_slot (length now.gateway.subscribers.items)
           (λ slot. opens slot (behind_all no_events (meant_all schedule closed open_ bad) all.told slot)))))
           ∙ ap₂ (λ one two. one ++ two) all.said
           (ap (λ m. charges_text first.places (by_slot m

@@ -16,6 +16,10 @@ use Rattle.at_rest.specs.Rest.{IsBehind, Rest, RepresentsAll, bound_at}
 use Rattle.schedule_run.specs.TurnsTold.{AreWorkers}
 use Rattle.schedule_run.specs.declared.turns.Turns as run
 use Rattle.epoch_drive.specs.Lines.{AreLater, latest_behind}
+use Rattle.at_rest.specs.Meant.{AreStanding}
+use Rattle.epoch_drive.specs.Taken.{HasTaken}
+use Rattle.epoch_drive.specs.declared.gateway.Gateway.{Gateway}
+use Rattle.epoch_drive.specs.declared.kept.EpochLines.{EpochLines}
 use Rattle.driven_run.specs.Driven.{IsDriven}
 use Rattle.driven_run.specs.Runs.{AreDriven}
 use Rattle.trace_run.specs.Entries.{closing_text, lines_text}
@@ -70,6 +74,7 @@ abbrev pub noted : Option LineBad → ℕ → List LineEntry
 noted None n = []
 noted (Some why) n = line_entry.N (record { line = n; note = codes "line" ++ 32 ∷ word_of why }) ∷ []
 
+-- so the epoch was driven and told
 pub record Drives (schedule : Schedule) (old : Rest) (old_turns : run.Turns) (closed : List (List Line))
     (told : List EpochReport) (lines : List Line) (bad : Option LineBad) (n : ℕ) (places : Bool)
     (before after : List ℕ) (new : Rest) (new_turns : run.Turns) : Type 0 where
@@ -79,12 +84,22 @@ pub record Drives (schedule : Schedule) (old : Rest) (old_turns : run.Turns) (cl
   pub said : after ≡ before ++ (lines_text places now.lines ++ lines_text places (noted bad n)
       ++ closing_text places now)
 
+-- .. and the gateway is at rest, before the first line of the next one
+pub record DroveLines (schedule : Schedule) (start : Rest) (old_turns : run.Turns) (closed : List (List Line))
+    (told : List EpochReport) (taken : List Line) (bad : Option LineBad) (n : ℕ) (places : Bool)
+    (before after : List ℕ) (gateway : Gateway) (lines : EpochLines) (new_turns : run.Turns) : Type 0 where
+  pub rest : Rest
+  pub drives : Drives schedule start old_turns closed told taken bad n places before after rest new_turns
+  pub opened : HasTaken rest [] gateway lines
+  pub latest : rest.latest ≡ latest_behind start.latest taken
+  pub workers : AreWorkers rest.slices new_turns
+
 -- the schedule that a run began with
 abbrev pub schedule_of : Driver → Schedule
 schedule_of first = record {
-  slices = first.rest.slices;
-  room = first.rest.room;
-  lane = first.rest.lane;
+  slices = first.gateway.slices;
+  room = first.gateway.room;
+  lane = first.gateway.lane;
   turns = turns_in first.turns;
 }
 
@@ -92,18 +107,19 @@ abbrev pub driven_text : Bool → List EpochReport → List ℕ
 driven_text places told = texts_of places (flat_map epoch_entries told)
 
 -- A run began with the first and has come to these lines: the whole epochs are driven and told, and the lines of the
--- open one are kept.
+-- open one are taken.
 pub record Drove (first now : Driver) (done : List Line) (latest : ℕ) (closed : List (List Line)) (open_ : List Line)
     (sent waiting : List ℕ) : Type 0 where
+  pub start : Rest
   pub told : List EpochReport
-  pub stands : Stands (schedule_of first) now.rest now.turns closed told
+  pub stands : Stands (schedule_of first) start now.turns closed told
   pub parts : done ≡ lines_in closed ++ open_
   pub few : length done ≤ 2 ^ 39
-  pub kept : now.lines.items ≡ open_
+  pub taken : HasTaken start open_ now.gateway now.lines
   pub places : now.places ≡ first.places
-  pub workers : AreWorkers now.rest.slices now.turns
-  pub later : AreLater now.rest.latest open_
-  pub latest_is : latest_behind now.rest.latest open_ ≡ latest
+  pub workers : AreWorkers start.slices now.turns
+  pub later : AreLater start.latest open_
+  pub latest_is : latest_behind start.latest open_ ≡ latest
   pub said : sent ≡ driven_text first.places told
   pub waits : waiting ≡ []
 
@@ -112,12 +128,13 @@ pub record DroveOn (first old now : Driver) (done : List Line) (latest : ℕ) (c
     (open_ : List Line) (sent : List ℕ) (bad : Option LineBad) (n : ℕ) (text : List ℕ) : Type 0 where
   pub so_far : Drove first old done latest closed open_ sent []
   pub entry : EpochReport
-  pub next : DrivesNext (schedule_of first) old.rest (turns_in old.turns) closed so_far.told open_ entry
-  pub stands : Stands (schedule_of first) now.rest now.turns (closed ++ open_ ∷ []) (so_far.told ++ entry ∷ [])
-  pub kept : now.lines.items ≡ []
+  pub next : DrivesNext (schedule_of first) so_far.start (turns_in old.turns) closed so_far.told open_ entry
+  pub rest : Rest
+  pub stands : Stands (schedule_of first) rest now.turns (closed ++ open_ ∷ []) (so_far.told ++ entry ∷ [])
+  pub opened : HasTaken rest [] now.gateway now.lines
   pub places : now.places ≡ first.places
-  pub workers : AreWorkers now.rest.slices now.turns
-  pub latest_is : now.rest.latest ≡ latest
+  pub workers : AreWorkers rest.slices now.turns
+  pub latest_is : rest.latest ≡ latest
   pub said : text ≡ lines_text first.places entry.lines ++ lines_text first.places (noted bad n)
       ++ closing_text first.places entry
 
@@ -131,11 +148,11 @@ pub record DroveAll (first now : Driver) (done : List Line) (closed : List (List
     (bad : Option LineBad) (text : List ℕ) : Type 0 where
   pub told : List EpochReport
   pub driven : AreDriven (rooms_in (schedule_of first)) (homes (schedule_of first))
-      (turns_by_epoch (turns_in first.turns) first.rest.slices (closed ++ open_epoch open_)) (length (book_of done)) 1
-      no_events (meant_all (schedule_of first) closed open_ bad) told
-  pub represents : RepresentsAll now.rest
+      (turns_by_epoch (turns_in first.turns) first.gateway.slices (closed ++ open_epoch open_))
+      (length (book_of done)) 1 no_events (meant_all (schedule_of first) closed open_ bad) told
+  pub represents : AreStanding now.gateway.subscribers.items
       (behind_all no_events (meant_all (schedule_of first) closed open_ bad) told)
-  pub behind : IsBehind now.rest done
+  pub slots : length now.gateway.subscribers.items ≡ length (book_of done)
   pub places : now.places ≡ first.places
   pub said : text ≡ driven_text first.places told
 

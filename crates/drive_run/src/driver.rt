@@ -6,8 +6,10 @@ ghost use Rattle.lawful_run.specs.Cut.{IsCut};
 ghost use Rattle.lawful_run.specs.Merging.{Histories};
 ghost use Rattle.lawful_run.specs.Outcomes.{opens};
 ghost use Rattle.lawful_run.specs.Run.{by_slot};
-ghost use Rattle.at_rest.specs.Rest.{RepresentsAll};
+ghost use Rattle.at_rest.specs.Rest.{Rest};
 ghost use Rattle.schedule_run.specs.TurnsTold.{AreWorkers};
+ghost use Rattle.at_rest.specs.Meant.{AreStanding};
+ghost use Rattle.epoch_drive.specs.Taken.{HasTaken};
 ghost use Rattle.trace_run.specs.Entries.{charges_text};
 ghost use Rattle.trace_run.specs.Reporting.{IsDue, SaysEpochs};
 ghost use Rattle.drive_run.specs.Driven.{IsDrivenReport, turns_in};
@@ -15,20 +17,19 @@ ghost use Rattle.drive_run.specs.Standing.{Drove, DroveAll, DroveOn, bad_at, sch
 
 use crate::epochs::drive_lines;
 use at_rest::AtRest;
+use epoch_drive::{EpochLines, Gateway};
 use schedule_run::Turns;
 use std::alloc::{AllocError, Global};
-use std::mem;
 use text_fields::Text;
 use trace_lines::{LineBad, TraceLine};
 use trace_run::{Ending, Reporter, push_opens};
 
-/// Drives a trace epoch by epoch: the gateway at rest behind the last whole epoch, how its turns go on, and the lines
-/// of the open epoch.
+/// Drives a trace epoch by epoch: the gateway, what the lines of the open epoch mean, and how its turns go on.
 #[derive(Drop)]
 pub struct Driver {
-    rest: AtRest,
+    gateway: Gateway,
+    lines: EpochLines,
     turns: Turns,
-    lines: Vec<TraceLine>,
     places: bool,
 }
 
@@ -55,9 +56,9 @@ impl Driver {
         ensures first { Drove result result [] 0 [] [] [] [] }
     {
         Driver {
-            rest: AtRest::new(alloc, slices, room, lane),
+            gateway: Gateway::of(AtRest::new(alloc, slices, room, lane)),
+            lines: EpochLines::new(alloc),
             turns,
-            lines: Vec::new(alloc),
             places,
         }
     }
@@ -76,21 +77,15 @@ impl Driver {
             (sent : List ℕ) → Drove first self.old done latest closed open_ sent text.old
             → OnOk result (DroveOn first self.old self.new done latest closed open_ sent bad number text.new) }
     {
-        let alloc = *self.lines.allocator();
-        let places = self.places;
-        let rest = taken(alloc, &mut self.rest);
-        self.rest = drive_lines(
-            alloc,
-            rest,
+        drive_lines(
+            &mut self.gateway,
+            &mut self.lines,
             &mut self.turns,
-            self.lines.as_slice(),
             bad,
             number,
-            places,
+            self.places,
             text,
-        )?;
-        self.lines.clear();
-        Ok(())
+        )
     }
 
     // The same, if there is an open epoch.
@@ -116,28 +111,20 @@ impl Driver {
 
     // Whether no epoch is open, and no bad line is to be noted.
     fn is_done(&self, bad: Option<LineBad>) -> bool
-        ensures { MatchBool result ((self.now.lines.items ≡ []) × (bad ≡ None))
-            (self.now.lines.items ≡ [] → bad ≡ None → ⊥) }
+        ensures { (start : Rest) (taken : List Line) → HasTaken start taken self.now.gateway self.now.lines
+            → MatchBool result ((taken ≡ []) × (bad ≡ None)) (taken ≡ [] → bad ≡ None → ⊥) }
     {
         self.lines.is_empty() && bad.is_none()
     }
 }
 
-// The gateway, in whose place stands one before its first line. It takes no memory.
-fn taken(alloc: Global, rest: &mut AtRest) -> AtRest
-    ensures { result ≡ rest.old }
-{
-    let next = AtRest::new(alloc, rest.slices, rest.room, rest.lane);
-    mem::replace(rest, next)
-}
-
 // Appends the open counters of all subscribers.
-fn push_counters(text: &mut Text, rest: &AtRest) -> Result<(), AllocError>
-    ensures { (places : Bool) (events : Histories) → RepresentsAll rest.now events
-        → OnOk result (text.new ≡ text.old ++ charges_text places (by_slot (length rest.now.book)
+fn push_counters(text: &mut Text, gateway: &Gateway) -> Result<(), AllocError>
+    ensures { (places : Bool) (events : Histories) → AreStanding gateway.now.subscribers.items events
+        → OnOk result (text.new ≡ text.old ++ charges_text places (by_slot (length gateway.now.subscribers.items)
         (λ slot. opens slot (events slot)))) }
 {
-    push_opens(text, rest.subscribers.as_slice())
+    push_opens(text, gateway.subscribers.as_slice())
 }
 
 // Why the next line can't be read, where a run ends so.
@@ -160,10 +147,11 @@ impl Reporter for Driver {
     fn take(
         &mut self,
         line: TraceLine,
-        _room: &mut Vec<u8>,
+        room: &mut Vec<u8>,
         _text: &mut Text,
     ) -> Result<(), AllocError> {
-        self.lines.push(line)?;
+        self.gateway.take(&mut self.lines, &line)?;
+        line.give_room(room);
         Ok(())
     }
 
@@ -173,6 +161,6 @@ impl Reporter for Driver {
 
     fn finish(&mut self, ending: Ending, lines: u64, text: &mut Text) -> Result<(), AllocError> {
         self.drive_rest(bad_at(ending), lines + 1, text)?;
-        push_counters(text, &self.rest)
+        push_counters(text, &self.gateway)
     }
 }

@@ -1,21 +1,21 @@
 //! An epoch, driven and told.
-ghost use Rattle.std.specs.Prelude.{◌≡◌, ◌+◌, ◌≤◌, ◌^◌, ◌++◌, Bool, List, length, IfOk, OnOk};
+ghost use Rattle.std.specs.Prelude.{◌≡◌, ◌++◌, Bool, List, OnOk};
 ghost use Rattle.trace_lines.specs.Line.{Line};
 ghost use Rattle.lawful_run.specs.Report.{EpochReport};
 ghost use Rattle.schedule_run.specs.TurnsTold.{AreWorkers};
-ghost use Rattle.epoch_drive.specs.Lines.{AreLater, latest_behind};
+ghost use Rattle.at_rest.specs.Rest.{Rest};
+ghost use Rattle.epoch_drive.specs.Taken.{HasTaken, MayCome};
 ghost use Rattle.epoch_drive.specs.Telling.{AreShort, told_by};
 ghost use Rattle.trace_run.specs.Entries.{closing_text, lines_text};
 ghost use Rattle.drive_run.specs.Driven.{Schedule};
-ghost use Rattle.drive_run.specs.Standing.{Drives, Stands, noted};
+ghost use Rattle.drive_run.specs.Standing.{DroveLines, Stands, noted};
 
 use crate::telling::push_lines;
-use at_rest::AtRest;
-use epoch_drive::{Epoch, drive_epoch};
+use epoch_drive::{Epoch, EpochLines, Gateway};
 use schedule_run::Turns;
-use std::alloc::{AllocError, Global};
+use std::alloc::AllocError;
 use text_fields::Text;
-use trace_lines::{LineBad, TraceLine};
+use trace_lines::LineBad;
 use trace_run::{push_bad, push_effects, push_records};
 
 // Appends the note of a bad line, where there is one.
@@ -46,30 +46,28 @@ fn tell(
     push_records(report, epoch.rows.as_slice())
 }
 
-/// Drives the lines of an epoch, and appends its text, with the note of a bad line of this number behind the entries of
-/// its lines. After running out of memory nothing of the gateway is left.
+/// Drives the lines of the open epoch, and appends its text, with the note of a bad line of this number behind the
+/// entries of its lines. Then the next epoch is open.
 pub fn drive_lines(
-    alloc: Global,
-    rest: AtRest,
+    gateway: &mut Gateway,
+    lines: &mut EpochLines,
     turns: &mut Turns,
-    lines: &[TraceLine],
     bad: Option<LineBad>,
     number: u64,
     places: bool,
     report: &mut Text,
-) -> Result<AtRest, AllocError>
-    requires workers { AreWorkers rest.slices turns.old }
-    requires later { AreLater rest.latest lines.now }
-    requires few { rest.lines + length lines.now ≤ 2 ^ 39 }
+) -> Result<(), AllocError>
+    requires { (start : Rest) × (taken : List Line) × (HasTaken start taken gateway.old lines.old
+        × MayCome start taken × AreWorkers start.slices turns.old) }
 
-    ensures drives { (schedule : Schedule) (closed : List (List Line)) (told : List EpochReport)
-        → Stands schedule rest turns.old closed told
-        → IfOk result (λ now. Drives schedule rest turns.old closed told lines.now bad number places report.old
-        report.new now turns.new) }
-    ensures latest { IfOk result (λ now. now.latest ≡ latest_behind rest.latest lines.now) }
-    ensures workers { IfOk result (λ now. AreWorkers now.slices turns.new) }
+    ensures { (start : Rest) (taken : List Line) (schedule : Schedule) (closed : List (List Line))
+        (told : List EpochReport) → HasTaken start taken gateway.old lines.old → MayCome start taken
+        → AreWorkers start.slices turns.old → Stands schedule start turns.old closed told
+        → OnOk result (DroveLines schedule start turns.old closed told taken bad number places report.old
+        report.new gateway.new lines.new turns.new) }
 {
-    let (rest, epoch) = drive_epoch(alloc, rest, lines, turns)?;
+    let epoch = gateway.drive(lines, turns)?;
     tell(report, &epoch, bad, number, places)?;
-    Ok(rest)
+    drop(epoch);
+    gateway.begin(lines)
 }

@@ -16,7 +16,7 @@ fn push_line(report: &mut Text, told: &Entry<'_>, places: bool) -> Result<(), Al
     ensures { OnOk result (report.new ≡ report.old ++ line_of (entry.Line (line_shown places (line_told told.now)))) }
 {
     match told {
-        Entry::Note { line, text } => push_note(report, *line, text.as_slice()),
+        Entry::Note { line, text } => push_note(report, *line, text),
         Entry::Answer {
             line,
             slot,

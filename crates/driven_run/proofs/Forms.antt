@@ -1,10 +1,8 @@
--- Which outcomes a schedule gives, and entries of them that are open but for that.
+-- Which outcomes a schedule gives, and what open entries of them tell.
 use Rattle.std.proofs.Common.{◌≡◌, ℕ, ◌+◌, ◌-◌, Bool, true, false, nat_lt, None, List, [], ◌∷◌, ◌++◌, map, length, refl, sym, true≢false}
 use Rattle.control_steps.specs.declared.command.CommandKind.{CommandKind}
 use Rattle.demux.specs.Trace.{Meaning, command, packet, move, note}
 use Rattle.demux.specs.declared.packet.LentPacket.{LentPacket}
-use Rattle.pc_base.specs.declared.packet.Verdict.TheVariants.{NoBearer}
-use Rattle.pc_base.specs.declared.reply.Outcome.TheVariants.{Done}
 use Rattle.report_lines.specs.Records.{PacketTold}
 use Rattle.report_lines.specs.declared.entry.LineEntry.{LineEntry}
 use Rattle.report_lines.specs.declared.entry.LineEntry.TheVariants as line
@@ -15,7 +13,9 @@ use Rattle.slice_schedule.specs.Schedule.{Driven, behind_line, outcomes}
 use Rattle.slice_schedule.specs.Slots.{Standing, absent, front, placed, recalled, leaving}
 use Rattle.slice_schedule.specs.World.{World, Rooms, item, has_room, slot_at, on_slot, flow_at, on_flow}
 use Rattle.slice_schedule.proofs.Keeping.{cond_keeps}
+use Rattle.epoch_join.specs.Opened.{open_command, open_packet}
 use Rattle.driven_run.specs.Driven.{asks_of, driven, outcome_told}
+use Rattle.driven_run.specs.Opened.{open_entries, open_entry}
 
 abbrev pub done_plainly : ask.Outcome
 done_plainly = record { taken = true; parked = false }
@@ -73,35 +73,6 @@ all_formed rooms bounds world (line ∷ lines) = (
   line_formed rooms bounds (ask.pumped rooms bounds world) line.asks,
   all_formed rooms bounds (behind_line rooms bounds world line) lines,
 )
-
--- the entry of a line with its outcome, where what is made of commands and packets isn't filled in
-abbrev pub open_command : (n slot : ℕ) → Bool → LineEntry
-open_command n slot true =
-    line.C (record { line = n; slot = slot; number = 0; reply = record { outcome = Done; message = None } })
-open_command n slot false = line.F (record { line = n; slot = slot; packet = false })
-
-abbrev pub open_packet : (n slot : ℕ) → (taken parked : Bool) → LineEntry
-open_packet n slot true parked = line.P (record {
-  line = n;
-  slot = slot;
-  number = 0;
-  commands = 0;
-  verdict = NoBearer;
-  place = None;
-  parked = parked;
-})
-open_packet n slot false parked = line.F (record { line = n; slot = slot; packet = true })
-
-abbrev pub open_entry : ℕ → Meaning → ask.Outcome → LineEntry
-open_entry n (note text) outcome = line.N (record { line = n; note = text })
-open_entry n (move slot slice text) outcome = line.N (record { line = n; note = text })
-open_entry n (command slot c) outcome = open_command n slot outcome.taken
-open_entry n (packet slot p) outcome = open_packet n slot outcome.taken outcome.parked
-
-abbrev pub open_entries : ℕ → List Meaning → List ask.Outcome → List LineEntry
-open_entries n [] outcomes = []
-open_entries n (now ∷ made) [] = []
-open_entries n (now ∷ made) (outcome ∷ outcomes) = open_entry n now outcome ∷ open_entries (n + 1) made outcomes
 
 -- each answers its line, and tells its outcome
 command_answers : (n slot : ℕ) (c : CommandKind) (taken : Bool) → Answers n (command slot c) (open_command n slot taken)

@@ -34,7 +34,8 @@ use Rattle.slice_schedule.proofs.Due.{each_outcome_is_due}
 use Rattle.slice_schedule.proofs.Lines.{each_packet_is_handled}
 use Rattle.driven_run.specs.Driven.{EachScheduleIsDriven, driven, outcome_told, place_told, mets_driven}
 use Rattle.driven_run.proofs.Accounting.{floors_told}
-use Rattle.driven_run.proofs.Forms.{all_formed, open_entries, all_answer, all_tell, filled_tell}
+use Rattle.driven_run.specs.Opened.{open_entries}
+use Rattle.driven_run.proofs.Forms.{all_formed, all_answer, all_tell, filled_tell}
 use Rattle.driven_run.proofs.Lawful.{length-counted, slot_left}
 use Rattle.driven_run.proofs.Owing.{lines_lawful, untold}
 use Rattle.driven_run.proofs.Rising.{counts_from, rises_from}

@@ -1,3 +1,4 @@
 pub mod Driven
+pub mod Opened
 pub mod Runs
 pub mod Noted

@@ -13,8 +13,8 @@ use Rattle.lawful_run.specs.Trace.{meant_from}
 use Rattle.driven_run.specs.Runs.{bound_by, bounds_behind}
 use Rattle.subscriber.specs.Standing.{SubscriberState}
 use Rattle.at_rest.specs.Rest.{destination_or}
-use Rattle.epoch_drive.specs.Meant.{meant_next}
-use Rattle.epoch_drive.proofs.Turning.{meant_by}
+use Rattle.at_rest.specs.Meant.{meant_next}
+use Rattle.at_rest.proofs.Turning.{meant_by}
 
 -- behind an order to move or to stay
 settled_bound : (test own : Bool) (at slot slice here there : ℕ) (text : List ℕ)

@@ -25,7 +25,6 @@ use Rattle.slice_schedule.specs.World.{Rooms, start}
 use Rattle.slice_schedule.proofs.Due.{each_outcome_is_due}
 use Rattle.schedule_run.specs.Plan as plans
 use Rattle.driven_run.specs.Driven.{IsDriven, driven, mets_driven}
-use Rattle.driven_run.proofs.Forms as forms
 use Rattle.driven_run.proofs.Forms.{filled_tell}
 use Rattle.driven_run.proofs.Owing.{lines_lawful, untold}
 use Rattle.driven_run.proofs.There as there
@@ -33,8 +32,9 @@ use Rattle.subscriber.specs.Standing.{SubscriberState, commands_met}
 use Rattle.slot_replay.specs.Replaying.{counts_in, counts_of, effects_told, places_of}
 use Rattle.slot_replay.specs.declared.placed.Placed.{Placed}
 use Rattle.epoch_drive.specs.Joins as joins
-use Rattle.epoch_drive.specs.Meant.{AreStanding}
-use Rattle.epoch_drive.specs.Opened.{open_entries, opened}
+use Rattle.at_rest.specs.Meant.{AreStanding}
+use Rattle.driven_run.specs.Opened.{open_entries}
+use Rattle.epoch_drive.specs.Opened.{opened}
 use Rattle.epoch_drive.specs.Replays.{HasDone, HaveDone, commands_at, commands_shared, events_shared, packets_at, packets_shared}
 use Rattle.epoch_drive.specs.Shares.{AreShares, IsShare, base_at, packets_alone, packets_lent}
 use Rattle.slot_replay.specs.Replaying.{rows_told}
@@ -43,7 +43,7 @@ use Rattle.epoch_drive.specs.declared.epoch.Entry.{Entry}
 use Rattle.epoch_drive.specs.declared.replays.Answers.{Answers}
 use Rattle.epoch_drive.specs.declared.replays.Replays.{Replays}
 use Rattle.epoch_drive.specs.declared.sharing.Share.{Share}
-use Rattle.epoch_drive.proofs.Events.{mets_list, opened_lines, opens_same, packets_counted, replies_list, with_none}
+use Rattle.epoch_drive.proofs.Events.{mets_list, opened_lines, packets_counted, replies_list, with_none}
 use Rattle.epoch_drive.proofs.Replaying.{by_slot-next, counts_so}
 use Rattle.epoch_drive.proofs.Scheduled.{as_many, counts_at, each, entries, tell}
 
@@ -165,8 +165,7 @@ module _ (rooms : Rooms) (bounds : ℕ → ℕ) (turns : List (List ℕ)) (first
   lines_are : opened first made plan.outcomes ≡ own_lines
   lines_are =
       opened_lines first made plan.outcomes
-      ∙ ap (lines_told made) (opens_same first made plan.outcomes
-      ∙ ap (λ os. forms.open_entries first made os) drove.outs_are)
+      ∙ ap (λ os. lines_told made (open_entries first made os)) drove.outs_are
 
   commands_are : (slot : ℕ) → commands_at shares slot ≡ accepted.commands_accepted slot own_lines
   commands_are slot = elim (cases_lt slot (length shares)) [
@@ -325,7 +324,7 @@ module _ (rooms : Rooms) (bounds : ℕ → ℕ) (turns : List (List ℕ)) (first
   lines_so : map line_told told ≡ fill.filled (entries rooms bounds turns first before made)
       (own_replies rooms bounds turns first before made) (own_mets rooms bounds turns first before made)
   lines_so =
-      let opens = opens_same first made plan.outcomes ∙ ap (λ os. forms.open_entries first made os) drove.outs_are in
+      let opens = ap (λ os. open_entries first made os) drove.outs_are in
       drove.joined ∙ (λ i. fill.filled (opens i) (λ slot. replies_are slot i) (λ slot. mets_are_told slot i))
 
   -- the events of each slot are those of the epoch

@@ -16,6 +16,7 @@ use Rattle.demux.specs.Packets.{numbered}
 use Rattle.lawful_run.specs.Merging.{merged}
 use Rattle.lawful_run.specs.Accepted as accepted
 use Rattle.lawful_run.specs.LinesTold.{LineTold}
+use Rattle.lawful_run.proofs.EventByEvent.{ordered_length}
 use Rattle.slice_schedule.specs.Front.{Outcome}
 use Rattle.schedule_run.specs.Plan.{Plan, mets_of}
 use Rattle.subscriber.specs.Standing.{SubscriberState}
@@ -23,11 +24,10 @@ use Rattle.at_rest.specs.Rest.{AreAtRest, HasEvents}
 use Rattle.slot_replay.specs.Replaying.{AreLate, latest_of, moment_of}
 use Rattle.slot_replay.specs.declared.placed.Placed.{Placed}
 use Rattle.epoch_drive.specs.Lines.{AreLater, latest_behind}
-use Rattle.epoch_drive.specs.Meant.{HaveMoments, meaning_of}
+use Rattle.epoch_drive.specs.Turned.{HaveMoments}
 use Rattle.epoch_drive.specs.Opened.{opened}
 use Rattle.epoch_drive.specs.Replays.{AllCanDo, HasDone, HaveDone, commands_at, commands_shared, events_shared, packets_at, packets_shared}
 use Rattle.epoch_drive.specs.Shares.{AreShares, IsShare, base_at}
-use Rattle.epoch_drive.specs.declared.meant.Meant.{Meant}
 use Rattle.epoch_drive.specs.declared.replays.Answers.{Answers}
 use Rattle.epoch_drive.specs.declared.replays.Replays.{Replays}
 use Rattle.epoch_drive.specs.declared.sharing.Share.{Share}
@@ -35,27 +35,12 @@ use Rattle.epoch_drive.proofs.Driven.{some_at}
 use Rattle.epoch_drive.proofs.Events.{few_taken}
 use Rattle.epoch_drive.proofs.Moments.{Rises, late_so, taken_rise}
 
--- the events in order are as many as commands and packets
-ordered_length : (done next : ℕ) (commands : List CommandKind) (packets : List accepted.Placed)
-    → length (merged done next commands packets) ≡ length commands + length packets
-ordered_length done next commands [] = length-map commands event.Command ∙ (omega arith)
-ordered_length done next commands (p ∷ packets) =
-    let k = p.commands - done in
-    let front : length (map event.Command (take k commands)) ≡ length (take k commands) =
-    length-map (take k commands) event.Command in
-    let both : length (take k commands) + length (drop k commands) ≡ length commands =
-    sym (length-append (take k commands) (drop k commands)) ∙ ap length (take-append-drop k commands) in
-    let later = ordered_length p.commands (next + 1) (drop k commands) packets in
-    length-append (map event.Command (take k commands))
-    (event.Packet (numbered next p.packet) ∷ merged p.commands (next + 1) (drop k commands) packets)
-    ∙ omega (arith, front, both, later)
-
-pub length-moments : (lines : List Line) (meants : List Meant) → HaveMoments lines meants
-    → length meants ≡ length lines
+pub length-moments : (lines : List Line) (made : List Meaning) → HaveMoments lines made
+    → length made ≡ length lines
 length-moments [] [] have = refl
-length-moments [] (it ∷ meants) have = absurd have
+length-moments [] (it ∷ made) have = absurd have
 length-moments (line ∷ lines) [] have = absurd have
-length-moments (line ∷ lines) (it ∷ meants) have = ap suc (length-moments lines meants have.1)
+length-moments (line ∷ lines) (it ∷ made) have = ap suc (length-moments lines made have.1)
 
 length-opened : (n : ℕ) (made : List Meaning) (outs : List Outcome) → length (opened n made outs) ≤ length made
 length-opened n [] outs = omega arith
@@ -63,16 +48,16 @@ length-opened n (m ∷ made) [] = omega arith
 length-opened n (m ∷ made) (o ∷ outs) = let rest = length-opened (n + 1) made outs in omega (arith, rest)
 
 module _ (slices count latest : ℕ) (old : List SubscriberState) (shares : List Share) (plan : Plan)
-    (lines : List Line) (meants : List Meant) (outs : List Outcome) (n : ℕ)
+    (lines : List Line) (made : List Meaning) (outs : List Outcome) (n : ℕ)
     (rest : AreAtRest slices count latest old) (many : length shares ≡ length old)
-    (are : AreShares shares old plan (opened n (map meaning_of meants) outs)) (later : AreLater latest lines)
-    (have : HaveMoments lines meants) where
+    (are : AreShares shares old plan (opened n made outs)) (later : AreLater latest lines)
+    (have : HaveMoments lines made) where
   -- a share has at most as many as there are lines
   share_few : (slot : ℕ) (share : Share) → slot < length shares
       → length (get_or shares slot share).commands.items + length (get_or shares slot share).packets.items ≤ length lines
   share_few slot share low =
       let own : Share = get_or shares slot share in
-      let told : List LineTold = opened n (map meaning_of meants) outs in
+      let told : List LineTold = opened n made outs in
       let is : IsShare own (base_at old slot) (mets_of plan slot) told slot = are slot share low in
       let commands : length own.commands.items ≡ length (accepted.commands_accepted slot told) =
       sym (length-map own.commands.items (λ (c : Bor CommandKind). c.now)) ∙ ap length is.commands in
@@ -80,8 +65,8 @@ module _ (slices count latest : ℕ) (old : List SubscriberState) (shares : List
       sym (length-map own.packets.items (λ (p : Placed). p.packet)) ∙ ap length is.packets
       ∙ length-map (accepted.packets_accepted slot told) (λ (p : accepted.Placed). p.packet) in
       let few = few_taken slot told in
-      let short = length-opened n (map meaning_of meants) outs in
-      omega (arith, commands, packets, few, short, length-map meants meaning_of, length-moments lines meants have)
+      let short = length-opened n made outs in
+      omega (arith, commands, packets, few, short, length-moments lines made have)
 
   -- its packets come one after another
   share_late : (slot : ℕ) (share : Share) (m : ℕ) → slot < length shares → m ≤ latest
@@ -91,7 +76,7 @@ module _ (slices count latest : ℕ) (old : List SubscriberState) (shares : List
       let own : Share = get_or shares slot share in
       late_so m latest (latest_behind latest lines) own.packets.items le
       (subst (Rises latest (latest_behind latest lines)) (sym (are slot share low).packets)
-      (taken_rise slot latest n lines meants outs later have))
+      (taken_rise slot latest n lines made outs later have))
 
   pub all_can : count + length lines ≤ 2 ^ 39 → AllCanDo old shares
   all_can few slot none share low =

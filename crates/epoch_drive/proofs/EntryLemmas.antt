@@ -1,9 +1,11 @@
 -- Entries that are filled one after another.
 use Rattle.std.proofs.Common.{◌≡◌, ℕ, ◌+◌, ◌==◌, ◌<◌, Bool, true, false, cond, Option, Some, None, IfSome, List, [], ◌∷◌, ◌++◌, map, length, drop, get_or, set, get_or-set_same, get_or-set_other, length-set, refl, sym, ap, subst, ◌∙◌, inl, inr, arith, append_assoc, append-nil}
+use Rattle.std.specs.Borrow.{Bor}
 use Rattle.std.specs.Prelude.{option_to_list}
 use Rattle.std.proofs.lemmas.Bool.{cases_eq, cases_lt, eq-eqb, eqb-true, ne_eqb}
 use Rattle.std.proofs.lemmas.List.{drop-map, drop_more, get_or-map, get_or_past, length-map, map_push, nil_from_length, length-drop}
 use Rattle.std.proofs.lemmas.List.Elements.{All-drop, All-head, All-set}
+use Rattle.demux.specs.Trace.{Meaning}
 use Rattle.report_lines.specs.Lent.{IsShort}
 use Rattle.report_lines.specs.declared.entry.LineEntry.{LineEntry}
 use Rattle.report_lines.specs.declared.entry.LineEntry.TheVariants as line
@@ -14,11 +16,10 @@ use Rattle.slot_replay.specs.declared.replayed.NumberedVerdict.{NumberedVerdict}
 use Rattle.slot_replay.specs.declared.replayed.NumberedReply as told
 use Rattle.epoch_drive.specs.declared.epoch.Entry.{Entry}
 use Rattle.epoch_drive.specs.declared.epoch.Entry.TheVariants as entries
-use Rattle.epoch_drive.specs.declared.meant.Meant.{Meant}
 use Rattle.epoch_drive.specs.declared.replays.Answers.{Answers}
 use Rattle.epoch_drive.specs.Joins.{AllShort, FillsNext, TakesPacket, TakesReply, met_so, mets_at, mets_of, replied_so, replies_at, replies_of, told_of_command, told_of_packet}
-use Rattle.epoch_drive.specs.Meant.{meaning_of}
-use Rattle.epoch_drive.specs.Opened.{open_command, open_entries, open_entry, open_packet}
+use Rattle.epoch_join.specs.Opened.{open_command, open_packet}
+use Rattle.driven_run.specs.Opened.{open_entries, open_entry}
 use Rattle.epoch_drive.specs.Telling.{IsShortEntry, line_told}
 
 -- lists by slot, where the value of one slot is another
@@ -122,32 +123,32 @@ joins_more entries entry open_ left rest replies replies_now mets mets_now whole
     ∙ ap (λ l. map line_told entries ++ filled l replies mets) (sym is)
     ∙ joins
 
-pub joins_next : (entries : List Entry) (entry : Entry) (first i : ℕ) (it : Meant) (rest left : List Meant)
+pub joins_next : (entries : List Entry) (entry : Entry) (first i : ℕ) (it : Meaning) (rest left : List Meaning)
     (outs : List Outcome) (o : Outcome) (old new : List Answers) (whole : List LineEntry)
     → i < length outs → o ≡ get_or outs i o → left ≡ it ∷ rest
-    → Joins entries (open_entries (first + i) (map meaning_of left) (drop i outs)) (replies_at old) (mets_at old) whole
-    → FillsNext old new (open_entry (first + i) (meaning_of it) o) entry
-    → Joins (entries ++ entry ∷ []) (open_entries (first + (i + 1)) (map meaning_of rest) (drop (i + 1) outs))
+    → Joins entries (open_entries (first + i) left (drop i outs)) (replies_at old) (mets_at old) whole
+    → FillsNext old new (open_entry (first + i) it o) entry
+    → Joins (entries ++ entry ∷ []) (open_entries (first + (i + 1)) rest (drop (i + 1) outs))
     (replies_at new) (mets_at new) whole
 joins_next entries entry first i it rest left outs o old new whole low o_is left_is joins fills =
     let at : first + i + 1 ≡ first + (i + 1) = omega arith in
     let out : drop i outs ≡ o ∷ drop (i + 1) outs =
     drop_more outs i o low ∙ ap (λ x. x ∷ drop (i + 1) outs) (sym o_is) in
-    joins_more entries entry (open_entry (first + i) (meaning_of it) o)
-    (open_entries (first + i) (map meaning_of left) (drop i outs))
-    (open_entries (first + (i + 1)) (map meaning_of rest) (drop (i + 1) outs)) (replies_at old) (replies_at new)
+    joins_more entries entry (open_entry (first + i) it o)
+    (open_entries (first + i) left (drop i outs))
+    (open_entries (first + (i + 1)) rest (drop (i + 1) outs)) (replies_at old) (replies_at new)
     (mets_at old) (mets_at new) whole joins
-    (ap (λ ms. open_entries (first + i) (map meaning_of ms) (drop i outs)) left_is
-    ∙ ap (open_entries (first + i) (map meaning_of (it ∷ rest))) out
-    ∙ ap (λ k. open_entry (first + i) (meaning_of it) o ∷ open_entries k (map meaning_of rest) (drop (i + 1) outs)) at)
+    (ap (λ ms. open_entries (first + i) ms (drop i outs)) left_is
+    ∙ ap (open_entries (first + i) (it ∷ rest)) out
+    ∙ ap (λ k. open_entry (first + i) it o ∷ open_entries k rest (drop (i + 1) outs)) at)
     fills.filled_so fills.replies fills.mets
 
-pub joins_over : (entries : List Entry) (n : ℕ) (left : List Meant) (outs : List Outcome) (replies : Replies)
+pub joins_over : (entries : List Entry) (n : ℕ) (left : List Meaning) (outs : List Outcome) (replies : Replies)
     (mets : Mets) (whole : List LineEntry) → left ≡ []
-    → Joins entries (open_entries n (map meaning_of left) outs) replies mets whole → map line_told entries ≡ whole
+    → Joins entries (open_entries n left outs) replies mets whole → map line_told entries ≡ whole
 joins_over entries n left outs replies mets whole none joins =
     sym (append-nil (map line_told entries))
-    ∙ ap (λ ms. map line_told entries ++ filled (open_entries n (map meaning_of ms) outs) replies mets) (sym none) ∙ joins
+    ∙ ap (λ ms. map line_told entries ++ filled (open_entries n ms outs) replies mets) (sym none) ∙ joins
 
 -- a verdict that is taken can be written
 next_short : (xs ys : List NumberedVerdict) (next : Option NumberedVerdict) → xs ≡ option_to_list next ++ ys → AreShort xs
@@ -246,8 +247,8 @@ fills_refused_packet answers n slot taken parked is =
     } in
     subst (λ t. FillsNext answers answers (open_packet n slot t parked) (entries.Refusal n slot true)) (sym is) fills
 
-pub fills_note : (answers : List Answers) (n : ℕ) (text : List ℕ)
-    → FillsNext answers answers (line.N (record { line = n; note = text })) (entries.Note n text)
+pub fills_note : (answers : List Answers) (n : ℕ) (text : Bor (List ℕ))
+    → FillsNext answers answers (line.N (record { line = n; note = text.now })) (entries.Note n text)
 fills_note answers n text = record {
   filled_so = refl;
   many = refl;

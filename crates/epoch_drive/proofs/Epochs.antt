@@ -13,13 +13,12 @@ use Rattle.subscriber.specs.Standing.{SubscriberState}
 use Rattle.at_rest.specs.Rest.{AreAtRest, IsBehind, RepresentsAll, Rest, bound_at}
 use Rattle.slot_replay.specs.Replaying.{effects_told}
 use Rattle.epoch_drive.specs.Lines.{AreLater, latest_behind, rooms_of}
-use Rattle.epoch_drive.specs.Meant.{AreStanding, meaning_of}
+use Rattle.at_rest.specs.Meant.{AreStanding}
 use Rattle.epoch_drive.specs.Steps.{DoesLines}
 use Rattle.slot_replay.specs.Replaying.{rows_told}
 use Rattle.epoch_drive.specs.Telling.{line_told, told_by}
 use Rattle.epoch_drive.specs.declared.epoch.Entry.{Entry}
 use Rattle.epoch_drive.specs.declared.epoch.Epoch.{Epoch}
-use Rattle.epoch_drive.specs.declared.meant.Meant.{Meant}
 use Rattle.epoch_drive.specs.declared.replays.Replays.{Replays}
 use Rattle.epoch_drive.specs.declared.sharing.Share.{Share}
 use Rattle.epoch_drive.proofs.Driven.{Drove, events_none, events_told, is_driven}
@@ -33,11 +32,8 @@ module _ (rest : Rest) (lines : List Line) (turns : List (List ℕ)) (book_now :
     epoch)
     (at_rest : AreAtRest rest.slices rest.lines rest.latest rest.subscribers)
     (later : AreLater rest.latest lines) (few : rest.lines + length lines ≤ 2 ^ 39) where
-  abbrev meants : List Meant
-  meants = steps.meants
-
   abbrev made : List Meaning
-  made = map meaning_of meants
+  made = steps.made
 
   abbrev mid : List SubscriberState
   mid = steps.between
@@ -63,9 +59,9 @@ module _ (rest : Rest) (lines : List Line) (turns : List (List ℕ)) (book_now :
     done = steps.done;
     joined = steps.joined;
     no_commands = λ slot past.
-        no_commands (length mid) slot (rest.lines + 1) meants plan.outcomes past steps.turned.within;
+        no_commands (length mid) slot (rest.lines + 1) made plan.outcomes past steps.turned.within;
     no_packets = λ slot past.
-        no_packets (length mid) slot (rest.lines + 1) meants plan.outcomes past steps.turned.within;
+        no_packets (length mid) slot (rest.lines + 1) made plan.outcomes past steps.turned.within;
   }
 
   abbrev own_report : EpochReport
@@ -97,13 +93,13 @@ module _ (rest : Rest) (lines : List Line) (turns : List (List ℕ)) (book_now :
       drove (standing before represents) slots (omega (arith, most, steps.turned.many))))
 
   did : finals.EachDid mid new shares
-  did = ends.did_at rest.slices rest.lines rest.latest mid shares plan lines meants plan.outcomes 0
+  did = ends.did_at rest.slices rest.lines rest.latest mid shares plan lines made plan.outcomes 0
       (steps.turned.rest rest.lines rest.latest at_rest) steps.many (steps.are 0) later steps.turned.moments new replays steps.done
 
   pub rests_so : SessionsKeepTheirSlot
       → AreAtRest rest.slices (rest.lines + length lines) (latest_behind rest.latest lines) new
   rests_so keeps =
-      ends.rests rest.slices rest.lines rest.latest mid shares plan lines meants plan.outcomes 0
+      ends.rests rest.slices rest.lines rest.latest mid shares plan lines made plan.outcomes 0
       (steps.turned.rest rest.lines rest.latest at_rest) steps.many (steps.are 0) later steps.turned.moments new replays steps.done keeps
 
   pub represents_so : (after : Rest) → after.subscribers ≡ new → after.lines ≡ rest.lines + length lines
@@ -119,7 +115,7 @@ module _ (rest : Rest) (lines : List Line) (turns : List (List ℕ)) (book_now :
       (events_none (rooms_of rest) (bound_at rest) turns (rest.lines + 1) before made mid new plan shares replays told
       drove (standing before represents))
       represents.few
-      (λ slot low. ends.lengths_behind rest.slices rest.lines rest.latest mid shares plan lines meants plan.outcomes 0
+      (λ slot low. ends.lengths_behind rest.slices rest.lines rest.latest mid shares plan lines made plan.outcomes 0
       (steps.turned.rest rest.lines rest.latest at_rest) steps.many (steps.are 0) later steps.turned.moments new replays steps.done slot (before slot)
       (represents.few slot) (omega (arith, low, steps.many)))
       subscribers_are lines_are)

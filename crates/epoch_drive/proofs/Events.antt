@@ -13,7 +13,6 @@ use Rattle.lawful_run.specs.Telling.{counted}
 use Rattle.epoch_join.specs.Joined.{with_counts}
 use Rattle.slice_schedule.specs.Front.{Outcome}
 use Rattle.slice_schedule.specs.Slots.{Met}
-use Rattle.driven_run.proofs.Forms as forms
 use Rattle.driven_run.proofs.There.{met_list, reply_list}
 use Rattle.slot_replay.specs.Replaying.{counts_in, counts_of, numbers_in, packet_numbers_in, placed_lent, places_in, replies_in, verdicts_in}
 use Rattle.slot_replay.specs.declared.placed.Placed.{Placed}
@@ -21,7 +20,9 @@ use Rattle.slot_replay.specs.declared.replayed.NumberedVerdict.{NumberedVerdict}
 use Rattle.slot_replay.specs.declared.replayed.NumberedReply as told
 use Rattle.packet_steps.specs.Lent.{verdict_of}
 use Rattle.epoch_drive.specs.Joins.{met_so, replied_so}
-use Rattle.epoch_drive.specs.Opened.{open_command, open_entries, open_entry, open_packet, opened}
+use Rattle.epoch_join.specs.Opened.{open_command, open_packet}
+use Rattle.driven_run.specs.Opened.{open_entries, open_entry}
+use Rattle.epoch_drive.specs.Opened.{opened}
 use Rattle.epoch_drive.specs.Shares.{packets_alone, packets_lent}
 
 -- the first value, and those behind it
@@ -33,33 +34,7 @@ abbrev pub tail_of : {X : Type 0} → List X → List X
 tail_of [] = []
 tail_of (x ∷ xs) = xs
 
-command_same : (n own : ℕ) (taken : Bool) → open_command n own taken ≡ forms.open_command n own taken
-command_same n own true = refl
-command_same n own false = refl
-
-packet_same : (n own : ℕ) (taken parked : Bool)
-    → open_packet n own taken parked ≡ forms.open_packet n own taken parked
-packet_same n own true parked = refl
-packet_same n own false parked = refl
-
--- open entries are those of the driven epoch
-pub opens_same : (n : ℕ) (made : List Meaning) (outs : List Outcome)
-    → open_entries n made outs ≡ forms.open_entries n made outs
-opens_same n [] outs = refl
-opens_same n (m ∷ made) [] = refl
-opens_same n (note text ∷ made) (o ∷ outs) = ap (λ rest. forms.open_entry n (note text) o ∷ rest) (opens_same (n + 1) made outs)
-opens_same n (move own slice text ∷ made) (o ∷ outs) =
-    ap (λ rest. forms.open_entry n (move own slice text) o ∷ rest) (opens_same (n + 1) made outs)
-opens_same n (command own c ∷ made) (o ∷ outs) =
-    let rest = opens_same (n + 1) made outs in
-    let here = command_same n own o.taken in
-    λ i. here i ∷ rest i
-opens_same n (packet own p ∷ made) (o ∷ outs) =
-    let rest = opens_same (n + 1) made outs in
-    let here = packet_same n own o.taken o.parked in
-    λ i. here i ∷ rest i
-
--- and the lines with them are the opened ones
+-- lines with their open entries are the opened ones
 pub opened_lines : (n : ℕ) (made : List Meaning) (outs : List Outcome)
     → opened n made outs ≡ lines_told made (open_entries n made outs)
 opened_lines n [] outs = refl

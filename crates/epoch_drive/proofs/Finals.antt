@@ -11,7 +11,7 @@ use Rattle.lawful_run.specs.Trace.{meant_from}
 use Rattle.driven_run.specs.Runs.{bounds_behind}
 use Rattle.subscriber.specs.Standing.{SubscriberState, Represents}
 use Rattle.at_rest.specs.Rest.{IsBehind, RepresentsAll, Rest, bound_at, destination_or}
-use Rattle.epoch_drive.specs.Meant.{AreStanding, Stand, bound_of}
+use Rattle.at_rest.specs.Meant.{AreStanding, Stand, bound_of}
 use Rattle.epoch_drive.specs.Replays.{HasDone, events_shared}
 use Rattle.epoch_drive.specs.declared.replays.Answers.{Answers}
 use Rattle.epoch_drive.specs.declared.sharing.Share.{Share}

@@ -1,5 +1,5 @@
-mod Places
 mod Turning
+pub mod Keeping
 mod Bounds
 mod Moments
 mod ShareLemmas
@@ -12,3 +12,4 @@ mod Ends
 mod Drives
 mod Finals
 mod Epochs
+mod Sets

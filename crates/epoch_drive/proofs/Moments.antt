@@ -3,6 +3,7 @@ use Rattle.std.proofs.Common.{◌≡◌, ℕ, ◌+◌, ◌==◌, ◌≤◌, Bool
 use Rattle.std.specs.List.{cons_option}
 use Rattle.std.specs.Option.{option_map}
 use Rattle.trace_lines.specs.Line.{Line}
+use Rattle.demux.specs.Trace.{Meaning, command, packet, move, note}
 use Rattle.demux.specs.declared.packet.LentPacket.{LentPacket}
 use Rattle.report_lines.specs.declared.entry.LineEntry.{LineEntry}
 use Rattle.lawful_run.specs.Accepted as accepted
@@ -10,11 +11,11 @@ use Rattle.slice_schedule.specs.Front.{Outcome}
 use Rattle.slot_replay.specs.Replaying.{AreLate, latest_of}
 use Rattle.slot_replay.specs.declared.placed.Placed.{Placed}
 use Rattle.epoch_drive.specs.Lines.{AreLater, latest_behind}
-use Rattle.epoch_drive.specs.Meant.{HasItsMoment, HaveMoments, meaning_of}
-use Rattle.epoch_drive.specs.Opened.{open_entry, opened}
+use Rattle.at_rest.specs.Meant.{HasItsMoment}
+use Rattle.epoch_drive.specs.Turned.{HaveMoments}
+use Rattle.driven_run.specs.Opened.{open_entry}
+use Rattle.epoch_drive.specs.Opened.{opened}
 use Rattle.epoch_drive.specs.Shares.{packets_alone, packets_lent}
-use Rattle.epoch_drive.specs.declared.meant.Meant.{Meant}
-use Rattle.epoch_drive.specs.declared.meant.Meant.TheVariants as now
 
 -- no packet is before the one before it, nor before one moment, nor behind another
 abbrev pub Rises : (low high : ℕ) → List LentPacket → Type 0
@@ -51,21 +52,21 @@ none_rises : (test : Bool) (latest moment high : ℕ) (taken : List accepted.Pla
 none_rises true latest moment high taken le rises = rises_sooner latest moment high (packets_alone taken) le rises
 none_rises false latest moment high taken le rises = rises_sooner latest moment high (packets_alone taken) le rises
 
-abbrev pub LineRises : ℕ → ℕ → ℕ → ℕ → Meant → LineEntry → List accepted.Placed → Type 0
+abbrev pub LineRises : ℕ → ℕ → ℕ → ℕ → Meaning → LineEntry → List accepted.Placed → Type 0
 LineRises slot latest moment high it e taken =
     HasItsMoment moment it → Rises moment high (packets_alone taken)
     → Rises latest high (packets_alone
-    (cons_option (accepted.accepted_packet slot (record { meaning = meaning_of it; entry = e })) taken))
+    (cons_option (accepted.accepted_packet slot (record { meaning = it; entry = e })) taken))
 
-line_rises : (slot latest moment high : ℕ) (it : Meant) (e : LineEntry) (taken : List accepted.Placed)
+line_rises : (slot latest moment high : ℕ) (it : Meaning) (e : LineEntry) (taken : List accepted.Placed)
     → latest ≤ moment → LineRises slot latest moment high it e taken
-line_rises slot latest moment high (now.Command own c) e taken le = λ has rises.
+line_rises slot latest moment high (command own c) e taken le = λ has rises.
     none_rises (accepted.is_refused e) latest moment high taken le rises
-line_rises slot latest moment high (now.Packet own p) e taken le = λ has rises.
+line_rises slot latest moment high (packet own p) e taken le = λ has rises.
     next_rises (accepted.is_refused e) (own == slot) latest moment high (accepted.commands_before e) p taken le has rises
-line_rises slot latest moment high (now.Move own slice text) e taken le = λ has rises.
+line_rises slot latest moment high (move own slice text) e taken le = λ has rises.
     none_rises (accepted.is_refused e) latest moment high taken le rises
-line_rises slot latest moment high (now.Note text) e taken le = λ has rises.
+line_rises slot latest moment high (note text) e taken le = λ has rises.
     none_rises (accepted.is_refused e) latest moment high taken le rises
 
 pub latest_later : (latest : ℕ) (lines : List Line) → AreLater latest lines → latest ≤ latest_behind latest lines
@@ -73,16 +74,16 @@ latest_later latest [] later = omega arith
 latest_later latest (line ∷ lines) later =
     let rest = latest_later line.moment lines later.1 in omega (arith, later.0, rest)
 
-pub taken_rise : (slot latest n : ℕ) (lines : List Line) (meants : List Meant) (outs : List Outcome)
-    → AreLater latest lines → HaveMoments lines meants
+pub taken_rise : (slot latest n : ℕ) (lines : List Line) (made : List Meaning) (outs : List Outcome)
+    → AreLater latest lines → HaveMoments lines made
     → Rises latest (latest_behind latest lines)
-    (packets_alone (accepted.packets_accepted slot (opened n (map meaning_of meants) outs)))
+    (packets_alone (accepted.packets_accepted slot (opened n made outs)))
 taken_rise slot latest n [] [] outs later have = omega arith
-taken_rise slot latest n [] (it ∷ meants) outs later have = absurd have
+taken_rise slot latest n [] (it ∷ made) outs later have = absurd have
 taken_rise slot latest n (line ∷ lines) [] outs later have = absurd have
-taken_rise slot latest n (line ∷ lines) (it ∷ meants) [] later have =
+taken_rise slot latest n (line ∷ lines) (it ∷ made) [] later have =
     let rest = latest_later line.moment lines later.1 in omega (arith, later.0, rest)
-taken_rise slot latest n (line ∷ lines) (it ∷ meants) (o ∷ outs) later have =
-    line_rises slot latest line.moment (latest_behind line.moment lines) it (open_entry n (meaning_of it) o)
-    (accepted.packets_accepted slot (opened (n + 1) (map meaning_of meants) outs)) later.0 have.0
-    (taken_rise slot line.moment (n + 1) lines meants outs later.1 have.1)
+taken_rise slot latest n (line ∷ lines) (it ∷ made) (o ∷ outs) later have =
+    line_rises slot latest line.moment (latest_behind line.moment lines) it (open_entry n it o)
+    (accepted.packets_accepted slot (opened (n + 1) made outs)) later.0 have.0
+    (taken_rise slot line.moment (n + 1) lines made outs later.1 have.1)

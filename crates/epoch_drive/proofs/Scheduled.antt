@@ -22,7 +22,8 @@ use Rattle.slice_schedule.specs.Slots.{Met}
 use Rattle.slice_schedule.specs.World.{Rooms, World, start}
 use Rattle.schedule_run.specs.Lines.{driven_by}
 use Rattle.driven_run.specs.Driven.{asks_of, driven, mets_driven, outcome_told}
-use Rattle.driven_run.proofs.Forms.{all_answer, all_formed, all_tell, open_entries}
+use Rattle.driven_run.proofs.Forms.{all_answer, all_formed, all_tell}
+use Rattle.driven_run.specs.Opened.{open_entries}
 use Rattle.driven_run.proofs.Lawful.{length-counted}
 use Rattle.driven_run.proofs.There.{counts_filled, mets_at, replies_at, slot_told}
 

@@ -8,6 +8,7 @@ use Rattle.std.proofs.lemmas.List.Elements.{filter_map-append, All-get_or}
 use Rattle.control_steps.specs.declared.command.CommandKind.{CommandKind}
 use Rattle.demux.specs.Trace.{Meaning, command, packet, move, note}
 use Rattle.demux.specs.declared.packet.LentPacket.{LentPacket}
+use Rattle.gate_model.specs.Events.{FewEvents}
 use Rattle.lawful_run.specs.Accepted as accepted
 use Rattle.lawful_run.specs.LinesTold.{LineTold}
 use Rattle.slice_schedule.specs.Front.{Outcome}
@@ -16,11 +17,11 @@ use Rattle.schedule_run.specs.Plan.{Plan, mets_of}
 use Rattle.slot_replay.specs.Replaying.{commands_lent, counts_of, places_of}
 use Rattle.slot_replay.specs.declared.placed.Placed.{Placed}
 use Rattle.subscriber.specs.Standing.{SubscriberState, commands_met}
-use Rattle.epoch_drive.specs.Meant.{IsWithin, meaning_of}
-use Rattle.epoch_drive.specs.Opened.{open_command, open_entry, open_packet, opened}
+use Rattle.at_rest.specs.Meant.{IsWithin}
+use Rattle.epoch_join.specs.Opened.{open_command, open_packet}
+use Rattle.driven_run.specs.Opened.{open_entry}
+use Rattle.epoch_drive.specs.Opened.{opened}
 use Rattle.epoch_drive.specs.Shares.{AreMet, AreShares, base_at, GivesCommand, GivesPacket, HasMet, IsShare, MayMeet, packets_alone, packets_lent}
-use Rattle.epoch_drive.specs.declared.meant.Meant.{Meant}
-use Rattle.epoch_drive.specs.declared.meant.Meant.TheVariants as meant
 use Rattle.epoch_drive.specs.declared.sharing.Share.{Share}
 
 -- what a line brings a slot
@@ -254,7 +255,7 @@ opened_more n (suc i) (m1 ∷ made) (o1 ∷ outs) m o low low_outs m_is o_is =
     ∙ opened_more (n + 1) i made outs m o (omega (arith, low)) (omega (arith, low_outs)) m_is o_is)
     ∙ ap (λ k. take k (opened n (m1 ∷ made) (o1 ∷ outs))) more
 
--- a prefix of the lines has no more packets of a slot than all
+-- a front of the lines has no more packets of a slot than all
 front_packets : (slot k : ℕ) (told : List LineTold)
     → length (accepted.packets_accepted slot (take k told)) ≤ length (accepted.packets_accepted slot told)
 front_packets slot k told =
@@ -290,7 +291,7 @@ may_meet shares subscribers plan told i n own p o low many is_taken are met more
       omega (arith, lent, next, whole, met.enough own);
   few = met.few own;
   counts = λ subscriber.
-      All-get_or (λ (s : SubscriberState). commands_met s ≤ 2 ^ 40) subscribers own subscriber
+      All-get_or (λ (s : SubscriberState). FewEvents (commands_met s)) subscribers own subscriber
       (omega (arith, low, many)) met.counts;
 }
 
@@ -302,39 +303,37 @@ module _ (shares : List Share) (subscribers : List SubscriberState) (plan : Plan
   shares_refused told n m o isnt are =
       shares_stay shares subscribers plan told (line_at n m o) are (λ slot. refused_nothing n m o slot isnt)
 
-  module _ (meants : List Meant) (i : ℕ) (as_many : length plan.outcomes ≡ length meants) where
+  module _ (made : List Meaning) (i : ℕ) (as_many : length plan.outcomes ≡ length made) where
     abbrev lines_from : ℕ → List LineTold
-    lines_from first = opened first (map meaning_of meants) plan.outcomes
+    lines_from first = opened first made plan.outcomes
 
-    is_next : (first : ℕ) (it : Meant) (o : Outcome) → i < length meants → it ≡ get_or meants i it
+    is_next : (first : ℕ) (it : Meaning) (o : Outcome) → i < length made → it ≡ get_or made i it
         → o ≡ get_or plan.outcomes i o
-        → take i (lines_from first) ++ line_at (first + i) (meaning_of it) o ∷ [] ≡ take (i + 1) (lines_from first)
+        → take i (lines_from first) ++ line_at (first + i) it o ∷ [] ≡ take (i + 1) (lines_from first)
     is_next first it o low it_is o_is =
-        opened_more first i (map meaning_of meants) plan.outcomes (meaning_of it) o
-        (omega (arith, low, length-map meants meaning_of)) (omega (arith, low, as_many))
-        (ap meaning_of it_is ∙ sym (get_or-map meaning_of meants i it (meaning_of it) low)) o_is
+        opened_more first i made plan.outcomes it o low (omega (arith, low, as_many)) it_is o_is
 
-    pub shares_next : (first : ℕ) (it : Meant) (o : Outcome) → i < length meants → it ≡ get_or meants i it
+    pub shares_next : (first : ℕ) (it : Meaning) (o : Outcome) → i < length made → it ≡ get_or made i it
         → o ≡ get_or plan.outcomes i o
-        → AreShares shares subscribers plan (take i (lines_from first) ++ line_at (first + i) (meaning_of it) o ∷ [])
+        → AreShares shares subscribers plan (take i (lines_from first) ++ line_at (first + i) it o ∷ [])
         → AreShares shares subscribers plan (take (i + 1) (lines_from first))
     shares_next first it o low it_is o_is are =
         subst (AreShares shares subscribers plan) (is_next first it o low it_is o_is) are
 
     -- the packet of the next one has what it meets
-    pub has_met : (it : Meant) (o : Outcome) → length shares ≡ length subscribers
-        → All (IsWithin (length subscribers)) meants → i < length meants → it ≡ get_or meants i it
+    pub has_met : (it : Meaning) (o : Outcome) → length shares ≡ length subscribers
+        → All (IsWithin (length subscribers)) made → i < length made → it ≡ get_or made i it
         → o ≡ get_or plan.outcomes i o → AreShares shares subscribers plan (take i (lines_from 0))
         → AreMet plan subscribers (lines_from 0) → o.taken ≡ true → HasMet shares subscribers plan it
-    has_met (meant.Command slot c) o many all low it_is o_is are met is_taken = tt
-    has_met (meant.Packet slot p) o many all low it_is o_is are met is_taken =
-        let within : IsWithin (length subscribers) (meant.Packet slot p) =
+    has_met (command slot c) o many all low it_is o_is are met is_taken = tt
+    has_met (packet slot p) o many all low it_is o_is are met is_taken =
+        let within : IsWithin (length subscribers) (packet slot p) =
         subst (IsWithin (length subscribers)) (sym it_is)
-        (All-get_or (IsWithin (length subscribers)) meants i (meant.Packet slot p) low all) in
+        (All-get_or (IsWithin (length subscribers)) made i (packet slot p) low all) in
         may_meet shares subscribers plan (lines_from 0) i (0 + i) slot p o (omega (arith, within, many)) many is_taken
-        are met (is_next 0 (meant.Packet slot p) o low it_is o_is)
-    has_met (meant.Move slot slice text) o many all low it_is o_is are met is_taken = tt
-    has_met (meant.Note text) o many all low it_is o_is are met is_taken = tt
+        are met (is_next 0 (packet slot p) o low it_is o_is)
+    has_met (move slot slice text) o many all low it_is o_is are met is_taken = tt
+    has_met (note text) o many all low it_is o_is are met is_taken = tt
 
     opened_few : (n : ℕ) (made : List Meaning) (outs : List Outcome) → length (opened n made outs) ≤ length made
     opened_few n [] outs = omega arith
@@ -342,8 +341,8 @@ module _ (shares : List Share) (subscribers : List SubscriberState) (plan : Plan
     opened_few n (m ∷ made) (o ∷ outs) = omega (arith, opened_few (n + 1) made outs)
 
     -- all of them
-    pub shares_over : (first : ℕ) → length meants ≤ i → AreShares shares subscribers plan (take i (lines_from first))
+    pub shares_over : (first : ℕ) → length made ≤ i → AreShares shares subscribers plan (take i (lines_from first))
         → AreShares shares subscribers plan (lines_from first)
     shares_over first over are =
         subst (AreShares shares subscribers plan) (take_all i (lines_from first)
-        (omega (arith, over, opened_few first (map meaning_of meants) plan.outcomes, length-map meants meaning_of))) are
+        (omega (arith, over, opened_few first made plan.outcomes))) are

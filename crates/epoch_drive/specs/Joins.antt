@@ -6,7 +6,7 @@ use Rattle.report_lines.specs.declared.entry.LineEntry.{LineEntry}
 use Rattle.epoch_join.specs.Filling.{Met, Mets, Replied, Replies, fill, met_slot, others_of, replied_slot}
 use Rattle.slot_replay.specs.declared.replayed.NumberedVerdict.{NumberedVerdict}
 use Rattle.slot_replay.specs.declared.replayed.NumberedReply as told
-use Rattle.epoch_drive.specs.Opened.{open_command, open_packet}
+use Rattle.epoch_join.specs.Opened.{open_command, open_packet}
 use Rattle.epoch_drive.specs.Replays.{AreShortAnswers}
 use Rattle.epoch_drive.specs.Telling.{IsShortEntry, line_told}
 use Rattle.epoch_drive.specs.declared.epoch.Entry.{Entry}

@@ -1,6 +1,8 @@
 pub mod Telling
 pub mod Lines
-pub mod Meant
+pub mod Turned
+pub mod Kept
+pub mod Taken
 pub mod Opened
 pub mod Shares
 pub mod Replays

@@ -17,7 +17,7 @@ use Rattle.slot_replay.specs.Replaying.{numbers_in, packet_numbers_in, placed_le
 use Rattle.slot_replay.specs.Replaying.{replies_in, verdicts_in}
 use Rattle.slot_replay.specs.declared.placed.Placed.{Placed}
 use Rattle.slot_replay.specs.declared.replayed.Replayed.{Replayed}
-use Rattle.epoch_drive.specs.Meant.{AreStanding}
+use Rattle.at_rest.specs.Meant.{AreStanding}
 use Rattle.slot_replay.specs.Replaying.{rows_told}
 use Rattle.epoch_drive.specs.declared.replays.Answers.{Answers}
 use Rattle.epoch_drive.specs.declared.replays.Replays.{Replays}

@@ -1,7 +1,9 @@
 -- The commands and packets of each slot that were taken, with what the packets meet.
-use Rattle.std.specs.Prelude.{◌≡◌, ℕ, ◌+◌, ◌≤◌, ◌<◌, ◌^◌, List, [], ◌∷◌, ◌++◌, length, map, take, get_or, set, All}
+use Rattle.std.specs.Prelude.{◌≡◌, ℕ, ◌+◌, ◌≤◌, ◌<◌, List, [], ◌∷◌, ◌++◌, length, map, take, get_or, set, All}
 use Rattle.control_steps.specs.declared.command.CommandKind.{CommandKind}
+use Rattle.demux.specs.Trace.{Meaning, command, packet, move, note}
 use Rattle.demux.specs.declared.packet.LentPacket.{LentPacket}
+use Rattle.gate_model.specs.Events.{FewEvents}
 use Rattle.lawful_run.specs.Accepted as accepted
 use Rattle.lawful_run.specs.LinesTold.{LineTold}
 use Rattle.slice_schedule.specs.Slots.{Met}
@@ -9,8 +11,6 @@ use Rattle.schedule_run.specs.Plan.{Plan, mets_of}
 use Rattle.slot_replay.specs.Replaying.{commands_lent, counts_of, places_of}
 use Rattle.slot_replay.specs.declared.placed.Placed.{Placed}
 use Rattle.subscriber.specs.Standing.{SubscriberState, commands_met}
-use Rattle.epoch_drive.specs.declared.meant.Meant.{Meant}
-use Rattle.epoch_drive.specs.declared.meant.Meant.TheVariants as meant
 use Rattle.epoch_drive.specs.declared.sharing.Share.{Share}
 
 abbrev pub packets_lent : List Placed → List LentPacket
@@ -39,8 +39,8 @@ AreShares shares subscribers plan told = (slot : ℕ) (share : Share) → slot <
 -- there are mets for all packets that are taken, and few commands before each
 pub record AreMet (plan : Plan) (subscribers : List SubscriberState) (told : List LineTold) : Type 0 where
   pub enough : (slot : ℕ) → length (accepted.packets_accepted slot told) ≤ length (mets_of plan slot)
-  pub few : (slot : ℕ) → All (λ (m : Met). m.commands ≤ 2 ^ 40) (mets_of plan slot)
-  pub counts : All (λ (s : SubscriberState). commands_met s ≤ 2 ^ 40) subscribers
+  pub few : (slot : ℕ) → All (λ (m : Met). FewEvents m.commands) (mets_of plan slot)
+  pub counts : All (λ (s : SubscriberState). FewEvents (commands_met s)) subscribers
 
 abbrev pub IsEmpty : Share → Type 0
 IsEmpty share = (share.commands.items ≡ []) × (share.packets.items ≡ [])
@@ -48,14 +48,14 @@ IsEmpty share = (share.commands.items ≡ []) × (share.packets.items ≡ [])
 -- a slot's next packet has what it meets, behind few commands
 pub record MayMeet (shares : List Share) (subscribers : List SubscriberState) (plan : Plan) (slot : ℕ) : Type 0 where
   pub within : (share : Share) → length (get_or shares slot share).packets.items < length (mets_of plan slot)
-  pub few : All (λ (m : Met). m.commands ≤ 2 ^ 40) (mets_of plan slot)
-  pub counts : (subscriber : SubscriberState) → commands_met (get_or subscribers slot subscriber) ≤ 2 ^ 40
+  pub few : All (λ (m : Met). FewEvents m.commands) (mets_of plan slot)
+  pub counts : (subscriber : SubscriberState) → FewEvents (commands_met (get_or subscribers slot subscriber))
 
-abbrev pub HasMet : List Share → List SubscriberState → Plan → Meant → Type 0
-HasMet shares subscribers plan (meant.Command slot c) = Unit {0}
-HasMet shares subscribers plan (meant.Packet slot p) = MayMeet shares subscribers plan slot
-HasMet shares subscribers plan (meant.Move slot slice text) = Unit {0}
-HasMet shares subscribers plan (meant.Note text) = Unit {0}
+abbrev pub HasMet : List Share → List SubscriberState → Plan → Meaning → Type 0
+HasMet shares subscribers plan (command slot c) = Unit {0}
+HasMet shares subscribers plan (packet slot p) = MayMeet shares subscribers plan slot
+HasMet shares subscribers plan (move slot slice text) = Unit {0}
+HasMet shares subscribers plan (note text) = Unit {0}
 
 -- a slot is given a command, or a packet with what it meets
 pub record GivesCommand (old new : List Share) (slot : ℕ) (c : CommandKind) : Type 0 where

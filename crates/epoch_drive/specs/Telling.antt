@@ -11,7 +11,7 @@ use Rattle.epoch_drive.specs.declared.epoch.Entry.TheVariants as entry
 use Rattle.epoch_drive.specs.declared.epoch.Epoch.{Epoch}
 
 abbrev pub line_told : Entry → LineEntry
-line_told (entry.Note n text) = line_entry.N (record { line = n; note = text })
+line_told (entry.Note n text) = line_entry.N (record { line = n; note = text.now })
 line_told (entry.Answer n slot number reply) =
     line_entry.C (record { line = n; slot = slot; number = number; reply = reply })
 line_told (entry.Judgement n slot number commands verdict place parked) = line_entry.P (record {

@@ -1,15 +1,15 @@
 //! What is told of an epoch.
 use packet_steps::LentVerdict;
-use pc_base::{Octets, Place, Reply, Slot};
+use pc_base::{Place, Reply, Slot};
 use slot_replay::{Caused, Closed};
 
 /// What is told of a line.
 #[derive(Drop)]
 pub enum Entry<'a> {
-    /// It is a note, or an order to move.
+    /// It is a note, or an order to move. Its text lies in the line.
     Note {
         line: u64,
-        text: Octets,
+        text: &'a [u8],
     },
     /// It is the command of this number of a slot, with this reply.
     Answer {

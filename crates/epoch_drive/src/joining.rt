@@ -1,5 +1,5 @@
 //! The entry of each line, with what is told of its slot's next command or packet.
-ghost use Rattle.std.specs.Prelude.{◌≡◌, ◌+◌, ◌<◌, ◌^◌, All, length, map, IfOk, IfSome};
+ghost use Rattle.std.specs.Prelude.{◌≡◌, ℕ, ◌+◌, ◌<◌, ◌^◌, [], List, All, length, map, IfOk, IfSome};
 ghost use Rattle.epoch_join.specs.Filling.{filled};
 ghost use Rattle.report_lines.specs.Lent.{IsShort};
 ghost use Rattle.epoch_drive.specs.Joins.{
@@ -12,12 +12,14 @@ ghost use Rattle.epoch_drive.specs.Joins.{
   told_of_command,
   told_of_packet,
 };
-ghost use Rattle.epoch_drive.specs.Meant.{IsWithin, meaning_of};
-ghost use Rattle.epoch_drive.specs.Opened.{open_command, open_entries, open_entry, open_packet};
+ghost use Rattle.epoch_join.specs.Opened.{open_command, open_packet};
+ghost use Rattle.driven_run.specs.Opened.{open_entries, open_entry};
+ghost use Rattle.epoch_drive.specs.Kept.{meaning_in};
+ghost use Rattle.at_rest.specs.Meant.{IsWithin};
 ghost use Rattle.epoch_drive.specs.Telling.{AreShort, IsShortEntry, line_told};
 
 use crate::epoch::Entry;
-use crate::meant::Meant;
+use crate::kept::Kept;
 use crate::replays::Answers;
 use packet_steps::LentVerdict;
 use pc_base::{Outcome as Done, Reply, Slot};
@@ -29,49 +31,54 @@ use std::alloc::{AllocError, Global};
 pub fn join<'a>(
     alloc: Global,
     first: u64,
-    meant: Vec<Meant<'a>>,
+    kept: &'a [Kept],
     outcomes: &[Outcome],
     answers: &mut Vec<Answers<'a>>,
 ) -> Result<Vec<Entry<'a>>, AllocError>
-    requires within { All (IsWithin (length answers.old.items)) meant.items }
-    requires outcomes { length outcomes.now ≡ length meant.items }
-    requires few { first + length meant.items < 2 ^ 64 }
+    requires within { All (IsWithin (length answers.old.items)) (map (meaning_in []) kept.now) }
+    requires outcomes { length outcomes.now ≡ length kept.now }
+    requires few { first + length kept.now < 2 ^ 64 }
     requires short { AllShort answers.old.items }
 
-    ensures entries { IfOk result (λ entries. map line_told entries.items
-        ≡ filled (open_entries first (map meaning_of meant.entry.items) outcomes.now)
+    ensures entries { (octets : List ℕ) → IfOk result (λ entries. map line_told entries.items
+        ≡ filled (open_entries first (map (meaning_in octets) kept.now) outcomes.now)
         (replies_at answers.old.items) (mets_at answers.old.items)) }
     ensures short { IfOk result (λ entries. AreShort entries.items) }
 {
-    let mut entries = Vec::new(alloc);
-    let mut i = 0usize;
-    for now in meant {
+    let mut entries = Vec::with_capacity(alloc, kept.len())?;
+    for (i, now) in kept.iter().enumerate() {
         let entry = entry_of(first + i as u64, now, outcomes[i], answers);
         entries.push(entry)?;
-        i += 1;
     }
     Ok(entries)
 }
 
 fn entry_of<'a>(
     line: u64,
-    now: Meant<'a>,
+    now: &'a Kept,
     outcome: Outcome,
     answers: &mut Vec<Answers<'a>>,
 ) -> Entry<'a>
-    requires { IsWithin (length answers.old.items) now }
-    ensures { FillsNext answers.old.items answers.new.items (open_entry line (meaning_of now.entry) outcome) result }
+    requires { IsWithin (length answers.old.items) (meaning_in [] now.now) }
+    ensures { (octets : List ℕ) → FillsNext answers.old.items answers.new.items
+        (open_entry line (meaning_in octets now.now) outcome) result }
 {
     match now {
-        Meant::Note(text) => Entry::Note { line, text },
-        Meant::Move {
+        Kept::Note(text) => Entry::Note {
+            line,
+            text: text.as_slice(),
+        },
+        Kept::Move {
             slot: _,
             slice: _,
             text,
-        } => Entry::Note { line, text },
-        Meant::Command { slot, command: _ } => command_entry(line, slot, outcome.taken, answers),
-        Meant::Packet { slot, packet: _ } => {
-            packet_entry(line, slot, outcome.taken, outcome.parked, answers)
+        } => Entry::Note {
+            line,
+            text: text.as_slice(),
+        },
+        Kept::Command { slot, command: _ } => command_entry(line, *slot, outcome.taken, answers),
+        Kept::Packet { slot, packet: _ } => {
+            packet_entry(line, *slot, outcome.taken, outcome.parked, answers)
         }
     }
 }

@@ -1,11 +1,11 @@
-//! An epoch under a schedule, on one thread: its lines are decided, its schedule is made, each subscriber
-//! does its commands and packets in the order that the schedule tells, and what becomes of them is
-//! joined, line by line. The entries are those of the driven epoch, and no others. Epochs of a run, and
-//! texts of entries, are left to the caller.
+//! An epoch under a schedule, on one thread: its lines are decided as they come, and what they mean is
+//! kept. When it is driven, its schedule is made, each subscriber does its commands and packets in the
+//! order that the schedule tells, and what becomes of them is joined, line by line. The entries are those
+//! of the driven epoch, and no others. Epochs of a run, and texts of entries, are left to the caller.
 //!
 //! ```
 //! use at_rest::AtRest;
-//! use epoch_drive::{Entry, drive_epoch};
+//! use epoch_drive::{Entry, EpochLines, Gateway};
 //! use pc_base::{Moment, Slot};
 //! use schedule_run::Turns;
 //! use std::test::Fail;
@@ -17,11 +17,13 @@
 //!     let Ok(line) = read_line(alloc, attach, 1, Moment(0)) else {
 //!         return Err("a line".into());
 //!     };
-//!     let rest = AtRest::new(alloc, 2, 256, 16384);
+//!     let mut gateway = Gateway::of(AtRest::new(alloc, 2, 256, 16384));
+//!     let mut lines = EpochLines::new(alloc);
+//!     gateway.begin(&mut lines)?;
+//!     gateway.take(&mut lines, &line)?;
 //!     let mut turns = Turns::List([0, 1, 2, 3].to_vec(alloc)?);
-//!     let lines = [line];
-//!     let (rest, epoch) = drive_epoch(alloc, rest, &lines, &mut turns)?;
-//!     assert_eq!(rt; (rest.lines, epoch.lines.len(), epoch.effects.len()), (1, 1, 0));
+//!     let epoch = gateway.drive(&lines, &mut turns)?;
+//!     assert_eq!(rt; (gateway.subscribers.len(), epoch.lines.len(), epoch.effects.len()), (1, 1, 0));
 //!     match &epoch.lines[0] {
 //!         Entry::Answer { line, slot, number, .. } => {
 //!             assert_eq!(rt; (*line, *slot, *number), (1, Slot(0), 0));
@@ -33,13 +35,14 @@
 //! ```
 #![tactic(auto)]
 
-mod deciding;
 mod driving;
 mod epoch;
+mod gateway;
 mod joining;
-mod meant;
+mod kept;
 mod replays;
 mod sharing;
 
-pub use driving::drive_epoch;
 pub use epoch::{Entry, Epoch};
+pub use gateway::Gateway;
+pub use kept::EpochLines;

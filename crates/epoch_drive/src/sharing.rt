@@ -1,8 +1,10 @@
 //! The commands and packets that were taken, by slot.
 ghost use Rattle.std.specs.Prelude.{◌≡◌, ◌<◌, ℕ, ◌++◌, ◌∷◌, [], List, All, length, map, vec_len, true, IfOk, OnOk};
 ghost use Rattle.lawful_run.specs.LinesTold.{LineTold};
-ghost use Rattle.epoch_drive.specs.Meant.{IsWithin, meaning_of};
-ghost use Rattle.epoch_drive.specs.Opened.{open_entry, opened};
+ghost use Rattle.epoch_drive.specs.Kept.{IsPlaced, meaning_in};
+ghost use Rattle.at_rest.specs.Meant.{IsWithin};
+ghost use Rattle.driven_run.specs.Opened.{open_entry};
+ghost use Rattle.epoch_drive.specs.Opened.{opened};
 ghost use Rattle.epoch_drive.specs.Shares.{
   AreMet,
   AreShares,
@@ -13,7 +15,7 @@ ghost use Rattle.epoch_drive.specs.Shares.{
   MayMeet,
 };
 
-use crate::meant::Meant;
+use crate::kept::{Kept, packet_at};
 use control_steps::Command;
 use demux::LentPacket;
 use pc_base::Slot;
@@ -24,41 +26,51 @@ use subscriber::Subscriber;
 
 /// The commands and packets of a slot, in line order.
 #[derive(Drop)]
-pub struct Share<'p, 'a> {
-    pub commands: Vec<&'p Command>,
+pub struct Share<'a> {
+    pub commands: Vec<&'a Command>,
     pub packets: Vec<Placed<'a>>,
 }
 
-/// What was taken of the lines, for each of the subscribers.
-pub fn shares_of<'p, 'a>(
+/// What was taken of the lines, whose packets have these octets, for each of the subscribers.
+pub fn shares_of<'a>(
     alloc: Global,
     subscribers: &[Subscriber],
     scheduled: &Scheduled,
-    meant: &'p [Meant<'a>],
-) -> Result<Vec<Share<'p, 'a>>, AllocError>
-    requires within { All (IsWithin (length subscribers.now)) meant.now }
-    requires outcomes { length scheduled.now.outcomes ≡ length meant.now }
-    requires met { AreMet scheduled.now subscribers.now (opened 0 (map meaning_of meant.now) scheduled.now.outcomes) }
+    kept: &'a [Kept],
+    octets: &'a [u8],
+) -> Result<Vec<Share<'a>>, AllocError>
+    requires within { All (IsWithin (length subscribers.now)) (map (meaning_in octets.now) kept.now) }
+    requires placed { All (IsPlaced octets.now) kept.now }
+    requires outcomes { length scheduled.now.outcomes ≡ length kept.now }
+    requires met { AreMet scheduled.now subscribers.now
+        (opened 0 (map (meaning_in octets.now) kept.now) scheduled.now.outcomes) }
 
     ensures many { IfOk result (λ shares. vec_len shares ≡ length subscribers.now) }
     ensures shares { (first : ℕ) → IfOk result (λ shares. AreShares shares.items subscribers.now scheduled.now
-        (opened first (map meaning_of meant.now) scheduled.now.outcomes)) }
+        (opened first (map (meaning_in octets.now) kept.now) scheduled.now.outcomes)) }
 {
     let mut shares = empty_shares(alloc, subscribers.len())?;
     let outcomes = scheduled.outcomes();
-    for (i, now) in meant.iter().enumerate() {
-        share_line(&mut shares, subscribers, scheduled, now, outcomes[i])?;
+    for (i, now) in kept.iter().enumerate() {
+        share_line(
+            &mut shares,
+            subscribers,
+            scheduled,
+            octets,
+            now,
+            outcomes[i],
+        )?;
     }
     Ok(shares)
 }
 
-fn empty_shares<'p, 'a>(alloc: Global, slots: usize) -> Result<Vec<Share<'p, 'a>>, AllocError>
+fn empty_shares<'a>(alloc: Global, slots: usize) -> Result<Vec<Share<'a>>, AllocError>
     ensures many { IfOk result (λ shares. vec_len shares ≡ slots) }
     ensures empty { IfOk result (λ shares. All IsEmpty shares.items) }
 {
-    let mut shares: Vec<Share<'p, 'a>> = Vec::new(alloc);
+    let mut shares: Vec<Share<'a>> = Vec::new(alloc);
     for _ in 0..slots {
-        let share: Share<'p, 'a> = Share {
+        let share: Share<'a> = Share {
             commands: Vec::new(alloc),
             packets: Vec::new(alloc),
         };
@@ -68,44 +80,50 @@ fn empty_shares<'p, 'a>(alloc: Global, slots: usize) -> Result<Vec<Share<'p, 'a>
 }
 
 // A line, if it was taken.
-fn share_line<'p, 'a>(
-    shares: &mut Vec<Share<'p, 'a>>,
+fn share_line<'a>(
+    shares: &mut Vec<Share<'a>>,
     subscribers: &[Subscriber],
     scheduled: &Scheduled,
-    now: &'p Meant<'a>,
+    octets: &'a [u8],
+    now: &'a Kept,
     outcome: Outcome,
 ) -> Result<(), AllocError>
-    requires within { IsWithin (vec_len shares.old) now.now }
+    requires within { IsWithin (vec_len shares.old) (meaning_in octets.now now.now) }
+    requires placed { IsPlaced octets.now now.now }
     requires many { vec_len shares.old ≡ length subscribers.now }
-    requires met { outcome.taken ≡ true → HasMet shares.old.items subscribers.now scheduled.now now.now }
+    requires met { outcome.taken ≡ true
+        → HasMet shares.old.items subscribers.now scheduled.now (meaning_in octets.now now.now) }
 
     ensures shares { (told : List LineTold) (n : ℕ)
         → AreShares shares.old.items subscribers.now scheduled.now told
-        → OnOk result (AreShares shares.new.items subscribers.now scheduled.now
-        (told ++ record { meaning = meaning_of now.now; entry = open_entry n (meaning_of now.now) outcome } ∷ [])) }
+        → OnOk result (AreShares shares.new.items subscribers.now scheduled.now (told ++ record {
+          meaning = meaning_in octets.now now.now;
+          entry = open_entry n (meaning_in octets.now now.now) outcome;
+        } ∷ [])) }
     ensures many { OnOk result (vec_len shares.new ≡ vec_len shares.old) }
 {
     if !outcome.taken {
         return Ok(());
     }
     match now {
-        Meant::Command { slot, command } => give_command(shares, *slot, command),
-        Meant::Packet { slot, packet } => {
-            give_packet(shares, subscribers, scheduled, *slot, packet)
+        Kept::Command { slot, command } => give_command(shares, *slot, &**command),
+        Kept::Packet { slot, packet } => {
+            let lent = packet_at(octets, packet);
+            give_packet(shares, subscribers, scheduled, *slot, lent)
         }
-        Meant::Move {
+        Kept::Move {
             slot: _,
             slice: _,
             text: _,
         } => Ok(()),
-        Meant::Note(_) => Ok(()),
+        Kept::Note(_) => Ok(()),
     }
 }
 
-fn give_command<'p, 'a>(
-    shares: &mut Vec<Share<'p, 'a>>,
+fn give_command<'a>(
+    shares: &mut Vec<Share<'a>>,
     slot: Slot,
-    command: &'p Command,
+    command: &'a Command,
 ) -> Result<(), AllocError>
     requires { slot < vec_len shares.old }
     ensures { OnOk result (GivesCommand shares.old.items shares.new.items slot command.now) }
@@ -117,17 +135,17 @@ fn give_command<'p, 'a>(
 
 // A packet meets the next of its slot's counts, behind the commands before the epoch.
 fn give_packet<'a>(
-    shares: &mut Vec<Share<'_, 'a>>,
+    shares: &mut Vec<Share<'a>>,
     subscribers: &[Subscriber],
     scheduled: &Scheduled,
     slot: Slot,
-    packet: &LentPacket<'a>,
+    packet: LentPacket<'a>,
 ) -> Result<(), AllocError>
     requires low { slot < vec_len shares.old }
     requires many { vec_len shares.old ≡ length subscribers.now }
     requires met { MayMeet shares.old.items subscribers.now scheduled.now slot }
     ensures { OnOk result
-        (GivesPacket shares.old.items shares.new.items subscribers.now scheduled.now slot packet.now) }
+        (GivesPacket shares.old.items shares.new.items subscribers.now scheduled.now slot packet.entry) }
 {
     let place = slot.0 as usize;
     let before = subscribers[place].commands();
@@ -138,11 +156,7 @@ fn give_packet<'a>(
     let placed = Placed {
         commands: before + met.commands as u64,
         place: met.place,
-        packet: LentPacket {
-            moment: packet.moment,
-            way: packet.way,
-            ip: packet.ip.copied(),
-        },
+        packet,
     };
     share.packets.push(placed)?;
     Ok(())

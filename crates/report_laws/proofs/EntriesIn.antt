@@ -257,7 +257,7 @@ refused_in n slot of_packet refused few known same =
 line_is : (n : ℕ) (now : Meaning) (told : LineEntry) (lines : List LineEntry) → n < 2 ^ 64 → IsInRange now
     → Answers n now told → ToldIn (told ∷ lines) → IsLineEntry (line_without_place told)
 line_is n (note text) (line.N noted) lines few is same told_in = noted_in n text noted few is same
-line_is n (move slot slice text) (line.N noted) lines few is same told_in = noted_in n text noted few is same
+line_is n (move slot slice text) (line.N noted) lines few is same told_in = noted_in n text noted few is.1 same
 line_is n (command slot c) (line.N noted) lines few is same told_in = absurd same
 line_is n (packet slot p) (line.N noted) lines few is same told_in = absurd same
 line_is n (note text) (line.C answered) lines few is same told_in = absurd same

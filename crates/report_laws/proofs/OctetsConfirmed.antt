@@ -155,7 +155,6 @@ input_read octets texts lack is stop = by_full (nat_le input_max (length octets)
     cut = slice_split ends_line (take input_max octets)
 
     as_full : (full : Bool) → nat_le input_max (length octets) ≡ full → input_of octets ≡ pieces_meaning full 1 0 cut
-    unfolding input_within
     as_full full same = ap (λ b. pieces_meaning b 1 0 cut) same
 
     by_full : (full : Bool) → nat_le input_max (length octets) ≡ full → ReadWhole octets texts
@@ -220,13 +219,13 @@ never_some_texts (first ∷ rest) some stop = never_full_texts first rest stop
 
 texts_read : (octets : List ℕ) (texts : List Text) → AllLack newline texts → octets ≡ octets_of texts
     → (texts_of octets).stop ≡ said.ended → (texts_of octets).lines ≡ texts
+unfolding texts_within
 texts_read octets texts lack is stop = by_full (nat_le input_max (length octets)) refl
   where
     cut : List Text
     cut = slice_split ends_line (take input_max octets)
 
     as_full : (full : Bool) → nat_le input_max (length octets) ≡ full → texts_of octets ≡ pieces_texts full cut
-    unfolding texts_within
     as_full full same = ap (λ b. pieces_texts b cut) same
 
     by_full : (full : Bool) → nat_le input_max (length octets) ≡ full → (texts_of octets).lines ≡ texts
@@ -268,7 +267,7 @@ whole_trace number least [] stop =
     record { unmarked = All-nil (λ (text : Text). bytes_eq text marker ≡ false); few = omega arith }
 whole_trace number least (text ∷ texts) stop =
     let read = then_ends number (line_meaning least number text)
-        (λ line. trace_from (number + 1) line.moment texts) stop in
+    (λ line. trace_from (number + 1) line.moment texts) stop in
     let rest = whole_trace (number + 1) read.0.moment texts read.2 in
     record {
       unmarked = All-cons (λ (text : Text). bytes_eq text marker ≡ false) text texts

@@ -1,5 +1,5 @@
 -- What an audit finds of a report that one thread made.
-use Rattle.std.specs.Prelude.{◌≡◌, ℕ, ◌+◌, ◌<◌, ◌^◌, false, List, ◌∷◌, ◌++◌, length, map, All}
+use Rattle.std.specs.Prelude.{◌≡◌, ℕ, ◌+◌, ◌<◌, ◌^◌, false, List, [], ◌∷◌, ◌++◌, length, map, All}
 use Rattle.std.specs.Prelude.{Option, None, bytes_eq}
 use Rattle.report_lines.specs.Text.{entry_text, shown}
 use Rattle.report_lines.specs.declared.entry.Entry.{Entry}

@@ -1,4 +1,4 @@
-use Rattle.std.proofs.Common.{◌≡◌, ◌+◌, ◌<◌, ◌++◌, ◌∷◌, [], ℕ, List, length, get_or, set, refl, sym, ap, subst, ◌∙◌, arith}
+use Rattle.std.proofs.Common.{◌≡◌, ◌+◌, ◌<◌, ◌++◌, ◌∷◌, [], length, get_or, set, refl, sym, ap, subst, ◌∙◌, arith}
 use Rattle.std.proofs.lemmas.List.{map_push}
 use Rattle.demux.specs.declared.packet.LentPacket.{LentPacket}
 use Rattle.slice_schedule.specs.Slots.{Met}
@@ -17,11 +17,7 @@ returns c =
     let after : Share = record share { packets = c.push.new.self } in
     let subscriber : SubscriberState = c.index-subscribers-place.result in
     let met : Met = record { commands = c.met.inside.commands; place = c.met.inside.place } in
-    let packet : LentPacket = record {
-      moment = c.args.packet.now.moment;
-      way = c.args.packet.now.way;
-      ip = c.copied.result;
-    } in
+    let packet : LentPacket = c.args.packet in
     let placed : Placed = record {
       commands = c.commands-before.result + met.commands;
       place = met.place;
@@ -49,8 +45,7 @@ returns c =
       is = ap (λ k. set shares k after) c.slot.view_is;
       commands = refl;
       packets = ap packets_lent c.in_ok-push.ensures.items
-          ∙ map_push (λ (p : Placed). p.packet) share.packets.items placed
-          ∙ ap (λ (octets : List ℕ). packets_lent share.packets.items ++ record packet { ip = octets } ∷ []) c.copied.ensures;
+          ∙ map_push (λ (p : Placed). p.packet) share.packets.items placed;
       counts = ap counts_of c.in_ok-push.ensures.items
           ∙ map_push (λ (p : Placed). p.commands) share.packets.items placed
           ∙ ap (λ n. counts_of share.packets.items ++ (n + met.commands) ∷ []) c.commands-before.ensures;

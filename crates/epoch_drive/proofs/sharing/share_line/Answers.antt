@@ -1,9 +1,10 @@
 use Rattle.std.proofs.Common.{◌≡◌, ◌<◌, ◌++◌, ◌∷◌, [], Bool, true, false, not, List, OnOk, length, true≢false, vec_len, refl, sym, ap, subst, ◌∙◌, arith}
 use Rattle.std.proofs.lemmas.Result.{on_ok_weaker}
 use Rattle.slice_schedule.specs.Front.{Outcome}
-use Rattle.epoch_drive.specs.Meant.{IsWithin, meaning_of}
-use Rattle.epoch_drive.specs.Shares.{AreShares}
-use Rattle.epoch_drive.specs.declared.meant.Meant.{Meant}
+use Rattle.epoch_drive.specs.Kept.{meaning_in, packet_in}
+use Rattle.at_rest.specs.Meant.{IsWithin}
+use Rattle.epoch_drive.specs.Shares.{AreShares, GivesCommand, GivesPacket}
+use Rattle.epoch_drive.specs.declared.kept.Kept.{Kept}
 use Rattle.epoch_drive.specs.declared.sharing.Share.{Share}
 use Rattle.epoch_drive.proofs.ShareLemmas.{line_at, moved_nothing, noted_nothing, shares_command, shares_packet, shares_refused, shares_stay}
 use Rattle.epoch_drive.proofs.sharing.share_line.Goals as goal
@@ -22,7 +23,7 @@ taken_of o inside is = ap (λ (x : Outcome). x.taken) is
 pub returns-then-not-outcome-clause-shares : goal.returns-then-not-outcome-clause-shares
 returns-then-not-outcome-clause-shares c = λ told n are.
     shares_refused c.args.shares.now.items c.args.subscribers.now c.args.scheduled.now told n
-    (meaning_of c.args.now.now) c.args.outcome
+    (meaning_in c.args.octets.now c.args.now.now) c.args.outcome
     (sym (taken_of c.args.outcome _ c.outcome.view_is) ∙ isnt_taken c.outcome.inside.taken c.if-not-outcome.true) are
 
 pub returns-in-Command-clause-shares : goal.returns-in-Command-clause-shares
@@ -31,13 +32,15 @@ returns-in-Command-clause-shares c = λ told n are.
     let new : List Share = c.give_command.new.shares.items in
     let taken : c.args.outcome.taken ≡ true =
     sym (taken_of c.args.outcome _ c.outcome.view_is) ∙ is_taken c.outcome.inside.taken c.if-not-outcome.false in
-    let low = subst (IsWithin (vec_len c.args.shares.now)) c.in-Command.is c.requires.within in
+    let low = subst (λ (k : Kept). IsWithin (vec_len c.args.shares.now) (meaning_in c.args.octets.now k)) c.in-Command.is
+    c.requires.within in
     let within : c.in-Command.slot < length old = omega (arith, low, c.args.shares.now.ok.0) in
-    subst (λ (now : Meant). OnOk c.give_command.result (AreShares new c.args.subscribers.now c.args.scheduled.now
-    (told ++ line_at n (meaning_of now) c.args.outcome ∷ []))) (sym c.in-Command.is)
+    subst (λ (now : Kept). OnOk c.give_command.result (AreShares new c.args.subscribers.now c.args.scheduled.now
+    (told ++ line_at n (meaning_in c.args.octets.now now) c.args.outcome ∷ []))) (sym c.in-Command.is)
     (on_ok_weaker c.give_command.result (λ gives.
-    shares_command old new c.args.subscribers.now c.args.scheduled.now told n c.in-Command.slot c.in-Command.command
-    c.args.outcome within taken gives are) c.give_command.ensures)
+    shares_command old new c.args.subscribers.now c.args.scheduled.now told n c.in-Command.slot c.in-Command.command.value
+    c.args.outcome within taken (subst (GivesCommand old new c.in-Command.slot) c.deref.ensures gives) are)
+    c.give_command.ensures)
 
 pub returns-in-Packet-clause-shares : goal.returns-in-Packet-clause-shares
 returns-in-Packet-clause-shares c = λ told n are.
@@ -45,24 +48,28 @@ returns-in-Packet-clause-shares c = λ told n are.
     let new : List Share = c.give_packet.new.shares.items in
     let taken : c.args.outcome.taken ≡ true =
     sym (taken_of c.args.outcome _ c.outcome.view_is) ∙ is_taken c.outcome.inside.taken c.if-not-outcome.false in
-    let low = subst (IsWithin (vec_len c.args.shares.now)) c.in-Packet.is c.requires.within in
+    let low = subst (λ (k : Kept). IsWithin (vec_len c.args.shares.now) (meaning_in c.args.octets.now k)) c.in-Packet.is
+    c.requires.within in
     let within : c.in-Packet.slot < length old = omega (arith, low, c.args.shares.now.ok.0) in
-    subst (λ (now : Meant). OnOk c.give_packet.result (AreShares new c.args.subscribers.now c.args.scheduled.now
-    (told ++ line_at n (meaning_of now) c.args.outcome ∷ []))) (sym c.in-Packet.is)
+    subst (λ (now : Kept). OnOk c.give_packet.result (AreShares new c.args.subscribers.now c.args.scheduled.now
+    (told ++ line_at n (meaning_in c.args.octets.now now) c.args.outcome ∷ []))) (sym c.in-Packet.is)
     (on_ok_weaker c.give_packet.result (λ gives.
-    shares_packet old new c.args.subscribers.now c.args.scheduled.now told n c.in-Packet.slot c.in-Packet.packet
-    c.args.outcome within (omega (arith, c.requires.many, c.args.shares.now.ok.0)) taken gives are) c.give_packet.ensures)
+    shares_packet old new c.args.subscribers.now c.args.scheduled.now told n c.in-Packet.slot
+    (packet_in c.args.octets.now c.in-Packet.packet) c.args.outcome within
+    (omega (arith, c.requires.many, c.args.shares.now.ok.0)) taken
+    (subst (GivesPacket old new c.args.subscribers.now c.args.scheduled.now c.in-Packet.slot) c.packet_at-lent.ensures
+    gives) are) c.give_packet.ensures)
 
 pub returns-in-Move-clause-shares : goal.returns-in-Move-clause-shares
 returns-in-Move-clause-shares c = λ told n are.
-    subst (λ (now : Meant). AreShares c.args.shares.now.items c.args.subscribers.now c.args.scheduled.now
-    (told ++ line_at n (meaning_of now) c.args.outcome ∷ [])) (sym c.in-Move.is)
+    subst (λ (now : Kept). AreShares c.args.shares.now.items c.args.subscribers.now c.args.scheduled.now
+    (told ++ line_at n (meaning_in c.args.octets.now now) c.args.outcome ∷ [])) (sym c.in-Move.is)
     (shares_stay c.args.shares.now.items c.args.subscribers.now c.args.scheduled.now told _ are
     (moved_nothing n c.in-Move.slot c.in-Move.slice c.in-Move.text c.args.outcome))
 
 pub returns-in-Note-clause-shares : goal.returns-in-Note-clause-shares
 returns-in-Note-clause-shares c = λ told n are.
-    subst (λ (now : Meant). AreShares c.args.shares.now.items c.args.subscribers.now c.args.scheduled.now
-    (told ++ line_at n (meaning_of now) c.args.outcome ∷ [])) (sym c.in-Note.is)
+    subst (λ (now : Kept). AreShares c.args.shares.now.items c.args.subscribers.now c.args.scheduled.now
+    (told ++ line_at n (meaning_in c.args.octets.now now) c.args.outcome ∷ [])) (sym c.in-Note.is)
     (shares_stay c.args.shares.now.items c.args.subscribers.now c.args.scheduled.now told _ are
     (noted_nothing n c.in-Note.field-0 c.args.outcome))

@@ -4,9 +4,9 @@ use Rattle.drive_run.proofs.driver.Driver.new.Goals as goal
 pub returns-clause-first : goal.returns-clause-first
 returns-clause-first c =
     begins_so (record {
-      rest = c.new.result;
-      turns = c.args.turns;
+      gateway = c.of.result;
       lines = c.new-2.result;
+      turns = c.args.turns;
       places = c.args.places;
-    }) c.args.slices c.args.room c.args.lane c.new.ensures.new c.new.ensures.represents c.new.ensures.behind
-    c.new-2.ensures.items c.requires.workers
+    }) c.new.result c.args.slices c.args.room c.args.lane c.new.ensures.new c.new.ensures.represents
+    c.new.ensures.behind c.of.ensures c.new-2.ensures c.requires.workers

@@ -4,5 +4,7 @@ use Rattle.drive_run.proofs.driver.DriverReporter.take.Goals as goal
 
 pub returns : goal.returns
 returns c = λ first done latest closed open_ sent so_far next.
-    takes_so first c.args.self.now (record c.args.self.now { lines = c.push.new.self }) done latest closed open_ sent
-    c.args._text.now c.args.line so_far next (refl, refl, refl) c.in_ok-push.ensures.items
+    takes_so first c.args.self.now (record c.args.self.now {
+      gateway = c.take.new.self;
+      lines = c.take.new.lines;
+    }) done latest closed open_ sent c.args._text.now c.args.line so_far next (refl, refl) c.in_ok-take.ensures

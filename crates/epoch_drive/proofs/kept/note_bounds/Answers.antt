@@ -1,7 +1,7 @@
 use Rattle.std.proofs.Common.{◌≡◌, ◌++◌, ◌∷◌, [], ℕ, map, take, sym, ap, ◌∙◌}
 use Rattle.std.proofs.lemmas.List.{map_push, take_more}
 use Rattle.subscriber.specs.Standing.{SubscriberState}
-use Rattle.epoch_drive.proofs.driving.bounds_of.Goals as goal
+use Rattle.epoch_drive.proofs.kept.note_bounds.Goals as goal
 
 pub loop-subscriber-preserved : goal.loop-subscriber-preserved
 loop-subscriber-preserved c =

@@ -1,0 +1,205 @@
+-- Lines that are taken one after another.
+use Rattle.std.proofs.Common.{◌≡◌, ℕ, ◌+◌, ◌-◌, ◌≤◌, List, [], ◌∷◌, ◌++◌, map, length, take, drop, slice_range, refl, sym, ap, subst, ◌∙◌, arith, length-append, append-nil}
+use Rattle.std.specs.List.{All}
+use Rattle.std.proofs.lemmas.List.{drop-append-le, drop_at, length-drop, length-map, map_push, take-append-le, take_all}
+use Rattle.std.proofs.lemmas.List.Elements.{All-cons, All-head, All-nil, All-push, All-tail, All-weaker}
+use Rattle.ipv4_packet.specs.Packet.{IsPacket}
+use Rattle.trace_lines.specs.Line.{Line}
+use Rattle.demux.specs.Trace.{Meaning, packet}
+use Rattle.demux.specs.declared.packet.LentPacket.{LentPacket}
+use Rattle.schedule_run.specs.Lines.{asked}
+use Rattle.schedule_run.specs.declared.ask.Ask.{Ask}
+use Rattle.driven_run.specs.Driven.{asks_of}
+use Rattle.subscriber.specs.Standing.{SubscriberState}
+use Rattle.at_rest.specs.Rest.{Rest}
+use Rattle.at_rest.specs.declared.meant.Meant.{Meant}
+use Rattle.epoch_drive.specs.Kept.{AreBounds, AreKept, AreNone, IsPlaced, Keeps, IsPlacedPacket, Places, meaning_in, meanings, packet_in}
+use Rattle.epoch_drive.specs.Lines.{latest_behind}
+use Rattle.at_rest.specs.Meant.{IsWithin, Turned, meaning_of}
+use Rattle.epoch_drive.specs.Turned.{TurnedAll}
+use Rattle.epoch_drive.specs.Taken.{AreTaken, HasTaken, IsResting}
+use Rattle.epoch_drive.specs.declared.gateway.Gateway.{Gateway}
+use Rattle.epoch_drive.specs.declared.kept.EpochLines.{EpochLines}
+use Rattle.epoch_drive.specs.declared.kept.Kept.{Kept}
+use Rattle.epoch_drive.specs.declared.kept.Kept.TheVariants as kept
+use Rattle.epoch_drive.specs.declared.kept.KeptPacket.{KeptPacket}
+use Rattle.epoch_drive.proofs.Turning.{turned_more, turned_none}
+
+-- a part of octets stays where more come behind them
+part_stays : (octets more : List ℕ) (from to : ℕ) → from ≤ to → to ≤ length octets
+    → slice_range (octets ++ more) from to ≡ slice_range octets from to
+part_stays octets more from to ordered within =
+    ap (take (to - from)) (drop-append-le from octets more (omega (arith, ordered, within)))
+    ∙ take-append-le (to - from) (drop from octets) more (omega (arith, ordered, within, length-drop from octets))
+
+packet_stays : (octets more : List ℕ) (p : KeptPacket) → IsPlacedPacket octets p
+    → packet_in (octets ++ more) p ≡ packet_in octets p
+packet_stays octets more p is =
+    λ i. record { moment = p.moment; way = p.way; ip = part_stays octets more p.from p.to is.ordered is.within i }
+
+stands_still : (octets more : List ℕ) (p : KeptPacket) → IsPlacedPacket octets p → IsPlacedPacket (octets ++ more) p
+stands_still octets more p is = record {
+  ordered = is.ordered;
+  within = omega (arith, is.within, length-append octets more);
+  whole = subst IsPacket (sym (part_stays octets more p.from p.to is.ordered is.within)) is.whole;
+}
+
+placed_still : (octets more : List ℕ) (it : Kept) → IsPlaced octets it → IsPlaced (octets ++ more) it
+placed_still octets more (kept.Command slot c) is = tt
+placed_still octets more (kept.Packet slot p) is = stands_still octets more p is
+placed_still octets more (kept.Move slot slice text) is = tt
+placed_still octets more (kept.Note text) is = tt
+
+meaning_stays : (octets more : List ℕ) (it : Kept) → IsPlaced octets it
+    → meaning_in (octets ++ more) it ≡ meaning_in octets it
+meaning_stays octets more (kept.Command slot c) is = refl
+meaning_stays octets more (kept.Packet slot p) is = ap (λ own. packet slot own) (packet_stays octets more p is)
+meaning_stays octets more (kept.Move slot slice text) is = refl
+meaning_stays octets more (kept.Note text) is = refl
+
+meanings_stay : (octets more : List ℕ) (all : List Kept) → All (IsPlaced octets) all
+    → map (meaning_in (octets ++ more)) all ≡ map (meaning_in octets) all
+meanings_stay octets more [] are = refl
+meanings_stay octets more (it ∷ all) are =
+    let here = meaning_stays octets more it (All-head (IsPlaced octets) it all are) in
+    let rest = meanings_stay octets more all (All-tail (IsPlaced octets) it all are) in
+    λ i. here i ∷ rest i
+
+-- a packet that is put behind the others
+pub places_so : (old new : List ℕ) (p : LentPacket) (placed : KeptPacket) → IsPacket p.ip → new ≡ old ++ p.ip
+    → placed.moment ≡ p.moment → placed.way ≡ p.way → placed.from ≡ length old → placed.to ≡ length new
+    → Places old new p placed
+places_so old new p placed whole grown moment way from to =
+    let count : length new ≡ length old + length p.ip = ap length grown ∙ length-append old p.ip in
+    let part : slice_range new placed.from placed.to ≡ p.ip =
+    ap (λ xs. slice_range xs placed.from placed.to) grown
+    ∙ ap (take (placed.to - placed.from)) (drop_at old p.ip placed.from (sym from))
+    ∙ take_all (placed.to - placed.from) p.ip (omega (arith, from, to, count)) in
+    record {
+      grown = grown;
+      is = λ i. record { moment = moment i; way = way i; ip = part i };
+      stands = record {
+        ordered = omega (arith, from, to, count);
+        within = omega (arith, to);
+        whole = subst IsPacket (sym part) whole;
+      };
+    }
+
+-- one line more is kept
+kept_more : (made : List Meaning) (old new : EpochLines) (it : Kept) (ask : Ask) (more : List ℕ)
+    → AreKept made old → new.octets.items ≡ old.octets.items ++ more → new.lines.items ≡ old.lines.items ++ it ∷ []
+    → new.asks.items ≡ old.asks.items ++ ask ∷ [] → IsPlaced new.octets.items it
+    → ((octets : List ℕ) → asked ask ≡ asks_of (meaning_in octets it))
+    → AreKept (made ++ meaning_in new.octets.items it ∷ []) new
+kept_more made old new it ask more are grown pushed asks placed asks_so =
+    let now : List ℕ = new.octets.items in
+    let before : map (meaning_in now) old.lines.items ≡ made =
+    ap (λ xs. map (meaning_in xs) old.lines.items) grown
+    ∙ meanings_stay old.octets.items more old.lines.items are.placed ∙ are.mean in
+    let still : All (IsPlaced now) old.lines.items =
+    subst (λ xs. All (IsPlaced xs) old.lines.items) (sym grown)
+    (All-weaker (IsPlaced old.octets.items) (IsPlaced (old.octets.items ++ more))
+    (λ k is. placed_still old.octets.items more k is) old.lines.items are.placed) in
+    record {
+      mean = ap (map (meaning_in now)) pushed ∙ map_push (meaning_in now) old.lines.items it
+          ∙ ap (λ ms. ms ++ meaning_in now it ∷ []) before;
+      placed = subst (All (IsPlaced now)) (sym pushed) (All-push (IsPlaced now) old.lines.items it still placed);
+      ask = ap (map asked) asks ∙ map_push asked old.asks.items ask
+          ∙ ap (λ xs. xs ++ asked ask ∷ []) are.ask
+          ∙ ap (λ x. map asks_of made ++ x ∷ []) (asks_so now)
+          ∙ sym (map_push asks_of made (meaning_in now it));
+    }
+
+latest-push : (latest : ℕ) (lines : List Line) (line : Line) → latest_behind latest (lines ++ line ∷ []) ≡ line.moment
+latest-push latest [] line = refl
+latest-push latest (first ∷ lines) line = latest-push first.moment lines line
+
+pub takes_so : (start : Rest) (taken : List Line) (old now : Gateway) (lines lines_now : EpochLines) (line : Line)
+    (meant : Meant) (it : Kept) (ask : Ask) → HasTaken start taken old lines
+    → Turned old.slices old.book old.subscribers.items line meant now.book now.subscribers.items
+    → Keeps lines.octets.items lines_now.octets.items meant it
+    → lines_now.lines.items ≡ lines.lines.items ++ it ∷ [] → lines_now.asks.items ≡ lines.asks.items ++ ask ∷ []
+    → lines_now.bounds.items ≡ lines.bounds.items
+    → ((octets : List ℕ) → asked ask ≡ asks_of (meaning_in octets it))
+    → (now.slices ≡ old.slices) × (now.room ≡ old.room) × (now.lane ≡ old.lane) × (now.lines ≡ old.lines)
+    → now.latest ≡ line.moment
+    → HasTaken start (taken ++ line ∷ []) now lines_now
+takes_so start taken old now lines lines_now line meant it ask has turned keeps pushed asks bounds asks_so same latest =
+    let made : List Meaning = has.are.made in
+    let m : Meaning = meaning_of meant in
+    record {
+      set_up = record {
+        same_slices = same.0 ∙ has.set_up.same_slices;
+        same_room = same.1 ∙ has.set_up.same_room;
+        same_lane = same.2 ∙ has.set_up.same_lane;
+        same_lines = same.3 ∙ has.set_up.same_lines;
+        some_slices = has.set_up.some_slices;
+        few_slices = has.set_up.few_slices;
+        at_rest = has.set_up.at_rest;
+      };
+      are = record {
+        made = made ++ m ∷ [];
+        kept_so = subst (λ x. AreKept (made ++ x ∷ []) lines_now) keeps.means
+            (kept_more made lines lines_now it ask keeps.more has.are.kept_so keeps.grown pushed asks keeps.placed
+            asks_so);
+        bounds = bounds ∙ has.are.bounds;
+        turned = turned_more start.slices start.book old.book now.book start.subscribers old.subscribers.items
+            now.subscribers.items taken line made meant has.are.turned
+            (subst (λ k. Turned k old.book old.subscribers.items line meant now.book now.subscribers.items)
+            has.set_up.same_slices turned);
+      };
+      latest = latest ∙ sym (latest-push start.latest taken line);
+    }
+
+-- no line yet
+pub lines_begin : (rest : Rest) (gateway : Gateway) (lines : EpochLines) → IsResting rest gateway
+    → AreNone rest.subscribers lines → HasTaken rest [] gateway lines
+lines_begin rest gateway lines is none = record {
+  set_up = is.set_up;
+  are = record {
+    made = [];
+    kept_so = none.kept_none;
+    bounds = none.bounds;
+    turned = subst (λ b. TurnedAll rest.slices rest.book rest.subscribers [] [] b gateway.subscribers.items)
+        (sym is.same_book)
+        (subst (TurnedAll rest.slices rest.book rest.subscribers [] [] rest.book) (sym is.same_subscribers)
+        (turned_none rest.slices rest.book rest.subscribers is.many));
+  };
+  latest = is.same_latest;
+}
+
+-- whose slots they are hangs on no octets
+within_any : (slots : ℕ) (octets others : List ℕ) (it : Kept) → IsWithin slots (meaning_in octets it)
+    → IsWithin slots (meaning_in others it)
+within_any slots octets others (kept.Command slot c) is = is
+within_any slots octets others (kept.Packet slot p) is = is
+within_any slots octets others (kept.Move slot slice text) is = is
+within_any slots octets others (kept.Note text) is = is
+
+pub all_within_any : (slots : ℕ) (octets others : List ℕ) (all : List Kept)
+    → All (IsWithin slots) (map (meaning_in octets) all) → All (IsWithin slots) (map (meaning_in others) all)
+all_within_any slots octets others [] are = All-nil (IsWithin slots)
+all_within_any slots octets others (it ∷ all) are =
+    All-cons (IsWithin slots) (meaning_in others it) (map (meaning_in others) all)
+    (within_any slots octets others it
+    (All-head (IsWithin slots) (meaning_in octets it) (map (meaning_in octets) all) are))
+    (all_within_any slots octets others all
+    (All-tail (IsWithin slots) (meaning_in octets it) (map (meaning_in octets) all) are))
+
+-- what is lent of the lines means the same
+pub mean_lent : (made : List Meaning) (lines : EpochLines) (all : List Kept) (octets : List ℕ) → AreKept made lines
+    → all ≡ lines.lines.items → octets ≡ lines.octets.items → map (meaning_in octets) all ≡ made
+mean_lent made lines all octets are same_lines same_octets =
+    ap (map (meaning_in octets)) same_lines ∙ ap (λ xs. map (meaning_in xs) lines.lines.items) same_octets ∙ are.mean
+
+pub placed_lent : (made : List Meaning) (lines : EpochLines) (all : List Kept) (octets : List ℕ) → AreKept made lines
+    → all ≡ lines.lines.items → octets ≡ lines.octets.items → All (IsPlaced octets) all
+placed_lent made lines all octets are same_lines same_octets =
+    subst (All (IsPlaced octets)) (sym same_lines)
+    (subst (λ xs. All (IsPlaced xs) lines.lines.items) (sym same_octets) are.placed)
+
+-- as many are kept as were taken
+pub length-kept : (made : List Meaning) (lines : EpochLines) → AreKept made lines
+    → length lines.lines.items ≡ length made
+length-kept made lines are =
+    sym (length-map lines.lines.items (meaning_in lines.octets.items)) ∙ ap length are.mean

@@ -1,0 +1,68 @@
+-- What lines mean that are kept until their epoch ends.
+use Rattle.std.specs.Prelude.{◌≡◌, ℕ, ◌≤◌, List, [], ◌++◌, All, length, map, slice_range}
+use Rattle.ipv4_packet.specs.Packet.{IsPacket}
+use Rattle.demux.specs.Trace.{Meaning, command, packet, move, note}
+use Rattle.demux.specs.declared.packet.LentPacket.{LentPacket}
+use Rattle.schedule_run.specs.Lines.{asked}
+use Rattle.driven_run.specs.Driven.{asks_of}
+use Rattle.subscriber.specs.Standing.{SubscriberState}
+use Rattle.at_rest.specs.Meant.{meaning_of}
+use Rattle.at_rest.specs.declared.meant.Meant.{Meant}
+use Rattle.epoch_drive.specs.declared.kept.EpochLines.{EpochLines}
+use Rattle.epoch_drive.specs.declared.kept.Kept.{Kept}
+use Rattle.epoch_drive.specs.declared.kept.Kept.TheVariants as kept
+use Rattle.epoch_drive.specs.declared.kept.KeptPacket.{KeptPacket}
+
+-- a packet among the octets of all, and what a line means with them
+abbrev pub packet_in : List ℕ → KeptPacket → LentPacket
+packet_in octets p = record { moment = p.moment; way = p.way; ip = slice_range octets p.from p.to }
+
+abbrev pub meaning_in : List ℕ → Kept → Meaning
+meaning_in octets (kept.Command slot c) = command slot c.value
+meaning_in octets (kept.Packet slot p) = packet slot (packet_in octets p)
+meaning_in octets (kept.Move slot slice text) = move slot slice text
+meaning_in octets (kept.Note text) = note text
+
+-- a packet stands among them
+pub record IsPlacedPacket (octets : List ℕ) (p : KeptPacket) : Type 0 where
+  pub ordered : p.from ≤ p.to
+  pub within : p.to ≤ length octets
+  pub whole : IsPacket (slice_range octets p.from p.to)
+
+abbrev pub IsPlaced : List ℕ → Kept → Type 0
+IsPlaced octets (kept.Command slot c) = Unit {0}
+IsPlaced octets (kept.Packet slot p) = IsPlacedPacket octets p
+IsPlaced octets (kept.Move slot slice text) = Unit {0}
+IsPlaced octets (kept.Note text) = Unit {0}
+
+-- a packet is put behind the octets before
+pub record Places (old new : List ℕ) (p : LentPacket) (placed : KeptPacket) : Type 0 where
+  pub grown : new ≡ old ++ p.ip
+  pub is : packet_in new placed ≡ p
+  pub stands : IsPlacedPacket new placed
+
+-- what a line means is kept, with these octets behind those before
+pub record Keeps (old new : List ℕ) (now : Meant) (it : Kept) : Type 0 where
+  pub more : List ℕ
+  pub grown : new ≡ old ++ more
+  pub means : meaning_in new it ≡ meaning_of now
+  pub placed : IsPlaced new it
+
+-- what the lines of an epoch mean
+abbrev pub meanings : EpochLines → List Meaning
+meanings lines = map (meaning_in lines.octets.items) lines.lines.items
+
+-- they mean this, their packets stand there, and they ask of the schedule what that asks
+pub record AreKept (made : List Meaning) (lines : EpochLines) : Type 0 where
+  pub mean : meanings lines ≡ made
+  pub placed : All (IsPlaced lines.octets.items) lines.lines.items
+  pub ask : map asked lines.asks.items ≡ map asks_of made
+
+-- slots are bound for where these subscribers are
+abbrev pub AreBounds : List SubscriberState → EpochLines → Type 0
+AreBounds subscribers lines = lines.bounds.items ≡ map (λ (s : SubscriberState). s.destination) subscribers
+
+-- there are none yet
+pub record AreNone (subscribers : List SubscriberState) (lines : EpochLines) : Type 0 where
+  pub kept_none : AreKept [] lines
+  pub bounds : AreBounds subscribers lines

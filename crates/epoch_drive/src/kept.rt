@@ -1,0 +1,166 @@
+//! What the lines of an open epoch mean, kept until it ends.
+ghost use Rattle.std.specs.Prelude.{◌≡◌, ℕ, List, [], map, MatchBool, IfOk, OnOk};
+ghost use Rattle.trace_lines.specs.Line.{Line};
+ghost use Rattle.schedule_run.specs.Lines.{asked};
+ghost use Rattle.driven_run.specs.Driven.{asks_of};
+ghost use Rattle.subscriber.specs.Standing.{SubscriberState};
+ghost use Rattle.at_rest.specs.Rest.{Rest};
+ghost use Rattle.epoch_drive.specs.Kept.{AreNone, IsPlacedPacket, Keeps, Places, meaning_in, packet_in};
+ghost use Rattle.epoch_drive.specs.Taken.{HasTaken};
+ghost use Rattle.epoch_drive.specs.declared.gateway.Gateway.{Gateway};
+
+use at_rest::Meant;
+use control_steps::Command;
+use demux::LentPacket;
+use ipv4_packet::Ip4;
+use pc_base::{Moment, Octets, SliceNo, Slot, Way};
+use schedule_run::Ask;
+use std::alloc::{AllocError, Global};
+use subscriber::Subscriber;
+
+/// A packet whose octets stand from one place to before another among those of the epoch's packets.
+#[derive(Clone, Copy)]
+pub struct KeptPacket {
+    pub moment: Moment,
+    pub way: Way,
+    pub from: usize,
+    pub to: usize,
+}
+
+/// A command or packet of a slot, an order that it moves to a slice, with its note, or a note alone.
+#[derive(Drop)]
+pub enum Kept {
+    Command {
+        slot: Slot,
+        command: Box<Command>,
+    },
+    Packet {
+        slot: Slot,
+        packet: KeptPacket,
+    },
+    Move {
+        slot: Slot,
+        slice: SliceNo,
+        text: Octets,
+    },
+    Note(Octets),
+}
+
+impl Kept {
+    /// What it asks of the schedule.
+    pub fn ask(&self) -> Ask
+        ensures { (octets : List ℕ) → asked result ≡ asks_of (meaning_in octets self.now) }
+    {
+        match self {
+            Kept::Command { slot, command: _ } => Ask::Command(slot.0),
+            Kept::Packet { slot, packet: _ } => Ask::Packet(slot.0),
+            Kept::Move {
+                slot,
+                slice,
+                text: _,
+            } => Ask::Move(slot.0, slice.0),
+            Kept::Note(_) => Ask::Nothing,
+        }
+    }
+}
+
+/// The lines of an epoch: what each means, and what it asks of the schedule, from where each slot is bound for
+/// as the epoch begins. The octets of all packets stand in one room, and rooms go from epoch to epoch.
+#[derive(Drop)]
+pub struct EpochLines {
+    pub(crate) bounds: Vec<u8>,
+    pub(crate) asks: Vec<Ask>,
+    pub(crate) lines: Vec<Kept>,
+    pub(crate) octets: Vec<u8>,
+}
+
+impl EpochLines {
+    /// No lines, before the first slot. It takes no memory.
+    pub fn new(alloc: Global) -> EpochLines
+        ensures { AreNone [] result }
+    {
+        EpochLines {
+            bounds: Vec::new(alloc),
+            asks: Vec::new(alloc),
+            lines: Vec::new(alloc),
+            octets: Vec::new(alloc),
+        }
+    }
+
+    /// Whether no lines were taken.
+    pub fn is_empty(&self) -> bool
+        ensures { (start : Rest) (taken : List Line) (gateway : Gateway) → HasTaken start taken gateway self.now
+            → MatchBool result (taken ≡ []) (taken ≡ [] → ⊥) }
+    {
+        self.lines.is_empty()
+    }
+
+    /// No lines of the next epoch, which begins with these subscribers.
+    pub(crate) fn begin(&mut self, subscribers: &[Subscriber]) -> Result<(), AllocError>
+        ensures { OnOk result (AreNone subscribers.now self.new) }
+    {
+        self.asks.clear();
+        self.lines.clear();
+        self.octets.clear();
+        note_bounds(&mut self.bounds, subscribers)
+    }
+}
+
+// Where each subscriber is bound for.
+fn note_bounds(bounds: &mut Vec<u8>, subscribers: &[Subscriber]) -> Result<(), AllocError>
+    ensures { OnOk result (bounds.new.items ≡ map (λ (s : SubscriberState). s.destination) subscribers.now) }
+{
+    bounds.clear();
+    for subscriber in subscribers {
+        let destination = subscriber.destination();
+        bounds.push(destination.0)?;
+    }
+    Ok(())
+}
+
+/// What a line means, kept: a packet's octets are put behind those before.
+pub fn keep(alloc: Global, octets: &mut Vec<u8>, meant: Meant<'_>) -> Result<Kept, AllocError>
+    ensures { IfOk result (Keeps octets.old.items octets.new.items meant.entry) }
+{
+    match meant {
+        Meant::Command { slot, command } => {
+            let command = Box::new(alloc, command)?;
+            Ok(Kept::Command { slot, command })
+        }
+        Meant::Packet { slot, packet } => {
+            let packet = place_packet(octets, &packet)?;
+            Ok(Kept::Packet { slot, packet })
+        }
+        Meant::Move { slot, slice, text } => Ok(Kept::Move { slot, slice, text }),
+        Meant::Note(text) => Ok(Kept::Note(text)),
+    }
+}
+
+// Puts the octets of a packet behind those before.
+fn place_packet(octets: &mut Vec<u8>, packet: &LentPacket<'_>) -> Result<KeptPacket, AllocError>
+    ensures { IfOk result (Places octets.old.items octets.new.items packet.now) }
+{
+    let from = octets.len();
+    octets.extend_from_slice(packet.ip.octets())?;
+    Ok(KeptPacket {
+        moment: packet.moment,
+        way: packet.way,
+        from,
+        to: octets.len(),
+    })
+}
+
+/// The packet where it stands.
+pub fn packet_at<'a>(octets: &'a [u8], packet: &KeptPacket) -> LentPacket<'a>
+    requires { IsPlacedPacket octets.now packet.now }
+    ensures { result ≡ packet_in octets.now packet.now }
+{
+    match Ip4::whole(&octets[packet.from..packet.to]) {
+        Some(ip) => LentPacket {
+            moment: packet.moment,
+            way: packet.way,
+            ip,
+        },
+        None => unreachable!(),
+    }
+}
