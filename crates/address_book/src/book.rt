@@ -108,6 +108,13 @@ impl AddressBook {
         self.slots.get(imsi).copied()
     }
 
+    /// The IMSIs that have a slot, by slot.
+    pub fn imsis(&self) -> &[Imsi]
+        ensures { result.now ≡ self.now }
+    {
+        &self.imsis
+    }
+
     /// How many IMSIs have a slot: 0 to 65,533.
     pub fn len(&self) -> u32
         ensures length { result ≡ length self.now }

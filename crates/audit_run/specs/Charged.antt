@@ -1,7 +1,8 @@
 -- What the book of a slot hears behind events.
-use Rattle.std.specs.Prelude.{◌≡◌, ℕ, ◌<◌, ◌^◌, List, ◌++◌, length}
+use Rattle.std.specs.Prelude.{◌≡◌, ℕ, List, ◌++◌, length}
 use Rattle.charging_book.specs.Happenings.{Happening}
 use Rattle.charging_book.specs.Postings.{MayAllFollow}
+use Rattle.gate_model.specs.Events.{FewEvents}
 use Rattle.gate_model.specs.SlotPast.{past_of}
 use Rattle.gate_model.specs.declared.event.Event.{Event}
 
@@ -15,4 +16,5 @@ pub record HearsMore (slot : ℕ) (before now : List Event) : Type 0 where
   pub may : MayAllFollow (charged_after slot before) more
 
 abbrev pub FewEventsHearMore : Type 0
-FewEventsHearMore = (slot : ℕ) (before now : List Event) → length (before ++ now) < 2 ^ 40 → HearsMore slot before now
+FewEventsHearMore = (slot : ℕ) (before now : List Event) → FewEvents (length (before ++ now))
+    → HearsMore slot before now

@@ -1,5 +1,5 @@
 -- A player represents the events of its slot.
-use Rattle.std.specs.Prelude.{◌≡◌, ◌==◌, ℕ, ◌+◌, ◌<◌, ◌^◌, Option, List, ◌++◌, length, map, find}
+use Rattle.std.specs.Prelude.{◌≡◌, ◌==◌, ℕ, ◌+◌, Option, List, ◌++◌, length, map, find}
 use Rattle.pc_base.specs.declared.packet.Verdict.{Verdict}
 use Rattle.pc_base.specs.declared.reply.Reply.{Reply}
 use Rattle.report_lines.specs.Records.{Effected}
@@ -7,7 +7,7 @@ use Rattle.bearer_state.specs.declared.version.ActiveBearer.{ActiveBearer}
 use Rattle.charging_book.specs.Accounts.{StandsFor}
 use Rattle.charging_book.specs.Rows.{Counters}
 use Rattle.charging_book.specs.Happenings.{rows_of}
-use Rattle.gate_model.specs.Events.{commands_of, packets_of}
+use Rattle.gate_model.specs.Events.{FewEvents, commands_of, packets_of}
 use Rattle.gate_model.specs.SlotPast.{past_of}
 use Rattle.gate_model.specs.declared.event.Event.{Event}
 use Rattle.lawful_run.specs.Accepted as accepted
@@ -70,7 +70,7 @@ pub record CanGoOn (player : Player) (more : ℕ) : Type 0 where
   pub slot : ℕ
   pub before : List Event
   pub played : HasPlayed player slot before
-  pub few : length before + more < 2 ^ 40
+  pub few : FewEvents (length before + more)
 
 -- the open counters of a bearer's life
 abbrev pub counters_of : List Counters → ActiveBearer → Option Counters

@@ -1,6 +1,7 @@
 -- The lines of all epochs, replayed.
-use Rattle.std.specs.Prelude.{◌≡◌, ℕ, ◌<◌, ◌≤◌, ◌^◌, ◌↔◌, ◌+◌, All, List, [], ◌∷◌, length}
+use Rattle.std.specs.Prelude.{◌≡◌, ℕ, ◌≤◌, ◌↔◌, ◌+◌, All, List, [], ◌∷◌, length}
 use Rattle.std.specs.Global.{Vec}
+use Rattle.gate_model.specs.Events.{FewEvents}
 use Rattle.lawful_run.specs.Merging.{Histories}
 use Rattle.lawful_run.specs.LinesTold.{LineTold}
 use Rattle.demux.specs.Trace.{Meaning}
@@ -27,7 +28,7 @@ pub record CanReplay (slots : ℕ) (epochs : List (List LineTold)) : Type 0 wher
   pub few_slots : slots ≤ 65533
   pub answered : EpochsAnswered 1 epochs
   pub known : All (AreKnownTold slots) epochs
-  pub few : count_of epochs < 2 ^ 40
+  pub few : FewEvents (count_of epochs)
 
 -- they were all replayed
 pub record HasRun (setup : Given) (slots : ℕ) (all : List (List LineTold)) (run : Run) : Type 0 where

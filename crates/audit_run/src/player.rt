@@ -1,8 +1,9 @@
 //! A slot that is replayed: the events of an epoch in the order that its packets' counts tell, through its
 //! gateway.
-ghost use Rattle.std.specs.Prelude.{◌≡◌, ◌==◌, ℕ, ◌+◌, ◌-◌, ◌<◌, ◌≤◌, ◌^◌, ◌∷◌};
+ghost use Rattle.std.specs.Prelude.{◌≡◌, ◌==◌, ℕ, ◌+◌, ◌-◌, ◌≤◌, ◌∷◌};
 ghost use Rattle.std.specs.Prelude.{◌++◌, [], List, length, map, min, find, filter_map, option_copied, IfOk, OnOk};
 ghost use Rattle.charging_book.specs.Rows.{Counters};
+ghost use Rattle.gate_model.specs.Events.{FewEvents};
 ghost use Rattle.gate_model.specs.declared.event.Event.{Event};
 ghost use Rattle.gate_model.specs.SlotPast.{records_made};
 ghost use Rattle.demux.specs.Packets.{numbered};
@@ -62,7 +63,7 @@ impl Player {
     /// The slot before its first event.
     pub fn new(alloc: Global, slot: Slot) -> Result<Player, NoMemory>
         ensures begins { IfOk result (λ player. HasPlayed player slot []) }
-        ensures goes_on { (more : ℕ) → more < 2 ^ 40 → IfOk result (λ player. CanGoOn player more) }
+        ensures goes_on { (more : ℕ) → FewEvents more → IfOk result (λ player. CanGoOn player more) }
     {
         Ok(Player {
             slot,
@@ -213,9 +214,9 @@ impl Player {
         requires { self.old.posted ≤ length self.old.gateway.packets.charged }
 
         ensures rows { (slot : ℕ) (before now : List Event) → IsBehind self.old slot before now
-            → length (before ++ now) < 2 ^ 40 → IfOk result (λ rows. rows.items ≡ records_made slot before now) }
+            → FewEvents (length (before ++ now)) → IfOk result (λ rows. rows.items ≡ records_made slot before now) }
         ensures stands { (slot : ℕ) (before now : List Event) → IsBehind self.old slot before now
-            → length (before ++ now) < 2 ^ 40 → OnOk result (HasPlayed self.new slot (before ++ now)) }
+            → FewEvents (length (before ++ now)) → OnOk result (HasPlayed self.new slot (before ++ now)) }
     {
         let postings = self.gateway.postings();
         self.book.post(&postings[self.posted..])?;

@@ -2,6 +2,7 @@
 ghost use Rattle.std.specs.Prelude.{◌≡◌, ℕ, ◌+◌, ◌<◌, ◌≤◌, ◌^◌, ◌∷◌, ◌++◌, ◌↔◌};
 ghost use Rattle.std.specs.Prelude.{List, length, map, IfOk, OnOk};
 ghost use Rattle.demux.specs.Trace.{Meaning, book_of};
+ghost use Rattle.gate_model.specs.Events.{FewEvents};
 ghost use Rattle.lawful_run.specs.Setup.{slices_of};
 ghost use Rattle.lawful_run.specs.LinesTold.{LineTold};
 ghost use Rattle.lawful_run.specs.Merging.{Histories, behind};
@@ -48,7 +49,7 @@ fn players_of(alloc: Global, slots: u32) -> Result<Vec<Player>, NoMemory>
     requires { slots ≤ 65533 }
     ensures many { IfOk result (λ players. length players.items ≡ slots) }
     ensures stand { IfOk result (λ players. Stand players.items no_events) }
-    ensures room { (more : ℕ) → more < 2 ^ 40 → IfOk result (λ players. AllCanGoOn players.items more) }
+    ensures room { (more : ℕ) → FewEvents more → IfOk result (λ players. AllCanGoOn players.items more) }
 {
     let mut players = Vec::new(alloc);
     for slot in 0..slots {
@@ -75,7 +76,7 @@ impl<'m> Run<'m> {
         requires { slots ≤ 65533 }
         ensures begins { (setup : Setup) (all : List (List LineTold))
             → IfOk result (λ run. RunsFrom setup slots all no_events all run) }
-        ensures room { (more : ℕ) → more < 2 ^ 40 → IfOk result (λ run. AllCanGoOn run.players.items more) }
+        ensures room { (more : ℕ) → FewEvents more → IfOk result (λ run. AllCanGoOn run.players.items more) }
     {
         Ok(Run {
             players: players_of(alloc, slots)?,
@@ -185,7 +186,7 @@ fn found_of(
 ) -> Result<Finding, NoMemory>
     requires slots { slots ≤ 65533 }
     requires known { AreKnown slots (epochs_meant epochs.now) }
-    requires few { length (all_lines (epochs_meant epochs.now)) < 2 ^ 40 }
+    requires few { FewEvents (length (all_lines (epochs_meant epochs.now))) }
     ensures { IfOk result (λ found. IsFinding (setup_of setup.now) slots (epochs_meant epochs.now) entries.now found) }
 {
     match answered(alloc, epochs, entries)? {

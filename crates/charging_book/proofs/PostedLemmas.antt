@@ -279,7 +279,7 @@ goes-started old new life ebi qci opens times rows = record {
 }
 
 -- what may be posted to a book may be posted to the book of its pieces, and the other way round
-may_by_pieces : (book : Accounts) (pieces : List Piece) (now : Happening) → ArePiecesOf book pieces
+pub may_by_pieces : (book : Accounts) (pieces : List Piece) (now : Happening) → ArePiecesOf book pieces
     → MayBePosted (book_with pieces) now → MayBePosted book now
 may_by_pieces book pieces (started life ebi qci) are may = record {
   in_range = may.in_range;

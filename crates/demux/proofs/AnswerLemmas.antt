@@ -1,35 +1,15 @@
 -- The answer to a request is a message of a known type.
-use Rattle.std.proofs.Common.{◌≡◌, ℕ, ◌+◌, ◌-◌, ◌≤◌, ◌||◌, eqb, Bool, true, false, List, [], ◌∷◌, refl, ap, ◌∙◌, arith}
-use Rattle.std.specs.List.{list_any, AllByRecursion}
-use Rattle.std.proofs.lemmas.Bool.{eqb-true}
-use Rattle.gtpv2_msg.specs.Kinds.{requests, is_request, is_kind}
+use Rattle.std.proofs.Common.{◌≡◌, ℕ, ◌+◌, ◌-◌, ◌≤◌, ◌||◌, Bool, true, false, refl, ap, ◌∙◌, arith}
+use Rattle.std.proofs.lemmas.Bool.Decides.{nat_tests}
+use Rattle.gtpv2_msg.specs.Kinds.{is_request, is_kind}
 use Rattle.gtpv2_msg.specs.Validity.{IsMessage}
 use Rattle.bearer_state.specs.Bearer.{IsSeq}
 use Rattle.control_steps.specs.Kinds.{IsAnswered}
 use Rattle.demux.specs.Mme.{echo_response}
 
-one_below : (most kind x : ℕ) (is any : Bool) → eqb x kind ≡ is → x ≤ most → (any ≡ true → kind ≤ most)
-    → (is || any) ≡ true → kind ≤ most
-one_below most kind x true any same le others some =
-    let equal : x ≡ kind = eqb-true _ _ same in omega (arith, equal, le)
-one_below most kind x false any same le others some = others some
-
-below : (most kind : ℕ) (xs : List ℕ) → AllByRecursion (λ x. x ≤ most) xs → list_any (λ x. eqb x kind) xs ≡ true
-    → kind ≤ most
-below most kind [] all any = absurd cc
-below most kind (x ∷ xs) all any =
-    one_below most kind x (eqb x kind) (list_any (λ y. eqb y kind) xs) refl all.0 (below most kind xs all.1) any
-
-request_small : (kind : ℕ) → is_request kind ≡ true → kind ≤ 176
+pub request_small : (kind : ℕ) → is_request kind ≡ true → kind ≤ 176
 unfolding is_request
-request_small kind is =
-    below 176 kind requests (
-      omega arith,
-      (
-        omega arith,
-        (omega arith, (omega arith, (omega arith, (omega arith, (omega arith, (omega arith, (omega arith, tt))))))),
-      ),
-    ) is
+request_small kind is = grind (arith, nat_tests)
 
 or_true : (first : Bool) → (first || true) ≡ true
 or_true true = refl

@@ -81,9 +81,9 @@ left_differ ask (other ∷ asks) = by_bool (eqb other.ebi ask.ebi)
     (λ same. rw same (left_differ ask asks))
     (λ apart. rw apart ((λ same. false≢true (sym apart ∙ eq-eqb other.ebi ask.ebi (sym same))), left_differ ask asks))
 
-each_first : (asks : List Ask) → AllByRecursion IsAsk asks → AllByRecursion IsAsk (first_asks asks)
-each_first [] each = tt
-each_first (ask ∷ asks) each = (each.0, each_without IsAsk ask.ebi (first_asks asks) (each_first asks each.1))
+pub each_first : (P : Ask → Type 0) (asks : List Ask) → AllByRecursion P asks → AllByRecursion P (first_asks asks)
+each_first P [] each = tt
+each_first P (ask ∷ asks) each = (each.0, each_without P ask.ebi (first_asks asks) (each_first P asks each.1))
 
 pairs_differ : (asks : List Ask) → EachPair HaveTwoEbis (first_asks asks)
 pairs_differ [] = tt
@@ -126,9 +126,9 @@ few_first asks each pairs =
 
 pub are_asks : (asks : List Ask) → AllByRecursion IsAsk asks → AreAsks (first_asks asks)
 are_asks asks each = record {
-  each = each_first asks each;
+  each = each_first IsAsk asks each;
   differ = pairs_differ asks;
-  few = few_first (first_asks asks) (each_first asks each) (pairs_differ asks);
+  few = few_first (first_asks asks) (each_first IsAsk asks each) (pairs_differ asks);
 }
 
 -- one element more

@@ -8,3 +8,10 @@ pub mod AnswerLemmas
 pub mod TraceLemmas
 pub mod ResolvedLemmas
 pub mod MomentLemmas
+pub mod Small
+pub mod BookBound
+pub mod MessagesSmall
+pub mod ElementRanges
+pub mod FaultRanges
+pub mod NotesPrint
+pub mod RangeLemmas

@@ -11,3 +11,4 @@ pub mod Resolved
 pub mod Destinations
 pub mod Trace
 pub mod Packets
+pub mod Ranges

@@ -20,7 +20,7 @@ mod tunnel;
 pub use deciding::decide;
 pub use decision::{Decision, Whose};
 pub use destinations::home_slice;
-pub use laws::{line_by_line, read_requests_are_whole};
+pub use laws::{line_by_line, meanings_are_in_range, read_requests_are_whole};
 pub use packet::LentPacket;
 pub use pc_base::NoMemory;
 pub use texts::{move_note, move_word};

@@ -24,3 +24,4 @@ pub mod WorkedRows
 pub mod ParkedRow
 pub mod LaneRows
 pub mod WholeRow
+pub mod InRange

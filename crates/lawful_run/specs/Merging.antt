@@ -1,9 +1,9 @@
 -- The order in which the events of a slot were handled.
-use Rattle.std.specs.Prelude.{ℕ, ◌+◌, ◌-◌, ◌<◌, ◌^◌, List, [], ◌∷◌, ◌++◌, length, map, take, drop}
+use Rattle.std.specs.Prelude.{ℕ, ◌+◌, ◌-◌, List, [], ◌∷◌, ◌++◌, length, map, take, drop}
 use Rattle.std.specs.Borrow.{Bor}
 use Rattle.control_steps.specs.declared.command.CommandKind.{CommandKind}
 use Rattle.demux.specs.Packets.{numbered}
-use Rattle.gate_model.specs.Events.{commands_of, packets_of}
+use Rattle.gate_model.specs.Events.{FewEvents, commands_of, packets_of}
 use Rattle.gate_model.specs.declared.event.Event.{Event}
 use Rattle.gate_model.specs.declared.event.Event.TheVariants as event
 use Rattle.lawful_run.specs.Accepted.{Placed, commands_accepted, packets_accepted}
@@ -33,7 +33,7 @@ pub record CanGo (Holds : ℕ → List Event → List Event → Type 0) (more : 
   pub before : List Event
   pub now : List Event
   pub holds : Holds slot before now
-  pub few : length (before ++ now) + more < 2 ^ 40
+  pub few : FewEvents (length (before ++ now) + more)
 
 -- the events of each slot
 abbrev pub Histories : Type 0

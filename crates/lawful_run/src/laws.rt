@@ -1,5 +1,6 @@
 //! Laws of the lawful run.
-ghost use Rattle.std.specs.Prelude.{◌≡◌, ℕ, ◌+◌, ◌≤◌, List, [], ◌∷◌, ◌++◌, length, flat_map, false};
+ghost use Rattle.std.specs.Prelude.{◌≡◌, ℕ, ◌+◌, ◌≤◌, All, List, [], ◌∷◌, ◌++◌, length, flat_map, false};
+ghost use Rattle.demux.specs.Ranges.{IsInRange};
 ghost use Rattle.demux.specs.Trace.{Meaning};
 ghost use Rattle.gate_model.specs.declared.event.Event.{Event};
 ghost use Rattle.lawful_run.specs.AnsweredRun.{answered_run, answered_from, answered_epoch, behind_epochs};
@@ -13,8 +14,9 @@ ghost use Rattle.lawful_run.specs.Outcomes.{opens};
 ghost use Rattle.lawful_run.specs.Placing.{EventsStandAsTold};
 ghost use Rattle.lawful_run.specs.Report.{Report, report_text};
 ghost use Rattle.lawful_run.specs.Run.{IsRun, by_slot};
-ghost use Rattle.lawful_run.specs.Trace.{IsReport, answered_report};
-ghost use Rattle.trace_lines.specs.Input.{Input};
+ghost use Rattle.lawful_run.specs.Trace.{IsReport, answered_report, epochs_told};
+ghost use Rattle.trace_lines.specs.Input.{Input, input_of};
+ghost use Rattle.trace_lines.specs.Line.{IsLine};
 
 /// Every trace has a sequential lawful run, whatever the setup.
 pub fn every_trace_has_a_run()
@@ -24,6 +26,15 @@ pub fn every_trace_has_a_run()
 
     // So has each input, whatever its octets say and wherever it stops.
     ensures report { (setup : Setup) (input : Input) → IsReport setup input (answered_report setup input) }
+{}
+
+/// What the lines of an input mean is in its ranges, and so is the note on the line that it may stop at.
+pub fn told_lines_are_in_range()
+    ensures lines { (slices : ℕ) (input : Input) → All IsLine input.lines
+        → All (All IsInRange) (epochs_told slices input) }
+
+    // So it is whatever the octets of an input say.
+    ensures octets { (slices : ℕ) (octets : List ℕ) → All (All IsInRange) (epochs_told slices (input_of octets)) }
 {}
 
 /// No other lawful run is sequential, whatever the setup.

@@ -14,3 +14,6 @@ mod WorkedPasts
 pub mod LawfulMarks
 pub mod AdvanceLemmas
 pub mod PartLemmas
+pub mod PlanLemmas
+pub mod RunningLemmas
+pub mod OrderLemmas

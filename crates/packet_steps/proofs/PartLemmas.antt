@@ -50,7 +50,7 @@ own_other own (b ∷ bearers) buckets index apart =
       | false ↦ own_other own bearers buckets index behind
     ]
 
-both : (a b : Bool) → (a && b) ≡ true → (a ≡ true) × (b ≡ true)
+pub both : (a b : Bool) → (a && b) ≡ true → (a ≡ true) × (b ≡ true)
 both true b holds = (refl, holds)
 both false b holds = absurd (false≢true holds)
 

@@ -10,3 +10,4 @@ pub mod Standing
 pub mod Plans
 pub mod Releases
 pub mod Parts
+pub mod Running

@@ -13,7 +13,7 @@ use Rattle.bearer_state.specs.Qos.{is_guaranteed}
 use Rattle.bearer_state.specs.Version.{VersionState}
 use Rattle.packet_steps.specs.declared.meters.Meter.{Meter}
 use Rattle.packet_steps.specs.declared.meters.Meters.{Meters}
-use Rattle.packet_steps.specs.Rows.{HeldRow}
+use Rattle.packet_steps.specs.Rows.{HeldRow, in_order}
 use Rattle.packet_steps.specs.Past.{Past}
 use Rattle.packet_steps.specs.Change.{waits}
 use Rattle.packet_steps.specs.Meters.{new_meter, own_meter}
@@ -96,13 +96,6 @@ may_wait bearers row = goes_down row.packet.way && waits bearers row.life
 
 abbrev pub all_may_wait : List ActiveBearer → List HeldRow → Bool
 all_may_wait bearers rows = list_all (may_wait bearers) rows
-
--- moments don't fall, and are at most a last one
-abbrev pub in_order : (least most : ℕ) → List HeldRow → Bool
-in_order least most [] = true
-in_order least most (row ∷ rows) =
-    nat_le least row.packet.moment
-    && (nat_le row.packet.moment most && in_order row.packet.moment most rows)
 
 -- at most sixteen packets are held, and none before the first packet
 abbrev pub waiting_fit : ℕ → List ActiveBearer → List HeldRow → Bool

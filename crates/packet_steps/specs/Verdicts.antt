@@ -15,6 +15,7 @@ use Rattle.tft_match.specs.Chosen.{chosen}
 use Rattle.bearer_state.specs.declared.version.ActiveBearer.{ActiveBearer}
 use Rattle.bearer_state.specs.Version.{VersionState, bearer_at}
 use Rattle.packet_steps.specs.Messages.{gpdu, notification}
+use Rattle.packet_steps.specs.Rows.{HeldRow}
 use Rattle.packet_steps.specs.Past.{Past, row_for, with_row, with_held}
 use Rattle.packet_steps.specs.Policing.{passes}
 
@@ -33,9 +34,12 @@ judged_up past octets (Some bearer) =
     else (past, verdict.Spoof)
 
 -- the message for a packet that is held: it goes where none is held yet, and an MME is known
+abbrev pub message_for : VersionState → List HeldRow → ℕ → ℕ → Option (List ℕ)
+message_for version held number ebi =
+    if length held == 0 then option_map (λ mme. notification mme number ebi) version.mme else None
+
 abbrev pub notice : Past → ℕ → ℕ → Option (List ℕ)
-notice past number ebi =
-    if length past.held == 0 then option_map (λ mme. notification mme number ebi) past.version.mme else None
+notice past number ebi = message_for past.version past.held number ebi
 
 -- down: a packet waits for its bearer's eNodeB, but at most sixteen wait
 abbrev pub judged_waiting : Past → Packet → ActiveBearer → Past × Verdict

@@ -3,6 +3,7 @@ ghost use Rattle.std.specs.Prelude.{◌≡◌, ℕ, unwrap_or, filter, IfOk, OnO
 ghost use Rattle.packet_steps.specs.Past.{Past};
 ghost use Rattle.packet_steps.specs.Change.{waits, learnt};
 ghost use Rattle.packet_steps.specs.Standing.{StandsFor, Follows, last_of};
+ghost use Rattle.packet_steps.specs.Running.{brought, Advances};
 
 use crate::changing::{markers, marks};
 use crate::counters::Counters;
@@ -24,6 +25,10 @@ pub fn advance(
     ensures stands { (past : Past) (taken : ℕ) → StandsFor counters.old past taken → past.version ≡ before.now
         → Follows past after.now
         → OnOk result (StandsFor counters.new (learnt past after.now).0 taken) }
+
+    // The same by the counters alone, also of ones that were made of parts.
+    ensures brings { IfOk result (λ effects. effects ≡ (brought before.now after.now counters.old).effects) }
+    ensures goes_on { OnOk result (Advances before.now after.now counters.old counters.new) }
     ensures moment { last_of counters.new ≡ last_of counters.old }
     ensures unchanged { OnErr result (counters.new ≡ counters.old) }
 {

@@ -1,5 +1,5 @@
 //! The running counters of a subscriber.
-ghost use Rattle.std.specs.Prelude.{◌≡◌, ℕ, length, drop};
+ghost use Rattle.std.specs.Prelude.{◌≡◌, ℕ, [], length, drop};
 ghost use Rattle.charging_book.specs.Happenings.{rows_of};
 ghost use Rattle.packet_steps.specs.Past.{Past, new_past};
 ghost use Rattle.packet_steps.specs.Standing.{StandsFor, book_of, last_of};
@@ -22,6 +22,8 @@ pub struct Counters {
 }
 
 impl Model for Counters {
+    ghost use Rattle.std.specs.Prelude.{IsTrue};
+    ghost use Rattle.packet_steps.specs.Rows.{held_in_order};
     ghost use Rattle.packet_steps.specs.Standing.{CountersState};
 
     ghost Value = { CountersState };
@@ -32,6 +34,8 @@ impl Model for Counters {
       held = counters.held.items;
       last = counters.last;
     } };
+
+    ghost invariant = { λ counters. IsTrue (held_in_order counters.last counters.held.items) };
 }
 
 impl Counters {
@@ -65,12 +69,14 @@ impl Counters {
         self.last
     }
 
-    /// Takes the charging records out that weren't taken yet.
+    /// Takes the charging records out that weren't taken yet; the rest stays.
     pub fn take_closed(&mut self) -> Vec<ChargeRow>
         ensures rows { (past : Past) (taken : ℕ) → StandsFor self.old past taken
             → result.items ≡ drop taken (rows_of past.charged) }
         ensures stands { (past : Past) (taken : ℕ) → StandsFor self.old past taken
             → StandsFor self.new past (length (rows_of past.charged)) }
+        ensures closed { result.items ≡ (book_of self.old).rows }
+        ensures left { self.new ≡ record self.old { book = record (book_of self.old) { rows = [] } } }
     {
         self.book.take_closed()
     }

@@ -5,6 +5,8 @@ ghost use Rattle.packet_steps.specs.Past.{Past};
 ghost use Rattle.packet_steps.specs.Verdicts.{judged};
 ghost use Rattle.packet_steps.specs.Standing.{StandsFor, AreFew, last_of};
 ghost use Rattle.packet_steps.specs.Lent.{verdict_of};
+ghost use Rattle.packet_steps.specs.Plans.{verdict_by};
+ghost use Rattle.packet_steps.specs.Running.{planned, GoesOn};
 
 use crate::counters::Counters;
 use crate::{LentVerdict, NoMemory};
@@ -32,6 +34,14 @@ pub fn judge<'a>(
         → past.version ≡ version.now → AreFew past.charged
         → packet ≡ record { number = number; moment = moment; way = way; octets = ip.now }
         → OnOk result (StandsFor counters.new (judged past packet).0 taken) }
+
+    // The same by the counters alone, also of ones that were made of parts.
+    ensures planned { (packet : Packet)
+        → packet ≡ record { number = number; moment = moment; way = way; octets = ip.now }
+        → IfOk result (λ told. verdict_of told ≡ verdict_by (planned version.now counters.old packet) ip.now) }
+    ensures goes_on { (packet : Packet)
+        → packet ≡ record { number = number; moment = moment; way = way; octets = ip.now }
+        → OnOk result (GoesOn (planned version.now counters.old packet) packet counters.old counters.new) }
     ensures moment { OnOk result (last_of counters.new ≡ Some moment) }
     ensures unchanged { OnErr result (counters.new ≡ counters.old) }
 {
@@ -57,6 +67,12 @@ pub fn handle(
     ensures stands { (past : Past) (taken : ℕ) → StandsFor counters.old past taken → past.version ≡ version.now
         → AreFew past.charged
         → OnOk result (StandsFor counters.new (judged past packet.now).0 taken) }
+
+    // The same by the counters alone, also of ones that were made of parts.
+    ensures planned { IfOk result (λ verdict. verdict
+        ≡ verdict_by (planned version.now counters.old packet.now) packet.now.octets) }
+    ensures goes_on { OnOk result
+        (GoesOn (planned version.now counters.old packet.now) packet.now counters.old counters.new) }
     ensures moment { OnOk result (last_of counters.new ≡ Some packet.now.moment) }
     ensures unchanged { OnErr result (counters.new ≡ counters.old) }
 {
@@ -105,6 +121,12 @@ fn lent<'a>(
         → past.version ≡ version.now → AreFew past.charged
         → packet ≡ record { number = number; moment = moment; way = way; octets = ip.now }
         → OnOk result (StandsFor counters.new (judged past packet).0 taken) }
+    ensures planned { (packet : Packet)
+        → packet ≡ record { number = number; moment = moment; way = way; octets = ip.now }
+        → IfOk result (λ told. verdict_of told ≡ verdict_by (planned version.now counters.old packet) ip.now) }
+    ensures goes_on { (packet : Packet)
+        → packet ≡ record { number = number; moment = moment; way = way; octets = ip.now }
+        → OnOk result (GoesOn (planned version.now counters.old packet) packet counters.old counters.new) }
     ensures moment { OnOk result (last_of counters.new ≡ Some moment) }
     ensures unchanged { OnErr result (counters.new ≡ counters.old) }
 {
@@ -134,6 +156,12 @@ fn owned(
         → past.version ≡ version.now → AreFew past.charged
         → packet ≡ record { number = number; moment = moment; way = way; octets = ip.now }
         → OnOk result (StandsFor counters.new (judged past packet).0 taken) }
+    ensures planned { (packet : Packet)
+        → packet ≡ record { number = number; moment = moment; way = way; octets = ip.now }
+        → IfOk result (λ told. told ≡ verdict_by (planned version.now counters.old packet) ip.now) }
+    ensures goes_on { (packet : Packet)
+        → packet ≡ record { number = number; moment = moment; way = way; octets = ip.now }
+        → OnOk result (GoesOn (planned version.now counters.old packet) packet counters.old counters.new) }
     ensures moment { OnOk result (last_of counters.new ≡ Some moment) }
     ensures unchanged { OnErr result (counters.new ≡ counters.old) }
 {

@@ -27,6 +27,8 @@ pub const MOST_HELD: usize = 16;
 impl Counters {
     ghost use Rattle.std.specs.Prelude.{[], ◌∷◌, ◌++◌, Bool};
     ghost use Rattle.packet_steps.specs.Past.{row_for, with_row, with_held};
+    ghost use Rattle.packet_steps.specs.Verdicts.{message_for};
+    ghost use Rattle.packet_steps.specs.Running.{planned, planned_up, planned_down, planned_waiting};
 
     /// What is to become of a packet; nothing is done yet.
     #[inline(always)]
@@ -40,10 +42,13 @@ impl Counters {
     ) -> Result<Plan, NoMemory>
         requires late { IfSome (last_of self.now) (λ last. last ≤ moment) }
         requires packet { IsPacket ip.now }
-        ensures { (past : Past) (taken : ℕ) (packet : Packet) → StandsFor self.now past taken
+        ensures plans { (past : Past) (taken : ℕ) (packet : Packet) → StandsFor self.now past taken
             → past.version ≡ version.now
             → packet ≡ record { number = number; moment = moment; way = way; octets = ip.now }
             → IfOk result (Plans (at_moment past moment) packet (judged_now (at_moment past moment) packet)) }
+        ensures planned { (packet : Packet)
+            → packet ≡ record { number = number; moment = moment; way = way; octets = ip.now }
+            → IfOk result (λ plan. plan ≡ planned version.now self.now packet) }
     {
         if !version.live {
             return Ok(Plan::NoBearer);
@@ -57,10 +62,12 @@ impl Counters {
     #[inline(always)]
     fn plan_up(&self, version: &Version, index: u8, moment: Moment, ip: &Ip4<'_>) -> Plan
         requires { IfSome (last_of self.now) (λ last. last ≤ moment) }
-        ensures { (past : Past) (taken : ℕ) (packet : Packet) → StandsFor self.now past taken
+        ensures plans { (past : Past) (taken : ℕ) (packet : Packet) → StandsFor self.now past taken
             → past.version ≡ version.now → packet.octets ≡ ip.now
             → Plans (at_moment past moment) packet
             (judged_up (at_moment past moment) ip.now (bearer_at version.now.bearers index)) result }
+        ensures planned { result
+            ≡ planned_up version.now self.now.meters moment ip.now (bearer_at version.now.bearers index) }
     {
         let Some(bearer) = active_at(version, index) else {
             return Plan::NoBearer;
@@ -88,11 +95,15 @@ impl Counters {
         ip: &Ip4<'_>,
     ) -> Result<Plan, NoMemory>
         requires { IfSome (last_of self.now) (λ last. last ≤ moment) }
-        ensures { (past : Past) (taken : ℕ) (packet : Packet) → StandsFor self.now past taken
+        ensures plans { (past : Past) (taken : ℕ) (packet : Packet) → StandsFor self.now past taken
             → past.version ≡ version.now
             → packet.octets ≡ ip.now → packet.number ≡ number
             → IfOk result (Plans (at_moment past moment) packet
             (judged_down (at_moment past moment) packet (bearer_for version.now ip.now))) }
+        ensures planned { (packet : Packet) → packet.octets ≡ ip.now → packet.number ≡ number
+            → packet.moment ≡ moment
+            → IfOk result (λ plan. plan
+            ≡ planned_down version.now self.now packet (bearer_for version.now ip.now)) }
     {
         let Some(bearer) = taking(version, ip) else {
             return Ok(Plan::NoBearer);
@@ -119,9 +130,11 @@ impl Counters {
         bearer: &ActiveBearer,
     ) -> Result<Plan, NoMemory>
         requires { IsEbi bearer.now.ebi }
-        ensures { (past : Past) (packet : Packet) → self.now.held ≡ past.held → past.version.mme ≡ version.now.mme
-            → packet.number ≡ number
+        ensures plans { (past : Past) (packet : Packet) → self.now.held ≡ past.held
+            → past.version.mme ≡ version.now.mme → packet.number ≡ number
             → IfOk result (Plans past packet (judged_waiting past packet bearer.now)) }
+        ensures planned { IfOk result (λ plan. plan
+            ≡ planned_waiting version.now self.now.held number bearer.now) }
     {
         if self.held.len() >= MOST_HELD {
             return Ok(Plan::Idle { life: bearer.life });
@@ -134,8 +147,9 @@ impl Counters {
 
     fn notice(&self, version: &Version, number: u64, ebi: u8) -> Result<Option<Octets>, NoMemory>
         requires { IsEbi ebi }
-        ensures { (past : Past) → self.now.held ≡ past.held → past.version.mme ≡ version.now.mme
+        ensures notice { (past : Past) → self.now.held ≡ past.held → past.version.mme ≡ version.now.mme
             → IfOk result (λ message. message ≡ notice past number ebi) }
+        ensures message { IfOk result (λ message. message ≡ message_for version.now self.now.held number ebi) }
     {
         if !self.held.is_empty() {
             return Ok(None);

@@ -2,8 +2,9 @@
 ghost use Rattle.std.specs.Prelude.{◌≡◌, ◌<◌, ◌≤◌, List, [], ◌∷◌, ◌++◌, MatchBool};
 ghost use Rattle.rate_policer.specs.declared.cost.Cost.{Cost};
 ghost use Rattle.rate_policer.specs.Conforming.{cost_of, conforms};
-ghost use Rattle.rate_policer.specs.Buckets.{StandsFor, rate_of, last_of};
+ghost use Rattle.rate_policer.specs.Buckets.{StandsFor, rate_of, last_of, lets_through, asked};
 ghost use Rattle.packet_steps.specs.Meters.{bucket_of, with_bucket, new_meter, bucket_for, put_bucket};
+ghost use Rattle.packet_steps.specs.Running.{cost_in};
 
 use crate::changing::has_life;
 use bearer_state::{ActiveBearer, Version, is_guaranteed};
@@ -86,6 +87,7 @@ impl Meters {
     ghost use Rattle.packet_steps.specs.Verdicts.{at_moment};
     ghost use Rattle.packet_steps.specs.Meters.{MetersStand, with_begun, learnt_meters};
     ghost use Rattle.packet_steps.specs.Plans.{Tries};
+    ghost use Rattle.packet_steps.specs.Running.{left_for};
 
     /// The meters at a new version.
     pub(crate) fn learnt(&self, before: &Version, after: &Version) -> Meters
@@ -131,9 +133,10 @@ impl Meters {
         octets: u32,
     ) -> Option<Bucket>
         requires { bearer.now.index < 11 }
-        ensures { (past : Past) → MetersStand self.now past → Contains past.version.bearers bearer.now
+        ensures tries { (past : Past) → MetersStand self.now past → Contains past.version.bearers bearer.now
             → moment_of past ≤ at
             → Tries (at_moment past at) bearer.now up octets result }
+        ensures left { result ≡ left_for self.now bearer.now up octets at }
     {
         let mut bucket = self.bucket(bearer, up);
         if ask(&mut bucket, at, octets) {
@@ -157,6 +160,10 @@ fn ask(bucket: &mut Bucket, at: Moment, octets: u32) -> bool
     ensures earlier { (passed : List Cost) → StandsFor bucket.old passed → at < last_of bucket.old
         → result ≡ conforms (rate_of bucket.old) passed (cost_of octets (last_of bucket.old)) }
     ensures stays { at < last_of bucket.old → last_of bucket.new ≡ last_of bucket.old }
+
+    // By the bucket alone.
+    ensures within { result ≡ lets_through bucket.old (cost_in bucket.old octets at) }
+    ensures parts { bucket.new ≡ asked bucket.old (cost_in bucket.old octets at) }
 {
     let last = bucket.last();
     if at < last {

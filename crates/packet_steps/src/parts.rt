@@ -1,13 +1,15 @@
 //! The parts of counters, and counters of parts.
 ghost use Rattle.std.specs.Prelude.{◌≡◌, ◌++◌, drop, length, get_or, slice_set};
-ghost use Rattle.std.specs.Prelude.{IfOk, IfSome, OnOk};
+ghost use Rattle.std.specs.Prelude.{IfOk, IfSome, OnOk, IsTrue};
 ghost use Rattle.std.specs.Option.{is_some};
 ghost use Rattle.rate_policer.specs.Buckets.{full_bucket};
+ghost use Rattle.charging_book.specs.Parts.{are_parts};
 ghost use Rattle.packet_steps.specs.Meters.{own_meter};
 ghost use Rattle.packet_steps.specs.Parts.{ArePartsOf, IsMadeOf, buckets_in, own_buckets};
 ghost use Rattle.packet_steps.specs.Parts.{fit, may_fit, first_fit, own_fit, buckets_fit, were_asked};
 ghost use Rattle.packet_steps.specs.Parts.{is_piece_of, has_bearer, all_have_bearers, pieces_fit};
-ghost use Rattle.packet_steps.specs.Parts.{may_wait, all_may_wait, in_order, waiting_fit, held_fit};
+ghost use Rattle.packet_steps.specs.Rows.{in_order, held_in_order};
+ghost use Rattle.packet_steps.specs.Parts.{may_wait, all_may_wait, waiting_fit, held_fit};
 ghost use Rattle.packet_steps.specs.Parts.{first_meter, no_meters, own_with, PartsRepresentTheSame};
 
 use crate::advancing::last_moment;
@@ -52,7 +54,9 @@ impl Model for CountersParts {
 impl Counters {
     /// The parts under the version that the counters represent.
     pub fn parts(&self, version: &Version) -> Result<CountersParts, NoMemory>
-        ensures { IfOk result (λ parts. ArePartsOf version.now self.now parts) }
+        ensures parts { IfOk result (λ parts. ArePartsOf version.now self.now parts) }
+        ensures counting { IfOk result (λ parts. IsTrue (are_parts parts.pieces)) }
+        ensures ordered { IfOk result (λ parts. IsTrue (held_in_order parts.last parts.held)) }
     {
         let alloc = *self.held.allocator();
         Ok(CountersParts {

@@ -9,6 +9,7 @@ ghost use Rattle.pc_base.specs.declared.effect.Effect.{Effect};
 ghost use Rattle.packet_steps.specs.Past.{Past, moment_of};
 ghost use Rattle.packet_steps.specs.Change.{bearer_of, released, released_to, waits};
 ghost use Rattle.packet_steps.specs.Releases.{Releases};
+ghost use Rattle.packet_steps.specs.Running.{brought_by, brought_with, brought_to};
 
 use crate::changing::bearer_of;
 use crate::messages::gpdu;
@@ -36,9 +37,11 @@ impl Release {
         at: Moment,
         held: &HeldPacket,
     ) -> Result<(), NoMemory>
-        ensures { (base : List Happening) (so_far : Past × List Effect) → Releases self.old base so_far
+        ensures releases { (base : List Happening) (so_far : Past × List Effect) → Releases self.old base so_far
             → so_far.0.version ≡ after.now
             → moment_of so_far.0 ≡ at → OnOk result (Releases self.new base (released so_far held.now)) }
+        ensures brings { OnOk result
+            (brought_by self.new ≡ brought_with after.now.bearers at (brought_by self.old) held.now) }
     {
         let Some(bearer) = active_of(after, held.life) else {
             return self.tell(held, Fate::Gone { life: held.life });
@@ -59,10 +62,12 @@ impl Release {
         peer: Peer,
     ) -> Result<(), NoMemory>
         requires { bearer.now.index < 11 }
-        ensures { (base : List Happening) (so_far : Past × List Effect) → Releases self.old base so_far
+        ensures releases { (base : List Happening) (so_far : Past × List Effect) → Releases self.old base so_far
             → IsVersion so_far.0.version
             → Contains so_far.0.version.bearers bearer.now → bearer.now.life ≡ held.now.life → moment_of so_far.0 ≡ at
             → OnOk result (Releases self.new base (released_to so_far held.now bearer.now (Some peer))) }
+        ensures brings { OnOk result
+            (brought_by self.new ≡ brought_to (brought_by self.old) held.now bearer.now at (Some peer)) }
     {
         let octets = held.packet.octets.as_slice();
         let len = octets.len() as u32;
@@ -108,9 +113,11 @@ pub(crate) fn look_at_all(
     at: Moment,
     held: &[HeldPacket],
 ) -> Result<(), NoMemory>
-    ensures { (base : List Happening) (so_far : Past × List Effect) → Releases release.old base so_far
+    ensures releases { (base : List Happening) (so_far : Past × List Effect) → Releases release.old base so_far
         → so_far.0.version ≡ after.now
         → moment_of so_far.0 ≡ at → OnOk result (Releases release.new base (fold released so_far held.now)) }
+    ensures brings { OnOk result (brought_by release.new
+        ≡ fold (brought_with after.now.bearers at) (brought_by release.old) held.now) }
 {
     for row in held {
         release.look_at(alloc, after, at, row)?;

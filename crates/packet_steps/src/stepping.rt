@@ -1,5 +1,5 @@
 //! What becomes of a packet is done.
-ghost use Rattle.std.specs.Prelude.{◌≡◌, ℕ, ◌<◌, ◌≤◌, ◌^◌, length, Some, OnOk, OnErr};
+ghost use Rattle.std.specs.Prelude.{◌≡◌, ℕ, ◌<◌, ◌≤◌, ◌^◌, length, Some, IfSome, OnOk, OnErr};
 ghost use Rattle.std.specs.List.{Contains};
 ghost use Rattle.pc_base.specs.declared.packet.Packet.{Packet};
 ghost use Rattle.pc_base.specs.declared.packet.Way.TheVariants as way;
@@ -19,6 +19,9 @@ use rate_policer::Bucket;
 
 impl Counters {
     ghost use Rattle.std.specs.Prelude.{[], ◌∷◌, ◌++◌};
+    ghost use Rattle.charging_book.specs.Posted.{GoesFar};
+    ghost use Rattle.packet_steps.specs.Meters.{put_bucket};
+    ghost use Rattle.packet_steps.specs.Running.{charge_of, GoesOn};
 
     /// Does what a plan says of a packet, or nothing where memory runs out.
     #[inline(always)]
@@ -31,10 +34,14 @@ impl Counters {
         octets: &[u8],
     ) -> Result<(), NoMemory>
         requires packet { IsPacket octets.now }
+        requires late { IfSome (last_of self.old) (λ last. last ≤ moment) }
         ensures stands { (past next : Past) (taken : ℕ) (packet : Packet) → StandsFor self.old past taken
             → moment_of past ≤ moment
             → AreFew past.charged → packet ≡ record { number = number; moment = moment; way = way; octets = octets.now }
             → Does plan.now (at_moment past moment) packet next → OnOk result (StandsFor self.new next taken) }
+        ensures goes_on { (packet : Packet)
+            → packet ≡ record { number = number; moment = moment; way = way; octets = octets.now }
+            → OnOk result (GoesOn plan.now packet self.old self.new) }
         ensures moment { OnOk result (last_of self.new ≡ Some moment) }
         ensures unchanged { OnErr result (self.new ≡ self.old) }
     {
@@ -60,8 +67,10 @@ impl Counters {
 
     /// A packet came that changes nothing.
     pub(crate) fn stay(&mut self, moment: Moment)
+        requires { IfSome (last_of self.old) (λ last. last ≤ moment) }
         ensures stands { (past : Past) (taken : ℕ) → StandsFor self.old past taken → moment_of past ≤ moment
             → StandsFor self.new (at_moment past moment) taken }
+        ensures same { self.new ≡ record self.old { last = Some moment } }
         ensures moment { last_of self.new ≡ Some moment }
     {
         self.last = Some(moment);
@@ -75,13 +84,21 @@ impl Counters {
         way: Way,
         octets: &[u8],
     ) -> Result<(), NoMemory>
-        requires { length octets.now < 2 ^ 16 }
+        requires octets { length octets.now < 2 ^ 16 }
+        requires late { IfSome (last_of self.old) (λ last. last ≤ moment) }
         ensures stands { (past : Past) (taken : ℕ) → StandsFor self.old past taken → moment_of past ≤ moment
             → OnOk result (StandsFor self.new (with_held (at_moment past moment)
             (record {
               packet = record { number = number; moment = moment; way = way; octets = octets.now };
               life = life;
             })) taken) }
+        ensures held { OnOk result (self.new ≡ record self.old {
+          held = self.old.held ++ record {
+            packet = record { number = number; moment = moment; way = way; octets = octets.now };
+            life = life;
+          } ∷ [];
+          last = Some moment;
+        }) }
         ensures moment { OnOk result (last_of self.new ≡ Some moment) }
         ensures unchanged { OnErr result (self.new ≡ self.old) }
     {
@@ -106,12 +123,17 @@ impl Counters {
         moment: Moment,
         octets: u32,
     ) -> Result<(), NoMemory>
+        requires { IfSome (last_of self.old) (λ last. last ≤ moment) }
         ensures stands { (past : Past) (taken : ℕ) → StandsFor self.old past taken → moment_of past ≤ moment
             → AreFew past.charged
             → Contains past.version.bearers bearer.now
             → PolicesBehind (at_moment past moment) bearer.now up octets bucket
             → OnOk result (StandsFor self.new
             (with_row (at_moment past moment) (row_for (at_moment past moment) bearer.now up octets)) taken) }
+        ensures meters { OnOk result (self.new.meters ≡ put_bucket self.old.meters bearer.now up bucket) }
+        ensures book { OnOk result
+            (GoesFar self.old.book self.new.book (charge_of bearer.now up octets moment ∷ [])) }
+        ensures held { OnOk result (self.new.held ≡ self.old.held) }
         ensures moment { OnOk result (last_of self.new ≡ Some moment) }
         ensures unchanged { OnErr result (self.new ≡ self.old) }
     {

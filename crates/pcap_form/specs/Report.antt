@@ -1,5 +1,5 @@
 -- What an import wrote, by how it ended.
-use Rattle.std.specs.Prelude.{◌≡◌, ◌≢◌, ℕ, ◌<◌, ◌^◌, List, [], ◌++◌, length, Option, None, Some}
+use Rattle.std.specs.Prelude.{◌≡◌, ◌≢◌, ℕ, ◌<◌, ◌^◌, List, [], ◌++◌, length, Option}
 use Rattle.std.specs.Io.KnownBytes.{Appends}
 use Rattle.pc_outside.specs.WhereTold.{WhereTold}
 use Rattle.pcap_form.specs.Capture.{broken, bad, big, ended, capture_of, input_capture, stop_of}

@@ -9,9 +9,9 @@ use Rattle.charging_book.specs.Rows.{Charged}
 use Rattle.charging_book.specs.declared.records.Why.TheVariants.{Volume}
 use Rattle.report_lines.specs.Ranges.{AreCounters, IsMoment}
 use Rattle.report_lines.specs.Text.{counters_of}
-use Rattle.report_laws.specs.Ranges.{IsOctet}
+use Rattle.demux.specs.Ranges.{IsOctet}
 use Rattle.report_laws.proofs.PacketsIn.{HappeningIn}
-use Rattle.report_laws.proofs.Small.{each_append}
+use Rattle.demux.proofs.Small.{each_append}
 
 pub record PartIn (p : Forwarded) : Type 0 where
   pub octets : p.octets < 2 ^ 16

@@ -19,8 +19,8 @@ use Rattle.lawful_run.specs.Answers.{Answers, AnswersAll}
 use Rattle.lawful_run.specs.LinesTold.{LineTold, lines_told}
 use Rattle.lawful_run.specs.Merging.{Histories, behind, merged}
 use Rattle.lawful_run.specs.Outcomes as made_of
-use Rattle.lawful_run.specs.Report.{EpochReport, entries_of, epoch_entries}
-use Rattle.lawful_run.specs.Run.{AreEpochRuns, IsEpochRun, behind_all, no_events, told_in}
+use Rattle.lawful_run.specs.Report.{EpochReport, Report, entries_of, epoch_entries}
+use Rattle.lawful_run.specs.Run.{AreEpochRuns, IsEpochRun, IsRun, behind_all, no_events, told_in}
 use Rattle.lawful_run.specs.Setup.{Setup}
 use Rattle.lawful_run.specs.Telling.{command_number, counted, reply_told}
 use Rattle.lawful_run.proofs.ChargesTold.{now_events}
@@ -34,24 +34,13 @@ use Rattle.report_lines.specs.declared.entry.Entry.TheVariants as entry
 use Rattle.report_lines.specs.declared.entry.LineEntry.{LineEntry}
 use Rattle.report_lines.specs.declared.entry.LineEntry.TheVariants as line
 use Rattle.report_lines.specs.declared.entry.Refusal.{Refusal}
-use Rattle.report_laws.specs.Ranges.{EntriesAreInRange, IsCommandInRange, IsInRange, IsOctet, IsPacketInRange}
+use Rattle.demux.specs.Ranges.{IsCommandInRange, IsInRange, IsOctet, IsPacketInRange}
 use Rattle.report_laws.specs.Shown.{epoch_shown, report_shown}
 use Rattle.report_laws.proofs.ChargesIn.{RowIn, open_in, rows_in}
 use Rattle.report_laws.proofs.EventsIn.{EventIn, LedIn, MarkIn, PastIn, ReplyIn, commands_most, led_in, new_in}
 use Rattle.report_laws.proofs.Marks.{Mark, epoch_marks, mark_told}
 use Rattle.report_laws.proofs.PacketsIn.{ActiveIn, PacketIn}
-use Rattle.report_laws.proofs.Small.{each_append}
-
--- parts of lists
-taken : {X : Type 0} (P : X → Type 0) (n : ℕ) (xs : List X) → AllByRecursion P xs → AllByRecursion P (take n xs)
-taken P zero xs all = tt
-taken P (suc n) [] all = tt
-taken P (suc n) (x ∷ xs) all = (all.0, taken P n xs all.1)
-
-dropped : {X : Type 0} (P : X → Type 0) (n : ℕ) (xs : List X) → AllByRecursion P xs → AllByRecursion P (drop n xs)
-dropped P zero xs all = all
-dropped P (suc n) [] all = tt
-dropped P (suc n) (x ∷ xs) all = dropped P n xs all.1
+use Rattle.demux.proofs.Small.{dropped, each_append, taken}
 
 mapped : {X Y : Type 0} (P : X → Type 0) (Q : Y → Type 0) (f : X → Y) → ((x : X) → P x → Q (f x)) → (xs : List X)
     → AllByRecursion P xs → AllByRecursion Q (map f xs)
@@ -268,7 +257,7 @@ refused_in n slot of_packet refused few known same =
 line_is : (n : ℕ) (now : Meaning) (told : LineEntry) (lines : List LineEntry) → n < 2 ^ 64 → IsInRange now
     → Answers n now told → ToldIn (told ∷ lines) → IsLineEntry (line_without_place told)
 line_is n (note text) (line.N noted) lines few is same told_in = noted_in n text noted few is same
-line_is n (move slot slice text) (line.N noted) lines few is same told_in = noted_in n text noted few is same
+line_is n (move slot slice text) (line.N noted) lines few is same told_in = noted_in n text noted few is.1 same
 line_is n (command slot c) (line.N noted) lines few is same told_in = absurd same
 line_is n (packet slot p) (line.N noted) lines few is same told_in = absurd same
 line_is n (note text) (line.C answered) lines few is same told_in = absurd same
@@ -456,7 +445,10 @@ lists_from (made ∷ lists) all = (
   lists_from lists (All-tail (All IsInRange) made lists all),
 )
 
-pub entries_in : EntriesAreInRange
+pub entries_in : (setup : Setup) (slots : ℕ) (made : List (List Meaning)) (report : Report)
+    → IsRun setup slots made report → All (All IsInRange) made
+    → length (flat_map (λ (lines : List Meaning). lines) made) + 1 < 2 ^ 40 → slots ≤ 65533
+    → All IsEntry (entries_of (report_shown report))
 unfolding Ready
 entries_in setup slots made report run all few known =
     let each : AllByRecursion (AllByRecursion IsInRange) made = lists_from made all in

@@ -24,12 +24,12 @@ use Rattle.pc_base.specs.declared.effect.Effect.{Effect}
 use Rattle.pc_base.specs.declared.packet.Packet.{Packet}
 use Rattle.pc_base.specs.declared.reply.Reply.{Reply}
 use Rattle.report_lines.specs.Ranges.{IsEffect, IsEffected, IsOctets, IsVerdict}
-use Rattle.report_laws.specs.Ranges.{IsCommandInRange, IsOctet}
+use Rattle.demux.specs.Ranges.{IsCommandInRange, IsOctet}
 use Rattle.report_laws.proofs.Marks.{Mark, marks}
 use Rattle.report_laws.proofs.Octets.{reply_some}
 use Rattle.report_laws.proofs.PacketsIn.{ActiveIn, PacketIn, PacketsIn, judged_in, learnt_in}
 use Rattle.report_laws.proofs.SessionsIn.{BearerIn, PhaseIn, SessionIn, reply_small, session_in}
-use Rattle.report_laws.proofs.Small.{Small, each_append}
+use Rattle.demux.proofs.Small.{Small, each_append}
 
 abbrev pub EventIn : Event → Type 0
 EventIn (event.Command c) = IsCommandInRange c

@@ -6,11 +6,10 @@ mod Fates
 mod HeldTold
 mod Octets
 mod OctetsTold
-mod Small
-mod MessagesSmall
 mod SessionsIn
 mod PacketsIn
 mod EventsIn
 mod ChargesIn
 mod EntriesIn
-mod BookBound
+mod OctetsConfirmed
+mod RunConfirmed

@@ -29,10 +29,10 @@ use Rattle.pc_base.specs.declared.packet.Way.TheVariants.{Up, Down}
 use Rattle.report_lines.specs.Ranges.{IsEffect, IsFate, IsOctets, IsVerdict}
 use Rattle.tft_match.specs.Chosen.{chosen}
 use Rattle.wire_octets.specs.Numbers.{be16_octets, be32_octets}
-use Rattle.report_laws.specs.Ranges.{HasAddress, IsOctet}
-use Rattle.report_laws.proofs.MessagesSmall.{message_small}
+use Rattle.demux.specs.Ranges.{HasAddress, IsOctet}
+use Rattle.demux.proofs.MessagesSmall.{message_small}
 use Rattle.report_laws.proofs.Octets.{gpdu_some, marker_some, notification_some, packet_some}
-use Rattle.report_laws.proofs.Small.{Small, be16_small, be32_small, both, each_append}
+use Rattle.demux.proofs.Small.{Small, be16_small, be32_small, both, each_append}
 
 pub record ActiveIn (bearer : ActiveBearer) : Type 0 where
   pub life : bearer.life < 2 ^ 40

@@ -1,5 +1,5 @@
 -- A session whose commands are in range is in range, and so are the octets of its answers.
-use Rattle.std.proofs.Common.{ℕ, ◌==◌, nat_lt, Bool, true, false, if◌then◌else◌, Option, None, Some, IfSome, List, [], ◌∷◌, map, find, refl, arith}
+use Rattle.std.proofs.Common.{ℕ, ◌==◌, nat_lt, Bool, true, false, if◌then◌else◌, Option, None, Some, IfSome, List, [], ◌∷◌, map, find, arith}
 use Rattle.std.specs.List.{AllByRecursion, cons_option, filter_map}
 use Rattle.std.specs.Option.{option_and_then, option_map, option_or, unwrap_or}
 use Rattle.std.proofs.lemmas.List.Elements.{recursion_from_All}
@@ -28,9 +28,9 @@ use Rattle.gtpv2_msg.specs.Spelling.{spelling}
 use Rattle.pc_base.specs.declared.packet.Peer.{Peer}
 use Rattle.tft_codec.specs.declared.filter.Filter.{Filter}
 use Rattle.tft_codec.specs.Spelling.{spelling as tft_spelling}
-use Rattle.report_laws.specs.Ranges.{HasAddress, IsAskInRange, IsCommandInRange, IsOctet}
-use Rattle.report_laws.proofs.MessagesSmall.{ElementIn, message_small}
-use Rattle.report_laws.proofs.Small.{Small, template_small}
+use Rattle.demux.specs.Ranges.{HasAddress, IsAskInRange, IsCommandInRange, IsOctet}
+use Rattle.demux.proofs.MessagesSmall.{ElementIn, message_small}
+use Rattle.demux.proofs.Small.{Small, template_small}
 
 abbrev pub PhaseIn : Phase → Type 0
 PhaseIn (Asked seq) = Unit {0}
@@ -199,10 +199,10 @@ pub record MessageIn (message : Message) : Type 0 where
 cause_in : (session : SessionState) (command : CommandKind) (code : ℕ) → IsOctet code
     → IfSome (cause_answer session (request_of command) code) MessageIn
 cause_in session (Create seq mme pdn ebi qos enb up down) code is =
-    record { kind = omega arith; each = ((omega arith, (is, refl)), tt) }
-cause_in session (Modify seq mme asks) code is = record { kind = omega arith; each = ((omega arith, (is, refl)), tt) }
-cause_in session (Release seq) code is = record { kind = omega arith; each = ((omega arith, (is, refl)), tt) }
-cause_in session (Delete seq) code is = record { kind = omega arith; each = ((omega arith, (is, refl)), tt) }
+    record { kind = omega arith; each = ((omega arith, (is, tt)), tt) }
+cause_in session (Modify seq mme asks) code is = record { kind = omega arith; each = ((omega arith, (is, tt)), tt) }
+cause_in session (Release seq) code is = record { kind = omega arith; each = ((omega arith, (is, tt)), tt) }
+cause_in session (Delete seq) code is = record { kind = omega arith; each = ((omega arith, (is, tt)), tt) }
 cause_in session command code is = tt
 
 accepted_in : (slot ebi index : ℕ) → IsOctet ebi → ElementIn (accepted slot ebi index)
@@ -210,7 +210,7 @@ accepted_in slot ebi index is = (
   omega arith,
   record {
     ebi = is;
-    cause = (omega arith, refl);
+    cause = (omega arith, tt);
     tft = tt;
     fteids = ((omega arith, omega arith), tt);
     qos = tt;
@@ -238,13 +238,13 @@ asks_in slot bearers (ask ∷ asks) all = by_index (active_index bearers ask.ebi
 written_in : (row : Row) (session : SessionState) (command : CommandKind) → AllByRecursion BearerIn session.bearers
     → IsCommandInRange command → IfSome (written row session command) MessageIn
 written_in pdn_refused session (Create seq mme pdn ebi qos enb up down) all is =
-    record { kind = omega arith; each = ((omega arith, (omega arith, refl)), tt) }
+    record { kind = omega arith; each = ((omega arith, (omega arith, tt)), tt) }
 written_in class_refused session (Create seq mme pdn ebi qos enb up down) all is =
-    record { kind = omega arith; each = ((omega arith, (omega arith, refl)), tt) }
+    record { kind = omega arith; each = ((omega arith, (omega arith, tt)), tt) }
 written_in created session (Create seq mme pdn ebi qos enb up down) all is = record {
   kind = omega arith;
   each = (
-    (omega arith, (pdn_in pdn, refl)),
+    (omega arith, (pdn_in pdn, tt)),
     ((omega arith, omega arith), ((omega arith, tt), (accepted_in session.slot ebi 0 is.0, tt))),
   );
 }
@@ -253,7 +253,7 @@ written_in no_bearer session command all is = cause_in session command CONTEXT_N
 written_in modified session (Modify seq mme asks) all is = record {
   kind = omega arith;
   each = (
-    (omega arith, (omega arith, refl)),
+    (omega arith, (omega arith, tt)),
     asks_in session.slot session.bearers asks (recursion_from_All IsAskInRange asks is),
   );
 }

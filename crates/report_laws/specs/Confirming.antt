@@ -1,27 +1,26 @@
 -- What an audit finds of a report that one thread made.
-use Rattle.std.specs.Prelude.{◌≡◌, ℕ, ◌+◌, ◌<◌, ◌^◌, false, List, ◌∷◌, ◌++◌, length, map, flat_map, All}
+use Rattle.std.specs.Prelude.{◌≡◌, ℕ, ◌+◌, ◌<◌, ◌^◌, false, List, [], ◌∷◌, ◌++◌, length, map, All}
 use Rattle.std.specs.Prelude.{Option, None, bytes_eq}
-use Rattle.demux.specs.Trace.{Meaning}
 use Rattle.report_lines.specs.Text.{entry_text, shown}
 use Rattle.report_lines.specs.declared.entry.Entry.{Entry}
-use Rattle.lawful_run.specs.Report.{Report, entries_of}
+use Rattle.trace_lines.specs.Input.{ended, input_of}
+use Rattle.lawful_run.specs.Report.{Report, entries_of, report_text}
 use Rattle.lawful_run.specs.Setup.{Setup, slices_of, solo}
-use Rattle.lawful_run.specs.Trace.{IsReport, epochs_told}
+use Rattle.lawful_run.specs.Trace.{IsReport}
 use Rattle.audit_run.specs.Findings.{Finds}
 use Rattle.audit_run.specs.Said.{marker, trace_from}
-use Rattle.audit_run.specs.Texts.{Text}
-use Rattle.report_laws.specs.Ranges.{IsInRange}
+use Rattle.audit_run.specs.Texts as texts
+use Rattle.audit_run.specs.Texts.{Text, texts_of}
 
 -- the lines of its text, without places
 abbrev pub lines_of : Report → List Text
 lines_of report = map (λ (told : Entry). entry_text (shown false told)) (entries_of report)
 
--- A trace of fewer than 2^40 lines, none of which is the one that ends it, that mean commands and packets whose numbers
--- are in their ranges and notes that print; and a report of it by one thread.
+-- A trace of fewer than 2^40 lines, none of which is the one that ends it, and a report of it by one thread. The trace
+-- stops at the first of the lines that is a bad one.
 pub record IsOwnReport (trace : List Text) (report : Report) : Type 0 where
   pub unmarked : All (λ (text : Text). bytes_eq text marker ≡ false) trace
-  pub ranges : All (All IsInRange) (epochs_told 64 (trace_from 1 0 trace))
-  pub few : length (flat_map (λ (lines : List Meaning). lines) (epochs_told 64 (trace_from 1 0 trace))) + 1 < 2 ^ 40
+  pub few : length trace + 2 < 2 ^ 40
   pub lawful : IsReport solo (trace_from 1 0 trace) report
 
 -- what an audit is given: the trace, and the report behind it
@@ -37,3 +36,27 @@ OwnReportIsConfirmed = (setup : Setup) (trace : List Text) (report : Report) →
 abbrev pub OwnReportIsNeverRefuted : Type 0
 OwnReportIsNeverRefuted = (setup : Setup) (trace : List Text) (report : Report) (found : Option ℕ)
     → slices_of setup ≡ 64 → IsOwnReport trace report → Finds setup (audited trace report) found → found ≡ None
+
+-- Octets that end with a newline are a whole trace, and this is the text of a report of it by one thread.
+pub record IsOwnText (octets text : List ℕ) : Type 0 where
+  pub front : List ℕ
+  pub whole : octets ≡ front ++ 10 ∷ []
+  pub ends : (input_of octets).stop ≡ ended
+  pub report : Report
+  pub lawful : IsReport solo (input_of octets) report
+  pub written : text ≡ report_text false report
+
+-- the octets that an audit is given
+abbrev pub audited_octets : List ℕ → List ℕ → List ℕ
+audited_octets octets text = octets ++ (marker ++ 10 ∷ text)
+
+-- The same of octets: where an audit reads them whole.
+abbrev pub OwnTextIsConfirmed : Type 0
+OwnTextIsConfirmed = (setup : Setup) (octets text : List ℕ) → slices_of setup ≡ 64 → IsOwnText octets text
+    → (texts_of (audited_octets octets text)).stop ≡ texts.ended
+    → Finds setup (texts_of (audited_octets octets text)).lines None
+
+abbrev pub OwnTextIsNeverRefuted : Type 0
+OwnTextIsNeverRefuted = (setup : Setup) (octets text : List ℕ) (found : Option ℕ) → slices_of setup ≡ 64
+    → IsOwnText octets text → (texts_of (audited_octets octets text)).stop ≡ texts.ended
+    → Finds setup (texts_of (audited_octets octets text)).lines found → found ≡ None

@@ -3,3 +3,4 @@ pub mod Confirming
 pub mod Held
 pub mod Octets
 pub mod Ranges
+pub mod Running

@@ -1,8 +1,10 @@
 //! Laws, each the contract of a function that does nothing.
 ghost use Rattle.report_laws.specs.Confirming.{OwnReportIsConfirmed, OwnReportIsNeverRefuted};
+ghost use Rattle.report_laws.specs.Confirming.{OwnTextIsConfirmed, OwnTextIsNeverRefuted};
 ghost use Rattle.report_laws.specs.Held.{AtMostOneFate, FatesFollow};
 ghost use Rattle.report_laws.specs.Octets.{ToldHaveOctets};
 ghost use Rattle.report_laws.specs.Ranges.{EntriesAreInRange};
+ghost use Rattle.report_laws.specs.Running.{OwnRunIsConfirmed, OwnRunIsNeverRefuted};
 ghost use Rattle.report_laws.specs.Shown.{EntriesAreShown, OneThreadIsLawful, PlacesMayBeLeftOut};
 
 /// A lawful run stays one where its packets tell neither their place nor that they were parked, as in the text of a
@@ -17,11 +19,23 @@ pub fn one_thread_is_lawful_on_slices()
     ensures { OneThreadIsLawful }
 {}
 
-/// An audit finds nothing to refute in a report that one thread made of a trace whose commands, packets and notes are
-/// in their ranges: held against one thread, or against 64 slices with any room and lanes.
+/// An audit finds nothing to refute in a report that one thread made of a trace: held against one thread, or against
+/// 64 slices with any room and lanes.
 pub fn own_report_is_confirmed()
     ensures yes { OwnReportIsConfirmed }
     ensures only { OwnReportIsNeverRefuted }
+
+    // So it is of octets: those of a trace whose lines are all good, and behind `REPORT` the text that one thread
+    // writes.
+    ensures text { OwnTextIsConfirmed }
+    ensures text_only { OwnTextIsNeverRefuted }
+{}
+
+/// What `solo` wrote of a trace with status 0 is confirmed by `audit`, which is given the trace, the line `REPORT` and
+/// that text: where nothing fails to be read or written its status is 0, unless memory runs out, and it is never 9.
+pub fn own_run_is_confirmed()
+    ensures done { OwnRunIsConfirmed }
+    ensures never { OwnRunIsNeverRefuted }
 {}
 
 /// A packet has at most one H entry in a lawful report. A P entry tells that it was held, and the H entry is of a
@@ -36,9 +50,8 @@ pub fn told_have_octets()
     ensures { ToldHaveOctets }
 {}
 
-/// Each entry of a lawful report, without its place, is one that a report can hold: where fewer than 2^40 lines mean
-/// commands and packets whose numbers are in their ranges, and notes that print. So `report_lines::read` reads it again
-/// from its text.
+/// Each entry of a report that an input may have, without its place, is one that a report can hold, whatever the
+/// input's octets say. So `report_lines::read` reads it again from its text.
 pub fn entries_are_in_range()
     ensures { EntriesAreInRange }
 {}

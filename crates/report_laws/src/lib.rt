@@ -6,5 +6,5 @@ mod laws;
 
 pub use laws::{
     entries_are_in_range, held_packets_have_one_fate, one_thread_is_lawful_on_slices,
-    own_report_is_confirmed, places_may_be_left_out, told_have_octets,
+    own_report_is_confirmed, own_run_is_confirmed, places_may_be_left_out, told_have_octets,
 };

@@ -6,7 +6,6 @@ pub mod Loops
 pub mod Rounds
 pub mod Epochs
 pub mod Turned
-pub mod Marked
 pub mod Passed
 pub mod LineMarked
 pub mod Owed

@@ -9,8 +9,8 @@ use Rattle.slice_schedule.specs.ControlTurns.{without, half_turned, control_turn
 use Rattle.slice_schedule.specs.FlowTurns.{flow_turn}
 use Rattle.schedule_run.specs.Owing.{IsQuiet, OnlyMarked, is_in, Ascend, IsOwing, MayOwe, slot_asked, MayOweBy}
 use Rattle.schedule_run.proofs.Edited.{remove_is}
-use Rattle.schedule_run.proofs.Marked.{control_turn_by_keeps, flow_turn_keeps}
-use Rattle.schedule_run.proofs.Passed.{turns_marked, Passes, walked, only_if, controls_pass, flows_pass, drains_pass}
+use Rattle.slice_schedule.proofs.TurnsKept.{control_turn_by_keeps, flow_turn_keeps}
+use Rattle.schedule_run.proofs.Passed.{turns_marked, on_flow_marked, Passes, walked, only_if, controls_pass, flows_pass, drains_pass}
 use Rattle.schedule_run.proofs.LineMarked.{control_back_marked, flow_back_marked, line_marked}
 
 -- lists that ascend
@@ -138,7 +138,7 @@ pub flow_still_owes : (xs : List ℕ) (world : World) (slice : ℕ) (change : Fl
     → IsOwing xs world → IsOwing xs (on_flow world slice change)
 flow_still_owes xs world slice change owing =
     owing_on xs world (on_flow world slice change) owing
-    ((turns_marked (is_in xs) (length world.slots)).flows world slice change owing.only)
+    (on_flow_marked (is_in xs) (length world.slots) world slice change owing.only)
 
 pub half_still_owes : (xs : List ℕ) (rooms : Rooms) (world : World) (s : ℕ) → IsOwing xs world
     → IsOwing xs (half_turned rooms world s)

@@ -10,7 +10,7 @@ use Rattle.slice_schedule.specs.Front.{control_ordered, control_offer_at, contro
 use Rattle.pc_base.specs.declared.packet.Place.TheVariants.{At}
 use Rattle.slice_schedule.proofs.Keeping.{put_each, cond_keeps, times_keeps}
 use Rattle.schedule_run.specs.Owing.{is_owed, IsQuiet, IsWithin, IsMarked, OnlyMarked}
-use Rattle.schedule_run.proofs.Marked.{TurnSteps}
+use Rattle.slice_schedule.proofs.Steps.{TurnSteps}
 
 -- lists
 length_put : {X : Type 0} (fresh : X) (xs : List X) (n : ℕ) (x : X)
@@ -173,7 +173,7 @@ module _ (marked : ℕ → Bool) (least : ℕ) where
   pub turns_marked : TurnSteps (OnlyMarked marked least)
   turns_marked = record {
     controls = λ world slice change only. record { each = only.each; many = only.many };
-    flows = on_flow_marked;
+    flows = λ world slice change fewer. on_flow_marked world slice change;
     works = λ room world s only.
         let slot = slot_at world s in
         still_marked world s (λ slot. (control_work room slot).slot) (quiet_works room slot)
@@ -182,7 +182,7 @@ module _ (marked : ℕ → Bool) (least : ℕ) where
         let slot = slot_at world s in
         let same = learn_still slot in
         still_marked world s learn (quiet_still slot (learn slot) same) (ap (λ (d : Duties). d.flow) same) only;
-    handles = λ slice world s only.
+    handles = λ slice world s may only.
         let slot = slot_at world s in
         still_marked world s (handle (At slice)) (quiet_still slot (handle (At slice) slot) refl) refl only;
   }

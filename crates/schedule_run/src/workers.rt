@@ -116,8 +116,8 @@ fn mark_all(held: &mut Vec<HeldControl>, slot: usize, until: usize)
 }
 
 /// The control worker of a slice: its orders, the halves that it holds, those that it sent home, and the half whose
-/// turn is next. While `once` stands each half is of a slot of its own, at most `last`; while `called` doesn't stand none
-/// is marked.
+/// turn is next. While `once` stands each half is of a slot of its own, at most `last`; while `called` doesn't stand
+/// none is marked.
 #[derive(Drop)]
 pub struct ControlNumbers {
     orders: VecDeque<ControlOrder>,

@@ -3,6 +3,7 @@ pub mod Keeping
 pub mod Fitting
 pub mod Turning
 pub mod Steps
+pub mod TurnsKept
 pub mod Worlds
 pub mod Going
 pub mod Tallying

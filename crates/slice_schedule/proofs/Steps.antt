@@ -57,6 +57,19 @@ follows_leave slice until old is = subst (λ from. Follows from leaving) (sym is
   called = λ yes_is. yes_is;
 })
 
+-- what is kept by each step of a worker's turn
+pub record TurnSteps (W : World → Type 0) : Type 0 where
+  pub controls : (world : World) (slice : ℕ) (change : ControlNow → ControlNow) → W world
+      → W (on_control world slice change)
+  pub flows : (world : World) (slice : ℕ) (change : FlowNow → FlowNow)
+      → ((s : ℕ) → orders_of s (change (flow_at world slice)).orders ≤ orders_of s (flow_at world slice).orders)
+      → W world → W (on_flow world slice change)
+  pub works : (room : ℕ) (world : World) (s : ℕ) → W world
+      → W (on_slot world s (λ slot. (control_work room slot).slot))
+  pub learns : (world : World) (s : ℕ) → W world → W (on_slot world s learn)
+  pub handles : (slice : ℕ) (world : World) (s : ℕ) → may_handle (slot_at world s) ≡ true → W world
+      → W (on_slot world s (handle (At slice)))
+
 -- what is kept by each step
 pub record Steps (W : World → Type 0) : Type 0 where
   pub controls : (world : World) (slice : ℕ) (change : ControlNow → ControlNow) → W world

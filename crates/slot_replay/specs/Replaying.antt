@@ -1,5 +1,5 @@
 -- A subscriber that replays events of its slot.
-use Rattle.std.specs.Prelude.{◌≡◌, ℕ, ◌+◌, ◌≤◌, ◌<◌, ◌^◌, List, [], ◌∷◌, ◌++◌, All, length, map, flat_map, unwrap_or}
+use Rattle.std.specs.Prelude.{◌≡◌, ℕ, ◌+◌, ◌≤◌, List, [], ◌∷◌, ◌++◌, All, length, map, flat_map, unwrap_or}
 use Rattle.pc_base.specs.declared.packet.Place.{Place}
 use Rattle.pc_base.specs.declared.packet.Verdict.{Verdict}
 use Rattle.pc_base.specs.declared.reply.Reply.{Reply}
@@ -8,7 +8,7 @@ use Rattle.report_lines.specs.Records.{Effected}
 use Rattle.report_lines.specs.declared.entry.ChargeEntry.{ChargeEntry}
 use Rattle.report_lines.specs.declared.entry.ChargeEntry.TheVariants.{R}
 use Rattle.packet_steps.specs.Lent.{verdict_of}
-use Rattle.gate_model.specs.Events.{commands_of, packets_of}
+use Rattle.gate_model.specs.Events.{FewEvents, commands_of, packets_of}
 use Rattle.gate_model.specs.SlotPast.{records_after}
 use Rattle.gate_model.specs.declared.event.Event.{Event}
 use Rattle.subscriber.specs.Standing.{SubscriberState, StandsFor, last_of, Represents}
@@ -115,7 +115,7 @@ pub record CanReplay (subscriber : SubscriberState) (more : ℕ) : Type 0 where
   pub slot : ℕ
   pub before : List Event
   pub represents : Represents subscriber slot before
-  pub few : length before + more < 2 ^ 40
+  pub few : FewEvents (length before + more)
 
 -- what is told of packets is as it was
 abbrev pub KeepsPackets : Replayed → Replayed → Type 0

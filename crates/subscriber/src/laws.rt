@@ -3,6 +3,7 @@ ghost use Rattle.gate_model.specs.Versions.{SessionsAreOfCommands, VersionsAreOf
 ghost use Rattle.gate_model.specs.Versions.{CommandsAreLearnt, PacketsAreJudged, SessionsKeepTheirSlot};
 ghost use Rattle.gate_model.specs.Few.{FewEventsAreFew, FewCommandsFollow};
 ghost use Rattle.subscriber.specs.Standing.{FewEventsLeaveRoom};
+ghost use Rattle.subscriber.specs.Fitting.{RepresentedPartsFit};
 
 use gate_model::{
     each_version_follows, events_bound_counts, few_events_are_few, sessions_are_of_commands,
@@ -30,4 +31,11 @@ pub fn few_events_leave_room()
     ensures { FewEventsLeaveRoom }
 {
     events_bound_counts();
+}
+
+/// The parts of a subscriber that represents events fit its version: counters are made of them again.
+pub fn represented_parts_fit()
+    ensures { RepresentedPartsFit }
+{
+    few_events_are_few();
 }

@@ -8,6 +8,6 @@ mod laws;
 mod subscriber;
 
 pub use handled::Handled;
-pub use laws::few_events_leave_room;
+pub use laws::{few_events_leave_room, represented_parts_fit};
 pub use std::alloc::AllocError as NoMemory;
 pub use subscriber::Subscriber;

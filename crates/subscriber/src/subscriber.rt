@@ -48,7 +48,10 @@ impl Subscriber {
     ghost use Rattle.gate_model.specs.declared.event.Event.TheVariants as event;
     ghost use Rattle.gate_model.specs.SlotPast.{reply_after, effects_after, verdict_after, records_after};
     ghost use Rattle.gate_model.specs.SlotPast.{opens_after, version_after};
+    ghost use Rattle.bearer_state.specs.Version.{version_of};
     ghost use Rattle.packet_steps.specs.Lent.{verdict_of};
+    ghost use Rattle.packet_steps.specs.Plans.{verdict_by};
+    ghost use Rattle.packet_steps.specs.Running.{planned, GoesOn, brought, Advances};
     ghost use Rattle.control_steps.specs.Table.{controlled};
     ghost use Rattle.subscriber.specs.Standing.{StandsFor, StandsForPackets, HasRoom, commands_met};
     ghost use Rattle.subscriber.specs.Standing.{last_of, packet_of};
@@ -93,6 +96,15 @@ impl Subscriber {
         ensures counted { OnOk result ((commands_met self.new ≡ commands_met self.old + 1)
             × (self.new.packets ≡ self.old.packets)) }
 
+        // The same by the subscriber alone, also of one whose counters were made of parts.
+        ensures answered { IfOk result (λ told. told.0 ≡ (controlled self.old.session command.now).1) }
+        ensures versioned { OnOk result
+            (self.new.version ≡ version_of self.new.session (commands_met self.old + 1)) }
+        ensures brings { OnOk result
+            (IfOk result (λ told. told.1 ≡ (brought self.old.version self.new.version self.old.counters).effects)) }
+        ensures advances { OnOk result
+            (Advances self.old.version self.new.version self.old.counters self.new.counters) }
+
         // Where memory ran out: all but the session is as before, and that has done the command or not.
         ensures kept { OnErr result (self.new ≡ record self.old { session = self.new.session }) }
         ensures session { OnErr result ((self.new.session ≡ self.old.session)
@@ -122,6 +134,12 @@ impl Subscriber {
             → IfOk result (λ verdict. verdict ≡ verdict_after slot events packet.now) }
         ensures stands { (slot : ℕ) (events : List Event) (taken : ℕ) → StandsFor self.old slot events taken
             → OnOk result (StandsFor self.new slot (events ++ event.Packet packet.now ∷ []) taken) }
+
+        // The same by the subscriber alone, also of one whose counters were made of parts.
+        ensures planned { IfOk result (λ verdict. verdict
+            ≡ verdict_by (planned self.old.version self.old.counters packet.now) packet.now.octets) }
+        ensures goes_on { OnOk result (GoesOn (planned self.old.version self.old.counters packet.now)
+            packet.now self.old.counters self.new.counters) }
         ensures last { OnOk result (last_of self.new ≡ Some packet.now.moment) }
         ensures counted { OnOk result (self.new ≡ record self.old {
           counters = self.new.counters;
@@ -154,6 +172,13 @@ impl Subscriber {
         ensures stands { (slot : ℕ) (events : List Event) (taken : ℕ) → StandsFor self.old slot events taken
             → OnOk result (StandsFor self.new slot
             (events ++ event.Packet (packet_of self.old.packets moment way ip.now) ∷ []) taken) }
+
+        // The same by the subscriber alone, also of one whose counters were made of parts.
+        ensures planned { IfOk result (λ handled. verdict_of handled.judged ≡ verdict_by
+            (planned self.old.version self.old.counters (packet_of self.old.packets moment way ip.now)) ip.now) }
+        ensures goes_on { OnOk result (GoesOn
+            (planned self.old.version self.old.counters (packet_of self.old.packets moment way ip.now))
+            (packet_of self.old.packets moment way ip.now) self.old.counters self.new.counters) }
         ensures last { OnOk result (last_of self.new ≡ Some moment) }
         ensures counted { OnOk result (self.new ≡ record self.old {
           counters = self.new.counters;
@@ -189,22 +214,27 @@ impl Subscriber {
             → last_of self.new ≡ last_of self.old }
         ensures destination { self.new.destination ≡ self.old.destination }
         ensures same { self.new ≡ record self.old { counters = self.new.counters } }
+        ensures closed { result.items ≡ self.old.counters.book.rows }
+        ensures left { self.new.counters
+            ≡ record self.old.counters { book = record self.old.counters.book { rows = [] } } }
     {
         self.counters.take_closed()
     }
 
     /// The open counters of the subscriber's bearers.
     pub fn still_open(&self) -> &[Open]
-        ensures { (slot : ℕ) (events : List Event) (taken : ℕ) → StandsFor self.now slot events taken
+        ensures after { (slot : ℕ) (events : List Event) (taken : ℕ) → StandsFor self.now slot events taken
             → result.now ≡ opens_after slot events }
+        ensures own { result.now ≡ self.now.counters.book.opens }
     {
         self.counters.book().still_open()
     }
 
     /// The bearers that its packets go by, by index.
     pub fn bearers(&self) -> &[ActiveBearer]
-        ensures { (slot : ℕ) (events : List Event) (taken : ℕ) → StandsFor self.now slot events taken
+        ensures after { (slot : ℕ) (events : List Event) (taken : ℕ) → StandsFor self.now slot events taken
             → result.now ≡ (version_after slot events).bearers }
+        ensures own { result.now ≡ self.now.version.bearers }
     {
         self.version.bearers()
     }
@@ -224,7 +254,9 @@ impl Subscriber {
 
     /// The subscriber's slot.
     pub fn slot(&self) -> Slot
-        ensures { (slot : ℕ) (events : List Event) (taken : ℕ) → StandsFor self.now slot events taken → result ≡ slot }
+        ensures after { (slot : ℕ) (events : List Event) (taken : ℕ) → StandsFor self.now slot events taken
+            → result ≡ slot }
+        ensures own { result ≡ self.now.session.slot }
     {
         known_pasts();
         self.session.slot

@@ -18,7 +18,7 @@ ends_line octet = octet == newline
 differs : (octet : ℕ) → octet ≢ newline → ends_line octet ≡ false
 differs octet other = grind (arith, nat_tests)
 
-all_differ : (octets : List ℕ) → NoNewline octets → All (λ octet. ends_line octet ≡ false) octets
+pub all_differ : (octets : List ℕ) → NoNewline octets → All (λ octet. ends_line octet ≡ false) octets
 all_differ octets no_newline k d inside = differs (get_or octets k d) (no_newline k d inside)
 
 -- one whole line in front of further pieces

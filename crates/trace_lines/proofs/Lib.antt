@@ -8,3 +8,4 @@ pub mod EpochLemmas
 pub mod InputLemmas
 pub mod AloneLemmas
 pub mod WriteLemmas
+pub mod InputRanges

@@ -1,6 +1,7 @@
 //! A text and the lines that it means; the runs of lines that epochs are.
-ghost use Rattle.std.specs.Prelude.{◌≡◌, ℕ, ◌≤◌, ◌<◌, ◌^◌, Ok, List};
+ghost use Rattle.std.specs.Prelude.{◌≡◌, ℕ, ◌≤◌, ◌<◌, ◌^◌, All, Ok, List};
 ghost use Rattle.std.specs.Result.{result_err};
+ghost use Rattle.trace_lines.specs.Input.{input_of};
 ghost use Rattle.trace_lines.specs.Line.{Line, IsLine};
 ghost use Rattle.trace_lines.specs.Text.{Means, line_text};
 ghost use Rattle.trace_lines.specs.Meaning.{line_meaning, not_before};
@@ -23,6 +24,11 @@ pub fn lines_mean_their_texts()
     // What isn't read is refused for the first fault.
     ensures fault { (least number : ℕ) (text : List ℕ)
         → result_err (line_meaning least number text) ≡ first_fault least text }
+{}
+
+/// The lines of an input are lines of a trace, each number in its range.
+pub fn inputs_have_lines()
+    ensures { (octets : List ℕ) → All IsLine (input_of octets).lines }
 {}
 
 /// Epochs are the lines in their order, cut just behind each line that ends one.

@@ -33,7 +33,7 @@ mod writing;
 
 pub use bad::LineBad;
 pub use epoch::ends_epoch;
-pub use laws::{epochs_are_runs, lines_mean_alone, lines_mean_their_texts};
+pub use laws::{epochs_are_runs, inputs_have_lines, lines_mean_alone, lines_mean_their_texts};
 pub use line::{LineKind, TraceLine};
 pub use reading::{read_line, read_line_in};
 pub use writing::{push_message, push_text, text};

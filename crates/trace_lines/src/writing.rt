@@ -1,5 +1,5 @@
 //! The text of a line.
-ghost use Rattle.std.specs.Prelude.{◌≡◌, ◌≤◌, ◌++◌, ◌∷◌, [], length, decimal, IfOk, OnOk, OnErr};
+ghost use Rattle.std.specs.Prelude.{◌≡◌, ◌≤◌, ◌++◌, ◌∷◌, [], length, take, decimal, IfOk, OnOk, OnErr};
 ghost use Rattle.hex.specs.Hex.{encode_lower};
 ghost use Rattle.text_fields.specs.Fields.{behind, joined};
 ghost use Rattle.trace_lines.specs.Text.{arguments, kind_word, line_text};
@@ -18,9 +18,25 @@ pub fn text(alloc: Global, line: &TraceLine) -> Result<Octets, NoMemory>
     Ok(Octets::of(out.into_octets()))
 }
 
-/// Appends the text of the line.
+/// Appends the text of the line. Where memory runs out, nothing is.
 pub fn push_text(out: &mut Text, line: &TraceLine) -> Result<(), NoMemory>
-    ensures { OnOk result (out.new ≡ out.old ++ line_text line.now) }
+    ensures appended { OnOk result (out.new ≡ out.old ++ line_text line.now) }
+    ensures kept { OnErr result (out.new ≡ out.old) }
+{
+    let start = out.as_slice().len();
+    match push_fields(out, line) {
+        Ok(()) => Ok(()),
+        Err(none) => {
+            out.truncate(start);
+            Err(none)
+        }
+    }
+}
+
+// The same, but that some of the text stands behind what was there where memory runs out.
+fn push_fields(out: &mut Text, line: &TraceLine) -> Result<(), NoMemory>
+    ensures appended { OnOk result (out.new ≡ out.old ++ line_text line.now) }
+    ensures before { OnErr result (take (length out.old) out.new ≡ out.old) }
 {
     let mut buffer = itoa::Buffer::new();
     out.extend_from_slice(buffer.format(line.moment.0).as_bytes())?;
@@ -66,7 +82,8 @@ fn kind_word(kind: &LineKind) -> &'static str
 }
 
 fn push_arguments(out: &mut Text, kind: &LineKind) -> Result<(), NoMemory>
-    ensures { OnOk result (out.new ≡ out.old ++ behind (arguments kind.now)) }
+    ensures appended { OnOk result (out.new ≡ out.old ++ behind (arguments kind.now)) }
+    ensures before { OnErr result (take (length out.old) out.new ≡ out.old) }
 {
     match kind {
         LineKind::S11(octets) | LineKind::S1u(octets) | LineKind::Sgi(octets) => {

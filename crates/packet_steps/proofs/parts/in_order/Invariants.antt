@@ -1,5 +1,5 @@
 use Rattle.std.proofs.Common.{◌≡◌, length}
-use Rattle.packet_steps.specs.Parts.{in_order}
+use Rattle.packet_steps.specs.Rows.{in_order}
 use Rattle.packet_steps.proofs.parts.in_order.Given as goal
 
 -- what is left decides

@@ -15,7 +15,7 @@ returns-clause-plays c = λ slot before now plays.
     on_ok c.note_effects.result (λ told.
     plays_command c.args.subscriber.now c.command.new.self c.args.replayed.now _ slot c.slot-slot.result
     c.commands-number.result before now c.args.command.now c.in_ok-reply.reply c.in_ok-reply.effects plays
-    c.commands-number.ensures (c.slot-slot.ensures slot events taken plays.stands)
+    c.commands-number.ensures (c.slot-slot.ensures.after slot events taken plays.stands)
     (c.in_ok-reply.ensures.reply slot events taken plays.stands)
     (c.in_ok-reply.ensures.effects slot events taken plays.stands)
     (c.in_ok-reply.ensures.stands slot events taken plays.stands) c.in_ok-push_back.ensures.items refl told)

@@ -7,9 +7,9 @@ use Rattle.trace_run.proofs.opens.push_subscriber.Goals as goal
 
 pub returns : goal.returns
 returns c = λ places slot events taken stands.
-    let own = c.slot-slot.ensures slot events taken stands in
-    let counted = c.still_open-counted.ensures slot events taken stands in
-    let bearers = c.bearers.ensures slot events taken stands in
+    let own = c.slot-slot.ensures.after slot events taken stands in
+    let counted = c.still_open-counted.ensures.after slot events taken stands in
+    let bearers = c.bearers.ensures.after slot events taken stands in
     on_ok c.push_lives.result
     (λ told. told ∙ (λ i. c.args.report.now ++ charges_text places
     (flat_map (λ (b : ActiveBearer). open_for (own i) (counted i) b.life) (bearers i)))

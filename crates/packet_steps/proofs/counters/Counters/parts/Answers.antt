@@ -4,8 +4,8 @@ use Rattle.packet_steps.specs.Standing.{CountersState}
 use Rattle.packet_steps.specs.Parts.{buckets_in}
 use Rattle.packet_steps.proofs.counters.Counters.parts.Goals as goal
 
-pub returns : goal.returns
-returns c = record {
+pub returns-clause-parts : goal.returns-clause-parts
+returns-clause-parts c = record {
   last = ap (λ (s : CountersState). s.last) c.self.view_is;
   buckets = c.in_ok-buckets.ensures ∙ ap (λ bs. buckets_in bs c.self.inside.meters) c.bearers.ensures.value
       ∙ ap (λ (s : CountersState). buckets_in c.args.version.now.bearers s.meters) c.self.view_is;

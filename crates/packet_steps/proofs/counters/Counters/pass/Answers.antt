@@ -1,7 +1,12 @@
-use Rattle.std.proofs.Common.{sym, ◌∙◌, ap, subst, refl}
+use Rattle.std.proofs.Common.{◌≤◌, IfSome, [], ◌∷◌, sym, ◌∙◌, ap, subst, refl}
 use Rattle.charging_book.specs.Accounts as book
 use Rattle.packet_steps.specs.Meters.{put_bucket}
+use Rattle.charging_book.specs.Posted.{GoesFar}
+use Rattle.packet_steps.specs.Running.{charge_of}
 use Rattle.packet_steps.proofs.StandingLemmas.{may_charge, passes_stand}
+use Rattle.packet_steps.specs.Standing.{CountersState}
+use Rattle.packet_steps.proofs.OrderLemmas.{held_by}
+use Rattle.packet_steps.proofs.RunningLemmas.{goes_once}
 use Rattle.packet_steps.proofs.counters.Counters.pass.Goals as goal
 
 pub returns-clause-stands : goal.returns-clause-stands
@@ -16,3 +21,14 @@ returns-clause-stands c = λ past taken stands late few there behind.
     (c.in_ok-post_one.ensures.stands past.charged taken charges
     (may_charge old past taken c.args.moment c.args.octets bearer c.args.up stands there few))
     (ap (λ counters. counters.held) c.self.view_is) refl
+
+pub returns-clause-book : goal.returns-clause-book
+returns-clause-book c =
+    let now = charge_of c.args.bearer.now c.args.up c.args.octets c.args.moment in
+    subst (λ b. GoesFar b c.post_one.new.self (now ∷ [])) (ap (λ counters. counters.book) c.self.view_is)
+    (goes_once _ c.post_one.new.self now c.in_ok-post_one.ensures.pieces)
+
+pub invariant_of-self-2 : goal.invariant_of-self-2
+invariant_of-self-2 c = held_by c.self.inside.last c.args.moment c.self.inside.held.items
+    (subst (λ (s : CountersState). IfSome s.last (λ last. last ≤ c.args.moment)) (sym c.self.view_is) c.requires)
+    c.self.invariant

@@ -7,17 +7,39 @@ use Rattle.packet_steps.specs.Rows.{HeldRow}
 use Rattle.packet_steps.specs.Messages.{gpdu}
 use Rattle.packet_steps.proofs.ResultLemmas.{on_ok}
 use Rattle.packet_steps.proofs.ReleaseLemmas.{passed_here}
+use Rattle.packet_steps.proofs.RunningLemmas.{brought_yes}
 use Rattle.packet_steps.proofs.releasing.Release.release.Goals as goal
 
-pub returns : goal.returns
-returns c = λ base so_far known ranges there same now.
+pub returns-clause-releases : goal.returns-clause-releases
+returns-clause-releases c = λ base so_far known ranges there same now.
     let old = c.args.self.now in
     let held = c.args.held.now in
     let octets = c.as_slice-octets.result.now in
     let own = c.as_slice-octets.ensures ∙ ap (λ (h : HeldRow). h.packet.octets) c.held.view_is in
     on_ok c.tell-2.result (λ effects.
     passed_here old c.tell-2.new.self base so_far held c.args.bearer.now c.args.peer c.in-Some.bucket c.args.at octets own known ranges there now
-    (c.in-Some.ensures so_far.0 known.meters there (omega (arith, now)))
+    (c.in-Some.ensures.tries so_far.0 known.meters there (omega (arith, now)))
+    (c.tell-2.ensures.meters ∙ c.put.ensures)
+    (c.tell-2.ensures.postings
+    ∙ pushed (Packet c.args.bearer.now.life false
+    (length octets) c.args.at ∷ []) refl c.in_ok-push.was c.push.ensures.items)
+    (effects
+    ∙ ap (λ (text : List ℕ). old.effects.items
+    ++ effect.Fate held.packet.number (fate.Down c.held.inside.life c.args.peer.addr text) ∷ []) c.in_ok-gpdu.ensures
+    ∙ ap (λ life. old.effects.items
+    ++ effect.Fate held.packet.number (fate.Down life c.args.peer.addr (gpdu c.args.peer octets)) ∷ [])
+    (ap (λ (h : HeldRow). h.life) c.held.view_is)))
+    c.tell-2.ensures.effects
+
+pub returns-clause-brings : goal.returns-clause-brings
+returns-clause-brings c =
+    let old = c.args.self.now in
+    let held = c.args.held.now in
+    let octets = c.as_slice-octets.result.now in
+    let own = c.as_slice-octets.ensures ∙ ap (λ (h : HeldRow). h.packet.octets) c.held.view_is in
+    on_ok c.tell-2.result (λ effects.
+    brought_yes old c.tell-2.new.self held c.args.bearer.now c.args.peer c.in-Some.bucket c.args.at octets own
+    c.in-Some.ensures.left
     (c.tell-2.ensures.meters ∙ c.put.ensures)
     (c.tell-2.ensures.postings
     ∙ pushed (Packet c.args.bearer.now.life false

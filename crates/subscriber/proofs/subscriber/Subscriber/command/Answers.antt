@@ -1,10 +1,11 @@
-use Rattle.std.proofs.Common.{◌≡◌, ◌+◌, ap, ◌∙◌, inl, inr, arith}
+use Rattle.std.proofs.Common.{◌≡◌, ◌+◌, ap, ◌∙◌, subst, arith}
 use Rattle.bearer_state.specs.Version.{VersionState, version_of}
 use Rattle.control_steps.specs.Table.{controlled}
 use Rattle.packet_steps.specs.Change.{learnt}
 use Rattle.gate_model.specs.SlotPast.{past_of}
 use Rattle.subscriber.specs.Standing.{SubscriberState}
-use Rattle.subscriber.proofs.StandingLemmas.{learns, command_stands, still_stands}
+use Rattle.packet_steps.specs.Running.{brought, Advances}
+use Rattle.subscriber.proofs.StandingLemmas.{learns, command_stands}
 use Rattle.subscriber.proofs.subscriber.Subscriber.command.Goals as goal
 
 pub version-requires : goal.version-requires
@@ -55,3 +56,21 @@ returns-clause-counted c =
     c.in_ok-after.ensures ∙ ap (λ (v : VersionState). version_of c.step.new.session (v.number + 1)) c.before-2.view_is
     ∙ ap (λ (s : SubscriberState). version_of c.step.new.session (s.version.number + 1)) c.self.view_is in
     (ap (λ (v : VersionState). v.number) versioned, ap (λ (s : SubscriberState). s.packets) c.self.view_is)
+
+pub returns-clause-answered : goal.returns-clause-answered
+returns-clause-answered c = c.in_ok-reply.ensures.reply
+    ∙ ap (λ (s : SubscriberState). (controlled s.session c.args.command.now).1) c.self.view_is
+
+pub returns-clause-versioned : goal.returns-clause-versioned
+returns-clause-versioned c =
+    c.in_ok-after.ensures ∙ ap (λ (v : VersionState). version_of c.step.new.session (v.number + 1)) c.before-2.view_is
+    ∙ ap (λ (s : SubscriberState). version_of c.step.new.session (s.version.number + 1)) c.self.view_is
+
+pub returns-clause-brings : goal.returns-clause-brings
+returns-clause-brings c = c.in_ok-effects.ensures.brings
+    ∙ ap (λ (s : SubscriberState). (brought s.version c.in_ok-after.after s.counters).effects) c.self.view_is
+
+pub returns-clause-advances : goal.returns-clause-advances
+returns-clause-advances c =
+    subst (λ (s : SubscriberState). Advances s.version c.in_ok-after.after s.counters c.advance.new.counters)
+    c.self.view_is c.in_ok-effects.ensures.goes_on

@@ -4,6 +4,8 @@ use Rattle.packet_steps.specs.Standing as counters
 use Rattle.gate_model.specs.declared.event.Event.{Event}
 use Rattle.gate_model.specs.SlotPast.{past_of}
 use Rattle.subscriber.specs.Standing.{SubscriberState, StandsFor, packet_of}
+use Rattle.packet_steps.specs.Plans.{verdict_by}
+use Rattle.packet_steps.specs.Running.{planned, GoesOn}
 use Rattle.subscriber.proofs.CountLemmas.{events_are_few}
 use Rattle.subscriber.proofs.StandingLemmas.{packet_stands}
 use Rattle.subscriber.proofs.subscriber.Subscriber.judge.Goals as goal
@@ -53,3 +55,13 @@ returns-in-Ok-clause-stands c = λ slot events taken stands.
     (ap (λ (s : SubscriberState). s.packets + 1) c.self.view_is)
     (c.in-Ok.ensures.stands (past_of slot events).packets taken (judged_packet c) is.stood is.before is.few
     (numbered c))
+
+pub returns-in-Ok-clause-planned : goal.returns-in-Ok-clause-planned
+returns-in-Ok-clause-planned c = c.in-Ok.ensures.planned (judged_packet c) (numbered c)
+    ∙ ap (λ (s : SubscriberState). verdict_by (planned s.version s.counters (judged_packet c)) c.args.ip.now)
+    c.self.view_is
+
+pub returns-in-Ok-clause-goes_on : goal.returns-in-Ok-clause-goes_on
+returns-in-Ok-clause-goes_on c = subst (λ (s : SubscriberState).
+    GoesOn (planned s.version s.counters (judged_packet c)) (judged_packet c) s.counters c.judge.new.counters)
+    c.self.view_is (c.in-Ok.ensures.goes_on (judged_packet c) (numbered c))

@@ -3,6 +3,8 @@ use Rattle.packet_steps.specs.Standing as counters
 use Rattle.gate_model.specs.declared.event.Event.{Event}
 use Rattle.gate_model.specs.SlotPast.{past_of}
 use Rattle.subscriber.specs.Standing.{SubscriberState, StandsFor}
+use Rattle.packet_steps.specs.Plans.{verdict_by}
+use Rattle.packet_steps.specs.Running.{planned, GoesOn}
 use Rattle.subscriber.proofs.CountLemmas.{events_are_few}
 use Rattle.subscriber.proofs.StandingLemmas.{packet_stands}
 use Rattle.subscriber.proofs.subscriber.Subscriber.packet.Goals as goal
@@ -42,3 +44,13 @@ returns-clause-stands c = λ slot events taken stands.
     (ap (λ (s : SubscriberState). s.session) c.self.view_is) (ap (λ (s : SubscriberState). s.version) c.self.view_is)
     (ap (λ (s : SubscriberState). s.packets + 1) c.self.view_is)
     (c.in_ok-verdict.ensures.stands (past_of slot events).packets taken is.stood is.before is.few)
+
+pub returns-clause-planned : goal.returns-clause-planned
+returns-clause-planned c = c.in_ok-verdict.ensures.planned
+    ∙ ap (λ (s : SubscriberState). verdict_by (planned s.version s.counters c.args.packet.now) c.args.packet.now.octets)
+    c.self.view_is
+
+pub returns-clause-goes_on : goal.returns-clause-goes_on
+returns-clause-goes_on c = subst (λ (s : SubscriberState).
+    GoesOn (planned s.version s.counters c.args.packet.now) c.args.packet.now s.counters c.handle.new.counters)
+    c.self.view_is c.in_ok-verdict.ensures.goes_on

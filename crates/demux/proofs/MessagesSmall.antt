@@ -13,12 +13,12 @@ use Rattle.gtpv2_ie.specs.declared.value.IeValue.TheVariants as values
 use Rattle.gtpv2_msg.specs.Message.{Message}
 use Rattle.gtpv2_msg.specs.Spelling.{header_octets, spelling}
 use Rattle.wire_octets.specs.Numbers.{be16_octets, be24_octets, be32_octets, be40_octets}
-use Rattle.report_laws.specs.Ranges.{IsOctet}
-use Rattle.report_laws.proofs.Small.{Small, be16_small, be24_small, be32_small, be40_small, both, flat_small}
+use Rattle.demux.specs.Ranges.{IsOctet}
+use Rattle.demux.proofs.Small.{Small, be16_small, be24_small, be32_small, be40_small, both, flat_small}
 
 -- the parts of an element that one octet holds
 abbrev pub CauseIn : CauseIe → Type 0
-CauseIn cause = IsOctet cause.cause × (cause.offending ≡ None)
+CauseIn cause = IsOctet cause.cause × IfSome cause.offending (λ of. IsOctet of.0 × IsOctet of.1)
 
 abbrev pub FteidIn : Fteid → Type 0
 FteidIn fteid = fteid.interface < 64
@@ -52,11 +52,12 @@ abbrev pub ElementIn : Element → Type 0
 ElementIn now = IsOctet now.instance × ValueIn now.value
 
 cause_small : (cause : CauseIe) → CauseIn cause → Small (ie.cause_octets cause)
-cause_small cause is = (is.0, (omega arith, none_offends cause.offending is.1))
+cause_small cause is = (is.0, (omega arith, by_element cause.offending is.1))
   where
-    none_offends : (offending : Option (ℕ × ℕ)) → offending ≡ None → Small (ie.offending_octets offending)
-    none_offends None is = tt
-    none_offends (Some offending) is = cc
+    by_element : (offending : Option (ℕ × ℕ)) → IfSome offending (λ of. IsOctet of.0 × IsOctet of.1)
+        → Small (ie.offending_octets offending)
+    by_element None is = tt
+    by_element (Some offending) is = (is.0, (omega arith, (omega arith, (is.1, tt))))
 
 fteid_small : (fteid : Fteid) → FteidIn fteid → Small (ie.fteid_octets fteid)
 fteid_small fteid is = (

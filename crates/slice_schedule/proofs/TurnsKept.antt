@@ -1,21 +1,22 @@
--- What turns keep, where halves may do anything that leaves a slot's standings and queue.
-use Rattle.std.proofs.Common.{◌≡◌, ℕ, zero, suc, ◌%◌, ◌/◌, ◌==◌, nat_lt, Option, Some, None, List, [], ◌∷◌, ◌++◌, length, get_or, cond, refl}
-use Rattle.slice_schedule.specs.Halves.{control_work, learn, may_handle, handle}
-use Rattle.slice_schedule.specs.World.{World, Rooms, ControlOrder, ControlNow, FlowNow, FlowOrder, arrive, item, leave, home_room, has_room, slot_at, on_slot, control_at, on_control, flow_at, on_flow, cursor_next}
+-- Whatever a worker's turn does, what each of its steps keeps stays.
+use Rattle.std.proofs.Common.{◌≡◌, ℕ, zero, suc, ◌≤◌, ◌%◌, ◌/◌, ◌==◌, nat_lt, Option, Some, None, List, [], ◌∷◌, ◌++◌, map, length, get_or, cond, refl, ap, arith}
+use Rattle.std.proofs.lemmas.List.Sums.{sum_by-append}
+use Rattle.slice_schedule.specs.Halves.{learn, may_handle, handle}
+use Rattle.slice_schedule.specs.World.{World, Rooms, ControlOrder, FlowOrder, arrive, item, leave, home_room, has_room, slot_at, on_slot, control_at, on_control, flow_at, on_flow, cursor_next}
 use Rattle.slice_schedule.specs.ControlTurns.{place_done, sent_home, slot_held, half_turned, has_worked, next_place, cursor_at, work_round, work_all, go_or_work, control_turn_by, control_turn, behind_order}
 use Rattle.slice_schedule.specs.FlowTurns.{orders_taken, Going, more, round, over, Doing, doing, go_home, left, handled, obeyed, next_order, order_step_at, order_step, take_orders, learn_next, turn_end, flow_turn}
 use Rattle.slice_schedule.specs.Schedule.{turned}
 use Rattle.pc_base.specs.declared.packet.Place.TheVariants.{At}
 use Rattle.slice_schedule.proofs.Keeping.{cond_keeps, cond_gives, times_keeps}
+use Rattle.slice_schedule.proofs.Steps.{order_slot, orders_of, TurnSteps}
 
-pub record TurnSteps (W : World → Type 0) : Type 0 where
-  pub controls : (world : World) (slice : ℕ) (change : ControlNow → ControlNow) → W world
-      → W (on_control world slice change)
-  pub flows : (world : World) (slice : ℕ) (change : FlowNow → FlowNow) → W world → W (on_flow world slice change)
-  pub works : (room : ℕ) (world : World) (s : ℕ) → W world
-      → W (on_slot world s (λ slot. (control_work room slot).slot))
-  pub learns : (world : World) (s : ℕ) → W world → W (on_slot world s learn)
-  pub handles : (slice : ℕ) (world : World) (s : ℕ) → W world → W (on_slot world s (handle (At slice)))
+-- a lane without its first order
+pub fewer_orders : (s : ℕ) (order : FlowOrder) (orders all : List FlowOrder) → all ≡ order ∷ orders
+    → orders_of s orders ≤ orders_of s all
+fewer_orders s order orders all is =
+    let parts = sum_by-append (λ (own : ℕ). cond (own == s) 1 0) (order_slot order ∷ []) (map order_slot orders) in
+    let same = ap (orders_of s) is in
+    omega (arith, parts, same)
 
 module _ (W : World → Type 0) (steps : TurnSteps W) where
   -- turns of control workers
@@ -71,20 +72,20 @@ module _ (W : World → Type 0) (steps : TurnSteps W) where
       (doing (on_flow world slice (λ worker. record worker { home = worker.home ++ slot ∷ []; waiting = None })) more)
       (doing world over)
       (steps.flows world slice (λ worker. record worker { home = worker.home ++ slot ∷ []; waiting = None })
-      all) all
+      (λ s. omega arith) all) all
 
   handled_keeps : (slice : ℕ) (world : World) (slot : ℕ) → W world → DoingHolds (handled slice world slot)
   handled_keeps slice world slot all =
       cond_gives DoingHolds (may_handle (slot_at world slot)) (doing (on_slot world slot (handle (At slice))) more)
       (doing (on_flow world slice (λ worker. record worker { kept = Some slot })) round)
-      (λ may. steps.handles slice world slot all)
-      (λ other. steps.flows world slice (λ worker. record worker { kept = Some slot }) all)
+      (λ may. steps.handles slice world slot may all)
+      (λ other. steps.flows world slice (λ worker. record worker { kept = Some slot }) (λ s. omega arith) all)
 
   obeyed_keeps : (slice : ℕ) (world : World) (order : FlowOrder) → W world → DoingHolds (obeyed slice world order)
   obeyed_keeps slice world (arrive slot) all =
-      steps.flows world slice (λ worker. record worker { held = worker.held ++ slot ∷ [] }) all
+      steps.flows world slice (λ worker. record worker { held = worker.held ++ slot ∷ [] }) (λ s. omega arith) all
   obeyed_keeps slice world (leave slot) all =
-      steps.flows world slice (λ worker. left worker slot) all
+      steps.flows world slice (λ worker. left worker slot) (λ s. omega arith) all
   obeyed_keeps slice world (item slot) all =
       handled_keeps slice (on_slot world slot learn) slot (steps.learns world slot all)
 
@@ -92,12 +93,12 @@ module _ (W : World → Type 0) (steps : TurnSteps W) where
       → (flow_at world slice).orders ≡ orders → W world → DoingHolds (next_order slice world kept orders)
   next_order_keeps slice world (Some slot) orders is all =
       obeyed_keeps slice (on_flow world slice (λ worker. record worker { kept = None })) (item slot)
-      (steps.flows world slice (λ worker. record worker { kept = None }) all)
+      (steps.flows world slice (λ worker. record worker { kept = None }) (λ s. omega arith) all)
   next_order_keeps slice world None [] is all = all
   next_order_keeps slice world None (order ∷ orders) is all =
       obeyed_keeps slice (on_flow world slice (λ worker. record worker { orders = orders })) order
       (steps.flows world slice (λ worker. record worker { orders = orders })
-      all)
+      (λ s. fewer_orders s order orders (flow_at world slice).orders is) all)
 
   order_step_at_keeps : (slice : ℕ) (world : World) (going : Going) → W world
       → DoingHolds (order_step_at slice world going)
@@ -117,7 +118,7 @@ module _ (W : World → Type 0) (steps : TurnSteps W) where
   learn_next_keeps slice world (first ∷ others) all =
       let s = get_or (first ∷ others) (flow_at world slice).cursor 0 in
       steps.flows (on_slot world s learn) slice
-      (λ worker. record worker { cursor = cursor_next worker.cursor (length worker.held) })
+      (λ worker. record worker { cursor = cursor_next worker.cursor (length worker.held) }) (λ s. omega arith)
       (steps.learns world s all)
 
   turn_end_keeps : (slice : ℕ) (world : World) (going : Going) → W world → W (turn_end slice world going)

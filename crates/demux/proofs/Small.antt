@@ -1,7 +1,8 @@
--- Lists of octets.
-use Rattle.std.proofs.Common.{ℕ, ◌<◌, ◌≤◌, List, [], ◌∷◌, ◌++◌, arith}
+-- Lists of octets, and what holds of each element of a list.
+use Rattle.std.proofs.Common.{ℕ, zero, suc, ◌<◌, ◌≤◌, List, [], ◌∷◌, ◌++◌, take, drop, length, All, arith}
 use Rattle.std.specs.List.{AllByRecursion, flat_map}
-use Rattle.wire_octets.specs.Numbers.{be16_octets, be24_octets, be32_octets, be40_octets}
+use Rattle.std.proofs.lemmas.List.Elements.{recursion_from_All}
+use Rattle.wire_octets.specs.Numbers.{AreOctets, be16_octets, be24_octets, be32_octets, be40_octets}
 use Rattle.tft_codec.specs.Component.{IsComponent, component_text}
 use Rattle.tft_codec.specs.Filter.{ArePacketFilters, IsFilter}
 use Rattle.tft_codec.specs.Spelling.{entries_text, filter_text, spelling}
@@ -12,7 +13,7 @@ use Rattle.tft_codec.specs.declared.filter.Filter.{Filter}
 use Rattle.tft_codec.specs.declared.tft.Tft.{Tft}
 use Rattle.tft_codec.specs.declared.tft.Tft.TheVariants.{Create, Delete, Add, Replace, Remove, Nothing}
 use Rattle.tft_codec.proofs.Bounds.{contents_bound}
-use Rattle.report_laws.specs.Ranges.{IsOctet}
+use Rattle.demux.specs.Ranges.{IsOctet}
 
 abbrev pub Small : List ℕ → Type 0
 Small octets = AllByRecursion IsOctet octets
@@ -21,6 +22,25 @@ pub each_append : {X : Type 0} (P : X → Type 0) (xs ys : List X) → AllByRecu
     → AllByRecursion P (xs ++ ys)
 each_append P [] ys first second = second
 each_append P (x ∷ xs) ys first second = (first.0, each_append P xs ys first.1 second)
+
+pub taken : {X : Type 0} (P : X → Type 0) (n : ℕ) (xs : List X) → AllByRecursion P xs → AllByRecursion P (take n xs)
+taken P zero xs all = tt
+taken P (suc n) [] all = tt
+taken P (suc n) (x ∷ xs) all = (all.0, taken P n xs all.1)
+
+pub dropped : {X : Type 0} (P : X → Type 0) (n : ℕ) (xs : List X) → AllByRecursion P xs → AllByRecursion P (drop n xs)
+dropped P zero xs all = all
+dropped P (suc n) [] all = tt
+dropped P (suc n) (x ∷ xs) all = dropped P n xs all.1
+
+-- octets by place
+pub index_small : (octets : List ℕ) → Small octets → AreOctets octets
+index_small [] small at = omega arith
+index_small (octet ∷ octets) small zero = small.0
+index_small (octet ∷ octets) small (suc at) = index_small octets small.1 at
+
+pub small_octets : (octets : List ℕ) → All (λ octet. octet < 256) octets → Small octets
+small_octets octets all = recursion_from_All IsOctet octets all
 
 pub both : (xs ys : List ℕ) → Small xs → Small ys → Small (xs ++ ys)
 both xs ys first second = each_append IsOctet xs ys first second
