@@ -1,0 +1,7 @@
+pub mod Lists
+pub mod Settling
+pub mod Pumping
+pub mod Moving
+pub mod Admitting
+pub mod Giving
+pub mod Refusing

@@ -1,0 +1,94 @@
+//! Both sides of a front.
+ghost use Rattle.std.specs.Prelude.{◌≡◌, ℕ, [], true, OnOk, IfErr};
+
+use crate::NoMemory;
+use flow_core::Flow;
+use flow_migration::{FlowNo, FlowSide};
+use migration::Side;
+use pc_base::{SliceNo, Slot};
+use std::sync::Wait;
+use worker_core::Traveller;
+
+/// The side of the halves that commands meet, and the side of those that packets meet.
+#[derive(Drop)]
+pub struct BothSides<H: Traveller, F: Flow> {
+    pub controls: Side<H>,
+    pub flows: FlowSide<F>,
+}
+
+impl<H: Traveller, F: Flow> BothSides<H, F> {
+    ghost use Rattle.flow_migration.specs.Steps.{no_item, is_full};
+    ghost use Rattle.front_sides.specs.Sides.{both_of, view_of};
+    ghost use Rattle.front_sides.specs.Steps.{Settles, MayMove, SlotMoves, MayAdmit, SlotAdmits, MayGive, Received};
+    ghost use Rattle.front_sides.specs.Steps.{AreLanes, WasFull};
+
+    /// Pumps both, the control halves' side first.
+    pub fn pump<R: Wait>(&mut self, rt: &R)
+        ensures { Settles H.name F.name (both_of self.old.controls self.old.flows)
+            (both_of self.new.controls self.new.flows) }
+    {
+        self.controls.pump(rt);
+        self.flows.pump(rt);
+    }
+
+    /// Moves an admitted slot to a slice. A control half that is at another one leaves it at this count.
+    pub fn go<R: Wait>(&mut self, rt: &R, slot: Slot, slice: SliceNo, until: u64)
+        requires { MayMove H.name F.name slot slice (both_of self.old.controls self.old.flows) }
+        ensures { SlotMoves H.name F.name slot (both_of self.old.controls self.old.flows)
+            (both_of self.new.controls self.new.flows) }
+    {
+        self.controls.go(rt, slot, slice, until);
+        self.flows.go(rt, slot, slice);
+    }
+
+    /// Admits the two halves of a slot, the control half first, which are bound for a slice. Out of memory,
+    /// they are dropped, and the sides may only be dropped.
+    pub fn admit<R: Wait>(
+        &mut self,
+        rt: &R,
+        control: H,
+        flow: F,
+        slice: SliceNo,
+        moved: bool,
+    ) -> Result<(), NoMemory>
+        requires may { MayAdmit H.name F.name (F.slot_at (F.name flow)) slice
+            (both_of self.old.controls self.old.flows) }
+        requires one { H.slot_of (H.name control) ≡ F.slot_at (F.name flow) }
+        requires unhandled { F.handled flow ≡ [] }
+        ensures { OnOk result (SlotAdmits H.name F.name (F.slot_at (F.name flow)) moved (H.name control) (F.name flow)
+            (both_of self.old.controls self.old.flows) (both_of self.new.controls self.new.flows)) }
+    {
+        let Ok(()) = self.controls.admit(rt, control, slice, 0) else {
+            return Err(NoMemory);
+        };
+        let Ok(()) = self.flows.admit(rt, flow, slice, moved) else {
+            return Err(NoMemory);
+        };
+        Ok(())
+    }
+
+    /// Whether an item of a slot that is given now is parked.
+    pub fn parks(&self, slot: Slot) -> bool
+        ensures { result ≡ (view_of H.name F.name (both_of self.now.controls self.now.flows) slot).parks }
+    {
+        self.flows.parks(slot)
+    }
+
+    /// Gives an item to the counter half of its slot: into its slice's lane, or into its queue where it is
+    /// parked. Refused, it comes back, and all else is as it was but that its half may have been sent.
+    pub fn give<R: Wait>(&mut self, rt: &R, item: F::Item) -> Result<(), FlowNo<F::Item>>
+        requires { MayGive H.name F.name (F.item_slot item) (both_of self.old.controls self.old.flows) }
+        ensures given { OnOk result (Received H.name F.name (F.item_slot item) item
+            (both_of self.old.controls self.old.flows) (both_of self.new.controls self.new.flows)) }
+        ensures refused { IfErr result (λ refusal. (no_item refusal ≡ item)
+            × Settles H.name F.name (both_of self.old.controls self.old.flows)
+            (both_of self.new.controls self.new.flows)) }
+
+        // It is full only where the lane of a slice was, or the queue of the slot.
+        ensures full { (lane : ℕ) → AreLanes lane (both_of self.old.controls self.old.flows)
+            → IfErr result (λ refusal. is_full refusal ≡ true → WasFull H.name F.name (F.item_slot item) lane
+            (both_of self.old.controls self.old.flows) (both_of self.new.controls self.new.flows)) }
+    {
+        self.flows.give(rt, item)
+    }
+}
