@@ -1,7 +1,8 @@
 //! A batch of versions that hold a number and no more.
+ghost use Rattle.std.specs.Prelude.{IfSome};
 ghost use Rattle.std.proofs.Props.{props};
-ghost use Rattle.control_half.specs.Batch.{versions_of};
-ghost use Rattle.check_turns.specs.Editions.{MayJoin};
+ghost use Rattle.control_half.specs.Batch.{versions_of as held};
+ghost use Rattle.control_half.specs.Consecutive.{IsNext};
 
 use crate::answers::{Stop, push_counted, push_word};
 use crate::step::Step;
@@ -27,7 +28,7 @@ impl Numbered for Edition {
 pub struct Shelf {
     batch: Batch<Edition>,
     next: Option<u64>,
-    ghost follows: { MayJoin next (versions_of batch) } by { Prim.hlevel props },
+    ghost follows: { IfSome next (λ n. IsNext (λ e. e.0) (held batch) (record { 0 = n })) } by { Prim.hlevel props },
 }
 
 impl Shelf {
