@@ -21,7 +21,7 @@ pub record AreSubscribersAlike (one other : SubscriberState) (pieces others : Li
   pub destination : one.destination ≡ other.destination
   pub counters : AreAlike one.version one.counters other.counters pieces others
 
--- what a command leaves of a subscriber · what a packet leaves, as the clauses of `Subscriber::command` and `packet` say
+-- what a command leaves of a subscriber · what a packet leaves, as the clauses of these calls say
 pub record IsCommanded (old new : SubscriberState) (command : CommandKind) : Type 0 where
   pub session : new.session ≡ (controlled old.session command).0
   pub version : new.version ≡ version_of new.session (commands_met old + 1)
