@@ -5,3 +5,4 @@ pub mod BroughtLemmas
 pub mod ChargeLemmas
 pub mod FitLemmas
 pub mod PlaceLemmas
+pub mod SubscriberLemmas

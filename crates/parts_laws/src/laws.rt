@@ -1,6 +1,7 @@
 //! What counters that are alike do.
 ghost use Rattle.parts_laws.specs.Alike.{AlikePiecesStayAlike, PacketsAreAlike, VersionsAreAlike};
 ghost use Rattle.parts_laws.specs.Alike.{SessionsKeepPlaces, MadeOnesAreAlike};
+ghost use Rattle.parts_laws.specs.Subscribers.{CommandsStayAlike, PacketsStayAlike};
 ghost use Rattle.parts_laws.specs.Charging.{PacketsMayBeCharged, VersionsMayBeCharged, FittingPiecesAreOpen};
 
 /// Pieces that are the same but for their order make the same charging records of whatever may be posted
@@ -33,4 +34,11 @@ pub fn pieces_may_be_charged()
     ensures packets { PacketsMayBeCharged }
     ensures versions { VersionsMayBeCharged }
     ensures fitting { FittingPiecesAreOpen }
+{}
+
+/// Whole subscribers that are alike answer a command and a packet alike, make the same charging records, and
+/// are alike behind it.
+pub fn subscribers_stay_alike()
+    ensures commands { CommandsStayAlike }
+    ensures packets { PacketsStayAlike }
 {}

@@ -7,5 +7,5 @@ mod laws;
 
 pub use laws::{
     alike_pieces_stay_alike, made_ones_are_alike, packets_are_alike, pieces_may_be_charged,
-    versions_are_alike,
+    subscribers_stay_alike, versions_are_alike,
 };
