@@ -11,3 +11,4 @@ pub mod LineMarked
 pub mod Owed
 pub mod Listed
 pub mod Skipped
+pub mod Rosters

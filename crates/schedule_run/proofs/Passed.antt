@@ -13,7 +13,7 @@ use Rattle.schedule_run.specs.Owing.{is_owed, IsQuiet, IsWithin, IsMarked, OnlyM
 use Rattle.slice_schedule.proofs.Steps.{TurnSteps}
 
 -- lists
-length_put : {X : Type 0} (fresh : X) (xs : List X) (n : ℕ) (x : X)
+pub length_put : {X : Type 0} (fresh : X) (xs : List X) (n : ℕ) (x : X)
     → (length xs ≤ length (put_at fresh xs n x)) × (n < length (put_at fresh xs n x))
 length_put fresh [] zero x = (omega arith, omega arith)
 length_put fresh [] (suc n) x = let more = length_put fresh [] n x in (omega arith, omega (arith, more.1))

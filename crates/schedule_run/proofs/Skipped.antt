@@ -1,17 +1,17 @@
 -- Quiet halves are passed: a turn of them changes nothing.
-use Rattle.std.proofs.Common.{◌≡◌, ℕ, zero, suc, ◌+◌, ◌-◌, ◌<◌, ◌≤◌, ◌==◌, ◌||◌, Bool, true, false, not, nat_lt, Some, None, List, [], ◌∷◌, ◌++◌, length, map, get_or, cond, refl, sym, ap, subst, ◌∙◌, inl, inr, arith, true≢false}
-use Rattle.std.specs.Bool.{OnTrue}
-use Rattle.std.specs.List.{remove}
-use Rattle.std.proofs.lemmas.Bool.{cases_eq, cases_lt, lt-ltb, le-ltb, eq-eqb, ne_eqb}
-use Rattle.slice_schedule.specs.Numbers.{put_at}
+use Rattle.std.proofs.Common.{◌≡◌, ℕ, zero, suc, ◌+◌, ◌-◌, ◌<◌, ◌≤◌, ◌==◌, ◌||◌, Bool, true, false, not, nat_lt, Option, Some, None, List, [], ◌∷◌, ◌++◌, length, map, get_or, cond, refl, sym, ap, subst, ◌∙◌, inl, inr, arith, true≢false}
+use Rattle.std.proofs.lemmas.Bool.{cases_eq, cases_lt, lt-ltb, le-ltb, eq-eqb, eqb-true, ne_eqb}
+use Rattle.slice_schedule.specs.Numbers.{value_at, put_at}
 use Rattle.slice_schedule.specs.Slots.{SlotNow, fresh_slot}
-use Rattle.slice_schedule.specs.Halves.{Worked}
+use Rattle.slice_schedule.specs.Halves.{Worked, control_work}
 use Rattle.slice_schedule.specs.World.{World, Rooms, HeldControl, slot_at, control_at, cursor_next}
-use Rattle.slice_schedule.specs.ControlTurns.{marked, is_done, place_done, without, held_at, slot_held, half_turned, has_worked, next_place, cursor_at, work_round}
+use Rattle.slice_schedule.specs.ControlTurns.{without, held_at, slot_held, half_turned, has_worked, next_place, cursor_at, work_round, work_all}
 use Rattle.schedule_run.specs.Owing.{IsQuiet, is_in, IsOwing}
-use Rattle.schedule_run.specs.Rounds.{slots_held, EachOnce, OnceIf, NoneCalled, CalledIf, place_held, QuietHalf, QuietRound, distance, place_on, PassesOf}
-use Rattle.schedule_run.proofs.Edited.{remove_is}
-use Rattle.schedule_run.proofs.Passed.{quiet_turned, put_same}
+use Rattle.schedule_run.specs.Rosters.{RosterNow, roster_at}
+use Rattle.schedule_run.specs.Rounds.{slots_held, EachOnce, IsOrderly, place_held, distance, place_on, turn_at, turn_of, gone, ahead, IsHeld, IsNext, QuietHalf, QuietSpan, PassesOf}
+use Rattle.schedule_run.proofs.Owed.{half_still_owes}
+use Rattle.schedule_run.proofs.Passed.{quiet_turned, put_same, length_put}
+use Rattle.schedule_run.proofs.Rounds.{round_on, round_done}
 
 -- each slot once
 once_more : (last more : ℕ) (xs : List ℕ) → last ≤ more → EachOnce last xs → EachOnce more xs
@@ -19,91 +19,6 @@ once_more last more [] few once = tt
 once_more last more (s ∷ others) few once =
     let below = once.0 in
     (omega (arith, few, below), once.1, once_more last more others few once.2)
-
-neither : (one more : Bool) → (one || more) ≡ false → (one ≡ false) × (more ≡ false)
-neither true more is = absurd (true≢false is)
-neither false more is = (refl, is)
-
-in_push : (xs : List ℕ) (s t : ℕ) → is_in xs t ≡ false → (s == t) ≡ false → is_in (xs ++ s ∷ []) t ≡ false
-in_push [] s t off other = ap (λ test. test || false) other
-in_push (own ∷ others) s t off other =
-    let parts = neither (own == t) (is_in others t) off in
-    ap (λ test. test || is_in (others ++ s ∷ []) t) parts.0 ∙ in_push others s t parts.1 other
-
-eqb_turned : (s t : ℕ) → (s == t) ≡ false → (t == s) ≡ false
-eqb_turned s t off = ne_eqb t s (λ is. true≢false (sym (eq-eqb s t (sym is)) ∙ off))
-
-pub once_push : (last : ℕ) (xs : List ℕ) (s : ℕ) → s < last → is_in xs s ≡ false → EachOnce last xs
-    → EachOnce last (xs ++ s ∷ [])
-once_push last [] s below off once = (below, refl, tt)
-once_push last (own ∷ others) s below off once =
-    let parts = neither (own == s) (is_in others s) off in
-    (once.0, in_push others s own once.1 (eqb_turned own s parts.0), once_push last others s below parts.1 once.2)
-
-in_less : (held : List HeldControl) (n t : ℕ) → is_in (slots_held held) t ≡ false
-    → is_in (slots_held (without n held)) t ≡ false
-in_less [] n t off = refl
-in_less (half ∷ others) zero t off = (neither (half.slot == t) (is_in (slots_held others) t) off).1
-in_less (half ∷ others) (suc n) t off =
-    let parts = neither (half.slot == t) (is_in (slots_held others) t) off in
-    ap (λ test. test || is_in (slots_held (without n others)) t) parts.0 ∙ in_less others n t parts.1
-
-once_less : (last : ℕ) (held : List HeldControl) (n : ℕ) → EachOnce last (slots_held held)
-    → EachOnce last (slots_held (without n held))
-once_less last [] n once = tt
-once_less last (half ∷ others) zero once = once.2
-once_less last (half ∷ others) (suc n) once =
-    (once.0, in_less others n half.slot once.1, once_less last others n once.2)
-
-pub once_removed : (known : Bool) (last : ℕ) (held : List HeldControl) (n : ℕ) → n < length held
-    → OnceIf known last (slots_held held) → OnceIf known last (slots_held (remove held n))
-once_removed false last held n within once = tt
-once_removed true last held n within once =
-    subst (λ (left : List HeldControl). EachOnce last (slots_held left)) (sym (remove_is held n within))
-    (once_less last held n once)
-
-slot_marked : (slot until : ℕ) (half : HeldControl) → (marked slot until half).slot ≡ half.slot
-slot_marked slot until half = by_test (half.slot == slot)
-  where
-    by_test : (test : Bool) → (cond test (record half { until = Some until }) half).slot ≡ half.slot
-    by_test true = refl
-    by_test false = refl
-
-pub slots_marked : (slot until : ℕ) (held : List HeldControl) → slots_held (map (marked slot until) held) ≡ slots_held held
-slots_marked slot until [] = refl
-slots_marked slot until (half ∷ others) =
-    ap (λ s. s ∷ slots_held (map (marked slot until) others)) (slot_marked slot until half)
-    ∙ ap (λ (ss : List ℕ). half.slot ∷ ss) (slots_marked slot until others)
-
-pub slots_pushed : (held : List HeldControl) (half : HeldControl)
-    → slots_held (held ++ half ∷ []) ≡ slots_held held ++ half.slot ∷ []
-slots_pushed [] half = refl
-slots_pushed (own ∷ others) half = ap (λ (ss : List ℕ). own.slot ∷ ss) (slots_pushed others half)
-
--- a half comes, or memory runs out as it does
-pub once_kept : (known still : Bool) (last more slot : ℕ) (held : List HeldControl)
-    → OnTrue still ((known ≡ true) × (is_in (slots_held held) slot ≡ false)) → last ≤ more
-    → OnceIf known (suc last) (slots_held held) → OnceIf still (suc more) (slots_held held)
-once_kept known false last more slot held is few once = tt
-once_kept known true last more slot held is few once =
-    once_more (suc last) (suc more) (slots_held held) (omega (arith, few))
-    (subst (λ test. OnceIf test (suc last) (slots_held held)) is.0 once)
-
-pub once_held : (known still : Bool) (last more slot : ℕ) (held : List HeldControl) (half : HeldControl)
-    → half.slot ≡ slot → OnTrue still ((known ≡ true) × (is_in (slots_held held) slot ≡ false)) → last ≤ more
-    → slot ≤ more → OnceIf known (suc last) (slots_held held) → OnceIf still (suc more) (slots_held (held ++ half ∷ []))
-once_held known false last more slot held half same is few within once = tt
-once_held known true last more slot held half same is few within once =
-    let all : EachOnce (suc more) (slots_held held) = once_kept known true last more slot held is few once in
-    subst (EachOnce (suc more)) (sym (slots_pushed held half))
-    (once_push (suc more) (slots_held held) half.slot (omega (arith, same, within))
-    (ap (is_in (slots_held held)) same ∙ is.1) all)
-
-pub once_known : (known : Bool) (last slots : ℕ) (held : List HeldControl) → known ≡ true → last < slots
-    → OnceIf known (suc last) (slots_held held) → EachOnce slots (slots_held held)
-once_known known last slots held is below once =
-    once_more (suc last) slots (slots_held held) (omega (arith, below))
-    (subst (λ test. OnceIf test (suc last) (slots_held held)) is once)
 
 -- the place of a slot
 past : (s : ℕ) (half : HeldControl) (others : List HeldControl) → (half.slot == s) ≡ false
@@ -115,18 +30,6 @@ past s half others off =
 found : (s : ℕ) (half : HeldControl) (others : List HeldControl) → (half.slot == s) ≡ true
     → place_held s (half ∷ others) ≡ 0
 found s half others is = ap (λ test. cond (not test) (1 + place_held s others) 0) is
-
-pub none_held : (s : ℕ) (held : List HeldControl) → length held ≤ place_held s held → is_in (slots_held held) s ≡ false
-none_held s [] all = refl
-none_held s (half ∷ others) all = elim (cases_eq half.slot s) [
-  | inl same ↦
-      let first = found s half others (eq-eqb half.slot s same) in
-      absurd (omega (arith, all, first))
-  | inr other ↦
-      let next = past s half others (ne_eqb half.slot s other) in
-      ap (λ test. test || is_in (slots_held others) s) (ne_eqb half.slot s other)
-      ∙ none_held s others (omega (arith, all, next))
-]
 
 in_there : (held : List HeldControl) (q : ℕ) → q < length held → is_in (slots_held held) (held_at held q).slot ≡ true
 in_there [] q within = absurd (omega (arith, within))
@@ -155,48 +58,27 @@ below_at last [] q within once = absurd (omega (arith, within))
 below_at last (half ∷ others) zero within once = once.0
 below_at last (half ∷ others) (suc q) within once = below_at last others q (omega (arith, within)) once.2
 
--- none is marked
-pub called_push : (test : Bool) (held : List HeldControl) (half : HeldControl) → half.until ≡ None → CalledIf test held
-    → CalledIf test (held ++ half ∷ [])
-called_push true held half none is = tt
-called_push false [] half none is = (none, tt)
-called_push false (own ∷ others) half none is = (is.0, called_push false others half none is.1)
-
-pub all_stay : (world : World) (held : List HeldControl) → NoneCalled held → place_done world held ≡ length held
-all_stay world [] none = refl
-all_stay world (half ∷ others) none =
-    let next : 1 + place_done world others ≡ suc (place_done world others) = omega arith in
-    ap (λ until. cond (not (is_done (slot_at world half.slot) until)) (1 + place_done world others) 0) none.0
-    ∙ next ∙ ap suc (all_stay world others none.1)
+-- at its place stands a half of the slot
+held_own : (s : ℕ) (held : List HeldControl) → place_held s held < length held
+    → (held_at held (place_held s held)).slot ≡ s
+held_own s [] within = absurd (omega (arith, within))
+held_own s (half ∷ others) within = elim (cases_eq half.slot s) [
+  | inl same ↦
+      ap (λ q. (held_at (half ∷ others) q).slot) (found s half others (eq-eqb half.slot s same)) ∙ same
+  | inr differ ↦
+      let next = past s half others (ne_eqb half.slot s differ) in
+      ap (λ q. (held_at (half ∷ others) q).slot) next ∙ held_own s others (omega (arith, within, next))
+]
 
 -- quiet halves
-half_same : (rooms : Rooms) (world : World) (s : ℕ) → QuietHalf world s → half_turned rooms world s ≡ world
+half_same : (rooms : Rooms) (world : World) (s : ℕ) → QuietHalf world.slots s → half_turned rooms world s ≡ world
 half_same rooms world s half =
     ap (λ (slot : SlotNow). record world { slots = put_at fresh_slot world.slots s slot })
     (ap (λ (w : Worked). w.slot) (quiet_turned rooms.room (slot_at world s) half.quiet))
     ∙ ap (λ (slots : List SlotNow). record world { slots = slots }) (put_same fresh_slot world.slots s half.within)
 
-half_idle : (rooms : Rooms) (world : World) (s : ℕ) → QuietHalf world s → has_worked rooms world s ≡ false
+half_idle : (rooms : Rooms) (world : World) (s : ℕ) → QuietHalf world.slots s → has_worked rooms world s ≡ false
 half_idle rooms world s half = ap (λ (w : Worked). w.worked) (quiet_turned rooms.room (slot_at world s) half.quiet)
-
-abbrev place_behind : World → (slice place n : ℕ) → ℕ
-place_behind world slice place zero = place
-place_behind world slice place (suc n) = place_behind world slice (next_place world slice place) n
-
-skip : (rooms : Rooms) (slice place n m : ℕ) (world : World) → QuietRound world slice place n
-    → work_round rooms slice place (n + m) world ≡ work_round rooms slice (place_behind world slice place n) m world
-skip rooms slice place zero m world quiet =
-    let none : zero + m ≡ m = omega arith in
-    ap (λ k. work_round rooms slice place k world) none
-skip rooms slice place (suc n) m world quiet =
-    let one : suc n + m ≡ suc (n + m) = omega arith in
-    let s = slot_held world slice place in
-    let next = next_place world slice place in
-    ap (λ k. work_round rooms slice place k world) one
-    ∙ ap (λ test. cond test (cursor_at (half_turned rooms world s) slice next)
-    (work_round rooms slice next (n + m) (half_turned rooms world s))) (half_idle rooms world s quiet.0)
-    ∙ ap (work_round rooms slice next (n + m)) (half_same rooms world s quiet.0)
-    ∙ skip rooms slice next n m world quiet.1
 
 -- places round a list
 next_within : (place count : ℕ) → place + 1 < count → cursor_next place count ≡ place + 1
@@ -211,28 +93,26 @@ on_within place n count within = ap (λ test. cond test (place + n) (place + n -
 on_round : (place n count : ℕ) → count ≤ place + n → place_on place n count ≡ place + n - count
 on_round place n count past = ap (λ test. cond test (place + n) (place + n - count)) (le-ltb (place + n) count past)
 
-behind_is : (world : World) (slice place n count : ℕ) → count ≡ length (control_at world slice).held → place < count
-    → n ≤ count → place_behind world slice place n ≡ place_on place n count
-behind_is world slice place zero count is within few =
-    let same : place + 0 ≡ place = omega arith in
-    sym (on_within place 0 count (omega (arith, within)) ∙ same)
-behind_is world slice place (suc n) count is within few = elim (cases_lt (place + 1) count) [
-  | inl further ↦
-      let next : next_place world slice place ≡ place + 1 =
-      ap (cursor_next place) (sym is) ∙ next_within place count further in
-      let same : place + 1 + n ≡ place + suc n = omega arith in
-      ap (λ p. place_behind world slice p n) next
-      ∙ behind_is world slice (place + 1) n count is further (omega (arith, few))
-      ∙ ap (λ k. cond (nat_lt k count) k (k - count)) same
-  | inr end ↦
-      let next : next_place world slice place ≡ 0 =
-      ap (cursor_next place) (sym is) ∙ next_first place count (omega (arith, end)) in
-      let less : 0 + n < count = omega (arith, few) in
-      let same : 0 + n ≡ place + suc n - count = omega (arith, within, end) in
-      ap (λ p. place_behind world slice p n) next
-      ∙ behind_is world slice 0 n count is (omega (arith, within)) (omega (arith, few))
-      ∙ on_within 0 n count less ∙ same
-      ∙ sym (on_round place (suc n) count (omega (arith, within, end)))
+on_next : (place n count : ℕ) → place < count → n < count
+    → cursor_next (place_on place n count) count ≡ place_on place (suc n) count
+on_next place n count within few = elim (cases_lt (place + n) count) [
+  | inl straight ↦
+      let own = on_within place n count straight in
+      elim (cases_lt (place + suc n) count) [
+        | inl further ↦
+            let same : place_on place n count + 1 ≡ place + suc n = omega (arith, own) in
+            next_within (place_on place n count) count (omega (arith, own, further))
+            ∙ same ∙ sym (on_within place (suc n) count further)
+        | inr end ↦
+            let none : 0 ≡ place + suc n - count = omega (arith, straight, end) in
+            next_first (place_on place n count) count (omega (arith, own, end))
+            ∙ none ∙ sym (on_round place (suc n) count end)
+      ]
+  | inr round ↦
+      let own = on_round place n count round in
+      let same : place_on place n count + 1 ≡ place + suc n - count = omega (arith, own, round) in
+      next_within (place_on place n count) count (omega (arith, own, round, within, few))
+      ∙ same ∙ sym (on_round place (suc n) count (omega (arith, round)))
 ]
 
 distance_on : (place other count : ℕ) → place ≤ other → distance place other count ≡ other - place
@@ -243,126 +123,299 @@ distance_round : (place other count : ℕ) → other < place → distance place 
 distance_round place other count below =
     ap (λ test. cond test (other + count - place) (other - place)) (lt-ltb other place below)
 
--- from the next place on, another is one nearer
-nearer : (place next q count n : ℕ) → place < count → q < count → suc n ≤ count → next ≡ cursor_next place count
-    → distance next q count < n → distance place q count < suc n
-nearer place next q count n within q_within few is near = elim (cases_lt (place + 1) count) [
-  | inl further ↦
-      let next_is = is ∙ next_within place count further in
-      elim (cases_lt q (place + 1)) [
-        | inl below ↦
-            let far = distance_round next q count (omega (arith, next_is, below)) in
-            elim (cases_lt q place) [
-              | inl before ↦
-                  let own = distance_round place q count before in
-                  omega (arith, near, far, next_is, own, before, further)
-              | inr there ↦ absurd (omega (arith, near, far, next_is, there, below, few, further))
-            ]
-        | inr above ↦
-            let far = distance_on next q count (omega (arith, next_is, above)) in
-            let own = distance_on place q count (omega (arith, above)) in
-            omega (arith, near, far, next_is, own, above)
-      ]
-  | inr end ↦
-      let next_is = is ∙ next_first place count (omega (arith, end)) in
-      let far = distance_on next q count (omega (arith, next_is)) in
-      elim (cases_lt q place) [
-        | inl before ↦
-            let own = distance_round place q count before in
-            omega (arith, near, far, next_is, own, before, end, within)
-        | inr there ↦ absurd (omega (arith, near, far, next_is, there, end, within, q_within, few))
-      ]
+pub distance_below : (place other count : ℕ) → place < count → other < count → distance place other count < count
+distance_below place other count within there = elim (cases_lt other place) [
+  | inl before ↦ let far = distance_round place other count before in omega (arith, far, before, within)
+  | inr behind ↦ let far = distance_on place other count behind in omega (arith, far, there)
 ]
 
-rounds : (world : World) (slice place n count : ℕ) → count ≡ length (control_at world slice).held → place < count
-    → n ≤ count
-    → ((q : ℕ) → q < count → distance place q count < n → QuietHalf world (slot_held world slice q))
-    → QuietRound world slice place n
-rounds world slice place zero count is within few quiet = tt
-rounds world slice place (suc n) count is within few quiet =
-    let here = distance_on place place count (omega arith) in
-    let next = next_place world slice place in
-    let next_is : next ≡ cursor_next place count = ap (cursor_next place) (sym is) in (
-      quiet place within (omega (arith, here)),
-      rounds world slice next n count is (next_below place count next within next_is) (omega (arith, few))
-          (λ q q_within near. quiet q q_within (nearer place next q count n within q_within few next_is near)),
-    )
-  where
-    next_below : (place count next : ℕ) → place < count → next ≡ cursor_next place count → next < count
-    next_below place count next within is = elim (cases_lt (place + 1) count) [
-      | inl further ↦ let same = is ∙ next_within place count further in omega (arith, same, further)
-      | inr end ↦
-          let same = is ∙ next_first place count (omega (arith, end)) in
-          omega (arith, same, within)
-    ]
+record Turn (place n count : ℕ) : Type 0 where
+  within : place_on place n count < count
+  turn : distance place (place_on place n count) count ≡ n
+
+turn_on : (place n count : ℕ) → place < count → n < count → Turn place n count
+turn_on place n count within few = elim (cases_lt (place + n) count) [
+  | inl straight ↦
+      let own = on_within place n count straight in
+      let far = distance_on place (place_on place n count) count (omega (arith, own)) in
+      record { within = omega (arith, own, straight); turn = omega (arith, own, far) }
+  | inr round ↦
+      let own = on_round place n count round in
+      let far = distance_round place (place_on place n count) count (omega (arith, own, round, few, within)) in
+      record { within = omega (arith, own, within, few, round); turn = omega (arith, own, far, round, within) }
+]
+
+on_back : (place other count : ℕ) → place < count → other < count
+    → place_on place (distance place other count) count ≡ other
+on_back place other count within there = elim (cases_lt other place) [
+  | inl before ↦
+      let far = distance_round place other count before in
+      let own = on_round place (distance place other count) count (omega (arith, far, within)) in
+      omega (arith, own, far, within)
+  | inr behind ↦
+      let far = distance_on place other count behind in
+      let own = on_within place (distance place other count) count (omega (arith, far, behind, there)) in
+      omega (arith, own, far, behind)
+]
+
+-- which of two comes first
+pub both_on : (place one other count : ℕ) → place ≤ one → place ≤ other
+    → nat_lt (distance place one count) (distance place other count) ≡ nat_lt one other
+both_on place one other count above beyond = elim (cases_lt one other) [
+  | inl less ↦
+      let far = distance_on place one count above in
+      let farther = distance_on place other count beyond in
+      lt-ltb (distance place one count) (distance place other count) (omega (arith, far, farther, less, above))
+      ∙ sym (lt-ltb one other less)
+  | inr more ↦
+      let far = distance_on place one count above in
+      let farther = distance_on place other count beyond in
+      le-ltb (distance place one count) (distance place other count) (omega (arith, far, farther, more))
+      ∙ sym (le-ltb one other more)
+]
+
+pub both_round : (place one other count : ℕ) → one < place → other < place → place ≤ count
+    → nat_lt (distance place one count) (distance place other count) ≡ nat_lt one other
+both_round place one other count below beneath within = elim (cases_lt one other) [
+  | inl less ↦
+      let far = distance_round place one count below in
+      let farther = distance_round place other count beneath in
+      lt-ltb (distance place one count) (distance place other count) (omega (arith, far, farther, less, within))
+      ∙ sym (lt-ltb one other less)
+  | inr more ↦
+      let far = distance_round place one count below in
+      let farther = distance_round place other count beneath in
+      le-ltb (distance place one count) (distance place other count) (omega (arith, far, farther, more))
+      ∙ sym (le-ltb one other more)
+]
+
+pub on_first : (place one other count : ℕ) → place ≤ one → other < place → one < count
+    → nat_lt (distance place one count) (distance place other count) ≡ true
+on_first place one other count above below within =
+    let far = distance_on place one count above in
+    let farther = distance_round place other count below in
+    lt-ltb (distance place one count) (distance place other count) (omega (arith, far, farther, above, within))
+
+pub round_last : (place one other count : ℕ) → one < place → place ≤ other → other < count
+    → nat_lt (distance place one count) (distance place other count) ≡ false
+round_last place one other count below above within =
+    let far = distance_round place one count below in
+    let farther = distance_on place other count above in
+    le-ltb (distance place one count) (distance place other count) (omega (arith, far, farther, above, within))
+
+-- so many quiet halves are passed
+skip : (rooms : Rooms) (slice from n : ℕ) (world : World)
+    → (roster_at world slice).cursor < length (roster_at world slice).held
+    → from + n ≤ length (roster_at world slice).held
+    → QuietSpan world.slots (roster_at world slice) from (from + n)
+    → work_round rooms slice
+    (place_on (roster_at world slice).cursor (from + n) (length (roster_at world slice).held))
+    (length (roster_at world slice).held - (from + n)) world
+    ≡ work_round rooms slice
+    (place_on (roster_at world slice).cursor from (length (roster_at world slice).held))
+    (length (roster_at world slice).held - from) world
+skip rooms slice from zero world within few quiet =
+    let count = length (roster_at world slice).held in
+    let none : from + zero ≡ from = omega arith in
+    ap (λ m. work_round rooms slice (place_on (roster_at world slice).cursor m count) (count - m) world) none
+skip rooms slice from (suc n) world within few quiet =
+    let roster = roster_at world slice in
+    let count = length roster.held in
+    let place = place_on roster.cursor from count in
+    let turn = turn_on roster.cursor from count within (omega (arith, few)) in
+    let at = turn.turn in
+    let s = slot_held world slice place in
+    let half : QuietHalf world.slots s = quiet place turn.within (omega (arith, at)) (omega (arith, at)) in
+    let one : count - from ≡ suc (count - suc from) = omega (arith, few) in
+    let more : from + suc n ≡ suc from + n = omega arith in
+    ap (λ m. work_round rooms slice (place_on roster.cursor m count) (count - m) world) more
+    ∙ skip rooms slice (suc from) n world within (omega (arith, few))
+    (λ q q_within above below. quiet q q_within (omega (arith, above)) (omega (arith, below)))
+    ∙ ap (λ p. work_round rooms slice p (count - suc from) world)
+    (sym (on_next roster.cursor from count within (omega (arith, few))))
+    ∙ ap (work_round rooms slice (next_place world slice place) (count - suc from))
+    (sym (half_same rooms world s half))
+    ∙ sym (ap (λ test. cond test (cursor_at (half_turned rooms world s) slice (next_place world slice place))
+    (work_round rooms slice (next_place world slice place) (count - suc from) (half_turned rooms world s)))
+    (half_idle rooms world s half))
+    ∙ sym (ap (λ m. work_round rooms slice place m world) one)
+
+pub skipped : (rooms : Rooms) (slice from to : ℕ) (world : World)
+    → (roster_at world slice).cursor < length (roster_at world slice).held
+    → from ≤ to → to ≤ length (roster_at world slice).held
+    → QuietSpan world.slots (roster_at world slice) from to
+    → work_round rooms slice
+    (place_on (roster_at world slice).cursor to (length (roster_at world slice).held))
+    (length (roster_at world slice).held - to) world
+    ≡ work_round rooms slice
+    (place_on (roster_at world slice).cursor from (length (roster_at world slice).held))
+    (length (roster_at world slice).held - from) world
+skipped rooms slice from to world within less few quiet =
+    let count = length (roster_at world slice).held in
+    let parts : from + (to - from) ≡ to = omega (arith, less) in
+    ap (λ m. work_round rooms slice (place_on (roster_at world slice).cursor m count) (count - m) world) (sym parts)
+    ∙ skip rooms slice from (to - from) world within (omega (arith, parts, few))
+    (λ q q_within above below. quiet q q_within above (omega (arith, below, parts)))
 
 -- by the slots that may owe something
-passes_all : (world : World) (slice place n : ℕ) (owing : List ℕ)
-    → ((j : ℕ) → j < length owing → PassesOf world slice place n (get_or owing j 0))
-    → (s : ℕ) → is_in owing s ≡ true → PassesOf world slice place n s
-passes_all world slice place n [] each s is = absurd (true≢false (sym is))
-passes_all world slice place n (own ∷ others) each s is = elim (cases_eq own s) [
-  | inl same ↦ subst (PassesOf world slice place n) same (each 0 (omega arith))
+passes_all : (slots : List SlotNow) (roster : RosterNow) (from to : ℕ) (owing : List ℕ)
+    → ((j : ℕ) → j < length owing → PassesOf slots roster from to (get_or owing j 0))
+    → (s : ℕ) → is_in owing s ≡ true → PassesOf slots roster from to s
+passes_all slots roster from to [] each s is = absurd (true≢false (sym is))
+passes_all slots roster from to (own ∷ others) each s is = elim (cases_eq own s) [
+  | inl same ↦ subst (PassesOf slots roster from to) same (each 0 (omega arith))
   | inr other ↦
-      passes_all world slice place n others (λ j within. each (suc j) (omega (arith, within))) s
+      passes_all slots roster from to others (λ j within. each (suc j) (omega (arith, within))) s
       (sym (ap (λ test. test || is_in others s) (ne_eqb own s other)) ∙ is)
 ]
 
-pub quiet_ahead : (world : World) (slice place n : ℕ) (owing : List ℕ) → IsOwing owing world
-    → EachOnce (length world.slots) (slots_held (control_at world slice).held)
-    → place < length (control_at world slice).held → n ≤ length (control_at world slice).held
-    → ((j : ℕ) → j < length owing → PassesOf world slice place n (get_or owing j 0))
-    → QuietRound world slice place n
-quiet_ahead world slice place n owing owed once within few passes =
-    let held = (control_at world slice).held in
-    rounds world slice place n (length held) refl within few (λ q q_within near.
-    record {
-      within = below_at (length world.slots) held q q_within once;
-      quiet = by_mark q q_within near (is_in owing (slot_held world slice q)) refl;
-    })
+pub quiet_ahead : (slots : List SlotNow) (roster : RosterNow) (from to : ℕ) (owing : List ℕ)
+    → ((s : ℕ) → is_in owing s ≡ false → IsQuiet (value_at fresh_slot slots s))
+    → EachOnce (length slots) (slots_held roster.held)
+    → ((j : ℕ) → j < length owing → PassesOf slots roster from to (get_or owing j 0))
+    → QuietSpan slots roster from to
+quiet_ahead slots roster from to owing owed once passes q within above below = record {
+  within = below_at (length slots) roster.held q within once;
+  quiet = by_mark (is_in owing (held_at roster.held q).slot) refl;
+}
   where
-    by_mark : (q : ℕ) → q < length (control_at world slice).held
-        → distance place q (length (control_at world slice).held) < n → (test : Bool)
-        → is_in owing (slot_held world slice q) ≡ test → IsQuiet (slot_at world (slot_held world slice q))
-    by_mark q q_within near true is =
-        passes_all world slice place n owing passes (slot_held world slice q) is q q_within refl near
-    by_mark q q_within near false is = (owed.only.each (slot_held world slice q)).quiet is
+    by_mark : (test : Bool) → is_in owing (held_at roster.held q).slot ≡ test
+        → IsQuiet (value_at fresh_slot slots (held_at roster.held q).slot)
+    by_mark true is =
+        passes_all slots roster from to owing passes (held_at roster.held q).slot is q within refl above below
+    by_mark false is = owed (held_at roster.held q).slot is
 
-pub passes_less : (world : World) (slice place less n s : ℕ) → less ≤ n → PassesOf world slice place n s
-    → PassesOf world slice place less s
-passes_less world slice place less n s few passes q within is near = passes q within is (omega (arith, near, few))
+pub passes_less : (slots : List SlotNow) (roster : RosterNow) (from less to s : ℕ) → less ≤ to
+    → PassesOf slots roster from to s → PassesOf slots roster from less s
+passes_less slots roster from less to s few passes q within is above below =
+    passes q within is above (omega (arith, below, few))
 
--- a slot's half is quiet, isn't held, or is so far away
-pub passes_quiet : (world : World) (slice place n s : ℕ) → IsQuiet (slot_at world s) → PassesOf world slice place n s
-passes_quiet world slice place n s quiet q within is near = quiet
-
-pub passes_none : (world : World) (slice place n s last : ℕ)
-    → EachOnce last (slots_held (control_at world slice).held)
-    → length (control_at world slice).held ≤ place_held s (control_at world slice).held
-    → PassesOf world slice place n s
-passes_none world slice place n s last once none q within is near =
-    let held = (control_at world slice).held in
-    let own : place_held s held ≡ q = ap (λ t. place_held t held) (sym is) ∙ once_place last held q within once in
+-- a slot's half isn't held, or had its turn, or has it later
+pub passes_none : (slots : List SlotNow) (roster : RosterNow) (from to s last : ℕ)
+    → EachOnce last (slots_held roster.held) → length roster.held ≤ place_held s roster.held
+    → PassesOf slots roster from to s
+passes_none slots roster from to s last once none q within is above below =
+    let own : place_held s roster.held ≡ q =
+    ap (λ t. place_held t roster.held) (sym is) ∙ once_place last roster.held q within once in
     absurd (omega (arith, none, own, within))
 
-pub passes_far : (world : World) (slice place s last : ℕ)
-    → EachOnce last (slots_held (control_at world slice).held)
-    → PassesOf world slice place
-    (distance place (place_held s (control_at world slice).held) (length (control_at world slice).held)) s
-passes_far world slice place s last once q within is near =
-    let held = (control_at world slice).held in
-    let own : place_held s held ≡ q = ap (λ t. place_held t held) (sym is) ∙ once_place last held q within once in
-    let same = ap (λ p. distance place p (length held)) own in
-    absurd (omega (arith, near, same))
+turn_own : (roster : RosterNow) (s last q : ℕ) → EachOnce last (slots_held roster.held) → q < length roster.held
+    → (held_at roster.held q).slot ≡ s → turn_of roster s ≡ turn_at roster q
+turn_own roster s last q once within is =
+    ap (turn_at roster) (ap (λ t. place_held t roster.held) (sym is) ∙ once_place last roster.held q within once)
 
-pub skipped : (rooms : Rooms) (slice place n left : ℕ) (world : World) → QuietRound world slice place n
-    → place < length (control_at world slice).held → n ≤ left → left ≤ length (control_at world slice).held
-    → work_round rooms slice (place_on place n (length (control_at world slice).held)) (left - n) world
-    ≡ work_round rooms slice place left world
-skipped rooms slice place n left world quiet within few all =
-    let count = length (control_at world slice).held in
-    let parts : n + (left - n) ≡ left = omega (arith, few) in
-    sym (ap (λ p. work_round rooms slice p (left - n) world)
-    (behind_is world slice place n count refl within (omega (arith, few, all))))
-    ∙ sym (skip rooms slice place n (left - n) world quiet)
-    ∙ ap (λ k. work_round rooms slice place k world) parts
+pub passes_before : (slots : List SlotNow) (roster : RosterNow) (from to s last : ℕ)
+    → EachOnce last (slots_held roster.held) → turn_of roster s < from → PassesOf slots roster from to s
+passes_before slots roster from to s last once before q within is above below =
+    let own = turn_own roster s last q once within is in
+    absurd (omega (arith, before, own, above))
+
+pub passes_behind : (slots : List SlotNow) (roster : RosterNow) (from to s last : ℕ)
+    → EachOnce last (slots_held roster.held) → to ≤ turn_of roster s → PassesOf slots roster from to s
+passes_behind slots roster from to s last once behind q within is above below =
+    let own = turn_own roster s last q once within is in
+    absurd (omega (arith, behind, own, below))
+
+-- turns until one works: so many are gone, and the others are ahead
+pub record Working (owing : List ℕ) (rooms : Rooms) (slice : ℕ) (all : World) (last : Option ℕ) (world : World) : Type 0 where
+  pub owed : IsOwing owing world
+  pub orderly : IsOrderly (length world.slots) (roster_at world slice)
+  pub held : IsHeld (roster_at world slice) last
+  pub ahead : work_round rooms slice
+      (place_on (roster_at world slice).cursor (gone (roster_at world slice) last)
+      (length (roster_at world slice).held))
+      (length (roster_at world slice).held - gone (roster_at world slice) last) world ≡ all
+
+pub gone_few : (roster : RosterNow) (last : Option ℕ) → roster.cursor < length roster.held → IsHeld roster last
+    → gone roster last ≤ length roster.held
+gone_few roster None within held = omega arith
+gone_few roster (Some s) within held =
+    let below = distance_below roster.cursor (place_held s roster.held) (length roster.held) within held in
+    omega (arith, below)
+
+module _ (owing : List ℕ) (rooms : Rooms) (slice : ℕ) where
+  pub begins : (world : World) → IsOwing owing world → IsOrderly (length world.slots) (roster_at world slice)
+      → Working owing rooms slice (work_all rooms slice world) None world
+  begins world owed orderly =
+      let roster = roster_at world slice in
+      let count = length roster.held in
+      let next = orderly.next in
+      let same : roster.cursor + 0 ≡ roster.cursor = omega arith in
+      let whole : count - 0 ≡ count = omega arith in
+      record {
+        owed = owed;
+        orderly = orderly;
+        held = tt;
+        ahead = ap (λ p. work_round rooms slice p (count - 0) world)
+            (on_within roster.cursor 0 count (omega (arith, next)) ∙ same)
+            ∙ ap (λ m. work_round rooms slice roster.cursor m world) whole;
+      }
+
+  module _ (all world : World) (last : Option ℕ) (working : Working owing rooms slice all last world) where
+    abbrev roster : RosterNow
+    roster = roster_at world slice
+
+    abbrev count : ℕ
+    count = length roster.held
+
+    pub works_none : QuietSpan world.slots roster (gone roster last) count → world ≡ all
+    works_none quiet =
+        let none : 0 ≡ count - count = omega arith in
+        ap (λ m. work_round rooms slice (place_on roster.cursor count count) m world) none
+        ∙ skipped rooms slice (gone roster last) count world working.orderly.next
+        (gone_few roster last working.orderly.next working.held) (omega arith) quiet
+        ∙ working.ahead
+
+    module _ (slot : ℕ) (worked : Bool) (next : IsNext roster last (Some slot))
+        (quiet : QuietSpan world.slots roster (gone roster last) (turn_of roster slot))
+        (test : worked ≡ has_worked rooms world slot) where
+      abbrev place : ℕ
+      place = place_held slot roster.held
+
+      abbrev after : World
+      after = half_turned rooms world slot
+
+      below : turn_of roster slot < count
+      below = distance_below roster.cursor place count working.orderly.next next.held
+
+      here : work_round rooms slice place (count - turn_of roster slot) world ≡ all
+      here =
+          let few = below in
+          ap (λ p. work_round rooms slice p (count - turn_of roster slot) world)
+          (sym (on_back roster.cursor place count working.orderly.next next.held))
+          ∙ skipped rooms slice (gone roster last) (turn_of roster slot) world working.orderly.next next.behind
+          (omega (arith, few)) quiet
+          ∙ working.ahead
+
+      some : 0 < count - turn_of roster slot
+      some = let few = below in omega (arith, few)
+
+      own : slot ≡ slot_held world slice place
+      own = sym (held_own slot roster.held next.held)
+
+      pub works_done : worked ≡ true
+          → cursor_at after slice (next_place after slice (place_held slot (control_at after slice).held)) ≡ all
+      works_done is =
+          round_done rooms slice (count - turn_of roster slot) place world after all slot
+          (next_place after slice place) worked some own refl test refl here is
+
+      pub works_on : worked ≡ false → Working owing rooms slice all (Some slot) after
+      works_on idle =
+          let more = length_put fresh_slot world.slots slot (control_work rooms.room (slot_at world slot)).slot in
+          let less : count - suc (turn_of roster slot) ≡ count - turn_of roster slot - 1 = omega arith in
+          record {
+            owed = half_still_owes owing rooms world slot working.owed;
+            orderly = record {
+              next = working.orderly.next;
+              once = once_more (length world.slots) (length after.slots) (slots_held roster.held) more.0
+                  working.orderly.once;
+            };
+            held = next.held;
+            ahead = ap (λ p. work_round rooms slice p (count - suc (turn_of roster slot)) after)
+                (sym (on_next roster.cursor (turn_of roster slot) count working.orderly.next below)
+                ∙ ap (λ p. cursor_next p count)
+                (on_back roster.cursor place count working.orderly.next next.held))
+                ∙ ap (λ m. work_round rooms slice (next_place world slice place) m after) less
+                ∙ round_on rooms slice (count - turn_of roster slot) place world after all slot
+                (next_place after slice place) worked some own refl test refl here idle;
+          }

@@ -8,3 +8,4 @@ pub mod Setups
 pub mod Worlds
 pub mod Owing
 pub mod Rounds
+pub mod Rosters

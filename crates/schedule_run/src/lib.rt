@@ -3,12 +3,14 @@
 #![tactic(auto)]
 
 mod ask;
+mod busy;
 mod front;
 mod grow;
 mod halves;
 mod met;
 mod owing;
 mod planning;
+mod roster;
 mod setup;
 mod sides;
 mod slot;

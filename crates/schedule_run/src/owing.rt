@@ -3,26 +3,36 @@
 ghost use Rattle.std.specs.Prelude.{◌≡◌, ℕ, ◌<◌, ◌≤◌, ◌==◌, false, OnOk, length, get_or, nat_lt};
 ghost use Rattle.std.specs.Bool.{OnTrue, OnFalse};
 ghost use Rattle.std.specs.List.{prefix_len};
+ghost use Rattle.slice_schedule.specs.Numbers.{value_at};
+ghost use Rattle.slice_schedule.specs.Slots.{fresh_slot};
 ghost use Rattle.slice_schedule.specs.World as world;
 ghost use Rattle.schedule_run.specs.Lines.{asked};
 ghost use Rattle.schedule_run.specs.Owing.{IsQuiet, IsOwing, MayOwe, MayOweBy, slot_asked, with_slot};
 ghost use Rattle.schedule_run.specs.Worlds.{world_of};
 
 use crate::Ask;
+use crate::slot::SlotNumbers;
 use crate::world::Numbers;
 use std::alloc::AllocError;
 
 /// Whether a slot owes nothing, and a turn of its control half changes nothing.
-pub fn is_quiet(numbers: &Numbers, slot: usize) -> bool
-    ensures quiet { OnTrue result (IsQuiet (world.slot_at (world_of numbers.now) slot)) }
-    ensures within { OnFalse result (slot < length (world_of numbers.now).slots) }
+pub fn is_quiet_in(slots: &[SlotNumbers], slot: usize) -> bool
+    ensures quiet { OnTrue result (IsQuiet (value_at fresh_slot slots.now slot)) }
+    ensures within { OnFalse result (slot < length slots.now) }
 {
-    if slot < numbers.slots.len() {
-        let one = &numbers.slots[slot];
+    if slot < slots.len() {
+        let one = &slots[slot];
         one.is_quiet()
     } else {
         true
     }
+}
+
+fn is_quiet(numbers: &Numbers, slot: usize) -> bool
+    ensures quiet { OnTrue result (IsQuiet (world.slot_at (world_of numbers.now) slot)) }
+    ensures within { OnFalse result (slot < length (world_of numbers.now).slots) }
+{
+    is_quiet_in(numbers.slots.as_slice(), slot)
 }
 
 /// How many slots of a list stand before this one.

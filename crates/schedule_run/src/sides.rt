@@ -1,18 +1,18 @@
 //! What is read and changed of the workers of one slice.
-ghost use Rattle.std.specs.Prelude.{◌≡◌, ℕ, ◌<◌, ◌++◌, ◌∷◌, [], None, OnOk, IfNone, IfSome, length, drop, replicate};
+ghost use Rattle.std.specs.Prelude.{◌≡◌, ℕ, ◌<◌, ◌++◌, ◌∷◌, [], None, OnOk, IfNone, IfSome, length, drop};
+ghost use Rattle.std.specs.Prelude.{replicate, get_or, nat_lt, ◌&&◌};
 ghost use Rattle.slice_schedule.specs.World as world;
 ghost use Rattle.slice_schedule.specs.ControlTurns as control;
 ghost use Rattle.slice_schedule.specs.FlowTurns as flow;
 ghost use Rattle.schedule_run.specs.Numbers.{control_order, flow_order};
 ghost use Rattle.std.specs.Bool.{OnTrue};
-ghost use Rattle.schedule_run.specs.Rounds.{EachOnce, slots_held, CalledIf};
+ghost use Rattle.schedule_run.specs.Rosters.{roster_at};
+ghost use Rattle.schedule_run.specs.Rounds.{IsOrderly, place_held};
 ghost use Rattle.schedule_run.specs.Worlds.{world_of};
 
 use crate::grow::{reach_control, reach_flow};
-use crate::slot::SlotNumbers;
-use crate::standing::{ControlOrder, FlowOrder, HeldControl};
-use crate::workers::cursor_next;
-use crate::world::{Numbers, applied_of};
+use crate::standing::{ControlOrder, FlowOrder};
+use crate::world::Numbers;
 use std::alloc::AllocError;
 
 /// How many orders of a control worker wait.
@@ -63,74 +63,75 @@ pub fn flow_sent(numbers: &Numbers, slice: usize) -> &[usize]
     }
 }
 
-/// The halves that a control worker holds.
-pub fn control_held(numbers: &Numbers, slice: usize) -> &[HeldControl]
-    ensures { result.now ≡ (world.control_at (world_of numbers.now) slice).held }
+/// How many halves a control worker holds.
+pub fn control_count(numbers: &Numbers, slice: usize) -> usize
+    ensures { result ≡ length (world.control_at (world_of numbers.now) slice).held }
 {
     if slice < numbers.controls.len() {
         let worker = &numbers.controls[slice];
-        worker.held()
-    } else {
-        &[]
-    }
-}
-
-/// Whether each half that a control worker holds surely is of a slot of its own, and of one that had a line.
-pub fn is_orderly(numbers: &Numbers, slice: usize) -> bool
-    ensures { OnTrue result (EachOnce (length (world_of numbers.now).slots)
-        (slots_held (world.control_at (world_of numbers.now) slice).held)) }
-{
-    if slice < numbers.controls.len() {
-        let worker = &numbers.controls[slice];
-        worker.is_orderly(numbers.slots.len())
-    } else {
-        true
-    }
-}
-
-/// Whether a half of a control worker may be marked.
-pub fn has_called(numbers: &Numbers, slice: usize) -> bool
-    ensures { CalledIf result (world.control_at (world_of numbers.now) slice).held }
-{
-    if slice < numbers.controls.len() {
-        let worker = &numbers.controls[slice];
-        worker.has_called()
-    } else {
-        false
-    }
-}
-
-/// The halves that a data worker holds.
-pub fn flow_held(numbers: &Numbers, slice: usize) -> &[usize]
-    ensures { result.now ≡ (world.flow_at (world_of numbers.now) slice).held }
-{
-    if slice < numbers.flows.len() {
-        let worker = &numbers.flows[slice];
-        worker.held()
-    } else {
-        &[]
-    }
-}
-
-/// The half of a control worker whose turn is next.
-pub fn control_cursor(numbers: &Numbers, slice: usize) -> usize
-    ensures { result ≡ (world.control_at (world_of numbers.now) slice).cursor }
-{
-    if slice < numbers.controls.len() {
-        let worker = &numbers.controls[slice];
-        worker.cursor()
+        worker.roster().len()
     } else {
         0
     }
 }
 
-/// The half of a data worker whose turn is next.
-pub fn flow_cursor(numbers: &Numbers, slice: usize) -> usize
-    ensures { result ≡ (world.flow_at (world_of numbers.now) slice).cursor }
+/// The place of the control half whose turn is next.
+pub fn control_cursor(numbers: &Numbers, slice: usize) -> usize
+    ensures { result ≡ (world.control_at (world_of numbers.now) slice).cursor }
+{
+    if slice < numbers.controls.len() {
+        let worker = &numbers.controls[slice];
+        worker.roster().cursor()
+    } else {
+        0
+    }
+}
+
+/// Whether a half of a control worker has its turn next, and each surely is of a slot of its own, and of one that had a
+/// line.
+pub fn is_orderly(numbers: &Numbers, slice: usize) -> bool
+    ensures { OnTrue result (IsOrderly (length (world_of numbers.now).slots) (roster_at (world_of numbers.now) slice)) }
+{
+    if slice < numbers.controls.len() {
+        let worker = &numbers.controls[slice];
+        worker.roster().is_orderly(numbers.slots.len())
+    } else {
+        false
+    }
+}
+
+/// The slot of the half of a place.
+pub fn slot_held(numbers: &Numbers, slice: usize, place: usize) -> usize
+    ensures { result ≡ control.slot_held (world_of numbers.now) slice place }
+{
+    if slice < numbers.controls.len() {
+        let worker = &numbers.controls[slice];
+        worker.roster().slot_at(place)
+    } else {
+        0
+    }
+}
+
+/// How many halves a data worker holds.
+pub fn flow_count(numbers: &Numbers, slice: usize) -> usize
+    ensures { result ≡ length (world.flow_at (world_of numbers.now) slice).held }
 {
     if slice < numbers.flows.len() {
         let worker = &numbers.flows[slice];
-        worker.cursor()
+        worker.held_count()
+    } else {
+        0
+    }
+}
+
+/// The slot of the half of a data worker whose turn is next.
+pub fn flow_next(numbers: &Numbers, slice: usize) -> usize
+    ensures { result ≡ get_or (world.flow_at (world_of numbers.now) slice).held
+        (world.flow_at (world_of numbers.now) slice).cursor 0 }
+{
+    if slice < numbers.flows.len() {
+        let worker = &numbers.flows[slice];
+        worker.slot_next()
     } else {
         0
     }
@@ -223,7 +224,7 @@ pub fn hold_control(numbers: &mut Numbers, slice: usize, slot: usize) -> Result<
 {
     reach_control(&mut numbers.controls, numbers.alloc, slice)?;
     let worker = &mut numbers.controls[slice];
-    worker.hold(slot)
+    worker.hold(numbers.alloc, slot)
 }
 
 /// A control half is marked.
@@ -238,31 +239,55 @@ pub fn mark_control(
 {
     reach_control(&mut numbers.controls, numbers.alloc, slice)?;
     let worker = &mut numbers.controls[slice];
-    worker.mark(slot, until);
+    worker.mark(numbers.alloc, slot, until)
+}
+
+/// Whether a half of a control worker is done, and there is room to send it home.
+pub fn may_send(numbers: &Numbers, slice: usize) -> bool
+    ensures { result ≡ (nat_lt (length (world.control_at (world_of numbers.now) slice).home) 64 && nat_lt
+        (control.place_done (world_of numbers.now) (world.control_at (world_of numbers.now) slice).held)
+        (length (world.control_at (world_of numbers.now) slice).held)) }
+{
+    if slice < numbers.controls.len() {
+        let worker = &numbers.controls[slice];
+        worker.may_send(numbers.slots.as_slice())
+    } else {
+        false
+    }
+}
+
+/// The first half of a control worker that is done goes home.
+pub fn send_done(numbers: &mut Numbers, slice: usize) -> Result<(), AllocError>
+    requires { control.place_done (world_of numbers.old) (world.control_at (world_of numbers.old) slice).held
+        < length (world.control_at (world_of numbers.old) slice).held }
+    ensures { OnOk result (world_of numbers.new ≡ world.on_control (world_of numbers.old) slice
+        (λ worker. control.sent_home worker (control.place_done (world_of numbers.old) worker.held))) }
+{
+    reach_control(&mut numbers.controls, numbers.alloc, slice)?;
+    let worker = &mut numbers.controls[slice];
+    worker.send_done(numbers.slots.as_slice())
+}
+
+/// The turn of the control half behind that of a place.
+pub fn set_behind_place(numbers: &mut Numbers, slice: usize, place: usize) -> Result<(), AllocError>
+    ensures { OnOk result (world_of numbers.new
+        ≡ control.cursor_at (world_of numbers.old) slice (control.next_place (world_of numbers.old) slice place)) }
+{
+    reach_control(&mut numbers.controls, numbers.alloc, slice)?;
+    let worker = &mut numbers.controls[slice];
+    worker.set_behind_place(place);
     Ok(())
 }
 
-/// The half at a place goes home.
-pub fn send_control(numbers: &mut Numbers, slice: usize, place: usize) -> Result<(), AllocError>
-    requires { place < length (world.control_at (world_of numbers.old) slice).held }
-    ensures { OnOk result (world_of numbers.new ≡ world.on_control (world_of numbers.old) slice
-        (λ worker. control.sent_home worker place)) }
+/// The turn of the control half behind that of a slot.
+pub fn set_behind(numbers: &mut Numbers, slice: usize, slot: usize) -> Result<(), AllocError>
+    ensures { OnOk result (world_of numbers.new
+        ≡ control.cursor_at (world_of numbers.old) slice (control.next_place (world_of numbers.old) slice
+        (place_held slot (world.control_at (world_of numbers.old) slice).held))) }
 {
     reach_control(&mut numbers.controls, numbers.alloc, slice)?;
     let worker = &mut numbers.controls[slice];
-    worker.send_home(place)
-}
-
-pub fn set_control_cursor(
-    numbers: &mut Numbers,
-    slice: usize,
-    cursor: usize,
-) -> Result<(), AllocError>
-    ensures { OnOk result (world_of numbers.new ≡ control.cursor_at (world_of numbers.old) slice cursor) }
-{
-    reach_control(&mut numbers.controls, numbers.alloc, slice)?;
-    let worker = &mut numbers.controls[slice];
-    worker.set_cursor(cursor);
+    worker.set_behind(slot);
     Ok(())
 }
 
@@ -323,7 +348,7 @@ pub fn hold_flow(numbers: &mut Numbers, slice: usize, slot: usize) -> Result<(),
 {
     reach_flow(&mut numbers.flows, numbers.alloc, slice)?;
     let worker = &mut numbers.flows[slice];
-    worker.hold(slot)
+    worker.hold(numbers.alloc, slot)
 }
 
 /// A counter half leaves, and waits.

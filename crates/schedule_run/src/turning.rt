@@ -1,60 +1,32 @@
 //! The turns of workers.
-ghost use Rattle.std.specs.Prelude.{◌≡◌, ℕ, ◌+◌, ◌-◌, ◌*◌, ◌<◌, ◌≤◌, None, OnOk, IfOk, length, fold, get_or, [], All};
+ghost use Rattle.std.specs.Prelude.{◌≡◌, ◌<◌, ◌≤◌, None, OnOk, IfOk, length, All};
 ghost use Rattle.slice_schedule.specs.World as world;
 ghost use Rattle.slice_schedule.specs.ControlTurns as control;
 ghost use Rattle.slice_schedule.specs.FlowTurns as flow;
 ghost use Rattle.slice_schedule.specs.Schedule as epoch;
 ghost use Rattle.schedule_run.specs.Numbers.{control_order, flow_order};
 ghost use Rattle.schedule_run.specs.Owing.{IsOwing};
-ghost use Rattle.schedule_run.specs.Rounds as rounds;
-ghost use Rattle.schedule_run.specs.Rounds.{EachOnce, slots_held, QuietRound, PassesOf};
+ghost use Rattle.schedule_run.specs.Rosters.{roster_at};
+ghost use Rattle.schedule_run.specs.Rounds.{IsOrderly, gone, ahead, IsHeld, IsNext, QuietSpan};
 ghost use Rattle.schedule_run.specs.Worlds.{world_of, going_of};
 
-use crate::owing::is_quiet;
+use crate::busy::next_busy;
 use crate::setup::Setup;
 use crate::sides::{
-    control_cursor, control_held, control_sent, flow_cursor, flow_held, flow_kept, flow_sent,
-    flow_waiting, go_round, has_called, hold_control, hold_flow, is_orderly, keep, let_go,
-    mark_control, send_control, send_flow, set_control_cursor, take_control, take_flow,
+    control_count, control_cursor, flow_count, flow_kept, flow_next, flow_sent, flow_waiting,
+    go_round, hold_control, hold_flow, is_orderly, keep, let_go, mark_control, may_send, send_done,
+    send_flow, set_behind, set_behind_place, slot_held, take_control, take_flow,
 };
-use crate::slot::SlotNumbers;
-use crate::standing::{ControlOrder, FlowOrder, Going, HeldControl};
-use crate::workers::{cursor_next, place_held};
-use crate::world::{Numbers, applied_of, handle, learn, may_handle, turn_half};
+use crate::standing::{ControlOrder, FlowOrder, Going};
+use crate::world::{Numbers, handle, learn, may_handle, turn_half};
 use std::alloc::AllocError;
 
-/// Whether a control half stays on its slice.
-fn stays(slots: &[SlotNumbers], half: &HeldControl) -> bool
-    ensures { result ≡ control.stays (record { slots = slots.now; controls = []; flows = [] }) half.now }
+/// The place behind this one, round a list of so many.
+fn cursor_next(place: usize, count: usize) -> usize
+    ensures { result ≡ world.cursor_next place count }
 {
-    match half.until {
-        None => true,
-        Some(until) => applied_of(slots, half.slot) < until,
-    }
-}
-
-/// The place of the first control half that goes home, or how many there are.
-fn place_done(slots: &[SlotNumbers], held: &[HeldControl]) -> usize
-    ensures { result ≡ control.place_done (record { slots = slots.now; controls = []; flows = [] }) held.now }
-{
-    let mut place: usize = 0;
-    for half in held {
-        if !stays(slots, half) {
-            return place;
-        }
-        place += 1;
-    }
-    place
-}
-
-/// The slot of the half at a place.
-fn slot_held(numbers: &Numbers, slice: usize, place: usize) -> usize
-    ensures { result ≡ control.slot_held (world_of numbers.now) slice place }
-{
-    let held = control_held(numbers, slice);
-    if place < held.len() {
-        let half = &held[place];
-        half.slot
+    if place < count.saturating_sub(1) {
+        place + 1
     } else {
         0
     }
@@ -64,121 +36,70 @@ fn slot_held(numbers: &Numbers, slice: usize, place: usize) -> usize
 fn next_place(numbers: &Numbers, slice: usize, place: usize) -> usize
     ensures { result ≡ control.next_place (world_of numbers.now) slice place }
 {
-    cursor_next(place, control_held(numbers, slice).len())
-}
-
-/// How many halves are turned before that of another place, round a list of so many.
-fn distance(place: usize, other: usize, count: usize) -> usize
-    requires { (place < count) × (other < count) }
-    ensures { result ≡ rounds.distance place other count }
-{
-    if other < place {
-        count - place + other
-    } else {
-        other - place
-    }
-}
-
-/// Where so many turns lead, round a list of so many.
-fn place_on(place: usize, turns: usize, count: usize) -> usize
-    requires { (place < count) × (turns ≤ count) }
-    ensures { result ≡ rounds.place_on place turns count }
-{
-    let rest = count - place;
-    if turns < rest {
-        place + turns
-    } else {
-        turns - rest
-    }
-}
-
-/// How many halves from a place on are passed before that of this slot: at most so many.
-fn passed_before(numbers: &Numbers, slice: usize, place: usize, most: usize, slot: usize) -> usize
-    requires place { place < length (world.control_at (world_of numbers.now) slice).held }
-    requires once { EachOnce (length (world_of numbers.now).slots)
-        (slots_held (world.control_at (world_of numbers.now) slice).held) }
-    ensures few { result ≤ most }
-    ensures passes { PassesOf (world_of numbers.now) slice place result slot }
-{
-    if is_quiet(numbers, slot) {
-        return most;
-    }
-    let held = control_held(numbers, slice);
-    let other = place_held(slot, held);
-    if other >= held.len() {
-        return most;
-    }
-    distance(place, other, held.len()).min(most)
-}
-
-/// How many halves from a place on are quiet: at most so many.
-fn quiet_ahead(numbers: &Numbers, owing: &[usize], slice: usize, place: usize, most: usize) -> usize
-    requires owing { IsOwing owing.now (world_of numbers.now) }
-    requires place { place < length (world.control_at (world_of numbers.now) slice).held }
-    requires once { EachOnce (length (world_of numbers.now).slots)
-        (slots_held (world.control_at (world_of numbers.now) slice).held) }
-    requires most { most ≤ length (world.control_at (world_of numbers.now) slice).held }
-    ensures few { result ≤ most }
-    ensures quiet { QuietRound (world_of numbers.now) slice place result }
-{
-    let mut ahead = most;
-    for slot in owing {
-        ahead = passed_before(numbers, slice, place, ahead, *slot);
-    }
-    ahead
-}
-
-/// Passes halves that are quiet: the place of the next one, and how many are left to turn.
-fn pass_quiet(
-    numbers: &Numbers,
-    owing: &[usize],
-    slice: usize,
-    place: usize,
-    left: usize,
-) -> (usize, usize)
-    requires owing { IsOwing owing.now (world_of numbers.now) }
-    requires left { left ≤ length (world.control_at (world_of numbers.now) slice).held }
-    ensures few { result.1 ≤ left }
-    ensures round { (rooms : world.Rooms) → control.work_round rooms slice result.0 result.1 (world_of numbers.now)
-        ≡ control.work_round rooms slice place left (world_of numbers.now) }
-{
-    let count = control_held(numbers, slice).len();
-    if place >= count || !is_orderly(numbers, slice) {
-        return (place, left);
-    }
-    let ahead = quiet_ahead(numbers, owing, slice, place, left);
-    (place_on(place, ahead, count), left - ahead)
+    cursor_next(place, control_count(numbers, slice))
 }
 
 /// Turns control halves round the list until one works.
 fn work_round(
     numbers: &mut Numbers,
-    owing: &[usize],
     setup: &Setup<'_>,
     slice: usize,
     first: usize,
     count: usize,
 ) -> Result<(), AllocError>
-    requires owing { IsOwing owing.now (world_of numbers.old) }
-    requires count { count ≤ length (world.control_at (world_of numbers.old) slice).held }
     ensures { OnOk result (world_of numbers.new
         ≡ control.work_round setup.now.rooms slice first count (world_of numbers.old)) }
 {
     let mut place = first;
     let mut left = count;
     while left > 0 {
-        let (next, rest) = pass_quiet(numbers, owing, slice, place, left);
-        if rest == 0 {
-            return Ok(());
-        }
-        let slot = slot_held(numbers, slice, next);
+        let slot = slot_held(numbers, slice, place);
         let worked = turn_half(numbers, setup, slot)?;
-        place = next_place(numbers, slice, next);
         if worked {
-            set_control_cursor(numbers, slice, place)?;
+            return set_behind_place(numbers, slice, place);
+        }
+        place = next_place(numbers, slice, place);
+        left -= 1;
+    }
+    Ok(())
+}
+
+/// The slot of the next control half behind the last one whose turn may change something.
+fn next_half(numbers: &Numbers, owing: &[usize], slice: usize, last: Option<usize>) -> Option<usize>
+    requires owing { IsOwing owing.now (world_of numbers.now) }
+    requires orderly { IsOrderly (length (world_of numbers.now).slots) (roster_at (world_of numbers.now) slice) }
+    requires last { IsHeld (roster_at (world_of numbers.now) slice) last }
+    ensures next { IsNext (roster_at (world_of numbers.now) slice) last result }
+    ensures quiet { QuietSpan (world_of numbers.now).slots (roster_at (world_of numbers.now) slice)
+        (gone (roster_at (world_of numbers.now) slice) last) (ahead (roster_at (world_of numbers.now) slice) result) }
+{
+    if slice < numbers.controls.len() {
+        let worker = &numbers.controls[slice];
+        next_busy(worker.roster(), numbers.slots.as_slice(), owing, last)
+    } else {
+        None
+    }
+}
+
+/// Turns the control halves whose turn may change something until one works.
+fn work_busy(
+    numbers: &mut Numbers,
+    owing: &[usize],
+    setup: &Setup<'_>,
+    slice: usize,
+) -> Result<(), AllocError>
+    requires owing { IsOwing owing.now (world_of numbers.old) }
+    requires orderly { IsOrderly (length (world_of numbers.old).slots) (roster_at (world_of numbers.old) slice) }
+    ensures { OnOk result (world_of numbers.new ≡ control.work_all setup.now.rooms slice (world_of numbers.old)) }
+{
+    let mut last = None;
+    while let Some(slot) = next_half(numbers, owing, slice, last) {
+        let worked = turn_half(numbers, setup, slot)?;
+        if worked {
+            set_behind(numbers, slice, slot)?;
             return Ok(());
         }
-        left = rest - 1;
+        last = Some(slot);
     }
     Ok(())
 }
@@ -192,21 +113,12 @@ fn work_all(
     requires { IsOwing owing.now (world_of numbers.old) }
     ensures { OnOk result (world_of numbers.new ≡ control.work_all setup.now.rooms slice (world_of numbers.old)) }
 {
-    let first = control_cursor(numbers, slice);
-    let count = control_held(numbers, slice).len();
-    work_round(numbers, owing, setup, slice, first, count)
-}
-
-/// The place of the first control half of a slice that goes home, or how many there are.
-fn place_gone(numbers: &Numbers, slice: usize) -> usize
-    ensures { result ≡ control.place_done (world_of numbers.now) (world.control_at (world_of numbers.now) slice).held }
-{
-    let held = control_held(numbers, slice);
-    if has_called(numbers, slice) {
-        place_done(numbers.slots.as_slice(), held)
-    } else {
-        held.len()
+    if is_orderly(numbers, slice) {
+        return work_busy(numbers, owing, setup, slice);
     }
+    let first = control_cursor(numbers, slice);
+    let count = control_count(numbers, slice);
+    work_round(numbers, setup, slice, first, count)
 }
 
 /// A control half goes home, if one is done and there is room; else the halves are turned.
@@ -219,12 +131,10 @@ fn go_or_work(
     requires { IsOwing owing.now (world_of numbers.old) }
     ensures { OnOk result (world_of numbers.new ≡ control.go_or_work setup.now.rooms slice (world_of numbers.old)) }
 {
-    let place = place_gone(numbers, slice);
-    if place < control_held(numbers, slice).len() && control_sent(numbers, slice).len() < 64 {
-        send_control(numbers, slice, place)
-    } else {
-        work_all(numbers, owing, setup, slice)
+    if may_send(numbers, slice) {
+        return send_done(numbers, slice);
     }
+    work_all(numbers, owing, setup, slice)
 }
 
 /// Does an order of a control worker.
@@ -364,26 +274,17 @@ fn take_orders(numbers: &mut Numbers, slice: usize, first: Going) -> Result<Goin
     Ok(going)
 }
 
-/// The slot of the counter half at a place.
-fn held_at(held: &[usize], place: usize) -> usize
-    ensures { result ≡ get_or held.now place 0 }
-{
-    if place < held.len() { held[place] } else { 0 }
-}
-
 /// The half whose turn is next learns.
 fn learn_next(numbers: &mut Numbers, slice: usize) -> Result<(), AllocError>
     ensures { OnOk result (world_of numbers.new ≡ flow.learn_next slice (world_of numbers.old)
         (world.flow_at (world_of numbers.old) slice).held) }
 {
-    let held = flow_held(numbers, slice);
-    if held.is_empty() {
+    if flow_count(numbers, slice) == 0 {
         return Ok(());
     }
-    let slot = held_at(held, flow_cursor(numbers, slice));
+    let slot = flow_next(numbers, slice);
     learn(numbers, slot)?;
-    go_round(numbers, slice)?;
-    Ok(())
+    go_round(numbers, slice)
 }
 
 fn end_turn(numbers: &mut Numbers, slice: usize, going: Going) -> Result<(), AllocError>

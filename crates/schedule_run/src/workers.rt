@@ -1,152 +1,41 @@
 //! The numbers of the workers of a slice.
-ghost use Rattle.std.specs.Prelude.{◌≡◌, ℕ, ◌<◌, ◌≤◌, ◌++◌, ◌∷◌, [], None, OnOk, IfNone, IfSome, length, drop};
-ghost use Rattle.std.specs.Prelude.{true, false, map, replicate};
+ghost use Rattle.std.specs.Prelude.{◌≡◌, ℕ, ◌<◌, ◌≤◌, ◌++◌, ◌∷◌, [], ◌&&◌, None, OnOk, IfOk, IfNone, IfSome};
+ghost use Rattle.std.specs.Prelude.{length, drop, map, replicate, nat_lt, get_or};
+ghost use Rattle.std.specs.Bool.{OnTrue, OnFalse};
 ghost use Rattle.slice_schedule.specs.World as world;
 ghost use Rattle.slice_schedule.specs.ControlTurns as control;
 ghost use Rattle.slice_schedule.specs.FlowTurns as flow;
-ghost use Rattle.std.specs.Bool.{OnTrue};
 ghost use Rattle.schedule_run.specs.Numbers.{control_order, flow_order};
-ghost use Rattle.schedule_run.specs.Owing.{is_in};
 ghost use Rattle.schedule_run.specs.Rounds as rounds;
 
+use crate::roster::Roster;
+use crate::slot::SlotNumbers;
 use crate::standing::{ControlOrder, FlowOrder, HeldControl};
 use std::alloc::{AllocError, Global};
 use std::collections::VecDeque;
 use std::marker::Model;
 
-/// The place behind this one, round a list of so many.
-pub fn cursor_next(place: usize, count: usize) -> usize
-    ensures { result ≡ world.cursor_next place count }
-{
-    if place < count.saturating_sub(1) {
-        place + 1
-    } else {
-        0
-    }
-}
-
-/// Where the cursor stands behind the half of this place leaving a list that has so many then.
-fn cursor_behind(place: usize, cursor: usize, count: usize) -> usize
-    ensures { result ≡ world.cursor_behind place cursor count }
-{
-    let cursor = if place < cursor {
-        cursor.saturating_sub(1)
-    } else {
-        cursor
-    };
-    if cursor < count { cursor } else { 0 }
-}
-
-/// The place of a slot in a list, or its length.
-fn place_of(slot: usize, held: &[usize]) -> usize
-    ensures { result ≡ flow.place_of slot held.now }
-{
-    let mut place: usize = 0;
-    for other in held {
-        if *other == slot {
-            return place;
-        }
-        place += 1;
-    }
-    place
-}
-
-/// The place of the half of a slot in a list, or its length.
-pub fn place_held(slot: usize, held: &[HeldControl]) -> usize
-    ensures { result ≡ rounds.place_held slot held.now }
-{
-    let mut place: usize = 0;
-    for half in held {
-        if half.slot == slot {
-            return place;
-        }
-        place += 1;
-    }
-    place
-}
-
-/// Whether a half may be marked.
-fn any_called(held: &[HeldControl]) -> bool
-    ensures { rounds.CalledIf result held.now }
-{
-    for half in held {
-        if half.until.is_some() {
-            return true;
-        }
-    }
-    false
-}
-
-/// Whether each half surely is of a slot of its own, also where that of this slot comes.
-fn still_once(once: bool, held: &[HeldControl], slot: usize) -> bool
-    ensures { OnTrue result ((once ≡ true) × (is_in (rounds.slots_held held.now) slot ≡ false)) }
-{
-    if !once {
-        return false;
-    }
-    if place_held(slot, held) < held.len() {
-        return false;
-    }
-    true
-}
-
-/// The higher of two numbers.
-fn higher(one: usize, other: usize) -> usize
-    ensures { (one ≤ result) × (other ≤ result) }
-{
-    if one < other { other } else { one }
-}
-
-/// Marks this half, if it is that of the slot.
-fn mark(half: &mut HeldControl, slot: usize, until: usize)
-    ensures { half.new ≡ control.marked slot until half.old }
-{
-    if half.slot == slot {
-        half.until = Some(until);
-    }
-}
-
-/// Marks each half of a slot.
-fn mark_all(held: &mut Vec<HeldControl>, slot: usize, until: usize)
-    ensures { held.new.items ≡ map (control.marked slot until) held.old.items }
-{
-    for half in held.iter_mut() {
-        mark(half, slot, until);
-    }
-}
-
-/// The control worker of a slice: its orders, the halves that it holds, those that it sent home, and the half whose
-/// turn is next. While `once` stands each half is of a slot of its own, at most `last`; while `called` doesn't stand
-/// none is marked.
+/// The control worker of a slice: its orders, the halves that it holds, and those that it sent home.
 #[derive(Drop)]
 pub struct ControlNumbers {
     orders: VecDeque<ControlOrder>,
-    held: Vec<HeldControl>,
+    roster: Roster,
     home: Vec<usize>,
-    cursor: usize,
-    once: bool,
-    last: usize,
-    called: bool,
 }
 
 impl Model for ControlNumbers {
     ghost use Rattle.std.specs.Prelude.{map};
     ghost use Rattle.slice_schedule.specs.World.{ControlNow};
-    ghost use Rattle.std.specs.Prelude.{suc};
     ghost use Rattle.schedule_run.specs.Numbers.{control_order};
-    ghost use Rattle.schedule_run.specs.Rounds.{slots_held, OnceIf, CalledIf};
 
     ghost Value = { ControlNow };
 
     ghost view = { λ worker. record {
       orders = map control_order worker.orders.items;
-      held = worker.held.items;
+      held = worker.roster.held;
       home = worker.home.items;
-      cursor = worker.cursor;
+      cursor = worker.roster.cursor;
     } };
-
-    ghost invariant = { λ worker. OnceIf worker.once (suc worker.last) (slots_held worker.held.items)
-        × CalledIf worker.called worker.held.items };
 }
 
 impl ControlNumbers {
@@ -155,27 +44,16 @@ impl ControlNumbers {
     {
         ControlNumbers {
             orders: VecDeque::new(alloc),
-            held: Vec::new(alloc),
+            roster: Roster::new(alloc),
             home: Vec::new(alloc),
-            cursor: 0,
-            once: true,
-            last: 0,
-            called: false,
         }
     }
 
-    /// Whether each half that it holds surely is of a slot of its own, below this number.
-    pub fn is_orderly(&self, slots: usize) -> bool
-        ensures { OnTrue result (rounds.EachOnce slots (rounds.slots_held self.now.held)) }
+    /// The halves that it holds.
+    pub fn roster(&self) -> &Roster
+        ensures { result.now ≡ record { held = self.now.held; cursor = self.now.cursor } }
     {
-        self.once && self.last < slots
-    }
-
-    /// Whether a half may be marked.
-    pub fn has_called(&self) -> bool
-        ensures { rounds.CalledIf result self.now.held }
-    {
-        self.called
+        &self.roster
     }
 
     /// How many orders wait.
@@ -214,54 +92,55 @@ impl ControlNumbers {
         self.home.clear();
     }
 
-    /// The halves that it holds.
-    pub fn held(&self) -> &[HeldControl]
-        ensures { result.now ≡ self.now.held }
+    /// The turn of the half behind that of a place.
+    pub fn set_behind_place(&mut self, place: usize)
+        ensures { self.new ≡ record self.old { cursor = world.cursor_next place (length self.old.held) } }
     {
-        self.held.as_slice()
+        self.roster.set_behind_place(place);
     }
 
-    pub fn cursor(&self) -> usize
-        ensures { result ≡ self.now.cursor }
+    /// The turn of the half behind that of a slot.
+    pub fn set_behind(&mut self, slot: usize)
+        ensures { self.new ≡ record self.old {
+          cursor = world.cursor_next (rounds.place_held slot self.old.held) (length self.old.held);
+        } }
     {
-        self.cursor
-    }
-
-    pub fn set_cursor(&mut self, cursor: usize)
-        ensures { self.new ≡ record self.old { cursor = cursor } }
-    {
-        self.cursor = cursor;
+        self.roster.set_behind(slot);
     }
 
     /// A half comes.
-    pub fn hold(&mut self, slot: usize) -> Result<(), AllocError>
+    pub fn hold(&mut self, alloc: Global, slot: usize) -> Result<(), AllocError>
         ensures { OnOk result (self.new ≡ control.behind_order self.old (world.come slot)) }
     {
-        self.once = still_once(self.once, self.held.as_slice(), slot);
-        self.last = higher(self.last, slot);
-        self.held.push(HeldControl { slot, until: None })?;
-        Ok(())
+        self.roster.tidy(alloc)?;
+        self.roster.push(HeldControl { slot, until: None })
     }
 
     /// A half is marked: it goes home once so many commands are done.
-    pub fn mark(&mut self, slot: usize, until: usize)
-        ensures { self.new ≡ control.behind_order self.old (world.go slot until) }
+    pub fn mark(&mut self, alloc: Global, slot: usize, until: usize) -> Result<(), AllocError>
+        ensures { OnOk result (self.new ≡ control.behind_order self.old (world.go slot until)) }
     {
-        self.called = true;
-        mark_all(&mut self.held, slot, until);
+        self.roster.mark(alloc, slot, until)
     }
 
-    /// The half at a place goes home.
-    #[tactic(auto, using(crate::proofs::Edited::remove_is))]
-    pub fn send_home(&mut self, place: usize) -> Result<(), AllocError>
-        requires { place < length self.old.held }
-        ensures { OnOk result (self.new ≡ control.sent_home self.old place) }
+    /// Whether a half is done, and there is room to send it home.
+    pub fn may_send(&self, slots: &[SlotNumbers]) -> bool
+        ensures { result ≡ (nat_lt (length self.now.home) 64 && nat_lt
+            (control.place_done (record { slots = slots.now; controls = []; flows = [] }) self.now.held)
+            (length self.now.held)) }
     {
-        let slot = self.held[place].slot;
+        self.home.len() < 64 && self.roster.has_done(slots)
+    }
+
+    /// The first half that is done goes home.
+    pub fn send_done(&mut self, slots: &[SlotNumbers]) -> Result<(), AllocError>
+        requires { control.place_done (record { slots = slots.now; controls = []; flows = [] }) self.old.held
+            < length self.old.held }
+        ensures { OnOk result (self.new ≡ control.sent_home self.old
+            (control.place_done (record { slots = slots.now; controls = []; flows = [] }) self.old.held)) }
+    {
+        let slot = self.roster.take_done(slots);
         self.home.push(slot)?;
-        self.held.remove(place);
-        self.called = any_called(self.held.as_slice());
-        self.cursor = cursor_behind(place, self.cursor, self.held.len());
         Ok(())
     }
 }
@@ -270,9 +149,8 @@ impl ControlNumbers {
 #[derive(Drop)]
 pub struct FlowNumbers {
     orders: VecDeque<FlowOrder>,
-    held: Vec<usize>,
+    roster: Roster,
     home: Vec<usize>,
-    cursor: usize,
     waiting: Option<usize>,
     kept: Option<usize>,
 }
@@ -281,14 +159,15 @@ impl Model for FlowNumbers {
     ghost use Rattle.std.specs.Prelude.{map};
     ghost use Rattle.slice_schedule.specs.World.{FlowNow};
     ghost use Rattle.schedule_run.specs.Numbers.{flow_order};
+    ghost use Rattle.schedule_run.specs.Rounds.{slots_held};
 
     ghost Value = { FlowNow };
 
     ghost view = { λ worker. record {
       orders = map flow_order worker.orders.items;
-      held = worker.held.items;
+      held = slots_held worker.roster.held;
       home = worker.home.items;
-      cursor = worker.cursor;
+      cursor = worker.roster.cursor;
       waiting = worker.waiting;
       kept = worker.kept;
     } };
@@ -300,9 +179,8 @@ impl FlowNumbers {
     {
         FlowNumbers {
             orders: VecDeque::new(alloc),
-            held: Vec::new(alloc),
+            roster: Roster::new(alloc),
             home: Vec::new(alloc),
-            cursor: 0,
             waiting: None,
             kept: None,
         }
@@ -355,24 +233,28 @@ impl FlowNumbers {
         self.home.clear();
     }
 
-    /// The halves that it holds.
-    pub fn held(&self) -> &[usize]
-        ensures { result.now ≡ self.now.held }
+    /// How many halves it holds.
+    #[tactic(auto, using(crate::proofs::Rosters::slots_count))]
+    pub fn held_count(&self) -> usize
+        ensures { result ≡ length self.now.held }
     {
-        self.held.as_slice()
+        self.roster.len()
     }
 
-    pub fn cursor(&self) -> usize
-        ensures { result ≡ self.now.cursor }
+    /// The slot of the half whose turn is next.
+    #[tactic(auto, using(crate::proofs::Rosters::slots_at))]
+    pub fn slot_next(&self) -> usize
+        ensures { result ≡ get_or self.now.held self.now.cursor 0 }
     {
-        self.cursor
+        self.roster.slot_next()
     }
 
     /// The turn of the next half.
+    #[tactic(auto, using(crate::proofs::Rosters::slots_count))]
     pub fn go_round(&mut self)
         ensures { self.new ≡ record self.old { cursor = world.cursor_next self.old.cursor (length self.old.held) } }
     {
-        self.cursor = cursor_next(self.cursor, self.held.len());
+        self.roster.go_round();
     }
 
     pub fn waiting(&self) -> Option<usize>
@@ -394,23 +276,19 @@ impl FlowNumbers {
     }
 
     /// A half arrives.
-    pub fn hold(&mut self, slot: usize) -> Result<(), AllocError>
+    #[tactic(auto, using(crate::proofs::Rosters::slots_pushed))]
+    pub fn hold(&mut self, alloc: Global, slot: usize) -> Result<(), AllocError>
         ensures { OnOk result (self.new ≡ record self.old { held = self.old.held ++ slot ∷ [] }) }
     {
-        self.held.push(slot)?;
-        Ok(())
+        self.roster.tidy(alloc)?;
+        self.roster.push(HeldControl { slot, until: None })
     }
 
     /// A half leaves, and waits.
-    #[tactic(auto, using(crate::proofs::Edited::remove_is, crate::proofs::Edited::without_past))]
     pub fn let_go(&mut self, slot: usize)
         ensures { self.new ≡ flow.left self.old slot }
     {
-        let place = place_of(slot, self.held.as_slice());
-        if place < self.held.len() {
-            self.held.remove(place);
-        }
-        self.cursor = cursor_behind(place, self.cursor, self.held.len());
+        self.roster.take(slot);
         self.waiting = Some(slot);
     }
 

@@ -1,17 +1,12 @@
-use Rattle.std.proofs.Common.{◌≡◌, ◌≤◌, length}
-use Rattle.slice_schedule.specs.World.{control_at}
+use Rattle.std.proofs.Common.{◌≡◌}
 use Rattle.slice_schedule.specs.ControlTurns.{work_round}
-use Rattle.schedule_run.specs.Owing.{IsOwing}
 use Rattle.schedule_run.specs.Worlds.{world_of}
 use Rattle.schedule_run.proofs.turning.work_round.Given as goal
 
 abbrev pub invariant-loop-left : goal.invariant-loop-left
-invariant-loop-left l = record {
-  owing : IsOwing l.owing (world_of l.numbers);
-  few : l.left ≤ length (control_at (world_of l.numbers) l.slice).held;
-  ahead : work_round l.setup.rooms l.slice l.place l.left (world_of l.numbers)
-      ≡ work_round l.setup.rooms l.slice l.first l.count (world_of l.fn.numbers);
-}
+invariant-loop-left l =
+    work_round l.setup.rooms l.slice l.place l.left (world_of l.numbers)
+    ≡ work_round l.setup.rooms l.slice l.first l.count (world_of l.fn.numbers)
 
 abbrev pub decreases-loop-left : goal.decreases-loop-left
 decreases-loop-left l = l.left
