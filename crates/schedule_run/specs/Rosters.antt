@@ -1,5 +1,6 @@
 -- Halves that a worker holds, in the order in which they came, with holes where some left.
-use Rattle.std.specs.Prelude.{◌≡◌, ℕ, ◌+◌, ◌<◌, ◌≤◌, ◌==◌, Bool, true, false, Option, Some, None, List, [], ◌∷◌, length, take, get_or}
+use Rattle.std.specs.Prelude.{◌≡◌, ℕ, ◌+◌, ◌<◌, ◌≤◌, ◌==◌, Bool, true, false, Option, Some, None, List, [], ◌∷◌}
+use Rattle.std.specs.Prelude.{length, take, get_or}
 use Rattle.slice_schedule.specs.World.{World, HeldControl, control_at, cursor_behind}
 use Rattle.slice_schedule.specs.ControlTurns.{marked, stays, without}
 use Rattle.schedule_run.specs.Owing.{is_in}

@@ -4,7 +4,8 @@ ghost use Rattle.std.specs.Bool.{OnTrue, OnFalse};
 ghost use Rattle.slice_schedule.specs.Numbers.{value_at};
 ghost use Rattle.slice_schedule.specs.Slots.{fresh_slot};
 ghost use Rattle.schedule_run.specs.Owing.{IsQuiet, is_in};
-ghost use Rattle.schedule_run.specs.Rounds.{IsOrderly, place_held, turn_of, gone, ahead, IsHeld, IsNext, PassesOf, QuietSpan};
+ghost use Rattle.schedule_run.specs.Rounds.{IsOrderly, place_held, turn_of, gone, ahead, IsHeld, IsNext};
+ghost use Rattle.schedule_run.specs.Rounds.{PassesOf, QuietSpan};
 
 use crate::owing::is_quiet_in;
 use crate::roster::Roster;

@@ -1,5 +1,6 @@
 //! The halves that a worker holds.
-ghost use Rattle.std.specs.Prelude.{◌≡◌, ℕ, List, Option, ◌+◌, ◌<◌, ◌≤◌, ◌==◌, ◌++◌, ◌∷◌, [], Some, None, true, false, map};
+ghost use Rattle.std.specs.Prelude.{◌≡◌, ℕ, ◌+◌, ◌<◌, ◌≤◌, ◌==◌, List, ◌++◌, ◌∷◌, [], Option, Some, None};
+ghost use Rattle.std.specs.Prelude.{true, false, map};
 ghost use Rattle.std.specs.Prelude.{OnOk, OnErr, IfOk, IfNone, IfSome, length, nat_lt, take, set, get_or, is_some};
 ghost use Rattle.std.specs.Bool.{OnTrue, OnFalse};
 ghost use Rattle.slice_schedule.specs.World as world;
@@ -158,7 +159,6 @@ fn index_at(halves: &[Option<HeldControl>], place: usize) -> usize
 }
 
 /// Whether the half at an index has its turn before that at another, from the cursor on.
-#[tactic(auto, using(crate::proofs::Rosters::first_both, crate::proofs::Rosters::first_late, crate::proofs::Rosters::first_soon, crate::proofs::Rosters::first_on))]
 fn turns_first(halves: &[Option<HeldControl>], next: usize, one: usize, other: usize) -> bool
     requires one { is_some (roster.entry halves.now one) ≡ true }
     requires other { is_some (roster.entry halves.now other) ≡ true }
