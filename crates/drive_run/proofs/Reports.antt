@@ -1,5 +1,5 @@
 -- The report of a run, by the epochs that were driven.
-use Rattle.std.proofs.Common.{◌≡◌, ℕ, ◌+◌, ◌%◌, ◌≤◌, Bool, Option, None, Some, List, [], ◌∷◌, ◌++◌, codes, length, flat_map, map, refl, sym, ap, ap₂, subst, ◌∙◌, arith, length-append, append_assoc, append-nil}
+use Rattle.std.proofs.Common.{◌≡◌, ℕ, ◌+◌, ◌%◌, ◌≤◌, Bool, true, false, not, MatchBool, Option, None, Some, is_some, List, [], ◌∷◌, ◌++◌, codes, length, flat_map, map, refl, sym, ap, ap₂, subst, ◌∙◌, arith, length-append, append_assoc, append-nil, true≢false}
 use Rattle.trace_lines.specs.Input.{Stop, ended}
 use Rattle.trace_lines.specs.Line.{Line}
 use Rattle.trace_lines.specs.Word.{word_of}
@@ -422,6 +422,14 @@ all_so first old now done latest closed open_ sent bad n text counted some on =
       places = on.places;
       said = on_text first.places told on.entry bad n sent text on.so_far.said on.said;
     }
+
+-- whether no epoch is open, and no line is bad
+pub both_none : (none : Bool) (taken : List Line) (bad : Option LineBad) → is_some bad ≡ not none → taken ≡ []
+    → MatchBool none ((taken ≡ []) × (bad ≡ None)) (taken ≡ [] → bad ≡ None → ⊥)
+both_none true taken None is empty = (empty, refl)
+both_none false taken None is empty = absurd (true≢false (sym is))
+both_none true taken (Some why) is empty = absurd (true≢false is)
+both_none false taken (Some why) is empty = λ same other. cc
 
 -- no epoch is open, and no line is bad
 pub none_so : (first now : Driver) (done : List Line) (latest : ℕ) (closed : List (List Line))

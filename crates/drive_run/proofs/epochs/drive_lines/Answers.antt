@@ -9,9 +9,9 @@ use Rattle.drive_run.proofs.epochs.drive_lines.Goals as goal
 
 pub returns : goal.returns
 returns c = λ start taken schedule closed told has may workers stands.
-    let new = rest_of c.drive-epoch.new.self in
+    let new = rest_of c.drive.new.self in
     let old_turns = c.args.turns.now in
-    let new_turns = c.drive-epoch.new.turns in
+    let new_turns = c.drive.new.turns in
     let entry = told_by c.in_ok-epoch.epoch in
     let after = c.in_ok-epoch.ensures.behind start taken (lines_in closed) has may stands.behind in
     let setup = c.in_ok-epoch.ensures.setup start taken has in
