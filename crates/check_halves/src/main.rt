@@ -18,6 +18,7 @@ use std::io::{self, Write};
 use std::process::ExitCode;
 use std::sync::Wait;
 use telling::told;
+use text_fields::Text;
 use traces::{MOVED, STILL, Trace, lines_of};
 
 /// What is done between the split and the end: a turn of the control half (t), its arrival behind the move (a), a
@@ -45,7 +46,7 @@ fn words_given<R: Env + AllocGlobal>(rt: &R) -> io::Result<Vec<String>> {
 }
 
 /// An order over a trace, from the split to what is printed of it.
-fn play<R: Wait>(rt: &R, alloc: Global, trace: &Trace, order: &str) -> Result<Vec<u8>, Stop> {
+fn play<R: Wait>(rt: &R, alloc: Global, trace: &Trace, order: &str) -> Result<Text, Stop> {
     let read = again(|| lines_of(alloc, trace.text))?;
     let lines = read.as_slice();
     if lines.len() > 100 {
