@@ -11,4 +11,5 @@ pub mod LineMarked
 pub mod Owed
 pub mod Listed
 pub mod Skipped
+pub mod Spared
 pub mod Rosters

@@ -219,6 +219,13 @@ impl SlotNumbers {
         }
     }
 
+    /// Whether the counter half has nothing to learn.
+    pub fn has_learnt(&self) -> bool
+        ensures { OnTrue result (halves.learn self.now ≡ self.now) }
+    {
+        self.is_stuck()
+    }
+
     /// The counter half learns what it may.
     pub fn learn(&mut self)
         ensures { self.new ≡ halves.learn self.old }
@@ -236,7 +243,7 @@ impl SlotNumbers {
         ensures { result ≡ halves.may_handle self.now }
     {
         let next = self.met.len();
-        next < self.packets.len() && self.packets[next] <= self.learnt
+        next < self.packets.len() && self.packets.at(next) <= self.learnt
     }
 
     /// Its next packet is handled.

@@ -71,6 +71,7 @@ fn insert(owing: &mut Vec<usize>, slot: usize) -> Result<(), AllocError>
 }
 
 /// Takes up a slot, if it owes anything.
+#[inline(never)]
 pub fn mark(numbers: &Numbers, owing: &mut Vec<usize>, slot: usize) -> Result<(), AllocError>
     requires { MayOwe slot owing.old.items (world_of numbers.now) }
     ensures { OnOk result (IsOwing owing.new.items (world_of numbers.now)) }
@@ -95,6 +96,7 @@ pub fn mark_asked(numbers: &Numbers, owing: &mut Vec<usize>, ask: Ask) -> Result
 }
 
 /// Leaves out the slots that owe nothing any more.
+#[inline(never)]
 pub fn settle(numbers: &Numbers, owing: &mut Vec<usize>)
     requires { IsOwing owing.old.items (world_of numbers.now) }
     ensures { IsOwing owing.new.items (world_of numbers.now) }

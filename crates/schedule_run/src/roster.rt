@@ -235,15 +235,6 @@ fn slot_of_place(halves: &[Option<HeldControl>], place: usize) -> usize
     slot_in(halves, index_at(halves, place))
 }
 
-/// The slot of the first half from an index on.
-#[tactic(auto, using(crate::proofs::Rosters::held_none, crate::proofs::Rosters::place_all))]
-fn slot_from(halves: &[Option<HeldControl>], from: usize) -> usize
-    requires { from ≤ length halves.now }
-    ensures { result ≡ (control.held_at (roster.present halves.now) (roster.place_at halves.now from)).slot }
-{
-    slot_in(halves, first_from(halves, from))
-}
-
 /// Where the cursor stands behind the turn of the half of a place.
 fn behind_place(halves: &[Option<HeldControl>], place: usize) -> usize
     ensures place { roster.place_at halves.now result
@@ -266,14 +257,17 @@ fn behind_slot(halves: &[Option<HeldControl>], index: &[usize], once: bool, slot
     }
 }
 
-/// Where the cursor stands behind the turn of the first half from an index on.
-fn behind_from(halves: &[Option<HeldControl>], from: usize) -> usize
+/// The slot of the first half from an index on, and where the cursor stands behind its turn.
+#[tactic(auto, using(crate::proofs::Rosters::held_none, crate::proofs::Rosters::place_all))]
+fn round_from(halves: &[Option<HeldControl>], from: usize) -> (usize, usize)
     requires { from ≤ length halves.now }
-    ensures place { roster.place_at halves.now result ≡ world.cursor_next (roster.place_at halves.now from)
+    ensures slot { result.0 ≡ (control.held_at (roster.present halves.now) (roster.place_at halves.now from)).slot }
+    ensures place { roster.place_at halves.now result.1 ≡ world.cursor_next (roster.place_at halves.now from)
         (length (roster.present halves.now)) }
-    ensures few { result ≤ length halves.now }
+    ensures few { result.1 ≤ length halves.now }
 {
-    settle_behind(halves, first_from(halves, from))
+    let at = first_from(halves, from);
+    (slot_in(halves, at), settle_behind(halves, at))
 }
 
 /// Makes a hole at an index.
@@ -551,13 +545,6 @@ impl Roster {
         )
     }
 
-    /// The slot of the half whose turn is next.
-    pub fn slot_next(&self) -> usize
-        ensures { result ≡ (control.held_at self.now.held self.now.cursor).slot }
-    {
-        slot_from(self.halves.as_slice(), self.next)
-    }
-
     /// The slot of the half of a place.
     pub fn slot_at(&self, place: usize) -> usize
         ensures { result ≡ (control.held_at self.now.held place).slot }
@@ -586,13 +573,16 @@ impl Roster {
         );
     }
 
-    /// The turn of the next half.
-    pub fn go_round(&mut self)
-        ensures { self.new ≡ record self.old {
+    /// The slot of the half whose turn is next; then that of the one behind it.
+    pub fn go_round(&mut self) -> usize
+        ensures slot { result ≡ (control.held_at self.old.held self.old.cursor).slot }
+        ensures round { self.new ≡ record self.old {
           cursor = world.cursor_next self.old.cursor (length self.old.held);
         } }
     {
-        self.next = behind_from(self.halves.as_slice(), self.next);
+        let (slot, next) = round_from(self.halves.as_slice(), self.next);
+        self.next = next;
+        slot
     }
 
     /// A half comes.
