@@ -12,4 +12,7 @@ pub mod Owed
 pub mod Listed
 pub mod Skipped
 pub mod Spared
+pub mod Places
+pub mod Indices
+pub mod Order
 pub mod Rosters

@@ -1,5 +1,5 @@
 //! What the front does: it takes halves home, offers orders, and accepts or refuses.
-ghost use Rattle.std.specs.Prelude.{◌≡◌, ℕ, ◌+◌, ◌-◌, OnOk, IfOk, IfSome, length, fold, min};
+ghost use Rattle.std.specs.Prelude.{◌≡◌, ℕ, ◌-◌, OnOk, IfOk, IfSome, length, min};
 ghost use Rattle.slice_schedule.specs.World as world;
 ghost use Rattle.slice_schedule.specs.Slots as slots;
 ghost use Rattle.slice_schedule.specs.Front as front;

@@ -1,7 +1,6 @@
 //! What the halves of a slot do when they are turned, and what is left of a slot as its epoch closes.
-ghost use Rattle.std.specs.Prelude.{◌≡◌, ℕ, ◌+◌, ◌-◌, ◌==◌, ◌<◌, ◌≤◌, if◌then◌else◌, Some, None, ◌∷◌, [], ◌++◌};
+ghost use Rattle.std.specs.Prelude.{◌≡◌, ◌+◌, ◌-◌, ◌==◌, ◌<◌, ◌≤◌, if◌then◌else◌, Some, None, ◌∷◌, [], ◌++◌};
 ghost use Rattle.std.specs.Prelude.{IfOk, OnOk, OnErr, length, min, get_or, nat_le};
-ghost use Rattle.slice_schedule.specs.Slots.{SlotNow};
 ghost use Rattle.std.specs.Bool.{OnTrue};
 ghost use Rattle.slice_schedule.specs.Halves as halves;
 ghost use Rattle.schedule_run.specs.Numbers.{standing_of};

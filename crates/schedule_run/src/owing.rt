@@ -1,6 +1,6 @@
 //! The slots that owe an order, have packets that wait, or have a control half with work: in their order, each once.
 //! No other slot is visited before a line.
-ghost use Rattle.std.specs.Prelude.{◌≡◌, ℕ, ◌<◌, ◌≤◌, ◌==◌, false, OnOk, length, get_or, nat_lt};
+ghost use Rattle.std.specs.Prelude.{◌≡◌, ◌<◌, ◌≤◌, ◌==◌, false, OnOk, length, get_or, nat_lt};
 ghost use Rattle.std.specs.Bool.{OnTrue, OnFalse};
 ghost use Rattle.std.specs.List.{prefix_len};
 ghost use Rattle.slice_schedule.specs.Numbers.{value_at};

@@ -1,7 +1,7 @@
 //! The halves that a worker holds.
 ghost use Rattle.std.specs.Prelude.{◌≡◌, ℕ, ◌+◌, ◌<◌, ◌≤◌, ◌==◌, List, ◌++◌, ◌∷◌, [], Option, Some, None};
 ghost use Rattle.std.specs.Prelude.{true, false, map};
-ghost use Rattle.std.specs.Prelude.{OnOk, OnErr, IfOk, IfNone, IfSome, length, nat_lt, take, set, get_or, is_some};
+ghost use Rattle.std.specs.Prelude.{OnOk, IfOk, IfNone, IfSome, length, nat_lt, take, set, get_or, is_some};
 ghost use Rattle.std.specs.Bool.{OnTrue, OnFalse};
 ghost use Rattle.slice_schedule.specs.World as world;
 ghost use Rattle.slice_schedule.specs.ControlTurns as control;
@@ -215,7 +215,7 @@ fn has_half(halves: &[Option<HeldControl>], index: &[usize], once: bool, slot: u
 }
 
 /// The slot of the half at an index.
-#[tactic(auto, using(crate::proofs::Rosters::held_some))]
+#[tactic(auto, using(crate::proofs::Places::held_some))]
 fn slot_in(halves: &[Option<HeldControl>], index: usize) -> usize
     ensures half { index < length halves.now → is_some (roster.entry halves.now index) ≡ true
         → result ≡ (control.held_at (roster.present halves.now) (roster.place_at halves.now index)).slot }
@@ -228,7 +228,7 @@ fn slot_in(halves: &[Option<HeldControl>], index: usize) -> usize
 }
 
 /// The slot of the half of a place.
-#[tactic(auto, using(crate::proofs::Rosters::held_none, crate::proofs::Rosters::place_all))]
+#[tactic(auto, using(crate::proofs::Places::held_none, crate::proofs::Places::place_all))]
 fn slot_of_place(halves: &[Option<HeldControl>], place: usize) -> usize
     ensures { result ≡ (control.held_at (roster.present halves.now) place).slot }
 {
@@ -258,7 +258,7 @@ fn behind_slot(halves: &[Option<HeldControl>], index: &[usize], once: bool, slot
 }
 
 /// The slot of the first half from an index on, and where the cursor stands behind its turn.
-#[tactic(auto, using(crate::proofs::Rosters::held_none, crate::proofs::Rosters::place_all))]
+#[tactic(auto, using(crate::proofs::Places::held_none, crate::proofs::Places::place_all))]
 fn round_from(halves: &[Option<HeldControl>], from: usize) -> (usize, usize)
     requires { from ≤ length halves.now }
     ensures slot { result.0 ≡ (control.held_at (roster.present halves.now) (roster.place_at halves.now from)).slot }

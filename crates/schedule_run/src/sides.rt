@@ -1,5 +1,5 @@
 //! What is read and changed of the workers of one slice.
-ghost use Rattle.std.specs.Prelude.{◌≡◌, ℕ, ◌<◌, ◌++◌, ◌∷◌, [], None, Some, OnOk, IfNone, IfSome, length, drop};
+ghost use Rattle.std.specs.Prelude.{◌≡◌, ◌<◌, ◌++◌, ◌∷◌, [], None, Some, OnOk, IfNone, IfSome, length, drop};
 ghost use Rattle.std.specs.Prelude.{replicate, get_or, nat_lt, ◌&&◌};
 ghost use Rattle.slice_schedule.specs.World as world;
 ghost use Rattle.slice_schedule.specs.Front as front;

@@ -1,6 +1,5 @@
 //! The numbers of a slot.
-ghost use Rattle.std.specs.Prelude.{◌≡◌, ℕ, ◌+◌, ◌-◌, ◌^◌, ◌<◌, IfOk, OnOk, length, nat_lt, nat_le};
-ghost use Rattle.std.specs.Prelude.{false};
+ghost use Rattle.std.specs.Prelude.{◌≡◌, ◌+◌, ◌-◌, ◌^◌, ◌<◌, false, OnOk, length, nat_lt};
 ghost use Rattle.std.specs.Bool.{OnTrue};
 ghost use Rattle.slice_schedule.specs.Slots.{SlotNow, fresh_slot};
 ghost use Rattle.slice_schedule.specs.Slots as slots;
@@ -167,7 +166,6 @@ impl SlotNumbers {
         Ok(())
     }
 
-    #[inline(always)]
     pub fn add_packet(&mut self) -> Result<(), AllocError>
         ensures { OnOk result (self.new ≡ with_packet self.old) }
     {

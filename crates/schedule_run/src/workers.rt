@@ -1,7 +1,6 @@
 //! The numbers of the workers of a slice.
-ghost use Rattle.std.specs.Prelude.{◌≡◌, ℕ, ◌<◌, ◌≤◌, ◌++◌, ◌∷◌, [], ◌&&◌, None, Some, OnOk, IfOk, IfNone, IfSome};
+ghost use Rattle.std.specs.Prelude.{◌≡◌, ◌<◌, ◌++◌, ◌∷◌, [], ◌&&◌, None, Some, OnOk, IfNone, IfSome};
 ghost use Rattle.std.specs.Prelude.{length, drop, map, replicate, nat_lt, get_or};
-ghost use Rattle.std.specs.Bool.{OnTrue, OnFalse};
 ghost use Rattle.slice_schedule.specs.World as world;
 ghost use Rattle.slice_schedule.specs.ControlTurns as control;
 ghost use Rattle.slice_schedule.specs.FlowTurns as flow;
@@ -194,7 +193,6 @@ impl FlowNumbers {
         self.orders.len()
     }
 
-    #[inline(always)]
     pub fn order(&mut self, order: FlowOrder) -> Result<(), AllocError>
         ensures { OnOk result (self.new ≡ record self.old { orders = self.old.orders ++ flow_order order ∷ [] }) }
     {
@@ -227,7 +225,7 @@ impl FlowNumbers {
     }
 
     /// The slot of the half whose turn is next, if there is one; then that of the one behind it.
-    #[tactic(auto, using(crate::proofs::Rosters::slots_count, crate::proofs::Rosters::slots_at))]
+    #[tactic(auto, using(crate::proofs::Order::slots_count, crate::proofs::Order::slots_at))]
     pub fn go_round(&mut self) -> Option<usize>
         ensures none { IfNone result ((self.old.held ≡ []) × (self.new ≡ self.old)) }
         ensures some { IfSome result (λ slot. 0 < length self.old.held) }
@@ -279,7 +277,7 @@ impl FlowNumbers {
     }
 
     /// A half arrives.
-    #[tactic(auto, using(crate::proofs::Rosters::slots_pushed))]
+    #[tactic(auto, using(crate::proofs::Order::slots_pushed))]
     pub fn hold(&mut self, alloc: Global, slot: usize) -> Result<(), AllocError>
         ensures { OnOk result (self.new ≡ record self.old { held = self.old.held ++ slot ∷ [] }) }
     {

@@ -1,8 +1,7 @@
 //! The numbers of all slots and workers: what is read and changed of one slot.
-ghost use Rattle.std.specs.Prelude.{◌≡◌, ℕ, ◌-◌, OnOk, IfOk, length, nat_lt, [], ◌≤◌, ◌<◌, ◌+◌, ◌^◌};
-ghost use Rattle.std.specs.Prelude.{false};
+ghost use Rattle.std.specs.Prelude.{◌≡◌, ◌-◌, false, OnOk, IfOk, length, nat_lt, [], ◌≤◌, ◌<◌, ◌+◌, ◌^◌};
 ghost use Rattle.std.specs.Bool.{OnTrue};
-ghost use Rattle.slice_schedule.specs.Slots.{SlotNow, destination, is_absent};
+ghost use Rattle.slice_schedule.specs.Slots.{destination, is_absent};
 ghost use Rattle.slice_schedule.specs.World as world;
 ghost use Rattle.slice_schedule.specs.Front as front;
 ghost use Rattle.slice_schedule.specs.Halves as halves;

@@ -1,6 +1,6 @@
 use Rattle.std.proofs.Common.{sym, arith}
 use Rattle.schedule_run.specs.Rosters.{place_at}
-use Rattle.schedule_run.proofs.Rosters.{place_all}
+use Rattle.schedule_run.proofs.Places.{place_all}
 use Rattle.schedule_run.proofs.roster.round_from.Goals as goal
 
 pub returns-clause-place : goal.returns-clause-place
