@@ -1,6 +1,6 @@
 use Rattle.report_laws.proofs.OneThread.{entries_shown}
 use Rattle.report_laws.proofs.WithoutPlaces.{left_out}
-use Rattle.report_laws.proofs.laws.places_may_be_left_out.Goals as goal
+use Rattle.report_laws.proofs.shown.places_may_be_left_out.Goals as goal
 
 pub returns-clause-lawful : goal.returns-clause-lawful
 returns-clause-lawful c = left_out

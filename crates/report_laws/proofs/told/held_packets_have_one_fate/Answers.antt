@@ -1,5 +1,5 @@
 use Rattle.report_laws.proofs.HeldTold.{at_most_one, fates_follow}
-use Rattle.report_laws.proofs.laws.held_packets_have_one_fate.Goals as goal
+use Rattle.report_laws.proofs.told.held_packets_have_one_fate.Goals as goal
 
 pub returns-clause-one : goal.returns-clause-one
 returns-clause-one c = at_most_one

@@ -1,6 +1,6 @@
 use Rattle.report_laws.proofs.Confirmed.{own_confirmed, own_never_refuted}
 use Rattle.report_laws.proofs.OctetsConfirmed.{own_text_confirmed, own_text_never_refuted}
-use Rattle.report_laws.proofs.laws.own_report_is_confirmed.Goals as goal
+use Rattle.report_laws.proofs.confirming.own_report_is_confirmed.Goals as goal
 
 pub returns-clause-yes : goal.returns-clause-yes
 returns-clause-yes c = own_confirmed

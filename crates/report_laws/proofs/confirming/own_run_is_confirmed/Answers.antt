@@ -1,5 +1,5 @@
 use Rattle.report_laws.proofs.RunConfirmed.{run_confirmed, run_never_refuted}
-use Rattle.report_laws.proofs.laws.own_run_is_confirmed.Goals as goal
+use Rattle.report_laws.proofs.confirming.own_run_is_confirmed.Goals as goal
 
 pub returns-clause-done : goal.returns-clause-done
 returns-clause-done c = run_confirmed
