@@ -1,5 +1,5 @@
 -- A line that is decided.
-use Rattle.std.proofs.Common.{◌≡◌, ℕ, zero, suc, ◌+◌, ◌==◌, ◌<◌, ◌≤◌, Bool, true, false, cond, Some, List, [], ◌∷◌, ◌++◌, length, get_or, set, slice_get, get_or-set_same, get_or-set_other, length-set, refl, sym, ap, subst, ◌∙◌, inl, inr, arith, length-append, append_assoc, append-nil}
+use Rattle.std.proofs.Common.{◌≡◌, ℕ, zero, suc, ◌+◌, ◌==◌, ◌<◌, ◌≤◌, Bool, true, false, cond, Some, List, [], ◌∷◌, ◌++◌, length, get_or, set, slice_get, get_or-set_same, get_or-set_other, length-set, refl, sym, ap, subst, ◌∙◌, inl, inr, arith, length-append}
 use Rattle.std.proofs.lemmas.Bool.{cases_eq, cases_lt, eq-eqb, ne_eqb}
 use Rattle.std.proofs.lemmas.Nat.{mod_below}
 use Rattle.std.proofs.lemmas.Option.{slice_get-get_or, slice_get_past}
@@ -9,21 +9,22 @@ use Rattle.demux.specs.declared.decision.Decision.{Decision}
 use Rattle.demux.specs.declared.decision.Decision.TheVariants as decision
 use Rattle.demux.specs.declared.decision.Whose.{Whose}
 use Rattle.demux.specs.declared.decision.Whose.TheVariants.{Known, New}
+use Rattle.demux.specs.declared.meant.Meant.{Meant}
+use Rattle.demux.specs.declared.meant.Meant.TheVariants as now
 use Rattle.demux.specs.declared.packet.LentPacket.{LentPacket}
 use Rattle.demux.specs.Destinations.{bound_for, home_slice}
+use Rattle.demux.specs.Meant.{meaning_of}
 use Rattle.demux.specs.Resolved.{IsDue, book_after, book_behind, book_with, decided, slot_of}
 use Rattle.demux.specs.Texts.{move_note}
 use Rattle.demux.specs.Trace.{Meaning, command, move, note, book_of, decisions, destination_after, meant}
 use Rattle.demux.proofs.TraceLemmas.{book_of-push, destination_after-push}
 use Rattle.control_steps.specs.declared.command.CommandKind.{CommandKind}
 use Rattle.lawful_run.specs.Merging.{Histories}
-use Rattle.lawful_run.specs.Trace.{meant_from, settled_by}
+use Rattle.lawful_run.specs.Trace.{meant_next, settled_by}
 use Rattle.gate_model.specs.declared.event.Event.{Event}
 use Rattle.subscriber.specs.Standing.{SubscriberState, StandsFor, Represents}
 use Rattle.at_rest.specs.Rest.{AreAtRest, HasEvents, IsAtRest, NewOneIsAtRest, destination_or}
-use Rattle.at_rest.specs.Meant.{Admits, AreStanding, GoesOrStays, HasItsMoment, IsAdmitted, IsWithin, Moves, Stand, Stays, Turned, bound_of, meaning_of, meant_next}
-use Rattle.at_rest.specs.declared.meant.Meant.{Meant}
-use Rattle.at_rest.specs.declared.meant.Meant.TheVariants as now
+use Rattle.at_rest.specs.Meant.{Admits, AreStanding, GoesOrStays, HasItsMoment, IsAdmitted, IsWithin, Moves, Stand, Stays, Turned, bound_of}
 use Rattle.at_rest.proofs.Places.{AllAt, all_pushed, all_set}
 
 -- what a decision means
@@ -308,14 +309,3 @@ turned_order slices book subscribers line slot slice it subscribers_now many is 
       | inl stays ↦ turned_stay slices book subscribers line slot slice it subscribers_now many is low stays
       | inr moves ↦ turned_move slices book subscribers line slot slice it subscribers_now many is low low_slice moves
     ]
-
--- what lines mean, with one more
-pub meant_from-push : (slices : ℕ) (prior lines : List Line) (line : Line)
-    → meant_from slices prior (lines ++ line ∷ []) ≡ meant_from slices prior lines
-    ++ meant_next slices (prior ++ lines) line ∷ []
-meant_from-push slices prior [] line = ap (λ p. meant_next slices p line ∷ []) (sym (append-nil prior))
-meant_from-push slices prior (first ∷ lines) line =
-    ap (λ rest. meant_next slices prior first ∷ rest)
-    (meant_from-push slices (prior ++ first ∷ []) lines line
-    ∙ ap (λ p. meant_from slices (prior ++ first ∷ []) lines ++ meant_next slices p line ∷ [])
-    (append_assoc prior (first ∷ []) lines))

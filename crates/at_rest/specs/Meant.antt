@@ -1,28 +1,19 @@
 -- What lines mean to a book and the subscribers in it, and what they leave.
-use Rattle.std.specs.Prelude.{◌≡◌, ◌≢◌, ℕ, ◌≤◌, ◌<◌, ◌⊎◌, List, [], ◌∷◌, ◌++◌, length, map}
-use Rattle.std.specs.Prelude.{All, None, get_or, set, slice_get}
+use Rattle.std.specs.Prelude.{◌≡◌, ◌≢◌, ℕ, ◌≤◌, ◌<◌, ◌⊎◌, List, [], ◌∷◌, ◌++◌, length}
+use Rattle.std.specs.Prelude.{None, get_or, set, slice_get}
 use Rattle.trace_lines.specs.Line.{Line}
 use Rattle.demux.specs.Destinations.{home_slice}
+use Rattle.demux.specs.Meant.{meaning_of}
 use Rattle.demux.specs.Texts.{move_note}
-use Rattle.demux.specs.Trace.{Meaning, command, packet, move, note, book_of, destination_after, meaning}
+use Rattle.demux.specs.Trace.{Meaning, command, packet, move, note, book_of, destination_after}
 use Rattle.demux.specs.declared.decision.Whose.{Whose}
 use Rattle.demux.specs.declared.decision.Whose.TheVariants.{Known, New}
+use Rattle.demux.specs.declared.meant.Meant.{Meant}
+use Rattle.demux.specs.declared.meant.Meant.TheVariants as meant
 use Rattle.lawful_run.specs.Merging.{Histories}
-use Rattle.lawful_run.specs.Trace.{meant_from, settled_by}
+use Rattle.lawful_run.specs.Trace.{meant_next}
 use Rattle.subscriber.specs.Standing.{SubscriberState, StandsFor, last_of, Represents}
 use Rattle.at_rest.specs.Rest.{AreAtRest, destination_or}
-use Rattle.at_rest.specs.declared.meant.Meant.{Meant}
-use Rattle.at_rest.specs.declared.meant.Meant.TheVariants as meant
-
-abbrev pub meaning_of : Meant → Meaning
-meaning_of (meant.Command slot c) = command slot c
-meaning_of (meant.Packet slot p) = packet slot p
-meaning_of (meant.Move slot slice text) = move slot slice text
-meaning_of (meant.Note text) = note text
-
--- what a line means behind lines
-abbrev pub meant_next : ℕ → List Line → Line → Meaning
-meant_next slices prior line = settled_by slices prior (meaning slices prior line)
 
 -- a command or packet is of one of so many slots
 abbrev pub IsWithin : ℕ → Meaning → Type 0
@@ -66,7 +57,7 @@ abbrev pub Admits : ℕ → List (List ℕ) → Whose → List SubscriberState �
 Admits slices book (Known slot) old new = new ≡ old
 Admits slices book (New imsi) old new = IsAdmitted slices (length book) old new
 
--- an order to move moves the subscriber, or it was bound for the slice already
+-- an instruction to move moves the subscriber, or it was bound for the slice already
 pub record Stays (old new : List SubscriberState) (slot slice : ℕ) (now : Meant) : Type 0 where
   pub subscriber : SubscriberState
   pub found : subscriber ≡ get_or old slot subscriber

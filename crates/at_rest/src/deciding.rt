@@ -3,16 +3,15 @@ ghost use Rattle.std.specs.Prelude.{◌≡◌, ◌<◌, ◌≤◌, length, vec_l
 ghost use Rattle.demux.specs.Resolved.{IsDue, slot_of, book_with};
 ghost use Rattle.at_rest.specs.Meant.{Admits, GoesOrStays, Turned};
 
-use crate::meant::Meant;
 use address_book::AddressBook;
-use demux::{Decision, Whose, decide, home_slice, move_note};
+use demux::{Decision, Meant, Whose, decide, home_slice, move_note};
 use pc_base::{SliceNo, Slot};
 use std::alloc::{AllocError, Global};
 use subscriber::Subscriber;
 use trace_lines::TraceLine;
 
 /// What a line means by the book and the subscribers in it. A new IMSI gets the next slot, and a subscriber
-/// that is bound for its home slice; an order to move binds a subscriber for its slice.
+/// that is bound for its home slice; an instruction to move binds a subscriber for its slice.
 pub fn decide_line<'a>(
     alloc: Global,
     slices: u8,
@@ -64,7 +63,7 @@ fn admit(
     }
 }
 
-// An order to move: the subscriber is bound for the slice, if it wasn't already.
+// An instruction to move: the subscriber is bound for the slice, if it wasn't already.
 fn go<'a>(
     alloc: Global,
     subscribers: &mut Vec<Subscriber>,

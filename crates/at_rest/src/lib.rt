@@ -5,10 +5,8 @@
 
 mod deciding;
 mod laws;
-mod meant;
 mod rest;
 
 pub use deciding::decide_line;
 pub use laws::{new_one_is_at_rest, rest_goes_on, rest_leaves_room};
-pub use meant::Meant;
 pub use rest::AtRest;

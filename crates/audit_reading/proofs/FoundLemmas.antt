@@ -6,7 +6,7 @@ use Rattle.std.specs.Global.{Vec}
 use Rattle.report_lines.specs.declared.entry.Entry.{Entry}
 use Rattle.report_lines.specs.declared.entry.LineEntry.{LineEntry}
 use Rattle.lawful_run.specs.LinesTold.{LineTold}
-use Rattle.audit_sentences.specs.declared.meaning.Meant.{Meant}
+use Rattle.demux.specs.declared.meant.Meant.{Meant}
 use Rattle.audit_sentences.specs.declared.sharing.Keyed.{Keyed}
 use Rattle.audit_sentences.specs.declared.told_line.ToldLine.{ToldLine}
 use Rattle.audit_sentences.specs.Entries.{all_lines, in_line_order, line_entries}

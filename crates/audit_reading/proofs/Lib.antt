@@ -14,3 +14,7 @@ pub mod PlaceLemmas
 pub mod MadeLemmas
 pub mod AmongLemmas
 pub mod HoldLemmas
+pub mod TextLemmas
+pub mod InputLemmas
+pub mod SaidLemmas
+pub mod HeardLemmas

@@ -5,10 +5,10 @@ use Rattle.std.specs.Global.{Vec}
 use Rattle.std.proofs.lemmas.Grind.{flat_map-append}
 use Rattle.std.proofs.lemmas.List.{drop-drop, drop_more, length-map, map-append, take-append-drop, take_more}
 use Rattle.demux.specs.Trace.{Meaning}
+use Rattle.demux.specs.Meant.{meaning_of}
+use Rattle.demux.specs.declared.meant.Meant.{Meant}
 use Rattle.report_lines.specs.declared.entry.LineEntry.{LineEntry}
 use Rattle.lawful_run.specs.LinesTold.{LineTold}
-use Rattle.audit_sentences.specs.declared.meaning.Meant.{Meant}
-use Rattle.audit_sentences.specs.Meant.{meaning_of}
 use Rattle.audit_sentences.specs.Entries.{all_lines}
 use Rattle.audit_reading.specs.Answering.{answers, matched_all, matched_on, then_all}
 use Rattle.audit_reading.specs.Holding.{epochs_meant, meant_of}

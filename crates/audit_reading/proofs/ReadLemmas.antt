@@ -16,18 +16,18 @@ use Rattle.demux.specs.Trace as trace
 use Rattle.demux.specs.declared.decision.Decision.{Decision}
 use Rattle.demux.specs.declared.decision.Decision.TheVariants as decision
 use Rattle.demux.specs.declared.decision.Whose.{Whose}
+use Rattle.demux.specs.declared.meant.Meant.{Meant}
 use Rattle.control_steps.specs.declared.command.CommandKind.{CommandKind}
 use Rattle.demux.proofs.TraceLemmas.{book_of-push, destination_after-push}
-use Rattle.lawful_run.specs.Trace.{epochs_told, meant_from, own_epoch, settled_by, stop_noted}
+use Rattle.lawful_run.specs.Trace.{epochs_told, meant_from, meant_next, own_epoch, settled_by, stop_noted}
 use Rattle.lawful_run.proofs.CutEpochs.{meant_from-append}
-use Rattle.audit_sentences.specs.declared.meaning.Meant.{Meant}
 use Rattle.audit_sentences.specs.Entries.{all_lines}
 use Rattle.audit_reading.specs.declared.setup.BadAt.{BadAt}
 use Rattle.audit_reading.specs.declared.meaning.Cutter.{Cutter}
 use Rattle.audit_reading.specs.declared.meaning.Extent.{Extent}
 use Rattle.audit_reading.specs.declared.meaning.Reader.{Reader}
 use Rattle.lawful_run.specs.Cut.{IsCut, lines_in}
-use Rattle.audit_reading.specs.Cutting.{Cuts, Measures, Reads, meant_next, moved_from}
+use Rattle.audit_reading.specs.Cutting.{Cuts, Measures, Reads, moved_from}
 use Rattle.audit_reading.specs.Holding.{AreKnown, IsKnown, epochs_meant, meant_of}
 use Rattle.audit_reading.specs.Setups.{input_with, stop_of}
 use Rattle.lawful_run.proofs.CutLines.{cut_open, cut_whole, meant_epochs-push, octets_more, stays_short}

@@ -1,22 +1,17 @@
 -- How the lines of a trace are read, one after another, and cut into epochs.
-use Rattle.std.specs.Prelude.{◌≡◌, ℕ, ◌<◌, ◌==◌, true, false, if◌then◌else◌, All, List, [], ◌++◌}
-use Rattle.std.specs.Prelude.{length, flat_map, get_or}
-use Rattle.trace_lines.specs.Epochs.{epochs_behind, epochs_of, octets_in}
+use Rattle.std.specs.Prelude.{◌≡◌, ℕ, ◌<◌, ◌==◌, if◌then◌else◌, List, [], length, get_or}
+use Rattle.trace_lines.specs.Epochs.{octets_in}
 use Rattle.trace_lines.specs.Line.{Line}
 use Rattle.demux.specs.Texts.{move_note}
-use Rattle.demux.specs.Trace.{Meaning, book_of, destination_after, meaning, move, note}
+use Rattle.demux.specs.Trace.{Meaning, book_of, destination_after, move, note}
 use Rattle.lawful_run.specs.Cut.{IsCut, lines_in}
-use Rattle.lawful_run.specs.Trace.{meant_epochs, meant_from, settled_by}
+use Rattle.lawful_run.specs.Trace.{meant_epochs, meant_from}
 use Rattle.audit_reading.specs.declared.meaning.Cutter.{Cutter}
 use Rattle.audit_reading.specs.declared.meaning.Extent.{Extent}
 use Rattle.audit_reading.specs.declared.meaning.Reader.{Reader}
 use Rattle.audit_reading.specs.Holding.{meant_of, epochs_meant}
 
--- what a line means behind lines
-abbrev pub meant_next : ℕ → List Line → Line → Meaning
-meant_next slices done line = settled_by slices done (meaning slices done line)
-
--- an order to move a slot that is bound for a slice
+-- an instruction to move a slot that is bound for a slice
 abbrev pub moved_from : (bound slot slice : ℕ) → Meaning
 moved_from bound slot slice =
     if slice == bound then note (move_note bound slot slice) else move slot slice (move_note bound slot slice)

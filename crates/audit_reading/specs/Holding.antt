@@ -1,11 +1,12 @@
 -- Lines and epochs, as the program holds them.
 use Rattle.std.specs.Prelude.{ℕ, ◌+◌, ◌<◌, All, IfSome, List, [], ◌∷◌, length, map}
 use Rattle.std.specs.Global.{Vec}
+use Rattle.demux.specs.Meant.{meaning_of}
 use Rattle.demux.specs.Trace.{Meaning}
+use Rattle.demux.specs.declared.meant.Meant.{Meant}
 use Rattle.lawful_run.specs.LinesTold.{LineTold}
-use Rattle.audit_sentences.specs.declared.meaning.Meant.{Meant}
 use Rattle.audit_sentences.specs.declared.told_line.ToldLine.{ToldLine}
-use Rattle.audit_sentences.specs.Meant.{meaning_of, lines_of, slot_in}
+use Rattle.audit_sentences.specs.Meant.{lines_of, slot_in}
 use Rattle.audit_sentences.specs.OfSlot.{AreAnswered}
 
 -- what lines mean, and what those of each epoch do

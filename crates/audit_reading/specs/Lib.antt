@@ -8,3 +8,7 @@ pub mod Made
 pub mod Sequence
 pub mod Placing
 pub mod Agreeing
+pub mod Texts
+pub mod Said
+pub mod Heard
+pub mod Progress

@@ -2,7 +2,8 @@
 ghost use Rattle.std.specs.Prelude.{◌≡◌, ℕ, ◌+◌, ◌<◌, ◌^◌, ◌↔◌, [], List, drop, length, IfOk};
 ghost use Rattle.std.specs.Prelude.{IfSome, IsSome, option_map};
 ghost use Rattle.report_lines.specs.declared.entry.LineEntry.{LineEntry};
-ghost use Rattle.audit_sentences.specs.Meant.{lines_of, meaning_of};
+ghost use Rattle.demux.specs.Meant.{meaning_of};
+ghost use Rattle.audit_sentences.specs.Meant.{lines_of};
 ghost use Rattle.audit_reading.specs.Answering.{answers, is_note, is_refusal, matched_all, matched_on};
 ghost use Rattle.audit_sentences.specs.Entries.{all_lines, in_line_order, line_entries, line_of};
 ghost use Rattle.audit_reading.specs.Holding.{EpochsAnswered, epochs_held, epochs_meant, meanings_told, meant_of};
@@ -10,7 +11,8 @@ ghost use Rattle.audit_reading.specs.Matching.{IsKeyed, lent};
 ghost use Rattle.audit_sentences.specs.Sentences.{LinesAreAnswered, told_epochs};
 
 use crate::NoMemory;
-use audit_sentences::{Keyed, Meant, ToldLine, shares_of};
+use audit_sentences::{Keyed, ToldLine, shares_of};
+use demux::Meant;
 use pc_base::{Octets, Slot};
 use report_lines::{Entry, LineEntry, Refusal};
 use std::alloc::Global;

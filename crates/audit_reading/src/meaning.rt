@@ -5,11 +5,10 @@ ghost use Rattle.trace_lines.specs.Epochs.{ends_epoch};
 ghost use Rattle.trace_lines.specs.Line.{Line};
 ghost use Rattle.trace_lines.specs.Text.{line_text};
 ghost use Rattle.trace_lines.specs.Word.{word_of};
-ghost use Rattle.demux.specs.Destinations.{home_slice};
+ghost use Rattle.demux.specs.Meant.{meaning_of};
 ghost use Rattle.demux.specs.Trace.{book_of};
-ghost use Rattle.lawful_run.specs.Trace.{epochs_told, own_epoch, stop_noted};
-ghost use Rattle.audit_sentences.specs.Meant.{meaning_of};
-ghost use Rattle.audit_reading.specs.Cutting.{Cuts, Measures, Reads, meant_next, moved_from};
+ghost use Rattle.lawful_run.specs.Trace.{epochs_told, meant_next, own_epoch, stop_noted};
+ghost use Rattle.audit_reading.specs.Cutting.{Cuts, Measures, Reads, moved_from};
 ghost use Rattle.audit_sentences.specs.Entries.{all_lines};
 ghost use Rattle.audit_reading.specs.Holding.{AreKnown, epochs_meant, meant_of};
 ghost use Rattle.audit_reading.specs.Setups.{input_with, stop_of};
@@ -17,9 +16,8 @@ ghost use Rattle.audit_reading.specs.Setups.{input_with, stop_of};
 use crate::NoMemory;
 use crate::setup::BadAt;
 use address_book::AddressBook;
-use audit_sentences::Meant;
-use demux::{Decision, decide, home_slice, move_note};
-use pc_base::{LAST_SLOT, Octets, SliceNo, Slot};
+use demux::{Decision, Meant, decide, homes, move_note};
+use pc_base::{Octets, SliceNo, Slot};
 use std::alloc::Global;
 use std::mem;
 use text_fields::Text;
@@ -100,21 +98,6 @@ impl Reader {
             Ok(Meant::Move { slot, slice, text })
         }
     }
-}
-
-// The home slices of all slots.
-fn homes(alloc: Global, slices: u8) -> Result<Vec<SliceNo>, NoMemory>
-    requires least { 1 ≤ slices }
-    requires most { slices ≤ 64 }
-    ensures count { IfOk result (λ homes. length homes.items ≡ 65533) }
-    ensures each { IfOk result (λ homes. (slot : ℕ) → slot < 65533
-        → get_or homes.items slot 0 ≡ home_slice slices slot) }
-{
-    let mut bound = Vec::new(alloc);
-    for slot in 0..LAST_SLOT + 1 {
-        bound.push(home_slice(Slot(slot), slices))?;
-    }
-    Ok(bound)
 }
 
 // How many lines stand in the epoch so far, and how many octets they have.

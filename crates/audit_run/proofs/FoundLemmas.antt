@@ -11,14 +11,15 @@ use Rattle.trace_lines.specs.Line.{Line}
 use Rattle.lawful_run.specs.Setup.{Setup}
 use Rattle.audit_reading.specs.Setups.{input_with}
 use Rattle.audit_run.specs.Findings.{Breaks, Confirmed, Finds, IsOf, finding_text}
-use Rattle.audit_run.specs.Heard.{HasHeard}
-use Rattle.audit_run.specs.Progress.{Reached, ending_as}
+use Rattle.audit_reading.specs.Heard.{HasHeard}
+use Rattle.audit_reading.specs.Progress.{Reached}
+use Rattle.audit_run.specs.Report.{ending_as}
 use Rattle.audit_run.specs.Report.{Audits, Reports, SaysWhole}
-use Rattle.audit_run.specs.Texts.{Text, texts_of}
+use Rattle.audit_reading.specs.Texts.{Text, texts_of}
 use Rattle.audit_run.specs.declared.auditing.Audited.TheVariants as audited
-use Rattle.audit_run.specs.declared.auditing.Stopped.TheVariants as stopped_at
-use Rattle.audit_run.specs.declared.heard.Heard.{Heard}
-use Rattle.audit_run.proofs.HeardLemmas.{entries_heard, said_heard}
+use Rattle.audit_reading.specs.declared.hearing.Stopped.TheVariants as stopped_at
+use Rattle.audit_reading.specs.declared.heard.Heard.{Heard}
+use Rattle.audit_reading.proofs.HeardLemmas.{entries_heard, said_heard}
 
 pub confirmed_by : (setup : Setup) (heard : Heard) (texts : List Text) (lines : List Line) (entries : List Entry)
     → heard.outside ≡ false → lines ≡ heard.lines.items → entries ≡ heard.entries.items

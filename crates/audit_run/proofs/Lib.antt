@@ -12,9 +12,5 @@ pub mod FindingLemmas
 pub mod InRangeLemmas
 pub mod AuditLemmas
 pub mod HoldsLemmas
-pub mod TextLemmas
-pub mod ReadLemmas
-pub mod SaidLemmas
-pub mod HeardLemmas
 pub mod FoundLemmas
 pub mod OneFinding

@@ -1,53 +1,16 @@
 -- Lines have one finding.
-use Rattle.std.proofs.Common.{◌≡◌, ℕ, zero, suc, ◌<◌, List, [], ◌∷◌, map, All, inl, inr, Option, None, Some, refl, sym, ap, ap₂, ◌∙◌, subst, arith, length}
-use Rattle.std.proofs.lemmas.List.Elements.{All-contains, All-cons, All-head, All-nil, All-tail}
-use Rattle.report_lines.specs.Ranges.{IsEntry}
-use Rattle.report_lines.specs.Text.{entry_text}
+use Rattle.std.proofs.Common.{◌≡◌, ℕ, zero, suc, ◌<◌, List, inl, inr, Option, None, Some, refl, sym, ap, ◌∙◌, subst, arith, length}
 use Rattle.report_lines.specs.declared.entry.Entry.{Entry}
-use Rattle.report_lines.proofs.TextLemmas.{text_tells}
 use Rattle.demux.specs.Trace.{book_of}
 use Rattle.lawful_run.specs.Setup.{Setup, slices_of}
 use Rattle.lawful_run.specs.Trace.{epochs_told}
 use Rattle.audit_sentences.proofs.HavingLines.{traces_have_lines}
 use Rattle.audit_sentences.proofs.LawLemmas.{sentences_are_the_run}
+use Rattle.audit_reading.specs.Said.{report_texts, trace_said}
+use Rattle.audit_reading.specs.Texts.{Text}
+use Rattle.audit_reading.proofs.SaidLemmas.{no_other, one_list}
 use Rattle.audit_run.specs.Findings.{Breaks, Confirmed, Finds, IsOf, Refuted}
-use Rattle.audit_run.specs.Said.{AreEntries, HasNoEntry, report_texts, trace_said}
-use Rattle.audit_run.specs.Texts.{Text}
 use Rattle.trace_lines.specs.Input.{Input}
-
--- texts belong to one list of entries
-same_entries : (one other : List Entry) → All IsEntry one → All IsEntry other
-    → map entry_text one ≡ map entry_text other → one ≡ other
-same_entries [] [] are also same = refl
-same_entries [] (y ∷ other) are also same = cc
-same_entries (x ∷ one) [] are also same = cc
-same_entries (x ∷ one) (y ∷ other) are also same =
-    let first : entry_text x ≡ entry_text y = cc in
-    let rest : map entry_text one ≡ map entry_text other = cc in
-    ap₂ (λ e es. e ∷ es)
-    (text_tells x y (All-head IsEntry x one are) (All-head IsEntry y other also) first)
-    (same_entries one other (All-tail IsEntry x one are) (All-tail IsEntry y other also) rest)
-
-pub one_list : (texts : List Text) (one other : List Entry) → AreEntries texts one → AreEntries texts other
-    → one ≡ other
-one_list texts one other are also = same_entries one other are.ranges also.ranges (sym are.same ∙ also.same)
-
--- the text is an entry's
-abbrev IsSome : Text → Type 0
-IsSome text = (entry : Entry) × IsEntry entry × (text ≡ entry_text entry)
-
-all_some : (entries : List Entry) → All IsEntry entries → All IsSome (map entry_text entries)
-all_some [] are = All-nil IsSome
-all_some (entry ∷ entries) are =
-    All-cons IsSome (entry_text entry) (map entry_text entries) (entry, All-head IsEntry entry entries are, refl)
-    (all_some entries (All-tail IsEntry entry entries are))
-
--- so none of the lines of entries is none
-no_other : (texts : List Text) (entries : List Entry) → AreEntries texts entries → HasNoEntry texts → ⊥
-no_other texts entries are has =
-    let one : IsSome has.text = All-contains IsSome texts has.text
-    (subst (All IsSome) (sym are.same) (all_some entries are.ranges)) has.stands in
-    has.none one.0 one.1 one.2
 
 -- a lawful run breaks no sentence
 no_break : (setup : Setup) (trace : Input) (entries : List Entry) (k : ℕ) → IsOf setup trace entries

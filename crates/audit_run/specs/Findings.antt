@@ -9,8 +9,8 @@ use Rattle.lawful_run.specs.Setup.{Setup, slices_of}
 use Rattle.lawful_run.specs.Trace.{epochs_told}
 use Rattle.audit_sentences.specs.Lawful.{IsLawful}
 use Rattle.audit_sentences.specs.Sentences.{IsFirstBroken}
-use Rattle.audit_run.specs.Said.{AreEntries, HasNoEntry, report_texts, trace_said}
-use Rattle.audit_run.specs.Texts.{Text}
+use Rattle.audit_reading.specs.Said.{AreEntries, HasNoEntry, report_texts, trace_said}
+use Rattle.audit_reading.specs.Texts.{Text}
 
 -- entries are those of a lawful run of a trace · this is the first sentence of the lawful run that they break
 abbrev pub IsOf : Setup → Input → List Entry → Type 0

@@ -6,9 +6,5 @@ pub mod Shares
 pub mod Epochs
 pub mod Runs
 pub mod Replays
-pub mod Texts
-pub mod Said
-pub mod Heard
 pub mod Findings
 pub mod Report
-pub mod Progress

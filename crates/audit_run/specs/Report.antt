@@ -1,16 +1,14 @@
 -- What an audit wrote, by how it ended.
-use Rattle.std.specs.Prelude.{◌≡◌, ℕ, List, [], ◌++◌, Option, None, Some}
+use Rattle.std.specs.Prelude.{◌≡◌, ℕ, List, [], ◌++◌, Option, None, Some, Result, Ok, Err}
 use Rattle.std.specs.Io.KnownBytes.{Appends}
 use Rattle.pc_outside.specs.WhereTold.{WhereTold}
+use Rattle.pc_outside.specs.declared.writing.WriteFault.{WriteFault}
 use Rattle.lawful_run.specs.Setup.{Setup}
+use Rattle.audit_reading.specs.Progress.{IsReadWhole, IsTaken}
+use Rattle.audit_reading.specs.Texts.{big, long, texts_of}
 use Rattle.audit_run.specs.Findings.{Finds, finding_text}
-use Rattle.audit_run.specs.Texts.{big, ended, long, texts_of}
 use Rattle.audit_run.specs.declared.auditing.Audited.{Audited}
 use Rattle.audit_run.specs.declared.auditing.Audited.TheVariants as audited
-
--- all octets were read, and they end as they should
-abbrev pub IsReadWhole : List ℕ → List ℕ → Type 0
-IsReadWhole octets left = ((texts_of octets).stop ≡ ended) × (left ≡ [])
 
 -- the text says what is found
 pub record SaysWhole (setup : Setup) (octets text : List ℕ) (found : Option ℕ) : Type 0 where
@@ -23,12 +21,6 @@ pub record SaysPart (setup : Setup) (octets text : List ℕ) : Type 0 where
   pub finds : Finds setup (texts_of octets).lines found
   pub more : List ℕ
   pub says : finding_text found ≡ text ++ more
-
--- what was taken before a source failed has no line that is too long, and is less than what is looked at
-pub record IsTaken (octets left : List ℕ) : Type 0 where
-  pub taken : List ℕ
-  pub parts : octets ≡ taken ++ left
-  pub stop : (texts_of taken).stop ≡ ended
 
 abbrev pub Reports : Audited → Setup → List ℕ → List ℕ → List ℕ → Type 0
 Reports audited.Confirmed setup octets left text = IsReadWhole octets left × SaysWhole setup octets text None
@@ -45,3 +37,9 @@ pub record Audits (ending : Audited) (setup : Setup) (start left old new : Optio
   pub text : List ℕ
   pub written : Appends old new text
   pub report : WhereTold start left (λ octets rest. Reports ending setup octets rest text)
+
+-- what an audit comes to, by what is found and whether it was written
+abbrev pub ending_as : Option ℕ → Result Unit WriteFault → Audited
+ending_as found (Err fault) = audited.WriteFault
+ending_as None (Ok written) = audited.Confirmed
+ending_as (Some k) (Ok written) = audited.Refuted

@@ -1,22 +1,21 @@
 //! An audit from its input to its finding.
-ghost use Rattle.std.specs.Prelude.{◌≡◌, ◌+◌, ◌<◌, ◌≤◌, ◌^◌, ℕ, List, [], Option, vec_len, false};
-ghost use Rattle.std.specs.Prelude.{IfOk, IfSome, OnOk, OnErr, Ok};
+ghost use Rattle.std.specs.Prelude.{◌≡◌, ◌+◌, ◌<◌, ◌≤◌, ◌^◌, ℕ, List, Option, vec_len};
+ghost use Rattle.std.specs.Prelude.{IfOk, IfSome, OnOk, OnErr};
 ghost use Rattle.std.specs.Io.KnownBytes.{Appends};
 ghost use Rattle.pc_outside.specs.Faults.{Rises};
 ghost use Rattle.pc_outside.specs.Fronts.{AppendsFront};
-ghost use Rattle.audit_reading.specs.Setups.{IsSetup, setup_of};
-ghost use Rattle.audit_run.specs.Findings.{Finds, finding_text};
-ghost use Rattle.audit_run.specs.Heard.{HasHeard};
-ghost use Rattle.audit_run.specs.Progress.{Ends, Reached, ending_as};
 ghost use Rattle.pc_outside.specs.WhereTold.{WhereTold};
-ghost use Rattle.audit_run.specs.Report.{Audits};
-ghost use Rattle.audit_run.specs.Texts.{Text};
+ghost use Rattle.audit_reading.specs.Heard.{HasHeard};
+ghost use Rattle.audit_reading.specs.Progress.{Reached};
+ghost use Rattle.audit_reading.specs.Setups.{IsSetup, setup_of};
+ghost use Rattle.audit_reading.specs.Texts.{Text};
+ghost use Rattle.audit_run.specs.Findings.{Finds, finding_text};
+ghost use Rattle.audit_run.specs.Report.{Audits, ending_as};
 
 use crate::finding::Finding;
-use crate::heard::Heard;
 use crate::replaying::finding_of;
-use audit_reading::Setup;
-use pc_outside::{LineBuf, LineRead, Sink, Source, WriteFault, read_line, write_whole};
+use audit_reading::{Heard, Setup, Stopped, hear};
+use pc_outside::{Sink, Source, WriteFault, write_whole};
 use std::alloc::{AllocError, Global};
 
 /// How an audit ended.
@@ -36,54 +35,6 @@ pub enum Audited {
     LineLong,
     /// The input has 2^40 octets or more; nothing was written.
     TooLong,
-}
-
-/// Why no more lines come.
-#[derive(Clone, Copy, Debug, PartialEq, Eq)]
-pub enum Stopped {
-    /// The input ended.
-    Ended,
-    /// The source failed.
-    ReadFault,
-    /// A line has more than 132,000 octets.
-    LineLong,
-    /// The input has 2^40 octets or more.
-    TooLong,
-}
-
-/// Hears the lines of a trace, and of the report behind it, until no more come.
-pub fn hear<S: Source>(
-    alloc: Global,
-    source: &mut S,
-    buf: &mut LineBuf,
-    heard: &mut Heard,
-) -> Result<Stopped, AllocError>
-    requires fresh { buf.old ≡ record { line = []; last = false; front = []; room = 2 ^ 40 } }
-    requires nothing { HasHeard heard.old [] }
-    requires none { vec_len heard.old.lines ≡ 0 }
-
-    ensures ended { IfOk result (λ stop. Ends stop (S.left source.old) (S.left source.new) heard.new) }
-
-    // A source that told its octets tells what is left.
-    ensures told { WhereTold (S.left source.old) (S.left source.new) (λ octets rest. Unit {0}) }
-
-    ensures later { S.faults source.old ≤ S.faults source.new }
-    ensures fault { result ≡ Ok Stopped.ReadFault → Rises (S.faults source.old) (S.faults source.new) }
-{
-    loop {
-        match read_line(source, buf) {
-            LineRead::Line => {
-                heard.take(alloc, buf.line())?;
-                if buf.is_last() {
-                    return Ok(Stopped::Ended);
-                }
-            }
-            LineRead::End => return Ok(Stopped::Ended),
-            LineRead::LineLong => return Ok(Stopped::LineLong),
-            LineRead::TooLong => return Ok(Stopped::TooLong),
-            LineRead::ReadFault => return Ok(Stopped::ReadFault),
-        }
-    }
 }
 
 // What is found of what was heard: nothing to refute, or the number of what refutes the report.
@@ -174,19 +125,11 @@ pub fn audit<S: Source, K: Sink>(
     ensures read_fault { result ≡ Audited.ReadFault → Rises (S.faults source.old) (S.faults source.new) }
     ensures write_fault { result ≡ Audited.WriteFault → Rises (K.faults sink.old) (K.faults sink.new) }
 {
-    let mut buf = match LineBuf::new(alloc) {
-        Ok(buf) => buf,
-        Err(AllocError) => return Audited::NoMemory,
-    };
-    let mut heard = Heard::new(alloc);
-    let stop = match hear(alloc, source, &mut buf, &mut heard) {
-        Ok(stop) => stop,
-        Err(AllocError) => return Audited::NoMemory,
-    };
-    match stop {
-        Stopped::Ended => judge(alloc, setup, &heard, sink),
-        Stopped::ReadFault => Audited::ReadFault,
-        Stopped::LineLong => Audited::LineLong,
-        Stopped::TooLong => Audited::TooLong,
+    match hear(alloc, source) {
+        Ok((heard, Stopped::Ended)) => judge(alloc, setup, &heard, sink),
+        Ok((_, Stopped::ReadFault)) => Audited::ReadFault,
+        Ok((_, Stopped::LineLong)) => Audited::LineLong,
+        Ok((_, Stopped::TooLong)) => Audited::TooLong,
+        Err(AllocError) => Audited::NoMemory,
     }
 }

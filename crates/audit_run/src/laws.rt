@@ -2,7 +2,7 @@
 ghost use Rattle.std.specs.Prelude.{◌≡◌, ℕ, List, Option};
 ghost use Rattle.lawful_run.specs.Setup.{Setup};
 ghost use Rattle.audit_run.specs.Findings.{Finds};
-ghost use Rattle.audit_run.specs.Texts.{Text};
+ghost use Rattle.audit_reading.specs.Texts.{Text};
 
 /// The lines of an input have one finding, whatever gateway it is held against.
 pub fn one_finding()

@@ -8,15 +8,13 @@ mod auditing;
 mod epoch;
 mod finding;
 mod gateway;
-mod heard;
 mod laws;
 mod player;
 mod replaying;
 mod share;
 
-pub use auditing::{Audited, Stopped, audit, hear};
+pub use auditing::{Audited, audit};
 pub use finding::Finding;
-pub use heard::Heard;
 pub use laws::one_finding;
 pub use player::{Done, Placed, Played, Player};
 pub use replaying::finding_of;

@@ -1,19 +1,12 @@
--- What a line means, as the program holds it.
+-- What the lines of an epoch mean, with their entries.
 use Rattle.std.specs.Prelude.{ℕ, ◌==◌, Bool, true, false, if◌then◌else◌, Option, Some, None, List, map, filter}
 use Rattle.control_steps.specs.declared.command.CommandKind.{CommandKind}
 use Rattle.demux.specs.declared.packet.LentPacket.{LentPacket}
+use Rattle.demux.specs.Meant.{meaning_of}
 use Rattle.demux.specs.Trace.{Meaning, command, packet, move, note}
 use Rattle.lawful_run.specs.Accepted.{is_refused}
 use Rattle.lawful_run.specs.LinesTold.{LineTold}
-use Rattle.audit_sentences.specs.declared.meaning.Meant.{Meant}
 use Rattle.audit_sentences.specs.declared.told_line.ToldLine.{ToldLine}
-use Rattle.audit_sentences.specs.declared.meaning.Meant.TheVariants.{Command, Packet, Move, Note}
-
-abbrev pub meaning_of : Meant → Meaning
-meaning_of (Command slot c) = command slot c
-meaning_of (Packet slot p) = packet slot p
-meaning_of (Move slot slice text) = move slot slice text
-meaning_of (Note text) = note text
 
 -- a line of the trace with its entry, as the program holds them
 abbrev pub line_told : ToldLine → LineTold

@@ -6,7 +6,6 @@
 
 mod counting;
 mod laws;
-mod meaning;
 mod numbering;
 mod sharing;
 mod slots;
@@ -14,8 +13,8 @@ mod told_line;
 mod waiting;
 
 pub use counting::{counts_in_sequence, counts_rise};
+pub use demux::Meant;
 pub use laws::{sentences_are_the_run, sentences_of_slots};
-pub use meaning::Meant;
 pub use numbering::are_numbered_on;
 pub use pc_base::NoMemory;
 pub use sharing::{Keyed, arranged, shares_of};

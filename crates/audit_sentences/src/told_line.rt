@@ -1,9 +1,8 @@
 //! The lines of an epoch with their entries.
 ghost use Rattle.std.specs.Prelude.{◌≡◌};
 
-use crate::meaning::Meant;
 use control_steps::Command;
-use demux::LentPacket;
+use demux::{LentPacket, Meant};
 use pc_base::Slot;
 use report_lines::LineEntry;
 

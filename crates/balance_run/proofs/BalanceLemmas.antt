@@ -4,17 +4,17 @@ use Rattle.std.specs.Io.KnownBytes.{Appends}
 use Rattle.std.proofs.KnownBytes.{Appends-nil}
 use Rattle.audit_reading.specs.Setups.{input_with}
 use Rattle.audit_reading.specs.declared.setup.BadAt.{BadAt}
-use Rattle.audit_run.specs.Heard.{HasHeard}
-use Rattle.audit_run.specs.Progress.{Reached}
+use Rattle.audit_reading.specs.Heard.{HasHeard}
+use Rattle.audit_reading.specs.Progress.{Reached}
 use Rattle.pc_outside.specs.WhereTold.{WhereTold}
 use Rattle.pc_outside.proofs.ToldLemmas.{told_map}
-use Rattle.audit_run.specs.Said.{HasNoEntry, report_texts, trace_said}
-use Rattle.audit_run.specs.Texts.{Text, texts_of}
-use Rattle.audit_run.specs.declared.auditing.Stopped.{Stopped}
-use Rattle.audit_run.specs.declared.auditing.Stopped.TheVariants as stopped_at
-use Rattle.audit_run.specs.declared.heard.Heard.{Heard}
-use Rattle.audit_run.proofs.HeardLemmas.{entries_heard, outside_heard, said_heard}
-use Rattle.audit_run.proofs.OneFinding.{one_list}
+use Rattle.audit_reading.specs.Said.{HasNoEntry, report_texts, trace_said}
+use Rattle.audit_reading.specs.Texts.{Text, texts_of}
+use Rattle.audit_reading.specs.declared.hearing.Stopped.{Stopped}
+use Rattle.audit_reading.specs.declared.hearing.Stopped.TheVariants as stopped_at
+use Rattle.audit_reading.specs.declared.heard.Heard.{Heard}
+use Rattle.audit_reading.proofs.HeardLemmas.{entries_heard, outside_heard, said_heard}
+use Rattle.audit_reading.proofs.SaidLemmas.{one_list}
 use Rattle.trace_lines.specs.Input.{Input}
 use Rattle.balance_run.specs.Balance.{balanced}
 use Rattle.balance_run.specs.Report.{Balances, IsWrittenAs, Reports}

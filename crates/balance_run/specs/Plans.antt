@@ -23,7 +23,7 @@ abbrev pub loads_at : (slices since until : ℕ) → List Entry → List Line �
 loads_at slices since until entries before =
     map (load_at slices since until entries before) (range_with_len 0 (length (book_of before)))
 
--- the line that orders a move, at the FENCE's moment
+-- the line of a move, at the FENCE's moment
 abbrev pub move_line : Line → List (List ℕ) → Planned → Line
 move_line fence book step = record {
   number = fence.number;

@@ -3,9 +3,9 @@ use Rattle.std.specs.Prelude.{◌≡◌, ℕ, List, [], ◌++◌, Option}
 use Rattle.std.specs.Io.KnownBytes.{Appends}
 use Rattle.pc_outside.specs.Fronts.{AppendsFront}
 use Rattle.pc_outside.specs.WhereTold.{WhereTold}
-use Rattle.audit_run.specs.Report.{IsReadWhole, IsTaken}
-use Rattle.audit_run.specs.Said.{HasNoEntry, report_texts}
-use Rattle.audit_run.specs.Texts.{big, long, texts_of}
+use Rattle.audit_reading.specs.Progress.{IsReadWhole, IsTaken}
+use Rattle.audit_reading.specs.Said.{HasNoEntry, report_texts}
+use Rattle.audit_reading.specs.Texts.{big, long, texts_of}
 use Rattle.balance_run.specs.Said.{HasBadLine, IsBalanced, IsTrace}
 use Rattle.balance_run.specs.declared.balancing.Balanced.{Balanced}
 use Rattle.balance_run.specs.declared.balancing.Balanced.TheVariants as balanced

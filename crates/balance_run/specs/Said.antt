@@ -3,8 +3,8 @@ use Rattle.std.specs.Prelude.{◌≡◌, ℕ, List}
 use Rattle.report_lines.specs.declared.entry.Entry.{Entry}
 use Rattle.trace_lines.specs.Input.{bad, ended}
 use Rattle.trace_lines.specs.declared.bad.LineBad.{LineBad}
-use Rattle.audit_run.specs.Said.{AreEntries, HasNoEntry, report_texts, trace_said}
-use Rattle.audit_run.specs.Texts.{Text}
+use Rattle.audit_reading.specs.Said.{AreEntries, HasNoEntry, report_texts, trace_said}
+use Rattle.audit_reading.specs.Texts.{Text}
 use Rattle.balance_run.specs.Balance.{balanced}
 use Rattle.balance_run.specs.Written.{text_of}
 

@@ -4,10 +4,9 @@ ghost use Rattle.std.specs.Prelude.{IfOk, None, Some};
 ghost use Rattle.pc_outside.specs.Faults.{Rises};
 ghost use Rattle.pc_outside.specs.WhereTold.{WhereTold};
 ghost use Rattle.audit_reading.specs.declared.setup.BadAt.{BadAt};
-ghost use Rattle.audit_run.specs.Heard.{HasHeard};
-ghost use Rattle.audit_run.specs.Progress.{Reached};
-ghost use Rattle.audit_run.specs.Texts.{Text};
-ghost use Rattle.audit_run.specs.declared.auditing.Stopped.TheVariants as stopped;
+ghost use Rattle.audit_reading.specs.Heard.{HasHeard};
+ghost use Rattle.audit_reading.specs.Progress.{Reached};
+ghost use Rattle.audit_reading.specs.Texts.{Text};
 ghost use Rattle.balance_run.specs.Balance.{balanced};
 ghost use Rattle.balance_run.specs.Report.{Balances, IsWrittenAs};
 ghost use Rattle.balance_run.specs.Written.{text_of};
@@ -15,8 +14,8 @@ ghost use Rattle.balance_run.specs.Written.{text_of};
 use crate::NoMemory;
 use crate::packets::told_of;
 use crate::writing::Writer;
-use audit_run::{Heard, Stopped, hear};
-use pc_outside::{LineBuf, Sink, Source, WriteFault, write_whole};
+use audit_reading::{Heard, Stopped, hear};
+use pc_outside::{Sink, Source, WriteFault, write_whole};
 use report_lines::Entry;
 use std::alloc::{AllocError, Global};
 use text_fields::Text;
@@ -141,19 +140,11 @@ pub fn balance<S: Source, K: Sink>(
     ensures read_fault { result ≡ Balanced.ReadFault → Rises (S.faults source.old) (S.faults source.new) }
     ensures write_fault { result ≡ Balanced.WriteFault → Rises (K.faults sink.old) (K.faults sink.new) }
 {
-    let mut buf = match LineBuf::new(alloc) {
-        Ok(buf) => buf,
-        Err(AllocError) => return Balanced::NoMemory,
-    };
-    let mut heard = Heard::new(alloc);
-    let stop = match hear(alloc, source, &mut buf, &mut heard) {
-        Ok(stop) => stop,
-        Err(AllocError) => return Balanced::NoMemory,
-    };
-    match stop {
-        Stopped::Ended => level(alloc, slices, most, &heard, sink),
-        Stopped::ReadFault => Balanced::ReadFault,
-        Stopped::LineLong => unless_refused(&heard, Balanced::LineLong),
-        Stopped::TooLong => unless_refused(&heard, Balanced::TooLong),
+    match hear(alloc, source) {
+        Ok((heard, Stopped::Ended)) => level(alloc, slices, most, &heard, sink),
+        Ok((_, Stopped::ReadFault)) => Balanced::ReadFault,
+        Ok((heard, Stopped::LineLong)) => unless_refused(&heard, Balanced::LineLong),
+        Ok((heard, Stopped::TooLong)) => unless_refused(&heard, Balanced::TooLong),
+        Err(AllocError) => Balanced::NoMemory,
     }
 }

@@ -1,6 +1,6 @@
 //! What the definitions mean, each the contract of a function that does nothing.
 ghost use Rattle.std.specs.Prelude.{◌≡◌, ℕ, List};
-ghost use Rattle.audit_run.specs.Texts.{Text};
+ghost use Rattle.audit_reading.specs.Texts.{Text};
 ghost use Rattle.balance_run.specs.Balance.{balanced};
 ghost use Rattle.balance_run.specs.Said.{IsBalanced};
 ghost use Rattle.balance_run.specs.Written.{without_planned};

@@ -2,7 +2,7 @@
 ghost use Rattle.std.specs.Prelude.{◌≡◌, ℕ, ◌+◌, ◌<◌, ◌≤◌, ◌^◌, ◌++◌, ◌∷◌, [], All, List, map, get_or, set};
 ghost use Rattle.std.specs.Prelude.{length, sum_by, IfOk, OnOk};
 ghost use Rattle.balance_plan.specs.Loads.{IsBelow, SlotsRise};
-ghost use Rattle.demux.specs.Destinations.{bound_for, home_slice};
+ghost use Rattle.demux.specs.Destinations.{bound_for};
 ghost use Rattle.demux.specs.Resolved.{IsDecision, IsDue, book_behind, book_with};
 ghost use Rattle.pc_outside.specs.Limits.{newline};
 ghost use Rattle.report_lines.specs.declared.entry.Entry.{Entry};
@@ -17,8 +17,8 @@ use crate::NoMemory;
 use crate::packets::Told;
 use address_book::AddressBook;
 use balance_plan::{Load, Planned, plan, planned_moves_are_of_loads};
-use demux::{Decision, Whose, decide, home_slice};
-use pc_base::{Imsi, LAST_SLOT, SliceNo, Slot};
+use demux::{Decision, Whose, decide, homes};
+use pc_base::{Imsi, SliceNo, Slot};
 use std::alloc::Global;
 use text_fields::Text;
 use trace_lines::{LineKind, TraceLine, push_text};
@@ -35,21 +35,6 @@ pub(crate) struct Writer {
     lines: usize,
     fence: usize,
     pub(crate) text: Text,
-}
-
-// The home slices of all slots.
-fn homes(alloc: Global, slices: u8) -> Result<Vec<SliceNo>, NoMemory>
-    requires least { 1 ≤ slices }
-    requires most { slices ≤ 64 }
-    ensures count { IfOk result (λ homes. length homes.items ≡ 65533) }
-    ensures each { IfOk result (λ homes. (slot : ℕ) → slot < 65533
-        → get_or homes.items slot 0 ≡ home_slice slices slot) }
-{
-    let mut bound = Vec::new(alloc);
-    for slot in 0..LAST_SLOT + 1 {
-        bound.push(home_slice(Slot(slot), slices))?;
-    }
-    Ok(bound)
 }
 
 fn is_fence(line: &TraceLine) -> bool
@@ -80,7 +65,7 @@ fn bind(bound: &mut Vec<SliceNo>, slot: Slot, slice: SliceNo)
     bound[slot.0 as usize] = slice;
 }
 
-// The line that orders a planned move.
+// The line of a planned move.
 fn move_of(imsis: &[Imsi], fence: &TraceLine, step: &Planned) -> TraceLine
     requires slot { step.now.slot < length imsis.now }
     requires slice { step.now.slice ≤ 63 }
@@ -225,11 +210,11 @@ impl Writer {
         let loads = self.loads(alloc, before, told)?;
         let steps = plan(alloc, &loads, self.slices, self.most)?;
         planned_moves_are_of_loads();
-        self.order_all(fence, &steps)
+        self.push_moves(fence, &steps)
     }
 
     // Writes planned moves.
-    fn order_all(&mut self, fence: &TraceLine, steps: &[Planned]) -> Result<(), NoMemory>
+    fn push_moves(&mut self, fence: &TraceLine, steps: &[Planned]) -> Result<(), NoMemory>
         requires writer { IsWriter self.old }
         requires steps { All (IsStep (length self.old.book) self.old.slices) steps.now }
         ensures writer { OnOk result (IsWriter self.new) }
@@ -241,7 +226,7 @@ impl Writer {
         ensures fence { self.new.fence ≡ self.old.fence }
     {
         for step in steps {
-            self.order(fence, step)?;
+            self.push_move(fence, step)?;
         }
         Ok(())
     }
@@ -273,7 +258,7 @@ impl Writer {
     }
 
     // Writes a planned move.
-    fn order(&mut self, fence: &TraceLine, step: &Planned) -> Result<(), NoMemory>
+    fn push_move(&mut self, fence: &TraceLine, step: &Planned) -> Result<(), NoMemory>
         requires writer { IsWriter self.old }
         requires step { IsStep (length self.old.book) self.old.slices step.now }
         ensures writer { OnOk result (IsWriter self.new) }

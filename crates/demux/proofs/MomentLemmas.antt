@@ -32,7 +32,7 @@ use Rattle.demux.specs.Ends.{addressee, bearer_end, control_slot}
 use Rattle.demux.specs.Line.{asked, kind_asks}
 use Rattle.demux.specs.Message.{message_in}
 use Rattle.demux.specs.Mme.{asked_where, create_asked, create_or_unexpected, for_slot, message_asked, mme_asked, no_context_note, or_unexpected, session_asked, session_or_unexpected}
-use Rattle.demux.specs.Orders.{templated, templated_where}
+use Rattle.demux.specs.Instructions.{templated, templated_where}
 use Rattle.demux.specs.Requests.{creation, imsi_in, mme_in, session_command}
 use Rattle.demux.specs.Resolved.{HasMoment, admitting, decided, found_in, resolved, whose_in, wished_by}
 use Rattle.demux.specs.Tunnel.{carried_where, delivered_to, kind_asked, lent, packet_asked, packet_where, tunnel_asked, tunnel_where, tunnelled, tunnelled_to}
@@ -175,15 +175,15 @@ packet_at : (moment : ℕ) (octets : List ℕ) → AskedAt moment (packet_asked 
 unfolding packet_asked
 packet_at moment octets = packet_where_at moment octets (ip_fault octets)
 
--- orders lend none
-template_at : (moment : ℕ) (order : Tft → CommandKind) (octets : List ℕ) (fault : Option TBad)
-    → WishedAt moment (templated_where order octets fault)
-template_at moment order octets (Some bad) = tt
-template_at moment order octets None = tt
+-- instructions lend none
+template_at : (moment : ℕ) (command_of : Tft → CommandKind) (octets : List ℕ) (fault : Option TBad)
+    → WishedAt moment (templated_where command_of octets fault)
+template_at moment command_of octets (Some bad) = tt
+template_at moment command_of octets None = tt
 
-templated_at : (moment : ℕ) (order : Tft → CommandKind) (octets : List ℕ) → WishedAt moment (templated order octets)
+templated_at : (moment : ℕ) (command_of : Tft → CommandKind) (octets : List ℕ) → WishedAt moment (templated command_of octets)
 unfolding templated
-templated_at moment order octets = template_at moment order octets (template_fault octets)
+templated_at moment command_of octets = template_at moment command_of octets (template_fault octets)
 
 kind_at : (number moment : ℕ) (one : LineKind) → AskedAt moment (kind_asks number moment one)
 kind_at number moment (kind.S11 octets) = mme_at moment octets

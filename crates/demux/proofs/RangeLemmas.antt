@@ -8,7 +8,7 @@ use Rattle.bearer_state.specs.declared.ask.Ask.{Ask}
 use Rattle.control_steps.specs.Messages.{cause_alone}
 use Rattle.control_steps.specs.declared.cause.TheConstants.{CONTEXT_NOT_FOUND}
 use Rattle.control_steps.specs.declared.command.CommandKind.{CommandKind}
-use Rattle.control_steps.specs.declared.command.CommandKind.TheVariants as order
+use Rattle.control_steps.specs.declared.command.CommandKind.TheVariants as commands
 use Rattle.gtpu_codec.specs.Extension.{behind_headers, body_behind}
 use Rattle.gtpu_codec.specs.Head.{counted_in, flags_in, has_extensions, has_options, length_in, type_in}
 use Rattle.gtpu_codec.specs.Kind.{kind_of as tunnel_kind, type_octet}
@@ -62,7 +62,7 @@ use Rattle.demux.specs.Ends.{addressee, bearer_end, control_slot}
 use Rattle.demux.specs.Line.{asked, kind_asks}
 use Rattle.demux.specs.Message.{message_in}
 use Rattle.demux.specs.Mme.{asked_where, create_asked, create_or_unexpected, echo_note, echo_response, for_slot, message_asked, mme_asked, no_context_note, no_context_reply, or_unexpected, pool_note, session_asked, session_or_unexpected}
-use Rattle.demux.specs.Orders.{templated, templated_where}
+use Rattle.demux.specs.Instructions.{templated, templated_where}
 use Rattle.demux.specs.Ranges.{HasAddress, IsAskInRange, IsCommandInRange, IsInRange, IsOctet, IsPacketInRange, IsSlot}
 use Rattle.demux.specs.Requests.{ask_of, asks_in, assigned, bearer_answer, cause_in, context_in, creation, each_ask, enb_in, imsi_in, mme_in, modification, pdn_in, peer_of, qos_of, rates_in, session_command}
 use Rattle.demux.specs.Resolved.{IsDecision, IsDue, IsNote, admitting, decided, found_in, resolved, slot_of, whose_in, wished_by}
@@ -178,12 +178,12 @@ unfolding session_command
 session_in message all =
     test_some IsCommandInRange (message.kind == MODIFY_BEARER_REQUEST) (Some (modification message)) _
     (All-from_recursion IsAskInRange (asks_in message.ies) (asks_fit message.ies all))
-    (test_some IsCommandInRange (message.kind == DELETE_SESSION_REQUEST) (Some (order.Delete message.seq)) _ tt
-    (test_some IsCommandInRange (message.kind == RELEASE_ACCESS_BEARERS_REQUEST) (Some (order.Release message.seq)) _ tt
+    (test_some IsCommandInRange (message.kind == DELETE_SESSION_REQUEST) (Some (commands.Delete message.seq)) _ tt
+    (test_some IsCommandInRange (message.kind == RELEASE_ACCESS_BEARERS_REQUEST) (Some (commands.Release message.seq)) _ tt
     (test_some IsCommandInRange (message.kind == CREATE_BEARER_RESPONSE) (bearer_answer message) _
     (answer_in message all)
-    (test_some IsCommandInRange (message.kind == UPDATE_BEARER_RESPONSE) (Some (order.UpdateAns message.seq)) _ tt
-    (test_some IsCommandInRange (message.kind == DELETE_BEARER_RESPONSE) (Some (order.DeleteAns message.seq)) None tt
+    (test_some IsCommandInRange (message.kind == UPDATE_BEARER_RESPONSE) (Some (commands.UpdateAns message.seq)) _ tt
+    (test_some IsCommandInRange (message.kind == DELETE_BEARER_RESPONSE) (Some (commands.DeleteAns message.seq)) None tt
     tt)))))
 
 -- the replies that notes tell
@@ -434,17 +434,17 @@ packet_is : (moment : ℕ) (octets : List ℕ) → moment < 2 ^ 50 → Small oct
 unfolding packet_asked
 packet_is moment octets known small = packet_where_is moment octets (ip_fault octets) known small
 
--- orders
-template_is : (order_of : Tft → CommandKind) (octets : List ℕ) (fault : Option TBad) → template_fault octets ≡ fault
-    → AreOctets octets → ((tft : Tft) → IsTft tft → IsCommandInRange (order_of tft))
-    → WishIn (templated_where order_of octets fault)
-template_is order_of octets (Some bad) is are each = template_is_note bad
-template_is order_of octets None is are each = each (tft_at octets) (tft_taken octets are is).0
+-- instructions
+template_is : (command_of : Tft → CommandKind) (octets : List ℕ) (fault : Option TBad) → template_fault octets ≡ fault
+    → AreOctets octets → ((tft : Tft) → IsTft tft → IsCommandInRange (command_of tft))
+    → WishIn (templated_where command_of octets fault)
+template_is command_of octets (Some bad) is are each = template_is_note bad
+template_is command_of octets None is are each = each (tft_at octets) (tft_taken octets are is).0
 
-templated_is : (order_of : Tft → CommandKind) (octets : List ℕ) → AreOctets octets
-    → ((tft : Tft) → IsTft tft → IsCommandInRange (order_of tft)) → WishIn (templated order_of octets)
+templated_is : (command_of : Tft → CommandKind) (octets : List ℕ) → AreOctets octets
+    → ((tft : Tft) → IsTft tft → IsCommandInRange (command_of tft)) → WishIn (templated command_of octets)
 unfolding templated
-templated_is order_of octets are each = template_is order_of octets (template_fault octets) refl are each
+templated_is command_of octets are each = template_is command_of octets (template_fault octets) refl are each
 
 no_imsi : IsNote (codes "noimsi")
 no_imsi = words_are_note (codes "noimsi") refl

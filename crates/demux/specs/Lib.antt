@@ -5,10 +5,11 @@ pub mod Requests
 pub mod Asked
 pub mod Mme
 pub mod Tunnel
-pub mod Orders
+pub mod Instructions
 pub mod Line
 pub mod Resolved
 pub mod Destinations
 pub mod Trace
+pub mod Meant
 pub mod Packets
 pub mod Ranges

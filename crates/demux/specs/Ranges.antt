@@ -2,7 +2,7 @@
 use Rattle.std.specs.Prelude.{ℕ, ◌<◌, ◌≤◌, ◌^◌, List, length, All, IfSome}
 use Rattle.bearer_state.specs.declared.ask.Ask.{Ask}
 use Rattle.control_steps.specs.declared.command.CommandKind.{CommandKind}
-use Rattle.control_steps.specs.declared.command.CommandKind.TheVariants as order
+use Rattle.control_steps.specs.declared.command.CommandKind.TheVariants as commands
 use Rattle.demux.specs.Resolved.{IsNote}
 use Rattle.demux.specs.Trace.{Meaning, command, packet, move, note}
 use Rattle.demux.specs.declared.packet.LentPacket.{LentPacket}
@@ -24,19 +24,19 @@ IsAskInRange ask = IsOctet ask.ebi × IfSome ask.enb HasAddress
 
 -- the numbers of a command that its message or line has in one octet, and the addresses of eNodeBs
 abbrev pub IsCommandInRange : CommandKind → Type 0
-IsCommandInRange (order.Attach enb up down) = HasAddress enb
-IsCommandInRange (order.Create seq mme pdn ebi qos enb up down) =
+IsCommandInRange (commands.Attach enb up down) = HasAddress enb
+IsCommandInRange (commands.Create seq mme pdn ebi qos enb up down) =
     IsOctet ebi × IsOctet qos.arp × IsOctet qos.qci × IfSome enb HasAddress
-IsCommandInRange (order.Modify seq mme asks) = All IsAskInRange asks
-IsCommandInRange (order.Release seq) = Unit {0}
-IsCommandInRange (order.Delete seq) = Unit {0}
-IsCommandInRange (order.AddBearer seq qci mbr_up mbr_down gbr_up gbr_down tft) = IsOctet qci × IsTft tft
-IsCommandInRange (order.Filters seq ebi tft) = IsOctet ebi × IsTft tft
-IsCommandInRange (order.Drop seq ebi) = IsOctet ebi
-IsCommandInRange (order.Ambr seq up down) = Unit {0}
-IsCommandInRange (order.CreateAns seq cause ebi row_cause enb) = IsOctet ebi × IfSome enb HasAddress
-IsCommandInRange (order.UpdateAns seq) = Unit {0}
-IsCommandInRange (order.DeleteAns seq) = Unit {0}
+IsCommandInRange (commands.Modify seq mme asks) = All IsAskInRange asks
+IsCommandInRange (commands.Release seq) = Unit {0}
+IsCommandInRange (commands.Delete seq) = Unit {0}
+IsCommandInRange (commands.AddBearer seq qci mbr_up mbr_down gbr_up gbr_down tft) = IsOctet qci × IsTft tft
+IsCommandInRange (commands.Filters seq ebi tft) = IsOctet ebi × IsTft tft
+IsCommandInRange (commands.Drop seq ebi) = IsOctet ebi
+IsCommandInRange (commands.Ambr seq up down) = Unit {0}
+IsCommandInRange (commands.CreateAns seq cause ebi row_cause enb) = IsOctet ebi × IfSome enb HasAddress
+IsCommandInRange (commands.UpdateAns seq) = Unit {0}
+IsCommandInRange (commands.DeleteAns seq) = Unit {0}
 
 -- a packet no longer than IPv4 allows, at a moment of a trace
 pub record IsPacketInRange (lent : LentPacket) : Type 0 where

@@ -61,10 +61,10 @@ resolved slices book (note text) = Note text
 resolved slices book (admission digits asks full) = admitting (whose_in book digits) asks full
 resolved slices book (of whom wish missing) = wished_by slices (found_in book whom) wish missing
 
--- an order with a template for a slot, or a note
-abbrev pub order_or_note : (Tft → CommandKind) → Result (ℕ × Tft) (List ℕ) → Decision
-order_or_note order (Ok (at, tft)) = Command (Known at) (order tft)
-order_or_note order (Err text) = Note text
+-- an instruction with a template for a slot, or a note
+abbrev pub command_or_note : (Tft → CommandKind) → Result (ℕ × Tft) (List ℕ) → Decision
+command_or_note command_of (Ok (at, tft)) = Command (Known at) (command_of tft)
+command_or_note command_of (Err text) = Note text
 
 -- the book with an IMSI, where a slot is left for it
 abbrev pub with_imsi : List (List ℕ) → List ℕ → List (List ℕ)

@@ -66,7 +66,7 @@ template_note template_bad.RepeatedId = codes "tft repeated"
 template_note template_bad.Trailing = codes "tft trailing"
 template_note template_bad.NoMemory = codes "tft memory"
 
--- an order to move a slot to a slice, which is its destination already, or isn't
+-- an instruction to move a slot to a slice, which is its destination already, or isn't
 abbrev pub move_word : ℕ → ℕ → List ℕ
 move_word destination slice = if slice == destination then codes "stay" else codes "move"
 

@@ -3,10 +3,11 @@ ghost use Rattle.std.specs.Prelude.{◌≡◌, IfOk};
 ghost use Rattle.demux.specs.Resolved.{decided, book_after, book_behind, HasMoment, IsDecision};
 
 use crate::Decision;
-use crate::mme::decide_mme;
-use crate::orders::{
-    NewBearer, decide_attach, decide_bearer, decide_filters, decide_move, decide_order, seq_of_line,
+use crate::instructions::{
+    NewBearer, decide_attach, decide_bearer, decide_filters, decide_instruction, decide_move,
+    seq_of_line,
 };
+use crate::mme::decide_mme;
 use crate::texts::words;
 use crate::tunnel::{decide_packet, decide_tunnel};
 use address_book::AddressBook;
@@ -84,7 +85,7 @@ fn decide_kind<'a>(
             *ebi,
             tft.as_slice(),
         ),
-        LineKind::Drop { imsi, ebi } => decide_order(
+        LineKind::Drop { imsi, ebi } => decide_instruction(
             alloc,
             book,
             imsi,
@@ -92,7 +93,7 @@ fn decide_kind<'a>(
                 kind: CommandKind::Drop { seq, ebi: *ebi },
             },
         ),
-        LineKind::Ambr { imsi, up, down } => decide_order(
+        LineKind::Ambr { imsi, up, down } => decide_instruction(
             alloc,
             book,
             imsi,

@@ -17,7 +17,7 @@ pub enum Whose {
 pub enum Decision<'a> {
     Command { whose: Whose, command: Command },
     Packet { slot: Slot, packet: LentPacket<'a> },
-    /// An order that the subscriber goes to this slice.
+    /// An instruction that the subscriber goes to this slice.
     Move { slot: Slot, slice: SliceNo },
     /// Nothing is to be done: the text of the line's entry, one or more octets of printable ASCII.
     Note(Octets),

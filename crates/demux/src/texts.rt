@@ -149,7 +149,7 @@ pub fn template_note(bad: TBad) -> &'static str
     }
 }
 
-/// The word for an order that moves a slot to a slice: `move`, or `stay` where the slice is its destination
+/// The word for an instruction that moves a slot to a slice: `move`, or `stay` where the slice is its destination
 /// already.
 pub fn move_word(destination: SliceNo, slice: SliceNo) -> &'static str
     ensures { result.now ≡ move_word destination slice }
@@ -157,7 +157,7 @@ pub fn move_word(destination: SliceNo, slice: SliceNo) -> &'static str
     if slice == destination { "stay" } else { "move" }
 }
 
-/// The note on an order that moves a slot to a slice: `move`, or `stay` where the slice is its
+/// The note on an instruction that moves a slot to a slice: `move`, or `stay` where the slice is its
 /// destination already.
 pub fn move_note(
     alloc: Global,

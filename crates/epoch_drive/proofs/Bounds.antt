@@ -9,11 +9,10 @@ use Rattle.demux.specs.Resolved.{decided}
 use Rattle.demux.specs.Texts.{move_note}
 use Rattle.demux.specs.Trace.{move, note, book_of, destination_after}
 use Rattle.demux.proofs.TraceLemmas.{destination_after-push}
-use Rattle.lawful_run.specs.Trace.{meant_from}
+use Rattle.lawful_run.specs.Trace.{meant_from, meant_next}
 use Rattle.driven_run.specs.Runs.{bound_by, bounds_behind}
 use Rattle.subscriber.specs.Standing.{SubscriberState}
 use Rattle.at_rest.specs.Rest.{destination_or}
-use Rattle.at_rest.specs.Meant.{meant_next}
 use Rattle.at_rest.proofs.Turning.{meant_by}
 
 -- behind an order to move or to stay

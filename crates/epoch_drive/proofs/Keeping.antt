@@ -5,17 +5,18 @@ use Rattle.std.proofs.lemmas.List.{drop-append-le, drop_at, length-drop, length-
 use Rattle.std.proofs.lemmas.List.Elements.{All-cons, All-head, All-nil, All-push, All-tail, All-weaker}
 use Rattle.ipv4_packet.specs.Packet.{IsPacket}
 use Rattle.trace_lines.specs.Line.{Line}
+use Rattle.demux.specs.Meant.{meaning_of}
 use Rattle.demux.specs.Trace.{Meaning, packet}
+use Rattle.demux.specs.declared.meant.Meant.{Meant}
 use Rattle.demux.specs.declared.packet.LentPacket.{LentPacket}
 use Rattle.schedule_run.specs.Lines.{asked}
 use Rattle.schedule_run.specs.declared.ask.Ask.{Ask}
 use Rattle.driven_run.specs.Driven.{asks_of}
 use Rattle.subscriber.specs.Standing.{SubscriberState}
 use Rattle.at_rest.specs.Rest.{Rest}
-use Rattle.at_rest.specs.declared.meant.Meant.{Meant}
 use Rattle.epoch_drive.specs.Kept.{AreBounds, AreKept, AreNone, IsPlaced, Keeps, IsPlacedPacket, Places, meaning_in, meanings, packet_in}
 use Rattle.epoch_drive.specs.Lines.{latest_behind}
-use Rattle.at_rest.specs.Meant.{IsWithin, Turned, meaning_of}
+use Rattle.at_rest.specs.Meant.{IsWithin, Turned}
 use Rattle.epoch_drive.specs.Turned.{TurnedAll}
 use Rattle.epoch_drive.specs.Taken.{AreTaken, HasTaken, IsResting}
 use Rattle.epoch_drive.specs.declared.gateway.Gateway.{Gateway}

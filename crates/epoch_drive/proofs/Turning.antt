@@ -3,12 +3,13 @@ use Rattle.std.proofs.Common.{◌≡◌, ℕ, ◌≤◌, List, [], ◌∷◌, �
 use Rattle.std.specs.List.{All}
 use Rattle.std.proofs.lemmas.List.Elements.{All-nil, All-push, All-weaker}
 use Rattle.trace_lines.specs.Line.{Line}
+use Rattle.demux.specs.Meant.{meaning_of}
 use Rattle.demux.specs.Trace.{Meaning, command, packet, move, note}
+use Rattle.demux.specs.declared.meant.Meant.{Meant}
 use Rattle.lawful_run.specs.Trace.{meant_from}
+use Rattle.lawful_run.proofs.CutEpochs.{meant_from-append}
 use Rattle.subscriber.specs.Standing.{SubscriberState}
-use Rattle.at_rest.specs.Meant.{HasItsMoment, IsWithin, Stand, Turned, meaning_of}
-use Rattle.at_rest.specs.declared.meant.Meant.{Meant}
-use Rattle.at_rest.proofs.Turning.{meant_from-push}
+use Rattle.at_rest.specs.Meant.{HasItsMoment, IsWithin, Stand, Turned}
 use Rattle.epoch_drive.specs.Turned.{HaveMoments, TurnedAll}
 
 -- slots that are within so many are within more
@@ -57,7 +58,7 @@ turned_more slices book mid after subscribers between behind lines line made it 
   means = λ prior stand.
       ap (λ ms. ms ++ meaning_of it ∷ []) (all.means prior stand)
       ∙ ap (λ m. meant_from slices prior lines ++ m ∷ []) (one.means (prior ++ lines) (all.stand prior stand))
-      ∙ sym (meant_from-push slices prior lines line);
+      ∙ sym (meant_from-append slices prior lines (line ∷ []));
   stand = λ prior stand.
       subst (Stand slices after behind) (append_assoc prior lines (line ∷ []))
       (one.stand (prior ++ lines) (all.stand prior stand));

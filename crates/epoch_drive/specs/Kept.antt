@@ -1,13 +1,13 @@
 -- What lines mean that are kept until their epoch ends.
 use Rattle.std.specs.Prelude.{◌≡◌, ℕ, ◌≤◌, List, [], ◌++◌, All, length, map, slice_range}
 use Rattle.ipv4_packet.specs.Packet.{IsPacket}
+use Rattle.demux.specs.Meant.{meaning_of}
 use Rattle.demux.specs.Trace.{Meaning, command, packet, move, note}
+use Rattle.demux.specs.declared.meant.Meant.{Meant}
 use Rattle.demux.specs.declared.packet.LentPacket.{LentPacket}
 use Rattle.schedule_run.specs.Lines.{asked}
 use Rattle.driven_run.specs.Driven.{asks_of}
 use Rattle.subscriber.specs.Standing.{SubscriberState}
-use Rattle.at_rest.specs.Meant.{meaning_of}
-use Rattle.at_rest.specs.declared.meant.Meant.{Meant}
 use Rattle.epoch_drive.specs.declared.kept.EpochLines.{EpochLines}
 use Rattle.epoch_drive.specs.declared.kept.Kept.{Kept}
 use Rattle.epoch_drive.specs.declared.kept.Kept.TheVariants as kept

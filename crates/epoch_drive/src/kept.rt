@@ -9,9 +9,8 @@ ghost use Rattle.epoch_drive.specs.Kept.{AreNone, IsPlacedPacket, Keeps, Places,
 ghost use Rattle.epoch_drive.specs.Taken.{HasTaken};
 ghost use Rattle.epoch_drive.specs.declared.gateway.Gateway.{Gateway};
 
-use at_rest::Meant;
 use control_steps::Command;
-use demux::LentPacket;
+use demux::{LentPacket, Meant};
 use ipv4_packet::Ip4;
 use pc_base::{Moment, Octets, SliceNo, Slot, Way};
 use schedule_run::Ask;

@@ -1,4 +1,4 @@
--- Slices, worked: an order, a move, two packets that wait for it, and a third that finds their queue full.
+-- Slices, worked: an instruction, a move, two packets that wait for it, and a third that finds their queue full.
 use Rattle.std.proofs.Common.{◌≡◌, ℕ, Bool, true, IsTrue, List, [], ◌∷◌, length, refl, arith, inr}
 use Rattle.std.specs.List.{filter_map}
 use Rattle.demux.specs.Trace.{Meaning}

@@ -23,7 +23,7 @@ first_slot (O slot counters ∷ others) = slot
 untrue : IsTrue false → ⊥
 untrue is = cc
 
--- An order to attach and a packet: answered in sequence, this is lawful under any setup.
+-- An instruction to attach and a packet: answered in sequence, this is lawful under any setup.
 answered : answered_run 1 ((attach 0 ∷ uplink ∷ []) ∷ [])
     ≡ report_of (epoch_of (attached 1 0 0 ∷ forwarded 2 0 1 ∷ []) ∷ []) (open_with 20 1 ∷ [])
 unfolding happens conforms

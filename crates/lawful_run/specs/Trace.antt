@@ -10,7 +10,7 @@ use Rattle.lawful_run.specs.Setup.{Setup, slices_of}
 use Rattle.lawful_run.specs.Report.{Report}
 use Rattle.lawful_run.specs.Run.{IsRun}
 
--- an order to move a subscriber where it is bound for already moves nothing
+-- an instruction to move a subscriber where it is bound for already moves nothing
 abbrev pub settled_by : ℕ → List Line → Meaning → Meaning
 settled_by slices before (command slot c) = command slot c
 settled_by slices before (packet slot p) = packet slot p
@@ -18,11 +18,15 @@ settled_by slices before (move slot slice text) =
     if slice == destination_after slices slot before then note text else move slot slice text
 settled_by slices before (note text) = note text
 
+-- what a line means behind lines
+abbrev pub meant_next : ℕ → List Line → Line → Meaning
+meant_next slices before line = settled_by slices before (meaning slices before line)
+
 -- what lines mean, each behind those before it
 abbrev pub meant_from : ℕ → List Line → List Line → List Meaning
 meant_from slices before [] = []
 meant_from slices before (line ∷ lines) =
-    settled_by slices before (meaning slices before line) ∷ meant_from slices (before ++ line ∷ []) lines
+    meant_next slices before line ∷ meant_from slices (before ++ line ∷ []) lines
 
 -- a bad line is noted with the word of its fault; no other stop has an entry
 abbrev pub stop_noted : Stop → List Meaning

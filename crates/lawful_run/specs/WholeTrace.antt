@@ -1,4 +1,4 @@
--- A whole trace: a session by signalling and one by order, a second bearer, packets both ways, moves,
+-- A whole trace: a session by signalling and one by instruction, a second bearer, packets both ways, moves,
 -- and the session's end
 -- over four epochs; and its report.
 use Rattle.std.specs.Prelude.{ℕ, false, Option, Some, None, List, [], ◌∷◌, ◌++◌, codes}
@@ -12,7 +12,7 @@ use Rattle.pc_base.specs.declared.packet.Way.TheVariants as way
 use Rattle.tft_codec.specs.declared.component.Component.TheVariants.{Protocol}
 use Rattle.tft_codec.specs.declared.tft.Tft.{Tft}
 use Rattle.tft_codec.specs.declared.tft.Tft.TheVariants.{Create}
-use Rattle.control_steps.specs.declared.command.CommandKind.TheVariants as order
+use Rattle.control_steps.specs.declared.command.CommandKind.TheVariants as commands
 use Rattle.demux.specs.Trace.{Meaning, command, packet, move, note}
 use Rattle.report_lines.specs.declared.entry.LineEntry.{LineEntry}
 use Rattle.report_lines.specs.declared.entry.LineEntry.TheVariants as line
@@ -85,22 +85,22 @@ udp precedence = Create (record { id = 0; direction = 3; precedence = precedence
 abbrev pub enb : ℕ → Option Peer
 enb teid = Some (record { teid = teid; addr = 0xc633_6407 })
 
--- a session by signalling, and one by order
+-- a session by signalling, and one by instruction
 abbrev pub first_meant : List Meaning
 first_meant =
-    command 0 (order.Create 0x1 (record { teid = 0x1000; addr = 0xc633_6401 }) 3 5
+    command 0 (commands.Create 0x1 (record { teid = 0x1000; addr = 0xc633_6401 }) 3 5
     (record { arp = 0x24; qci = 9; mbr_up = 0; mbr_down = 0; gbr_up = 0; gbr_down = 0 }) None 50000 100000)
-    ∷ command 1 (order.Attach (record { teid = 0xb01; addr = 0xc633_6408 }) 1000 1000)
+    ∷ command 1 (commands.Attach (record { teid = 0xb01; addr = 0xc633_6408 }) 1000 1000)
     ∷ note (codes "fence")
     ∷ []
 
 -- an eNodeB, a second bearer, and other filters
 abbrev pub second_meant : List Meaning
 second_meant =
-    command 0 (order.Modify 0x2 None (record { ebi = 5; enb = enb 0xa01 } ∷ []))
-    ∷ command 0 (order.AddBearer 0x5 1 128 128 64 64 (udp 9))
-    ∷ command 0 (order.CreateAns 0x5 16 6 16 (enb 0xa02))
-    ∷ command 0 (order.Filters 0x7 5 (udp 10))
+    command 0 (commands.Modify 0x2 None (record { ebi = 5; enb = enb 0xa01 } ∷ []))
+    ∷ command 0 (commands.AddBearer 0x5 1 128 128 64 64 (udp 9))
+    ∷ command 0 (commands.CreateAns 0x5 16 6 16 (enb 0xa02))
+    ∷ command 0 (commands.Filters 0x7 5 (udp 10))
     ∷ note (codes "fence")
     ∷ []
 
@@ -119,7 +119,7 @@ third_meant =
 
 -- the end of the first session
 abbrev pub fourth_meant : List Meaning
-fourth_meant = command 0 (order.Delete 0x3) ∷ []
+fourth_meant = command 0 (commands.Delete 0x3) ∷ []
 
 abbrev pub whole_meant : List (List Meaning)
 whole_meant = first_meant ∷ second_meant ∷ third_meant ∷ fourth_meant ∷ []

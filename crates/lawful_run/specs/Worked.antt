@@ -8,7 +8,7 @@ use Rattle.charging_book.specs.declared.records.Why.TheVariants.{Gone}
 use Rattle.tft_codec.specs.declared.component.Component.TheVariants.{Protocol}
 use Rattle.tft_codec.specs.declared.tft.Tft.{Tft}
 use Rattle.tft_codec.specs.declared.tft.Tft.TheVariants.{Create}
-use Rattle.control_steps.specs.declared.command.CommandKind.TheVariants as order
+use Rattle.control_steps.specs.declared.command.CommandKind.TheVariants as commands
 use Rattle.demux.specs.Trace.{Meaning, command, packet, move}
 use Rattle.trace_lines.specs.Line.{Line}
 use Rattle.trace_lines.specs.declared.line.LineKind.{LineKind}
@@ -19,9 +19,9 @@ use Rattle.report_lines.specs.declared.entry.ChargeEntry.{ChargeEntry}
 use Rattle.report_lines.specs.declared.entry.ChargeEntry.TheVariants.{R, O}
 use Rattle.lawful_run.specs.Report.{EpochReport, Report}
 
--- an order to attach, and 20 octets from 10.45.0.2 to 203.0.113.9
+-- an instruction to attach, and 20 octets from 10.45.0.2 to 203.0.113.9
 abbrev pub attach : ℕ → Meaning
-attach slot = command slot (order.Attach (record { teid = 0xa01; addr = 0xc633_6407 }) 1000 1000)
+attach slot = command slot (commands.Attach (record { teid = 0xa01; addr = 0xc633_6407 }) 1000 1000)
 
 abbrev pub octets : List ℕ
 octets =
@@ -39,7 +39,7 @@ moved = move 0 1 (109 ∷ [])
 
 -- other rates
 abbrev pub rerate : Meaning
-rerate = command 0 (order.Ambr 1 500 500)
+rerate = command 0 (commands.Ambr 1 500 500)
 
 -- the entry of an order that was done
 abbrev pub attached : ℕ → ℕ → ℕ → LineEntry
@@ -135,12 +135,12 @@ filter_of precedence =
 
 abbrev pub answered_late : List Meaning
 answered_late =
-    command 0 (order.Create 1 (record { teid = 0x1000; addr = 0xc633_6401 }) 3 5
+    command 0 (commands.Create 1 (record { teid = 0x1000; addr = 0xc633_6401 }) 3 5
     (record { arp = 0x24; qci = 9; mbr_up = 0; mbr_down = 0; gbr_up = 0; gbr_down = 0 }) None 1000 1000)
-    ∷ command 0 (order.AddBearer 2 9 0 0 0 0 (filter_of 1))
-    ∷ command 0 (order.AddBearer 3 9 0 0 0 0 (filter_of 2))
-    ∷ command 0 (order.CreateAns 3 16 7 16 (Some (record { teid = 0xa03; addr = 0xc633_6407 })))
-    ∷ command 0 (order.CreateAns 2 16 6 16 (Some (record { teid = 0xa02; addr = 0xc633_6407 })))
+    ∷ command 0 (commands.AddBearer 2 9 0 0 0 0 (filter_of 1))
+    ∷ command 0 (commands.AddBearer 3 9 0 0 0 0 (filter_of 2))
+    ∷ command 0 (commands.CreateAns 3 16 7 16 (Some (record { teid = 0xa03; addr = 0xc633_6407 })))
+    ∷ command 0 (commands.CreateAns 2 16 6 16 (Some (record { teid = 0xa02; addr = 0xc633_6407 })))
     ∷ []
 
 abbrev pub nothing_counted : ℕ → ℕ → ChargeEntry
@@ -155,7 +155,7 @@ nothing_counted life ebi = O 0 (record {
   down_packets = 0;
 })
 
--- lines of a trace: an order to attach, and moves of this subscriber
+-- lines of a trace: an instruction to attach, and moves of this subscriber
 abbrev pub imsi : List ℕ
 imsi = codes "001010123456789"
 

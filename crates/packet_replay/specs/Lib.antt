@@ -1,2 +1,3 @@
 pub mod Metering
 pub mod Judging
+pub mod Replayed

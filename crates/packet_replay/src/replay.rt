@@ -26,19 +26,12 @@ pub struct PacketReplay {
 }
 
 impl Model for PacketReplay {
-    ghost use Rattle.std.specs.Prelude.{map};
-    ghost use Rattle.charging_book.specs.Postings.{happening_of};
     ghost use Rattle.packet_steps.specs.Past.{Past};
+    ghost use Rattle.packet_replay.specs.Replayed.{past_with};
 
     ghost Value = { Past };
 
-    ghost view = { λ replay. record {
-      version = replay.version;
-      forwarded = replay.forwarded;
-      held = replay.held.items;
-      last = replay.last;
-      charged = map happening_of replay.charged.items;
-    } };
+    ghost view = { λ r. past_with r.version r.forwarded r.held.items r.last r.charged.items };
 }
 
 impl PacketReplay {

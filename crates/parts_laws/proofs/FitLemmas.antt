@@ -1,34 +1,20 @@
 -- Pieces that fit a version are those of its active bearers.
 use Rattle.std.proofs.Common.{◌≡◌, ◌≢◌, ℕ, ◌≤◌, ◌==◌, ◌&&◌, nat_eq, Bool, true, false, List, [], ◌∷◌, length, inl, inr, refl, sym, ap, ◌∙◌, subst, arith, eq-eqb}
-use Rattle.std.specs.List.{AllByRecursion, IsDistinct, list_all, list_any}
-use Rattle.std.specs.Cmp.{nat_eq_equiv}
-use Rattle.std.proofs.lemmas.Bool.{ne_eqb, eqb-true, false≢true, cases_Bool}
+use Rattle.std.specs.List.{list_all, list_any}
+use Rattle.std.proofs.lemmas.Bool.{eqb-true, false≢true, cases_Bool}
 use Rattle.std.proofs.lemmas.List.{length-map}
-use Rattle.std.proofs.lemmas.Map.Made.{length-le_from_is_member}
 use Rattle.charging_book.specs.Accounts.{IsNone, AreDistinct}
 use Rattle.charging_book.proofs.PartLemmas.{parts_distinct}
 use Rattle.packet_steps.specs.Parts.{is_piece_of, has_bearer, all_have_bearers}
 use Rattle.packet_steps.proofs.PartLemmas.{both}
 use Rattle.gate_model.proofs.Members.{In, of_map, in_map, of_any, in_any, contains_in, in_contains}
 use Rattle.gate_model.proofs.BookSteps.{life_in, active_lives, has_of, of_has}
+use Rattle.subscriber.proofs.FitPieces.{apart_of, no_more}
 use Rattle.parts_laws.specs.Alike.{life_of}
 use Rattle.parts_laws.specs.Charging.{FittingPiecesAreOpen}
 use Rattle.parts_laws.proofs.PieceLemmas.{lives, lives_are}
 
--- as many different numbers as others are no more, and where they are as many they are all of them
-distinct_of : (ns : List ℕ) → AreDistinct ns → IsDistinct nat_eq ns
-unfolding IsDistinct
-distinct_of [] apart = tt
-distinct_of (n ∷ ns) apart = (others n ns apart.0, distinct_of ns apart.1)
-  where
-    others : (n : ℕ) (ns : List ℕ) → IsNone n ns → AllByRecursion (λ m. nat_eq n m ≡ false) ns
-    others n [] none = tt
-    others n (m ∷ ns) none = (ne_eqb n m (λ same. none.0 (sym same)), others n ns none.1)
-
-no_more : (ns ms : List ℕ) → AreDistinct ns → ((n : ℕ) → In n ns → In n ms) → length ns ≤ length ms
-no_more ns ms apart all = length-le_from_is_member nat_eq_equiv ns ms (distinct_of ns apart) (λ q member.
-    let found = of_any (nat_eq q) ns member in in_any (nat_eq q) found.0 ms (all found.0 found.1) found.2)
-
+-- where different numbers are as many as others, they are all of them
 none_of : (m : ℕ) (ns : List ℕ) → ((n : ℕ) → In n ns → n ≢ m) → IsNone m ns
 none_of m [] other = tt
 none_of m (n ∷ ns) other = (other n (inl refl), none_of m ns (λ k there. other k (inr there)))
@@ -45,7 +31,7 @@ all_in ns ms apart all few m there = elim (cases_Bool (list_any (nat_eq m) ns)) 
         | inl here ↦ subst (λ k. In k ms) here there
         | inr behind ↦ all n behind
       ] in
-      absurd (omega (arith, few, no_more (m ∷ ns) ms (none, apart) both_in))
+      absurd (omega (arith, few, no_more (m ∷ ns) ms (apart_of (m ∷ ns) (none, apart)) both_in))
 ]
 
 -- each piece has its bearer

@@ -5,7 +5,7 @@ use Rattle.lawful_run.specs.Setup.{Setup}
 use Rattle.audit_run.specs.Findings.{Finds}
 use Rattle.audit_run.specs.Report.{Reports}
 use Rattle.audit_run.specs.Report.{Audits as AuditsThere}
-use Rattle.audit_run.specs.Texts.{big, ended, long, texts_of}
+use Rattle.audit_reading.specs.Texts.{big, ended, long, texts_of}
 use Rattle.audit_run.specs.declared.auditing.Audited.{Audited}
 use Rattle.audit_run.specs.declared.auditing.Audited.TheVariants as audited
 use Rattle.audit_run.proofs.OneFinding.{one_finding}

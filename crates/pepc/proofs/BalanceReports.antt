@@ -1,8 +1,8 @@
 -- What `balance` wrote, by its status.
 use Rattle.std.proofs.Common.{◌≡◌, ℕ, inl, inr, List, [], Option, None, Some, refl, sym, ◌∙◌, subst}
 use Rattle.std.proofs.KnownBytes.{Appends-nil}
-use Rattle.audit_run.specs.Said.{HasNoEntry, report_texts}
-use Rattle.audit_run.specs.Texts.{big, ended, long, texts_of}
+use Rattle.audit_reading.specs.Said.{HasNoEntry, report_texts}
+use Rattle.audit_reading.specs.Texts.{big, ended, long, texts_of}
 use Rattle.balance_run.specs.Report.{Reports}
 use Rattle.balance_run.specs.Report.{Balances as BalancesThere}
 use Rattle.balance_run.specs.Said.{HasBadLine, IsTrace}

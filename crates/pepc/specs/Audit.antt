@@ -2,8 +2,9 @@
 use Rattle.std.specs.Prelude.{◌≡◌, ℕ, ◌⊎◌, Bool, List, [], Option, None, Some, if◌then◌else◌}
 use Rattle.std.specs.Io.KnownBytes.{Appends}
 use Rattle.lawful_run.specs.Setup.{Setup, sliced, solo}
-use Rattle.audit_run.specs.Report.{IsReadWhole, IsTaken, SaysPart, SaysWhole}
-use Rattle.audit_run.specs.Texts.{big, long, texts_of}
+use Rattle.audit_reading.specs.Progress.{IsReadWhole, IsTaken}
+use Rattle.audit_run.specs.Report.{SaysPart, SaysWhole}
+use Rattle.audit_reading.specs.Texts.{big, long, texts_of}
 use Rattle.audit_run.specs.declared.auditing.Audited.{Audited}
 use Rattle.audit_run.specs.declared.auditing.Audited.TheVariants as audited
 use Rattle.trace_run.specs.declared.status.Status.{Status}

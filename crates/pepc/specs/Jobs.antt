@@ -7,8 +7,8 @@ use Rattle.trace_lines.specs.Input.{ended, input_of}
 use Rattle.trace_run.specs.declared.status.Status.{Status}
 use Rattle.drive_run.specs.Driven.{IsDrivenReport}
 use Rattle.audit_run.specs.Findings.{Finds}
-use Rattle.audit_run.specs.Texts as texts
-use Rattle.audit_run.specs.Said.{HasNoEntry, report_texts}
+use Rattle.audit_reading.specs.Texts as texts
+use Rattle.audit_reading.specs.Said.{HasNoEntry, report_texts}
 use Rattle.balance_run.specs.Said.{IsTrace}
 use Rattle.pepc.specs.Audit.{Audits, Settles, audit_setup}
 use Rattle.pepc.specs.Balance.{Balances}

@@ -66,37 +66,39 @@ fn do_job<S: Source, K: Sink>(alloc: Global, asked: Job, source: &mut S, sink: &
     }
 }
 
-/// Does what the words say, without the program's name. `solo` and `drive` read a trace from the source and write
+/// Does what the arguments say, without the program's name. `solo` and `drive` read a trace from the source and write
 /// its report to the sink, epoch by epoch, as one thread answers it or under a schedule of turns; `make` writes a
 /// generated trace, or the summary of its report; `import` makes a trace of a capture, and `export` a capture of a
 /// trace; `audit` reads a trace and a report of it, and writes whether the report is a lawful one, and `balance` the
-/// trace with planned moves. Other words are Usage.
+/// trace with planned moves. Other arguments are Usage.
 pub fn run_plain<S: Source, K: Sink>(
     alloc: Global,
-    words: &[String],
+    arguments: &[String],
     source: &mut S,
     sink: &mut K,
 ) -> Status
-    // The words decide whether anything is done. Memory may run out before they are read.
-    ensures usage { result ≡ Status.Usage → job_of (map string_bytes words.now) ≡ None }
-    ensures no_job { job_of (map string_bytes words.now) ≡ None → (result ≡ Status.Usage) ⊎ (result ≡ Status.NoMemory) }
+    // The arguments decide whether anything is done. Memory may run out before they are read.
+    ensures usage { result ≡ Status.Usage → job_of (map string_bytes arguments.now) ≡ None }
+    ensures no_job { job_of (map string_bytes arguments.now) ≡ None
+        → (result ≡ Status.Usage) ⊎ (result ≡ Status.NoMemory) }
 
-    // Words that ask for no job touch nothing.
-    ensures untouched { job_of (map string_bytes words.now) ≡ None → (source.new ≡ source.old) × (sink.new ≡ sink.old) }
+    // Arguments that ask for no job touch nothing.
+    ensures untouched { job_of (map string_bytes arguments.now) ≡ None
+        → (source.new ≡ source.old) × (sink.new ≡ sink.old) }
 
     // `make` reads nothing.
     ensures unread { (seed subs lines : ℕ) (summary : Bool)
-        → job_of (map string_bytes words.now) ≡ Some (Job.Make seed subs lines summary) → source.new ≡ source.old }
+        → job_of (map string_bytes arguments.now) ≡ Some (Job.Make seed subs lines summary) → source.new ≡ source.old }
 
     // What is written is that of the job and the status, where source and sink tell their octets.
-    ensures report { Does (job_of (map string_bytes words.now)) result
+    ensures report { Does (job_of (map string_bytes arguments.now)) result
         (Rises (S.faults source.old) (S.faults source.new)) (S.left source.old) (S.left source.new)
         (K.written sink.old) (K.written sink.new) }
 
     // Where no count of faults rose, the job is done, unless memory ran out.
     ensures complete { ¬ Rises (S.faults source.old) (S.faults source.new)
         → ¬ Rises (K.faults sink.old) (K.faults sink.new)
-        → Completes (job_of (map string_bytes words.now)) result (S.left source.old) }
+        → Completes (job_of (map string_bytes arguments.now)) result (S.left source.old) }
 
     // Faults are those of the source and the sink.
     ensures source_later { S.faults source.old ≤ S.faults source.new }
@@ -104,7 +106,7 @@ pub fn run_plain<S: Source, K: Sink>(
     ensures read_fault { result ≡ Status.ReadFault → Rises (S.faults source.old) (S.faults source.new) }
     ensures write_fault { result ≡ Status.WriteFault → Rises (K.faults sink.old) (K.faults sink.new) }
 {
-    match job(alloc, words) {
+    match job(alloc, arguments) {
         Ok(Some(asked)) => do_job(alloc, asked, source, sink),
         Ok(None) => Status::Usage,
         Err(AllocError) => Status::NoMemory,

@@ -8,17 +8,17 @@ use std::env::Env;
 use std::process::ExitCode;
 use std::{env, io};
 
-// The words of the command line, without the program's name.
-fn words_given<R: Env + AllocGlobal>(rt: &R) -> io::Result<Vec<String>> {
-    let mut words = Vec::new(rt.alloc());
-    for word in env::args(rt)?.skip(1) {
-        words.push(word)?;
+// The arguments of the command line, without the program's name.
+fn arguments_given<R: Env + AllocGlobal>(rt: &R) -> io::Result<Vec<String>> {
+    let mut arguments = Vec::new(rt.alloc());
+    for argument in env::args(rt)?.skip(1) {
+        arguments.push(argument)?;
     }
-    Ok(words)
+    Ok(arguments)
 }
 
-// Words that aren't text are none of the program's.
-fn without_words(error: &io::Error) -> Status {
+// Arguments that aren't text are none of the program's.
+fn without_arguments(error: &io::Error) -> Status {
     match error.kind() {
         io::ErrorKind::OutOfMemory => Status::NoMemory,
         _ => Status::Usage,
@@ -28,9 +28,9 @@ fn without_words(error: &io::Error) -> Status {
 fn main(rt: HostRuntime) -> ExitCode {
     let mut source = StdSource::new(rt.stdin());
     let mut sink = StdSink::new(rt.stdout());
-    let status = match words_given(&rt) {
-        Ok(words) => run_plain(rt.alloc(), words.as_slice(), &mut source, &mut sink),
-        Err(error) => without_words(&error),
+    let status = match arguments_given(&rt) {
+        Ok(arguments) => run_plain(rt.alloc(), arguments.as_slice(), &mut source, &mut sink),
+        Err(error) => without_arguments(&error),
     };
     if status != Status::Ok {
         let text = fault_text(status);

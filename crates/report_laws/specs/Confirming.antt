@@ -8,9 +8,9 @@ use Rattle.lawful_run.specs.Report.{Report, entries_of, report_text}
 use Rattle.lawful_run.specs.Setup.{Setup, slices_of, solo}
 use Rattle.lawful_run.specs.Trace.{IsReport}
 use Rattle.audit_run.specs.Findings.{Finds}
-use Rattle.audit_run.specs.Said.{marker, trace_from}
-use Rattle.audit_run.specs.Texts as texts
-use Rattle.audit_run.specs.Texts.{Text, texts_of}
+use Rattle.audit_reading.specs.Said.{marker, trace_from}
+use Rattle.audit_reading.specs.Texts as texts
+use Rattle.audit_reading.specs.Texts.{Text, texts_of}
 
 -- the lines of its text, without places
 abbrev pub lines_of : Report → List Text

@@ -1,7 +1,7 @@
 -- What the program's `audit` finds of what its `solo` wrote.
 use Rattle.std.specs.Prelude.{◌≡◌, ℕ, Bool, false, List, [], ◌∷◌, ◌++◌, Some}
 use Rattle.command_words.specs.declared.jobs.Job.TheVariants as job
-use Rattle.audit_run.specs.Texts.{ended, texts_of}
+use Rattle.audit_reading.specs.Texts.{ended, texts_of}
 use Rattle.trace_run.specs.Report.{IsDone, Reports}
 use Rattle.trace_run.specs.declared.status.Status.{Status}
 use Rattle.trace_run.specs.declared.status.Status.TheVariants as status

@@ -1,9 +1,11 @@
 -- The pieces of a book that represents events are those of the active bearers, one of each.
-use Rattle.std.proofs.Common.{◌≡◌, ℕ, ◌+◌, ◌≤◌, ◌==◌, ◌&&◌, not, nat_lt, Bool, true, false, cond, List, [], ◌∷◌, ◌++◌, length, map, fold, filter, inl, inr, refl, sym, ap, ◌∙◌, subst, arith, eq-eqb}
-use Rattle.std.specs.List.{list_all}
+use Rattle.std.proofs.Common.{◌≡◌, ℕ, nat_eq, ◌+◌, ◌≤◌, ◌==◌, ◌&&◌, not, nat_lt, Bool, true, false, cond, List, [], ◌∷◌, ◌++◌, length, map, fold, filter, inl, inr, refl, sym, ap, ◌∙◌, subst, arith, eq-eqb}
+use Rattle.std.specs.Cmp.{nat_eq_equiv}
+use Rattle.std.specs.List.{AllByRecursion, IsDistinct, list_all}
 use Rattle.std.proofs.lemmas.Bool.{ne_eqb, eqb-true, false≢true, cases_Bool, not_from_false}
 use Rattle.std.proofs.lemmas.List.{length-map}
 use Rattle.std.proofs.lemmas.List.Sums.{fold-append}
+use Rattle.std.proofs.lemmas.Map.Made.{length-le_from_is_member}
 use Rattle.charging_book.specs.declared.records.Piece.{Piece}
 use Rattle.charging_book.specs.declared.records.Why.TheVariants.{Qos, Gone}
 use Rattle.charging_book.specs.Rows.{Counters}
@@ -24,7 +26,7 @@ use Rattle.packet_steps.specs.Parts.{is_piece_of, has_bearer, all_have_bearers, 
 use Rattle.gate_model.specs.declared.event.Event.{Event}
 use Rattle.gate_model.specs.declared.event.Event.TheVariants as event
 use Rattle.gate_model.specs.SlotPast.{SlotPast, new_slot, next_session, next_version, commanded, met, happens, behind, past_of}
-use Rattle.gate_model.proofs.Members.{In, of_map, in_map, of_filter, in_filter, in_any, IsOther, AreDistinct, other_at, other_if, one_of, distinct_filter}
+use Rattle.gate_model.proofs.Members.{In, of_map, in_map, of_filter, in_filter, of_any, in_any, IsOther, AreDistinct, other_at, other_if, one_of, distinct_filter}
 use Rattle.gate_model.proofs.SessionSteps.{Advances, AreLived, GoesTo, session_goes}
 use Rattle.gate_model.proofs.ActiveSteps.{shown_by, life_shown, same_bearer, actives_apart}
 use Rattle.gate_model.proofs.BookSteps.{life_in, active_lives, of_has, AreOpen}
@@ -219,48 +221,25 @@ pub tells_all : (slot : ℕ) (events : List Event) → TellsAll (past_of slot ev
 tells_all slot events = tells_from (new_slot slot) events (new_sound slot) (λ b none. absurd none)
 
 -- as many different numbers as others are no more
-abbrev is_other : ℕ → ℕ → Bool
-is_other n m = not (m == n)
+distinct_of : (ns : List ℕ) → AreDistinct ns → IsDistinct nat_eq ns
+unfolding IsDistinct
+distinct_of [] apart = tt
+distinct_of (n ∷ ns) apart = (others n ns apart.0, distinct_of ns apart.1)
+  where
+    others : (n : ℕ) (ns : List ℕ) → IsOther n ns → AllByRecursion (λ m. nat_eq n m ≡ false) ns
+    others n [] other = tt
+    others n (m ∷ ns) other = (ne_eqb n m other.0, others n ns other.1)
 
-fewer : (n : ℕ) (ns : List ℕ) → length (filter (is_other n) ns) ≤ length ns
-fewer n [] = omega arith
-fewer n (m ∷ ns) =
-    let rest = fewer n ns in
-    elim (is_other n m) as (λ t. length (cond t (m ∷ filter (is_other n) ns) (filter (is_other n) ns)) ≤ length (m ∷ ns)) [
-      | true ↦ omega (arith, rest)
-      | false ↦ omega (arith, rest)
-    ]
-
-one_fewer : (n : ℕ) (ns : List ℕ) → In n ns → length (filter (is_other n) ns) + 1 ≤ length ns
-one_fewer n [] there = absurd there
-one_fewer n (m ∷ ns) (inl here) =
-    let rest = fewer n ns in
-    let left : filter (is_other n) (m ∷ ns) ≡ filter (is_other n) ns =
-    ap (λ t. cond (not t) (m ∷ filter (is_other n) ns) (filter (is_other n) ns)) (eq-eqb m n here) in
-    let lens : length (filter (is_other n) (m ∷ ns)) ≡ length (filter (is_other n) ns) = ap length left in
-    omega (arith, rest, lens)
-one_fewer n (m ∷ ns) (inr there) =
-    let rest = one_fewer n ns there in
-    elim (is_other n m) as
-    (λ t. length (cond t (m ∷ filter (is_other n) ns) (filter (is_other n) ns)) + 1 ≤ length (m ∷ ns)) [
-      | true ↦ omega (arith, rest)
-      | false ↦ omega (arith, rest)
-    ]
-
-no_more : (ns ms : List ℕ) → AreDistinct ns → ((n : ℕ) → In n ns → In n ms) → length ns ≤ length ms
-no_more [] ms apart all = omega arith
-no_more (n ∷ ns) ms apart all =
-    let left = filter (is_other n) ms in
-    let rest = no_more ns left apart.1 (λ m there. in_filter (is_other n) m ms (all m (inr there))
-    (not_from_false (m == n) (ne_eqb m n (λ same. other_at n m ns apart.0 there (sym same))))) in
-    omega (arith, rest, one_fewer n ms (all n (inl refl)))
+pub no_more : (ns ms : List ℕ) → AreDistinct ns → ((n : ℕ) → In n ns → In n ms) → length ns ≤ length ms
+no_more ns ms apart all = length-le_from_is_member nat_eq_equiv ns ms (distinct_of ns apart) (λ q member.
+    let found = of_any (nat_eq q) ns member in in_any (nat_eq q) found.0 ms (all found.0 found.1) found.2)
 
 -- the words for numbers that differ
 others_of : (n : ℕ) (ns : List ℕ) → accounts.IsNone n ns → IsOther n ns
 others_of n [] none = tt
 others_of n (m ∷ ns) none = (λ same. none.0 (sym same), others_of n ns none.1)
 
-apart_of : (ns : List ℕ) → accounts.AreDistinct ns → AreDistinct ns
+pub apart_of : (ns : List ℕ) → accounts.AreDistinct ns → AreDistinct ns
 apart_of [] distinct = tt
 apart_of (n ∷ ns) distinct = (others_of n ns distinct.0, apart_of ns distinct.1)
 

@@ -18,6 +18,17 @@ pub record SubscriberState : Type 0 where
   pub packets : ℕ
   pub destination : ℕ
 
+-- the subscriber of these
+abbrev pub subscriber_of : SessionState → VersionState → counters.CountersState → (packets destination : ℕ)
+    → SubscriberState
+subscriber_of session version running packets destination = record {
+  session = session;
+  version = version;
+  counters = running;
+  packets = packets;
+  destination = destination;
+}
+
 -- how many commands its packets go by, and the moment of its last packet
 abbrev pub commands_met : SubscriberState → ℕ
 commands_met subscriber = subscriber.version.number

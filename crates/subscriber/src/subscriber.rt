@@ -28,17 +28,11 @@ pub struct Subscriber {
 }
 
 impl Model for Subscriber {
-    ghost use Rattle.subscriber.specs.Standing.{SubscriberState};
+    ghost use Rattle.subscriber.specs.Standing.{SubscriberState, subscriber_of};
 
     ghost Value = { SubscriberState };
 
-    ghost view = { λ subscriber. record {
-      session = subscriber.session;
-      version = subscriber.version;
-      counters = subscriber.counters;
-      packets = subscriber.packets;
-      destination = subscriber.destination;
-    } };
+    ghost view = { λ s. subscriber_of s.session s.version s.counters s.packets s.destination };
 }
 
 impl Subscriber {

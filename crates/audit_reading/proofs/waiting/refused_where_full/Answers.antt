@@ -1,5 +1,6 @@
 use Rattle.std.proofs.Common.{◌+◌, take, subst, sym}
-use Rattle.audit_sentences.specs.Meant.{lines_of, meaning_of}
+use Rattle.demux.specs.Meant.{meaning_of}
+use Rattle.audit_sentences.specs.Meant.{lines_of}
 use Rattle.audit_reading.specs.Holding.{IsKnown}
 use Rattle.audit_reading.specs.Waiting.{AreWaiting}
 use Rattle.audit_reading.proofs.RefuseLemmas.{breaks_off, front_more, goes_on, known_at}

@@ -1,7 +1,7 @@
 use Rattle.std.proofs.Common.{inl, refl}
 use Rattle.audit_reading.specs.Setups.{setup_of}
 use Rattle.audit_run.proofs.FoundLemmas.{broken_by, confirmed_by}
-use Rattle.audit_run.proofs.HeardLemmas.{outside_heard}
+use Rattle.audit_reading.proofs.HeardLemmas.{outside_heard}
 use Rattle.audit_run.proofs.auditing.found.Goals as goal
 
 pub returns-then-heard-clause-finds : goal.returns-then-heard-clause-finds

@@ -1,6 +1,6 @@
 use Rattle.std.proofs.Common.{ap, sym, ◌∙◌}
-use Rattle.audit_run.specs.Progress.{Reached}
-use Rattle.audit_run.specs.declared.auditing.Stopped.TheVariants as stopped
+use Rattle.audit_reading.specs.Progress.{Reached}
+use Rattle.audit_reading.specs.declared.hearing.Stopped.TheVariants as stopped
 use Rattle.balance_run.specs.Balance.{balanced}
 use Rattle.balance_run.specs.Written.{text_of}
 use Rattle.balance_run.proofs.BalanceLemmas.{memory_said, none_of, refused_said, report_said, some_of, written_so}

@@ -9,16 +9,16 @@ use Rattle.pepc.proofs.plain.run_plain.Goals as goal
 pub returns-in-Err-clause-report : goal.returns-in-Err-clause-report
 returns-in-Err-clause-report g c =
     let faults = g.S.Source.faults c.args.source.now in
-    nothing_done (job_of (map string_bytes c.args.words.now)) (Rises faults faults)
+    nothing_done (job_of (map string_bytes c.args.arguments.now)) (Rises faults faults)
     (g.S.Source.left c.args.source.now) (g.K.Sink.written c.args.sink.now)
 
 pub returns-in-Err-clause-complete : goal.returns-in-Err-clause-complete
 returns-in-Err-clause-complete g c = λ no_source no_sink.
-    nothing_completes (job_of (map string_bytes c.args.words.now)) (g.S.Source.left c.args.source.now)
+    nothing_completes (job_of (map string_bytes c.args.arguments.now)) (g.S.Source.left c.args.source.now)
 
 pub returns-in-Ok-Some-clause-complete : goal.returns-in-Ok-Some-clause-complete
 returns-in-Ok-Some-clause-complete g c =
-    let is : Some c.in-Ok-Some.asked ≡ job_of (map string_bytes c.args.words.now) =
+    let is : Some c.in-Ok-Some.asked ≡ job_of (map string_bytes c.args.arguments.now) =
     sym c.in-Ok-Some.field-0-is ∙ c.in-Ok-Some.ensures.job in
     λ no_source no_sink.
     subst (λ asked. Completes asked c.do_job.result (g.S.Source.left c.args.source.now)) is

@@ -1,8 +1,8 @@
 use Rattle.std.proofs.Common.{◌++◌, ◌∷◌, [], if◌then◌else◌, ap, refl, sym, subst, ◌∙◌}
 use Rattle.std.specs.Global.{Vec}
 use Rattle.std.proofs.lemmas.List.{map-append}
-use Rattle.audit_sentences.specs.declared.meaning.Meant.{Meant}
-use Rattle.audit_sentences.specs.Meant.{meaning_of}
+use Rattle.demux.specs.declared.meant.Meant.{Meant}
+use Rattle.demux.specs.Meant.{meaning_of}
 use Rattle.audit_reading.specs.Cutting.{Measures}
 use Rattle.audit_reading.specs.Holding.{epochs_meant, meant_of}
 use Rattle.audit_reading.proofs.ReadLemmas.{cuts_open, cuts_whole}

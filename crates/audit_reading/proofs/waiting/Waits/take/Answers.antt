@@ -1,5 +1,6 @@
 use Rattle.std.proofs.Common.{◌≡◌, ◌+◌, ◌↔◌, Some, None, IsTrue, ap, sym, subst, ◌∙◌, set}
-use Rattle.audit_sentences.specs.Meant.{line_told, meaning_of, slot_in}
+use Rattle.demux.specs.Meant.{meaning_of}
+use Rattle.audit_sentences.specs.Meant.{line_told, slot_in}
 use Rattle.lawful_run.specs.Refusals.{RefusedAs}
 use Rattle.audit_reading.specs.Setups.{setup_of}
 use Rattle.audit_reading.specs.Waiting.{refused_well}

@@ -1,0 +1,76 @@
+//! The lines of an input, until no more come.
+ghost use Rattle.std.specs.Prelude.{◌≡◌, ◌≤◌, ◌^◌, [], vec_len, false, IfOk, Ok};
+ghost use Rattle.pc_outside.specs.Faults.{Rises};
+ghost use Rattle.pc_outside.specs.WhereTold.{WhereTold};
+ghost use Rattle.audit_reading.specs.Heard.{HasHeard};
+ghost use Rattle.audit_reading.specs.Progress.{Ends};
+
+use crate::NoMemory;
+use crate::heard::Heard;
+use pc_outside::{LineBuf, LineRead, Source, read_line};
+use std::alloc::Global;
+
+/// Why no more lines come.
+#[derive(Clone, Copy, Debug, PartialEq, Eq)]
+pub enum Stopped {
+    /// The input ended.
+    Ended,
+    /// The source failed.
+    ReadFault,
+    /// A line has more than 132,000 octets.
+    LineLong,
+    /// The input has 2^40 octets or more.
+    TooLong,
+}
+
+// Hears the lines of an input until no more come.
+fn hear_lines<S: Source>(
+    alloc: Global,
+    source: &mut S,
+    buf: &mut LineBuf,
+    heard: &mut Heard,
+) -> Result<Stopped, NoMemory>
+    requires fresh { buf.old ≡ record { line = []; last = false; front = []; room = 2 ^ 40 } }
+    requires nothing { HasHeard heard.old [] }
+    requires none { vec_len heard.old.lines ≡ 0 }
+
+    ensures ended { IfOk result (λ stop. Ends stop (S.left source.old) (S.left source.new) heard.new) }
+
+    // A source that told its octets tells what is left.
+    ensures told { WhereTold (S.left source.old) (S.left source.new) (λ octets rest. Unit {0}) }
+
+    ensures later { S.faults source.old ≤ S.faults source.new }
+    ensures fault { result ≡ Ok Stopped.ReadFault → Rises (S.faults source.old) (S.faults source.new) }
+{
+    loop {
+        match read_line(source, buf) {
+            LineRead::Line => {
+                heard.take(alloc, buf.line())?;
+                if buf.is_last() {
+                    return Ok(Stopped::Ended);
+                }
+            }
+            LineRead::End => return Ok(Stopped::Ended),
+            LineRead::LineLong => return Ok(Stopped::LineLong),
+            LineRead::TooLong => return Ok(Stopped::TooLong),
+            LineRead::ReadFault => return Ok(Stopped::ReadFault),
+        }
+    }
+}
+
+/// Hears the lines of a trace, and of the report behind it, until no more come: what was heard, and why no more come.
+pub fn hear<S: Source>(alloc: Global, source: &mut S) -> Result<(Heard, Stopped), NoMemory>
+    ensures ended { IfOk result (λ told. Ends told.1 (S.left source.old) (S.left source.new) told.0) }
+
+    // A source that told its octets tells what is left.
+    ensures told { WhereTold (S.left source.old) (S.left source.new) (λ octets rest. Unit {0}) }
+
+    ensures later { S.faults source.old ≤ S.faults source.new }
+    ensures fault { IfOk result (λ told. told.1 ≡ Stopped.ReadFault
+        → Rises (S.faults source.old) (S.faults source.new)) }
+{
+    let mut buf = LineBuf::new(alloc)?;
+    let mut heard = Heard::new(alloc);
+    let stop = hear_lines(alloc, source, &mut buf, &mut heard)?;
+    Ok((heard, stop))
+}

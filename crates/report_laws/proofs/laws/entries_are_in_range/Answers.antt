@@ -1,5 +1,0 @@
-use Rattle.report_laws.proofs.OctetsConfirmed.{entries_of_octets}
-use Rattle.report_laws.proofs.laws.entries_are_in_range.Goals as goal
-
-pub returns : goal.returns
-returns c = entries_of_octets

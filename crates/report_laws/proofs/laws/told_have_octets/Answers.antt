@@ -1,5 +1,0 @@
-use Rattle.report_laws.proofs.OctetsTold.{told_have_octets}
-use Rattle.report_laws.proofs.laws.told_have_octets.Goals as goal
-
-pub returns : goal.returns
-returns c = told_have_octets
