@@ -14,7 +14,7 @@ use Rattle.schedule_run.specs.declared.ask.Ask.{Ask}
 use Rattle.driven_run.specs.Driven.{asks_of}
 use Rattle.subscriber.specs.Standing.{SubscriberState}
 use Rattle.at_rest.specs.Rest.{Rest}
-use Rattle.epoch_drive.specs.Kept.{AreBounds, AreKept, AreNone, IsPlaced, Keeps, IsPlacedPacket, Places, meaning_in, meanings, packet_in}
+use Rattle.epoch_drive.specs.Kept.{Adds, AreBounds, AreKept, AreNone, IsPlaced, Keeps, KeepsLine, IsPlacedPacket, Places, meaning_in, meanings, packet_in}
 use Rattle.epoch_drive.specs.Lines.{latest_behind}
 use Rattle.at_rest.specs.Meant.{IsWithin, Turned}
 use Rattle.epoch_drive.specs.Turned.{TurnedAll}
@@ -86,6 +86,33 @@ places_so old new p placed whole grown moment way from to =
       };
     }
 
+-- a line that is added is kept
+pub keeps_line : (old middle new : EpochLines) (now : Meant) (it : Kept)
+    → Keeps old.octets.items middle.octets.items now it → middle.lines.items ≡ old.lines.items
+    → middle.asks.items ≡ old.asks.items → middle.bounds.items ≡ old.bounds.items
+    → Adds middle new it → KeepsLine old new now
+keeps_line old middle new now it keeps same_lines same_asks same_bounds adds = record {
+  it = it;
+  ask = adds.ask;
+  asked_so = adds.asked_so;
+  asks = adds.asks ∙ ap (λ xs. xs ++ adds.ask ∷ []) same_asks;
+  lines = adds.lines ∙ ap (λ xs. xs ++ it ∷ []) same_lines;
+  keeps = subst (λ os. Keeps old.octets.items os now it) (sym adds.octets) keeps;
+  bounds = adds.bounds ∙ same_bounds;
+}
+
+-- where no octets come with it
+pub adds_alone : (old new : EpochLines) (now : Meant) (it : Kept)
+    → meaning_in old.octets.items it ≡ meaning_of now → IsPlaced old.octets.items it → Adds old new it
+    → KeepsLine old new now
+adds_alone old new now it means placed adds =
+    keeps_line old old new now it (record {
+      more = [];
+      grown = sym (append-nil old.octets.items);
+      means = means;
+      placed = placed;
+    }) refl refl refl adds
+
 -- one line more is kept
 kept_more : (made : List Meaning) (old new : EpochLines) (it : Kept) (ask : Ask) (more : List ℕ)
     → AreKept made old → new.octets.items ≡ old.octets.items ++ more → new.lines.items ≡ old.lines.items ++ it ∷ []
@@ -116,16 +143,13 @@ latest-push latest [] line = refl
 latest-push latest (first ∷ lines) line = latest-push first.moment lines line
 
 pub takes_so : (start : Rest) (taken : List Line) (old now : Gateway) (lines lines_now : EpochLines) (line : Line)
-    (meant : Meant) (it : Kept) (ask : Ask) → HasTaken start taken old lines
+    (meant : Meant) → HasTaken start taken old lines
     → Turned old.slices old.book old.subscribers.items line meant now.book now.subscribers.items
-    → Keeps lines.octets.items lines_now.octets.items meant it
-    → lines_now.lines.items ≡ lines.lines.items ++ it ∷ [] → lines_now.asks.items ≡ lines.asks.items ++ ask ∷ []
-    → lines_now.bounds.items ≡ lines.bounds.items
-    → ((octets : List ℕ) → asked ask ≡ asks_of (meaning_in octets it))
+    → KeepsLine lines lines_now meant
     → (now.slices ≡ old.slices) × (now.room ≡ old.room) × (now.lane ≡ old.lane) × (now.lines ≡ old.lines)
     → now.latest ≡ line.moment
     → HasTaken start (taken ++ line ∷ []) now lines_now
-takes_so start taken old now lines lines_now line meant it ask has turned keeps pushed asks bounds asks_so same latest =
+takes_so start taken old now lines lines_now line meant has turned keeps same latest =
     let made : List Meaning = has.are.made in
     let m : Meaning = meaning_of meant in
     record {
@@ -140,10 +164,10 @@ takes_so start taken old now lines lines_now line meant it ask has turned keeps 
       };
       are = record {
         made = made ++ m ∷ [];
-        kept_so = subst (λ x. AreKept (made ++ x ∷ []) lines_now) keeps.means
-            (kept_more made lines lines_now it ask keeps.more has.are.kept_so keeps.grown pushed asks keeps.placed
-            asks_so);
-        bounds = bounds ∙ has.are.bounds;
+        kept_so = subst (λ x. AreKept (made ++ x ∷ []) lines_now) keeps.keeps.means
+            (kept_more made lines lines_now keeps.it keeps.ask keeps.keeps.more has.are.kept_so keeps.keeps.grown
+            keeps.lines keeps.asks keeps.keeps.placed keeps.asked_so);
+        bounds = keeps.bounds ∙ has.are.bounds;
         turned = turned_more start.slices start.book old.book now.book start.subscribers old.subscribers.items
             now.subscribers.items taken line made meant has.are.turned
             (subst (λ k. Turned k old.book old.subscribers.items line meant now.book now.subscribers.items)

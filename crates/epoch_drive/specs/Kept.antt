@@ -1,11 +1,12 @@
 -- What lines mean that are kept until their epoch ends.
-use Rattle.std.specs.Prelude.{◌≡◌, ℕ, ◌≤◌, List, [], ◌++◌, All, length, map, slice_range}
+use Rattle.std.specs.Prelude.{◌≡◌, ℕ, ◌≤◌, List, [], ◌∷◌, ◌++◌, All, length, map, slice_range}
 use Rattle.ipv4_packet.specs.Packet.{IsPacket}
 use Rattle.demux.specs.Meant.{meaning_of}
 use Rattle.demux.specs.Trace.{Meaning, command, packet, move, note}
 use Rattle.demux.specs.declared.meant.Meant.{Meant}
 use Rattle.demux.specs.declared.packet.LentPacket.{LentPacket}
 use Rattle.schedule_run.specs.Lines.{asked}
+use Rattle.schedule_run.specs.declared.ask.Ask.{Ask}
 use Rattle.driven_run.specs.Driven.{asks_of}
 use Rattle.subscriber.specs.Standing.{SubscriberState}
 use Rattle.epoch_drive.specs.declared.kept.EpochLines.{EpochLines}
@@ -47,6 +48,25 @@ pub record Keeps (old new : List ℕ) (now : Meant) (it : Kept) : Type 0 where
   pub grown : new ≡ old ++ more
   pub means : meaning_in new it ≡ meaning_of now
   pub placed : IsPlaced new it
+
+-- one line more is kept, with what it asks of the schedule
+pub record Adds (old new : EpochLines) (it : Kept) : Type 0 where
+  pub ask : Ask
+  pub asked_so : (octets : List ℕ) → asked ask ≡ asks_of (meaning_in octets it)
+  pub asks : new.asks.items ≡ old.asks.items ++ ask ∷ []
+  pub lines : new.lines.items ≡ old.lines.items ++ it ∷ []
+  pub octets : new.octets.items ≡ old.octets.items
+  pub bounds : new.bounds.items ≡ old.bounds.items
+
+-- .. which is what this line means
+pub record KeepsLine (old new : EpochLines) (now : Meant) : Type 0 where
+  pub it : Kept
+  pub ask : Ask
+  pub asked_so : (octets : List ℕ) → asked ask ≡ asks_of (meaning_in octets it)
+  pub asks : new.asks.items ≡ old.asks.items ++ ask ∷ []
+  pub lines : new.lines.items ≡ old.lines.items ++ it ∷ []
+  pub keeps : Keeps old.octets.items new.octets.items now it
+  pub bounds : new.bounds.items ≡ old.bounds.items
 
 -- what the lines of an epoch mean
 abbrev pub meanings : EpochLines → List Meaning

@@ -90,9 +90,7 @@ impl Gateway {
             &mut self.subscribers,
             line,
         )?;
-        let kept = keep(alloc, &mut lines.octets, meant)?;
-        lines.asks.push(kept.ask())?;
-        lines.lines.push(kept)?;
+        keep(alloc, lines, meant)?;
         self.latest = line.moment.0;
         Ok(())
     }

@@ -5,7 +5,7 @@ ghost use Rattle.schedule_run.specs.Lines.{asked};
 ghost use Rattle.driven_run.specs.Driven.{asks_of};
 ghost use Rattle.subscriber.specs.Standing.{SubscriberState};
 ghost use Rattle.at_rest.specs.Rest.{Rest};
-ghost use Rattle.epoch_drive.specs.Kept.{AreNone, IsPlacedPacket, Keeps, Places, meaning_in, packet_in};
+ghost use Rattle.epoch_drive.specs.Kept.{Adds, AreNone, IsPlacedPacket, KeepsLine, Places, meaning_in, packet_in};
 ghost use Rattle.epoch_drive.specs.Taken.{HasTaken};
 ghost use Rattle.epoch_drive.specs.declared.gateway.Gateway.{Gateway};
 
@@ -117,22 +117,32 @@ fn note_bounds(bounds: &mut Vec<u8>, subscribers: &[Subscriber]) -> Result<(), A
     Ok(())
 }
 
-/// What a line means, kept: a packet's octets are put behind those before.
-pub fn keep(alloc: Global, octets: &mut Vec<u8>, meant: Meant<'_>) -> Result<Kept, AllocError>
-    ensures { IfOk result (Keeps octets.old.items octets.new.items meant.entry) }
+/// What a line means is kept: a packet's octets are put behind those before.
+pub fn keep(alloc: Global, lines: &mut EpochLines, meant: Meant<'_>) -> Result<(), AllocError>
+    ensures { OnOk result (KeepsLine lines.old lines.new meant.entry) }
 {
     match meant {
+        Meant::Packet { slot, packet } => {
+            let packet = place_packet(&mut lines.octets, &packet)?;
+            add(lines, Kept::Packet { slot, packet })
+        }
         Meant::Command { slot, command } => {
             let command = Box::new(alloc, command)?;
-            Ok(Kept::Command { slot, command })
+            add(lines, Kept::Command { slot, command })
         }
-        Meant::Packet { slot, packet } => {
-            let packet = place_packet(octets, &packet)?;
-            Ok(Kept::Packet { slot, packet })
-        }
-        Meant::Move { slot, slice, text } => Ok(Kept::Move { slot, slice, text }),
-        Meant::Note(text) => Ok(Kept::Note(text)),
+        Meant::Move { slot, slice, text } => add(lines, Kept::Move { slot, slice, text }),
+        Meant::Note(text) => add(lines, Kept::Note(text)),
     }
+}
+
+// One line more, with what it asks of the schedule: once for each kind, so that its parts go straight to their places.
+#[inline(always)]
+fn add(lines: &mut EpochLines, kept: Kept) -> Result<(), AllocError>
+    ensures { OnOk result (Adds lines.old lines.new kept) }
+{
+    lines.asks.push(kept.ask())?;
+    lines.lines.push(kept)?;
+    Ok(())
 }
 
 // Puts the octets of a packet behind those before.

@@ -20,9 +20,5 @@ returns c = λ start taken has.
       book = c.decide_line.new.book;
       subscribers = c.decide_line.new.subscribers;
       latest = c.line-inside.inside.0.1.0.0;
-    }) c.args.lines.now (record c.args.lines.now {
-      asks = c.push.new.self;
-      lines = c.push-2.new.self;
-      octets = c.keep.new.octets;
-    }) c.args.line.now c.in_ok-meant.meant c.in_ok-kept.kept c.ask.result has c.in_ok-meant.ensures c.in_ok-kept.ensures c.in_ok-push-2.ensures.items
-    c.in_ok-push.ensures.items refl c.ask.ensures (refl, refl, refl, refl) moment
+    }) c.args.lines.now c.keep.new.lines c.args.line.now c.in_ok-meant.meant has c.in_ok-meant.ensures
+    c.in_ok-keep.ensures (refl, refl, refl, refl) moment
