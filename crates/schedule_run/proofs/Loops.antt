@@ -34,6 +34,13 @@ pub each_more : {X : Type 0} (step : X → ℕ → X) (n i : ℕ) (x y all : X) 
 each_more step n i x y all below is ahead =
     ap (λ z. for_each step z (i + 1) (n - (i + 1))) is ∙ sym (each_less step n i x below) ∙ ahead
 
+pub each_none : {X : Type 0} (step : X → ℕ → X) (x : X) (first n : ℕ)
+    → ((i : ℕ) → i < first + n → step x i ≡ x) → for_each step x first n ≡ x
+each_none step x first zero none = refl
+each_none step x first (suc n) none =
+    ap (λ y. for_each step y (first + 1) n) (none first (omega arith))
+    ∙ each_none step x (first + 1) n (λ i below. none i (omega (arith, below)))
+
 pub each_done : {X : Type 0} (step : X → ℕ → X) (n i : ℕ) (x all : X) → n ≤ i
     → for_each step x i (n - i) ≡ all → x ≡ all
 each_done step n i x all past ahead =

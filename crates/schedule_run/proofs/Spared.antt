@@ -4,12 +4,12 @@ use Rattle.slice_schedule.specs.Numbers.{put_at}
 use Rattle.slice_schedule.specs.Slots.{SlotNow, fresh_slot, is_absent}
 use Rattle.slice_schedule.specs.Halves.{learn_one, batches_learnt, learn}
 use Rattle.slice_schedule.specs.World.{World, Rooms, ControlNow, FlowNow, fresh_control, fresh_flow, slot_at, on_slot, control_at, on_control, flow_at, on_flow}
-use Rattle.slice_schedule.specs.Front.{packet, control_back, control_home, flow_back, flow_home, flow_offer, made, parks, park_packet, send_packet, is_front, arrived_first, offer_packet, line_done}
+use Rattle.slice_schedule.specs.Front.{packet, control_back, control_home, controls_home, flow_back, flow_home, flows_home, flow_offer, made, parks, park_packet, send_packet, is_front, arrived_first, offer_packet, line_done}
 use Rattle.slice_schedule.specs.ControlTurns.{work_all}
 use Rattle.schedule_run.specs.Owing.{IsOwing}
 use Rattle.schedule_run.specs.Rosters.{roster_at}
 use Rattle.schedule_run.specs.Rounds.{IsOrderly}
-use Rattle.schedule_run.proofs.Loops.{times_stuck}
+use Rattle.schedule_run.proofs.Loops.{each_none, times_stuck}
 use Rattle.schedule_run.proofs.Passed.{put_same}
 use Rattle.schedule_run.proofs.Skipped.{quiet_ahead, begins, works_none}
 
@@ -40,6 +40,22 @@ flow_home_none world slice within few =
       flows = put_at fresh_flow world.flows slice (record (flow_at world slice) { home = home });
     }) (sym none)
     ∙ ap (λ (xs : List FlowNow). record world { flows = xs }) (put_same fresh_flow world.flows slice within)
+
+pub controls_home_none : (world : World)
+    → ((slice : ℕ) → slice < length world.controls → length (control_at world slice).home ≡ 0)
+    → world ≡ controls_home world
+controls_home_none world none =
+    sym (each_none control_home world 0 (length world.controls)
+    (λ slice below. let within : slice < length world.controls = omega (arith, below) in
+    control_home_none world slice within (none slice within)))
+
+pub flows_home_none : (world : World)
+    → ((slice : ℕ) → slice < length world.flows → length (flow_at world slice).home ≡ 0)
+    → world ≡ flows_home world
+flows_home_none world none =
+    sym (each_none flow_home world 0 (length world.flows)
+    (λ slice below. let within : slice < length world.flows = omega (arith, below) in
+    flow_home_none world slice within (none slice within)))
 
 -- nothing is to be learnt
 pub none_learnt : (slot : SlotNow) → learn_one slot ≡ slot → learn slot ≡ slot

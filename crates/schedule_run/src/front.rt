@@ -12,15 +12,16 @@ ghost use Rattle.schedule_run.specs.Worlds.{world_of};
 use crate::owing::{mark, mark_asked, settle};
 use crate::setup::Setup;
 use crate::sides::{
-    clear_control_home, clear_flow_home, control_sent, flow_sent, is_control_home_empty,
-    is_flow_home_empty, lane_of, order_control, order_flow, order_items, orders_of,
+    are_control_homes_empty, are_flow_homes_empty, clear_control_home, clear_flow_home,
+    control_sent, flow_sent, is_control_home_empty, is_flow_home_empty, lane_of, order_control,
+    order_flow, order_items, orders_of,
 };
 use crate::slot::{is_absent, is_front};
 use crate::standing::{ControlOrder, FlowOrder, Standing};
 use crate::world::{
     Numbers, add_command, add_packet, bound_for, call_control, call_flow, control_of, flow_of,
-    has_room, is_settled, move_on, park, parks_at, queued_of, set_control, set_flow, set_queued,
-    tell_moves,
+    has_room, is_settled, make_room, move_on, park, parks_at, queued_of, set_control, set_flow,
+    set_queued, tell_moves,
 };
 use crate::{Ask, Outcome};
 use std::alloc::AllocError;
@@ -288,6 +289,9 @@ fn controls_home(numbers: &mut Numbers, owing: &mut Vec<usize>) -> Result<(), Al
     ensures world { OnOk result (world_of numbers.new ≡ front.controls_home (world_of numbers.old)) }
     ensures owing { OnOk result (IsOwing owing.new.items (world_of numbers.new)) }
 {
+    if are_control_homes_empty(numbers.controls.as_slice()) {
+        return Ok(());
+    }
     for slice in 0..numbers.controls.len() {
         control_home(numbers, owing, slice)?;
     }
@@ -315,6 +319,9 @@ fn flows_home(numbers: &mut Numbers, owing: &mut Vec<usize>) -> Result<(), Alloc
     ensures world { OnOk result (world_of numbers.new ≡ front.flows_home (world_of numbers.old)) }
     ensures owing { OnOk result (IsOwing owing.new.items (world_of numbers.new)) }
 {
+    if are_flow_homes_empty(numbers.flows.as_slice()) {
+        return Ok(());
+    }
     for slice in 0..numbers.flows.len() {
         flow_home(numbers, owing, slice)?;
     }
@@ -380,6 +387,7 @@ fn make(numbers: &mut Numbers, setup: &Setup<'_>, slot: usize) -> Result<(), All
     set_control(numbers, slot, Standing::Front)?;
     control_offer(numbers, setup, slot)?;
     set_flow(numbers, slot, Standing::Front)?;
+    make_room(numbers, setup, slot)?;
     flow_offer(numbers, setup, slot)
 }
 

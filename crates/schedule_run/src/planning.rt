@@ -15,6 +15,7 @@ ghost use Rattle.schedule_run.specs.Worlds.{world_of};
 use crate::front::{line_done, pump};
 use crate::halves::close;
 use crate::met::SlotMets;
+use crate::roster::reach;
 use crate::setup::Setup;
 use crate::slot::SlotNumbers;
 use crate::turning::{turn, turn_all};
@@ -180,6 +181,19 @@ fn lines(
     Ok(outcomes)
 }
 
+/// How many packets are asked of each slot.
+fn count_packets(alloc: Global, asks: &[Ask]) -> Result<Vec<usize>, AllocError> {
+    let mut counts = Vec::new(alloc);
+    for ask in asks {
+        if let Ask::Packet(slot) = ask {
+            let slot = *slot as usize;
+            reach(&mut counts, slot)?;
+            counts[slot] = counts[slot].saturating_add(1);
+        }
+    }
+    Ok(counts)
+}
+
 /// What the packets of each slot met, as the epoch closes.
 fn close_all(alloc: Global, slots: Vec<SlotNumbers>) -> Result<Vec<SlotMets>, AllocError>
     ensures { IfOk result (λ mets. mets.items ≡ map (λ (slot : SlotNow). (closed slot).met) slots.items) }
@@ -214,7 +228,8 @@ pub fn schedule(
         (driven_by (map asked asks.now) (turns_told turns.old slices (length asks.now))) slot) }
     ensures turns { OnOk result (turns.new ≡ turns_behind turns.old (length asks.now)) }
 {
-    let setup = Setup::new(rooms, slices, bounds);
+    let packets = count_packets(alloc, asks)?;
+    let setup = Setup::new(rooms, slices, bounds, packets.as_slice());
     let mut numbers = Numbers {
         alloc,
         slots: Vec::new(alloc),

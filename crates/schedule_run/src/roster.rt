@@ -257,6 +257,18 @@ fn behind_slot(halves: &[Option<HeldControl>], index: &[usize], once: bool, slot
     }
 }
 
+/// Whether halves stand at an index and at the next one.
+fn are_next(halves: &[Option<HeldControl>], index: usize) -> bool
+    ensures here { OnTrue result (is_some (roster.entry halves.now index) ≡ true) }
+    ensures next { OnTrue result (is_some (roster.entry halves.now (index + 1)) ≡ true) }
+    ensures within { OnTrue result (index + 1 < length halves.now) }
+{
+    index < halves.len()
+        && index + 1 < halves.len()
+        && is_half(halves, index)
+        && is_half(halves, index + 1)
+}
+
 /// The slot of the first half from an index on, and where the cursor stands behind its turn.
 #[tactic(auto, using(crate::proofs::Places::held_none, crate::proofs::Places::place_all))]
 fn round_from(halves: &[Option<HeldControl>], from: usize) -> (usize, usize)
@@ -266,6 +278,9 @@ fn round_from(halves: &[Option<HeldControl>], from: usize) -> (usize, usize)
         (length (roster.present halves.now)) }
     ensures few { result.1 ≤ length halves.now }
 {
+    if are_next(halves, from) {
+        return (slot_in(halves, from), from + 1);
+    }
     let at = first_from(halves, from);
     (slot_in(halves, at), settle_behind(halves, at))
 }
@@ -303,7 +318,7 @@ fn count_before(halves: &[Option<HeldControl>], index: usize) -> usize
 }
 
 /// Makes the list long enough for a slot.
-fn reach(index: &mut Vec<usize>, slot: usize) -> Result<(), AllocError>
+pub fn reach(index: &mut Vec<usize>, slot: usize) -> Result<(), AllocError>
     ensures same { (s : ℕ) → get_or index.new.items s 0 ≡ get_or index.old.items s 0 }
     ensures more { length index.old.items ≤ length index.new.items }
     ensures within { OnOk result (slot < length index.new.items) }

@@ -5,12 +5,13 @@ ghost use Rattle.schedule_run.specs.Setups.{EpochSetup, bounds_of};
 use crate::Rooms;
 use std::marker::Model;
 
-/// The rooms of an epoch, its slices, and where slots are bound for as it begins.
+/// The rooms of an epoch, its slices, where slots are bound for as it begins, and how many packets are asked of each.
 #[derive(Drop)]
 pub struct Setup<'a> {
     rooms: Rooms,
     slices: u8,
     bounds: &'a [u8],
+    packets: &'a [usize],
 }
 
 impl<'a> Model for Setup<'a> {
@@ -25,7 +26,7 @@ impl<'a> Model for Setup<'a> {
 }
 
 impl<'a> Setup<'a> {
-    pub fn new(rooms: Rooms, slices: u8, bounds: &'a [u8]) -> Setup<'a>
+    pub fn new(rooms: Rooms, slices: u8, bounds: &'a [u8], packets: &'a [usize]) -> Setup<'a>
         requires { 1 ≤ slices }
         ensures { result ≡ record { rooms = rooms; slices = slices; bounds = bounds.now } }
     {
@@ -33,6 +34,7 @@ impl<'a> Setup<'a> {
             rooms,
             slices,
             bounds,
+            packets,
         }
     }
 
@@ -51,6 +53,15 @@ impl<'a> Setup<'a> {
     {
         let rooms = &self.rooms;
         rooms.lane as usize
+    }
+
+    /// How many packets are asked of a slot.
+    pub fn packets(&self, slot: usize) -> usize {
+        if slot < self.packets.len() {
+            self.packets[slot]
+        } else {
+            0
+        }
     }
 
     /// Where a slot is bound for.

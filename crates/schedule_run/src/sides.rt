@@ -1,6 +1,7 @@
 //! What is read and changed of the workers of one slice.
-ghost use Rattle.std.specs.Prelude.{◌≡◌, ◌<◌, ◌++◌, ◌∷◌, [], None, Some, OnOk, IfNone, IfSome, length, drop};
+ghost use Rattle.std.specs.Prelude.{◌≡◌, ℕ, ◌<◌, ◌++◌, ◌∷◌, [], None, Some, OnOk, IfNone, IfSome, length, drop};
 ghost use Rattle.std.specs.Prelude.{replicate, get_or, nat_lt, ◌&&◌};
+ghost use Rattle.slice_schedule.specs.Numbers.{value_at};
 ghost use Rattle.slice_schedule.specs.World as world;
 ghost use Rattle.slice_schedule.specs.Front as front;
 ghost use Rattle.slice_schedule.specs.ControlTurns as control;
@@ -13,6 +14,7 @@ ghost use Rattle.schedule_run.specs.Worlds.{world_of};
 
 use crate::grow::{reach_control, reach_flow};
 use crate::standing::{ControlOrder, FlowOrder};
+use crate::workers::{ControlNumbers, FlowNumbers};
 use crate::world::Numbers;
 use std::alloc::AllocError;
 
@@ -86,6 +88,32 @@ pub fn is_flow_home_empty(numbers: &Numbers, slice: usize) -> bool
     } else {
         false
     }
+}
+
+/// Whether no control worker sent a half home.
+pub fn are_control_homes_empty(controls: &[ControlNumbers]) -> bool
+    ensures { OnTrue result ((slice : ℕ) → slice < length controls.now
+        → length (value_at world.fresh_control controls.now slice).home ≡ 0) }
+{
+    for worker in controls {
+        if !worker.home().is_empty() {
+            return false;
+        }
+    }
+    true
+}
+
+/// Whether no data worker sent a half home.
+pub fn are_flow_homes_empty(flows: &[FlowNumbers]) -> bool
+    ensures { OnTrue result ((slice : ℕ) → slice < length flows.now
+        → length (value_at world.fresh_flow flows.now slice).home ≡ 0) }
+{
+    for worker in flows {
+        if !worker.home().is_empty() {
+            return false;
+        }
+    }
+    true
 }
 
 /// How many halves a control worker holds.

@@ -249,6 +249,13 @@ impl SlotNumbers {
         self.applied
     }
 
+    /// Makes room for what so many packets meet.
+    pub fn make_room(&mut self, packets: usize) -> Result<(), AllocError>
+        ensures { OnOk result (self.new ≡ self.old) }
+    {
+        self.met.reserve_exact(packets)
+    }
+
     /// What its packets met.
     pub fn met(&self) -> &[Met]
         ensures { result.now ≡ self.now.met }

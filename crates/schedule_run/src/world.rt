@@ -193,6 +193,18 @@ pub fn tell_moves(numbers: &mut Numbers, slot: usize) -> Result<(), AllocError>
     Ok(())
 }
 
+/// Makes room for what the packets of a slot meet.
+pub fn make_room(numbers: &mut Numbers, setup: &Setup<'_>, slot: usize) -> Result<(), AllocError>
+    ensures { OnOk result (world_of numbers.new ≡ world_of numbers.old) }
+{
+    if slot < numbers.slots.len() {
+        let one = &mut numbers.slots[slot];
+        one.make_room(setup.packets(slot))
+    } else {
+        Ok(())
+    }
+}
+
 pub fn add_command(numbers: &mut Numbers, slot: usize) -> Result<(), AllocError>
     ensures { OnOk result (world_of numbers.new ≡ world.on_slot (world_of numbers.old) slot front.with_command) }
 {

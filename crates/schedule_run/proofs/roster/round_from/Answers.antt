@@ -1,7 +1,14 @@
-use Rattle.std.proofs.Common.{sym, arith}
-use Rattle.schedule_run.specs.Rosters.{place_at}
-use Rattle.schedule_run.proofs.Places.{place_all}
+use Rattle.std.proofs.Common.{◌+◌, length, refl, sym, ◌∙◌, arith}
+use Rattle.schedule_run.specs.Rosters.{present, place_at}
+use Rattle.schedule_run.proofs.Places.{place_all, settled_at, settled_behind}
 use Rattle.schedule_run.proofs.roster.round_from.Goals as goal
+
+pub returns-then-are_next-clause-place : goal.returns-then-are_next-clause-place
+returns-then-are_next-clause-place c =
+    let halves = c.args.halves.now in
+    let so = c.if-are_next.ensures in
+    settled_at halves (c.args.from + 1) (c.args.from + 1) so.next refl
+    ∙ settled_behind halves c.args.from (place_at halves c.args.from) (length (present halves)) so.here refl
 
 pub returns-clause-place : goal.returns-clause-place
 returns-clause-place c =
