@@ -23,7 +23,7 @@ agree_as whose told other made new one two agree s =
 
 -- effects
 module _ (lines : List (List Meaning)) (entries : List Entry) where
-  effects_behind : (i : ℕ) (reports : List EpochReport) → EffectsAre lines entries i reports → (later : ℕ)
+  pub effects_behind : (i : ℕ) (reports : List EpochReport) → EffectsAre lines entries i reports → (later : ℕ)
       → effects_told lines (i + length reports + later) entries ≡ []
   effects_behind i [] are later =
       let at : i + later ≡ i + 0 + later = omega arith in
@@ -62,7 +62,7 @@ module _ (lines : List (List Meaning)) (entries : List Entry) where
 
 -- rows
 module _ (lines : List (List Meaning)) (entries : List Entry) where
-  rows_behind : (i : ℕ) (reports : List EpochReport) → RowsAre lines entries i reports → (later : ℕ)
+  pub rows_behind : (i : ℕ) (reports : List EpochReport) → RowsAre lines entries i reports → (later : ℕ)
       → rows_told lines (i + length reports + later) entries ≡ []
   rows_behind i [] are later =
       let at : i + later ≡ i + 0 + later = omega arith in

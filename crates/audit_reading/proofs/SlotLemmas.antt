@@ -72,7 +72,7 @@ module _ {X : Type 0} (whose : X → ℕ) where
       ]
 
   -- beyond so many slots nothing stands
-  beyond : (slots : ℕ) (made : List X) → AreBySlot whose slots made → (later : ℕ)
+  pub beyond : (slots : ℕ) (made : List X) → AreBySlot whose slots made → (later : ℕ)
       → of_slot whose (slots + later) made ≡ []
   beyond slots made by later =
       ap (of_slot whose (slots + later)) by
@@ -89,7 +89,7 @@ module _ {X : Type 0} (whose : X → ℕ) where
         (none (s - slots) ∙ sym (beyond slots made by (s - slots)))
   ]
 
-  flat_from : (slots : ℕ) (told made : List X) → AreBySlot whose slots made → AgreeBySlot whose told made
+  pub flat_from : (slots : ℕ) (told made : List X) → AreBySlot whose slots made → AgreeBySlot whose told made
       → flat_map (λ t. of_slot whose t told) (counted 0 slots) ≡ made
   flat_from slots told made by agree =
       ap (λ (f : ℕ → List X). flat_map f (counted 0 slots)) (λ i t. agree t i) ∙ sym by
@@ -108,7 +108,7 @@ lent_arranged keyed first (suc n) =
 
 module _ {X : Type 0} (whose : X → ℕ) (slots : ℕ) (keyed : List (Keyed (Bor X))) (told made : List X)
     (by : AreBySlot whose slots made) (are : (slot : ℕ) → lent_under slot keyed ≡ of_slot whose slot told) where
-  arranged_flat : lent (arranged slots keyed) ≡ flat_map (λ t. of_slot whose t told) (counted 0 slots)
+  pub arranged_flat : lent (arranged slots keyed) ≡ flat_map (λ t. of_slot whose t told) (counted 0 slots)
   arranged_flat =
       lent_arranged keyed 0 slots ∙ ap (λ (f : ℕ → List X). flat_map f (counted 0 slots)) (λ i t. are t i)
 

@@ -50,7 +50,8 @@ pub fn within<T: Copy + Drop>(keyed: &[Keyed<T>], count: usize) -> bool
     true
 }
 
-fn effects_by_slot<'a>(
+/// Effects under their slots.
+pub fn effects_by_slot<'a>(
     alloc: Global,
     effects: &[&'a EffectEntry],
 ) -> Result<Vec<Keyed<&'a EffectEntry>>, NoMemory>
@@ -67,7 +68,8 @@ fn effects_by_slot<'a>(
     Ok(all)
 }
 
-fn charges_by_slot<'a>(
+/// Charges under their slots.
+pub fn charges_by_slot<'a>(
     alloc: Global,
     charges: &[&'a ChargeEntry],
 ) -> Result<Vec<Keyed<&'a ChargeEntry>>, NoMemory>
@@ -148,8 +150,8 @@ pub fn rows_agree(
     Ok(same_charges(made, &in_order))
 }
 
-// Whether a charge is among some.
-fn is_among(charge: &ChargeEntry, some: &[&ChargeEntry]) -> bool
+/// Whether a charge is among some.
+pub fn is_among(charge: &ChargeEntry, some: &[&ChargeEntry]) -> bool
     ensures { IsTrue result ↔ Contains (lent some.now) charge.now }
 {
     for one in some {

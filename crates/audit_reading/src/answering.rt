@@ -29,8 +29,8 @@ pub fn line_of(entry: &LineEntry) -> u64
     }
 }
 
-// The entries of lines, under the numbers of their lines.
-fn keyed_lines<'a>(
+/// The entries of lines, under the numbers of their lines.
+pub fn keyed_lines<'a>(
     alloc: Global,
     entries: &'a [Entry],
 ) -> Result<Vec<Keyed<&'a LineEntry>>, NoMemory>
@@ -48,8 +48,8 @@ fn keyed_lines<'a>(
     Ok(keyed)
 }
 
-// Those of the first lines, in line order.
-fn in_line_order<'a>(
+/// Those of the first lines, in line order.
+pub fn in_line_order<'a>(
     alloc: Global,
     count: usize,
     keyed: &[Keyed<&'a LineEntry>],
@@ -83,8 +83,8 @@ fn is_refusal(number: u64, slot: Slot, packet: bool, refused: &Refusal) -> bool
     refused.line == number && refused.slot == slot && refused.packet == packet
 }
 
-// Whether it is an entry of the line of this number.
-fn answers(number: u64, meant: &Meant<'_>, entry: &LineEntry) -> bool
+/// Whether it is an entry of the line of this number.
+pub fn answers(number: u64, meant: &Meant<'_>, entry: &LineEntry) -> bool
     ensures { result ≡ answers number (meaning_of meant.now) entry.now }
 {
     match meant {

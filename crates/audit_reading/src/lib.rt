@@ -16,13 +16,15 @@ mod sequence;
 mod setup;
 mod waiting;
 
-pub use answering::{answered, line_of};
+pub use agreeing::{charges_by_slot, effects_by_slot, is_among, same_charge, told_effect};
+pub use answering::{answered, answers, in_line_order, keyed_lines, line_count, line_of};
 pub use charging::charges_hold;
 pub use heard::Heard;
 pub use hearing::{Stopped, hear};
 pub use made::{EffectMade, EpochMade};
 pub use meaning::{Trace, trace_of};
 pub use pc_base::NoMemory;
-pub use sequence::in_order;
+pub use placing::{effects_placed, opens_placed, places_of, rows_placed};
+pub use sequence::{Made, entries_due, in_order, is_entry};
 pub use setup::{BadAt, Setup};
 pub use waiting::refused_where_full;

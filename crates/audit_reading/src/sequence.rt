@@ -14,9 +14,9 @@ use audit_sentences::ToldLine;
 use report_lines::{Answer, ChargeEntry, Entry, Judgement, LineEntry, Note, Refusal};
 use std::alloc::Global;
 
-// An entry as it has to be.
+/// An entry as it has to be.
 #[derive(Clone, Copy)]
-enum Made<'m> {
+pub enum Made<'m> {
     Line(&'m LineEntry),
     Effect(&'m EffectMade),
     Charge(&'m ChargeEntry),
@@ -127,7 +127,8 @@ fn is_charge(own: &ChargeEntry, entry: &Entry) -> bool
     }
 }
 
-fn is_entry(own: Made<'_>, entry: &Entry) -> bool
+/// Whether an entry is the one that has to be.
+pub fn is_entry(own: Made<'_>, entry: &Entry) -> bool
     ensures { IsTrue result ↔ (entry.now ≡ entry_made own.entry) }
 {
     match own {
@@ -176,8 +177,8 @@ fn push_epoch<'m>(all: &mut Vec<Made<'m>>, epoch: &'m EpochMade<'m>) -> Result<(
     push_charges(all, &epoch.rows)
 }
 
-// The entries that the report has to have.
-fn entries_due<'m>(
+/// The entries that the report has to have.
+pub fn entries_due<'m>(
     alloc: Global,
     made: &'m [EpochMade<'m>],
     opens: &'m [ChargeEntry],

@@ -71,7 +71,7 @@ can_replay slots all made few_slots answered same known few = record {
 }
 
 -- behind all epochs nothing is left
-comes_to : (flag : Bool) (all : Type 0) → ComesTo flag (Unit {0}) all → IsTrue flag ↔ all
+pub comes_to : (flag : Bool) (all : Type 0) → ComesTo flag (Unit {0}) all → IsTrue flag ↔ all
 comes_to flag all comes = ((λ yes. comes.0 (yes, tt)), (λ whole. (comes.1 whole).0))
 
 module _ (setup : Given) (slots : ℕ) (all : List (List LineTold)) (before : Histories) (run : Run)

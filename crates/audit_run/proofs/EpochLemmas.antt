@@ -39,7 +39,7 @@ use Rattle.audit_run.specs.declared.epoch.Replayed.{Replayed}
 use Rattle.audit_run.specs.declared.share.Shared.{Shared}
 use Rattle.audit_run.proofs.ShareLemmas.{events_shared, none_shared, replies_shared, verdicts_shared}
 
-below_next : (P : ℕ → Type 0) (i : ℕ) → Below i P → P i → Below (i + 1) P
+pub below_next : (P : ℕ → Type 0) (i : ℕ) → Below i P → P i → Below (i + 1) P
 below_next P i below here slot low = elim (cases_lt slot i) [
   | inl less ↦ below slot less
   | inr most ↦ let is : i ≡ slot = omega (arith, low, most) in subst P is here
@@ -119,7 +119,7 @@ pub no_events_in : (slots slot : ℕ) (before : List Event) (all : List LineTold
     → events_in before all slot ≡ []
 no_events_in slots slot before all known past = no_events slot before all (none_shared slots slot all known past)
 
-answers_beyond : (n slot : ℕ) (before : List Event) (all : List LineTold) → AreAnswered n all → NoLines slot all
+pub answers_beyond : (n slot : ℕ) (before : List Event) (all : List LineTold) → AreAnswered n all → NoLines slot all
     → AnswersOf slot before all
 answers_beyond n slot before all are none = record {
   replies = replies_shared n slot all are ∙ ap (filter_map reply_in) none
@@ -129,7 +129,7 @@ answers_beyond n slot before all are none = record {
 }
 
 -- what holds of the known slots holds of all
-each_slot : (P : ℕ → Type 0) (slots : ℕ) → ((slot : ℕ) → slots ≤ slot → P slot) → Below slots P → (slot : ℕ) → P slot
+pub each_slot : (P : ℕ → Type 0) (slots : ℕ) → ((slot : ℕ) → slots ≤ slot → P slot) → Below slots P → (slot : ℕ) → P slot
 each_slot P slots beyond below slot = elim (cases_lt slot slots) [
   | inl low ↦ below slot low
   | inr past ↦ beyond slot past
@@ -156,7 +156,7 @@ sliced_bounds slices room lane n before all are counts =
     ((counts_of_slots slices room lane before n made entries (answers_again n all are)).1 (λ slot.
     subst (CountsRise slot (count_before before slot)) (sym same) (counts slot))).bounds
 
-job_bounds : (setup : Given) (alone : Bool) (n : ℕ) (before : Histories) (all : List LineTold) → setup.solo ≡ alone
+pub job_bounds : (setup : Given) (alone : Bool) (n : ℕ) (before : Histories) (all : List LineTold) → setup.solo ≡ alone
     → AreAnswered n all → CountsAreLawful before all
     → (IsTrue setup.solo → EachLine (MeetsBounds solo before) all)
     → EachLine (MeetsBounds (if alone then solo else sliced setup.slices setup.room setup.lane) before) all
@@ -164,7 +164,7 @@ job_bounds setup true n before all is are counts alone = alone is
 job_bounds setup false n before all is are counts alone =
     sliced_bounds setup.slices setup.room setup.lane n before all are counts
 
-alone_bounds : (setup : Given) (before : Histories) (all : List LineTold) → IsTrue setup.solo
+pub alone_bounds : (setup : Given) (before : Histories) (all : List LineTold) → IsTrue setup.solo
     → EachLine (MeetsBounds (setup_of setup) before) all → EachLine (MeetsBounds solo before) all
 alone_bounds setup before all alone bounds =
     subst (λ test. EachLine (MeetsBounds (if test then solo else sliced setup.slices setup.room setup.lane) before) all)

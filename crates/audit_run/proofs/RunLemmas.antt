@@ -32,7 +32,7 @@ use Rattle.audit_run.specs.declared.epoch.Replayed.{Replayed}
 use Rattle.audit_run.proofs.EpochLemmas.{no_events_in}
 
 -- effects, records and open counters of a slot are its own
-effects_own : (slot : ℕ) (before events : List Event)
+pub effects_own : (slot : ℕ) (before events : List Event)
     → All (λ (e : Effected). slot_effected e ≡ slot) (made_of.effects slot before events)
 effects_own slot before [] = All-nil (λ (e : Effected). slot_effected e ≡ slot)
 effects_own slot before (event.Command c ∷ events) =
@@ -44,7 +44,7 @@ effects_own slot before (event.Command c ∷ events) =
     (effects_own slot (before ++ event.Command c ∷ []) events)
 effects_own slot before (event.Packet p ∷ events) = effects_own slot (before ++ event.Packet p ∷ []) events
 
-rows_own : (slot : ℕ) (before events : List Event)
+pub rows_own : (slot : ℕ) (before events : List Event)
     → All (λ charge. slot_charged charge ≡ slot) (made_of.rows slot before events)
 rows_own slot before events =
     All-map (λ charge. slot_charged charge ≡ slot) (R slot) (records_made slot before events) (λ k d low. refl)

@@ -19,8 +19,8 @@ fn same_verdict(own: &Verdict, told: &Judgement) -> bool
     *own == told.verdict
 }
 
-// The place behind the reply that a line tells, if it is the one at this place.
-fn reply_behind(made: &[Reply], at: usize, told: &ToldLine<'_>) -> Option<usize>
+/// The place behind the reply that a line tells, if it is the one at this place.
+pub fn reply_behind(made: &[Reply], at: usize, told: &ToldLine<'_>) -> Option<usize>
     requires { at ≤ length made.now }
     ensures some { IfSome result (λ next. NextIs made.now at next (reply_in (line_told told.now))) }
     ensures none { IfNone result (NoneNext made.now at (reply_in (line_told told.now))) }
@@ -40,7 +40,8 @@ fn reply_behind(made: &[Reply], at: usize, told: &ToldLine<'_>) -> Option<usize>
     }
 }
 
-fn verdict_behind(made: &[Verdict], at: usize, told: &ToldLine<'_>) -> Option<usize>
+/// The place behind the verdict that a line tells, if it is the one at this place.
+pub fn verdict_behind(made: &[Verdict], at: usize, told: &ToldLine<'_>) -> Option<usize>
     requires { at ≤ length made.now }
     ensures some { IfSome result (λ next. NextIs made.now at next (verdict_in (line_told told.now))) }
     ensures none { IfNone result (NoneNext made.now at (verdict_in (line_told told.now))) }

@@ -9,10 +9,10 @@ pub enum Finding {
     No(u8),
 }
 
-// Which sentences hold of the lines so far, from the second one to the fourth; and whether lines are refused, packets
-// parked and, on one thread, packets handled only where they may be.
+/// Which sentences hold of the lines so far, from the second one to the fourth; and whether lines are refused, packets
+/// parked and, on one thread, packets handled only where they may be.
 #[derive(Clone, Copy)]
-pub(crate) struct Held {
+pub struct Held {
     pub numbers: bool,
     pub counts: bool,
     pub answers: bool,

@@ -13,9 +13,11 @@ mod player;
 mod replaying;
 mod share;
 
+pub use answers::{reply_behind, verdict_behind};
 pub use auditing::{Audited, audit};
-pub use finding::Finding;
+pub use finding::{Finding, Held};
 pub use laws::one_finding;
 pub use player::{Done, Placed, Played, Player};
-pub use replaying::finding_of;
+pub use replaying::{Run, finding_of, replay};
+pub use share::play_lines;
 pub use std::alloc::AllocError as NoMemory;

@@ -36,12 +36,12 @@ use report_lines::{ChargeEntry, Entry};
 use std::alloc::Global;
 use trace_lines::TraceLine;
 
-// What was replayed so far: the players of all slots, what holds, and what the epochs lead to.
+/// What was replayed so far: the players of all slots, what holds, and what the epochs lead to.
 #[derive(Drop)]
-struct Run<'m> {
-    players: Vec<Player>,
-    held: Held,
-    made: Vec<EpochMade<'m>>,
+pub struct Run<'m> {
+    pub players: Vec<Player>,
+    pub held: Held,
+    pub made: Vec<EpochMade<'m>>,
 }
 
 // Players of all slots.
@@ -117,8 +117,8 @@ impl<'m> Run<'m> {
         Ok(())
     }
 
-    // The open counters behind all epochs.
-    fn opens(&self, alloc: Global) -> Result<Vec<ChargeEntry>, NoMemory>
+    /// The open counters behind all epochs.
+    pub fn opens(&self, alloc: Global) -> Result<Vec<ChargeEntry>, NoMemory>
         requires few { length self.now.players.items ≤ 65533 }
         requires room { AllCanGoOn self.now.players.items 0 }
         ensures { (before : Histories) → Stand self.now.players.items before → IfOk result (λ all.
@@ -136,8 +136,8 @@ impl<'m> Run<'m> {
     }
 }
 
-// The lines of all epochs, replayed.
-fn replay<'m>(
+/// The lines of all epochs, replayed.
+pub fn replay<'m>(
     alloc: Global,
     setup: &Setup,
     slots: u32,

@@ -87,8 +87,8 @@ fn packets_accepted<'a>(alloc: Global, lines: &[ToldLine<'a>]) -> Result<Vec<Pla
     Ok(packets)
 }
 
-// Plays what the lines of a slot bring.
-fn play_lines(
+/// Plays what the lines of a slot bring.
+pub fn play_lines(
     alloc: Global,
     player: &mut Player,
     lines: &[ToldLine<'_>],

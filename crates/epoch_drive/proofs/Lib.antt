@@ -13,3 +13,4 @@ mod Drives
 mod Finals
 mod Epochs
 mod Sets
+mod Wholes

@@ -44,8 +44,15 @@ pub fn do_lines<'a>(
     let scheduled = schedule(alloc, rooms, slices, bounds, asks, turns)?;
     let kept = lines.lines.as_slice();
     let octets = lines.octets.as_slice();
-    let shares = shares_of(alloc, subscribers.as_slice(), &scheduled, kept, octets)?;
     let slots = book.len();
+    let shares = shares_of(
+        alloc,
+        slots,
+        subscribers.as_slice(),
+        &scheduled,
+        kept,
+        octets,
+    )?;
     let replays = replay_all(alloc, slots, subscribers, shares.as_slice())?;
     drop(shares);
     let Replays {

@@ -137,6 +137,8 @@ impl Gateway {
             × (self.new.lane ≡ start.lane)) }
         ensures latest { (start : Rest) (taken : List Line) → HasTaken start taken self.old lines.now
             → OnOk result (self.new.latest ≡ latest_behind start.latest taken) }
+        ensures lines { (start : Rest) (taken : List Line) → HasTaken start taken self.old lines.now
+            → OnOk result (self.new.lines ≡ start.lines + length taken) }
 
         // Each verdict can be written.
         ensures short { IfOk result (λ epoch. AreShort epoch.lines.items) }

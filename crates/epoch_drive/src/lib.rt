@@ -5,7 +5,7 @@
 //!
 //! ```
 //! use at_rest::AtRest;
-//! use epoch_drive::{Entry, EpochLines, Gateway};
+//! use epoch_drive::{Entry, EpochLines, drive_epoch};
 //! use pc_base::{Moment, Slot};
 //! use schedule_run::Turns;
 //! use std::test::Fail;
@@ -17,13 +17,12 @@
 //!     let Ok(line) = read_line(alloc, attach, 1, Moment(0)) else {
 //!         return Err("a line".into());
 //!     };
-//!     let mut gateway = Gateway::of(AtRest::new(alloc, 2, 256, 16384));
-//!     let mut lines = EpochLines::new(alloc);
-//!     gateway.begin(&mut lines)?;
-//!     gateway.take(&mut lines, &line)?;
+//!     let rest = AtRest::new(alloc, 2, 256, 16384);
 //!     let mut turns = Turns::List([0, 1, 2, 3].to_vec(alloc)?);
-//!     let epoch = gateway.drive(&lines, &mut turns)?;
-//!     assert_eq!(rt; (gateway.subscribers.len(), epoch.lines.len(), epoch.effects.len()), (1, 1, 0));
+//!     let lines = [line];
+//!     let mut kept = EpochLines::new(alloc);
+//!     let (rest, epoch) = drive_epoch(rest, &lines, &mut kept, &mut turns)?;
+//!     assert_eq!(rt; (rest.lines, epoch.lines.len(), epoch.effects.len()), (1, 1, 0));
 //!     match &epoch.lines[0] {
 //!         Entry::Answer { line, slot, number, .. } => {
 //!             assert_eq!(rt; (*line, *slot, *number), (1, Slot(0), 0));
@@ -42,7 +41,9 @@ mod joining;
 mod kept;
 mod replays;
 mod sharing;
+mod whole;
 
 pub use epoch::{Entry, Epoch};
 pub use gateway::Gateway;
 pub use kept::EpochLines;
+pub use whole::drive_epoch;

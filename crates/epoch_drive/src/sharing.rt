@@ -31,14 +31,16 @@ pub struct Share<'a> {
     pub packets: Vec<Placed<'a>>,
 }
 
-/// What was taken of the lines, whose packets have these octets, for each of the subscribers.
+/// What was taken of the lines, whose packets have these octets, for each of so many subscribers.
 pub fn shares_of<'a>(
     alloc: Global,
+    slots: u32,
     subscribers: &[Subscriber],
     scheduled: &Scheduled,
     kept: &'a [Kept],
     octets: &'a [u8],
 ) -> Result<Vec<Share<'a>>, AllocError>
+    requires slots { slots ≡ length subscribers.now }
     requires within { All (IsWithin (length subscribers.now)) (map (meaning_in octets.now) kept.now) }
     requires placed { All (IsPlaced octets.now) kept.now }
     requires outcomes { length scheduled.now.outcomes ≡ length kept.now }
@@ -49,7 +51,7 @@ pub fn shares_of<'a>(
     ensures shares { (first : ℕ) → IfOk result (λ shares. AreShares shares.items subscribers.now scheduled.now
         (opened first (map (meaning_in octets.now) kept.now) scheduled.now.outcomes)) }
 {
-    let mut shares = empty_shares(alloc, subscribers.len())?;
+    let mut shares = empty_shares(alloc, slots, scheduled)?;
     let outcomes = scheduled.outcomes();
     for (i, now) in kept.iter().enumerate() {
         share_line(
@@ -64,15 +66,20 @@ pub fn shares_of<'a>(
     Ok(shares)
 }
 
-fn empty_shares<'a>(alloc: Global, slots: usize) -> Result<Vec<Share<'a>>, AllocError>
+// As many packets as meet something will come, so there is room for them.
+fn empty_shares<'a>(
+    alloc: Global,
+    slots: u32,
+    scheduled: &Scheduled,
+) -> Result<Vec<Share<'a>>, AllocError>
     ensures many { IfOk result (λ shares. vec_len shares ≡ slots) }
     ensures empty { IfOk result (λ shares. All IsEmpty shares.items) }
 {
-    let mut shares: Vec<Share<'a>> = Vec::new(alloc);
-    for _ in 0..slots {
+    let mut shares: Vec<Share<'a>> = Vec::with_capacity(alloc, slots as usize)?;
+    for i in 0..slots {
         let share: Share<'a> = Share {
             commands: Vec::new(alloc),
-            packets: Vec::new(alloc),
+            packets: Vec::with_capacity(alloc, scheduled.mets(i).len())?,
         };
         shares.push(share)?;
     }

@@ -1,5 +1,5 @@
 //! The record that a line gives.
-ghost use Rattle.std.specs.Prelude.{◌≡◌, ◌++◌, ◌&&◌, ◌≤◌, length, IfOk, OnOk};
+ghost use Rattle.std.specs.Prelude.{◌≡◌, ◌++◌, ◌&&◌, ◌≤◌, length, take, IfOk, OnOk, OnErr};
 ghost use Rattle.pcap_form.specs.Export.{captured, framed, is_packet, message_in, message_max, packet_in, record_head};
 ghost use Rattle.pcap_form.specs.Export.{record_of, wrapped, wrapped_head};
 ghost use Rattle.pcap_form.specs.Packet.{is_for_user};
@@ -56,9 +56,25 @@ fn packet_in(alloc: Global, octets: &[u8]) -> Result<Option<Octets>, NoMemory>
 }
 
 /// Appends the record of a line, if the line is kept: its head with the line's moment, and the
-/// captured octets.
+/// captured octets. Where memory runs out, nothing is.
 pub fn push_record(out: &mut Vec<u8>, line: &TraceLine) -> Result<(), NoMemory>
-    ensures { OnOk result (out.new.items ≡ out.old.items ++ record_of line.now) }
+    ensures appended { OnOk result (out.new.items ≡ out.old.items ++ record_of line.now) }
+    ensures kept { OnErr result (out.new.items ≡ out.old.items) }
+{
+    let start = out.len();
+    match push_parts(out, line) {
+        Ok(()) => Ok(()),
+        Err(none) => {
+            out.truncate(start);
+            Err(none)
+        }
+    }
+}
+
+// The same, but that some of the record stands behind what was there where memory runs out.
+fn push_parts(out: &mut Vec<u8>, line: &TraceLine) -> Result<(), NoMemory>
+    ensures appended { OnOk result (out.new.items ≡ out.old.items ++ record_of line.now) }
+    ensures before { OnErr result (take (length out.old.items) out.new.items ≡ out.old.items) }
 {
     match &line.kind {
         LineKind::S11(message) => push_message(out, line.moment, S11_PORT, message.as_slice()),
@@ -74,7 +90,8 @@ fn push_message(
     port: u16,
     message: &[u8],
 ) -> Result<(), NoMemory>
-    ensures { OnOk result (out.new.items ≡ out.old.items ++ framed moment (message_in port message.now)) }
+    ensures appended { OnOk result (out.new.items ≡ out.old.items ++ framed moment (message_in port message.now)) }
+    ensures before { OnErr result (take (length out.old.items) out.new.items ≡ out.old.items) }
 {
     if message.len() > MESSAGE_MAX {
         return Ok(());
@@ -85,7 +102,8 @@ fn push_message(
 }
 
 fn push_packet(out: &mut Vec<u8>, moment: Moment, octets: &[u8]) -> Result<(), NoMemory>
-    ensures { OnOk result (out.new.items ≡ out.old.items ++ framed moment (packet_in octets.now)) }
+    ensures appended { OnOk result (out.new.items ≡ out.old.items ++ framed moment (packet_in octets.now)) }
+    ensures before { OnErr result (take (length out.old.items) out.new.items ≡ out.old.items) }
 {
     if !is_kept(octets) {
         return Ok(());
@@ -107,7 +125,8 @@ fn is_kept(octets: &[u8]) -> bool
 
 // Appends a record's head, for so many octets.
 fn push_head(out: &mut Vec<u8>, moment: Moment, len: u32) -> Result<(), NoMemory>
-    ensures { OnOk result (out.new.items ≡ out.old.items ++ record_head moment len) }
+    ensures appended { OnOk result (out.new.items ≡ out.old.items ++ record_head moment len) }
+    ensures kept { OnErr result (out.new.items ≡ out.old.items) }
 {
     out.extend_from_slice(&record_head(moment, len))
 }
@@ -127,7 +146,8 @@ fn record_head(moment: Moment, len: u32) -> [u8; 16]
 // Appends a message in a packet.
 fn push_wrapped(out: &mut Vec<u8>, port: u16, message: &[u8]) -> Result<(), NoMemory>
     requires { length message.now ≤ message_max }
-    ensures { OnOk result (out.new.items ≡ out.old.items ++ wrapped port message.now) }
+    ensures appended { OnOk result (out.new.items ≡ out.old.items ++ wrapped port message.now) }
+    ensures before { OnErr result (take (length out.old.items) out.new.items ≡ out.old.items) }
 {
     out.extend_from_slice(&wrapped_head(port, message.len() as u16))?;
     out.extend_from_slice(message)?;

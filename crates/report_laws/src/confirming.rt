@@ -9,14 +9,15 @@ pub fn own_report_is_confirmed()
     ensures yes { OwnReportIsConfirmed }
     ensures only { OwnReportIsNeverRefuted }
 
-    // So it is of octets: those of a trace whose lines are all good, and behind `REPORT` the text that one thread
-    // writes.
+    // So it is of octets: those of a trace whose lines are all good and end with a newline, and behind `REPORT` the
+    // text that one thread writes, where all of it is read.
     ensures text { OwnTextIsConfirmed }
     ensures text_only { OwnTextIsNeverRefuted }
 {}
 
-/// What `solo` wrote of a trace with status 0 is confirmed by `audit`, which is given the trace, the line `REPORT` and
-/// that text: where nothing fails to be read or written its status is 0, unless memory runs out, and it is never 9.
+/// What `solo` wrote with status 0 of a trace that ends with a newline is confirmed by `audit`, which is given the
+/// trace, the line `REPORT` and that text, and reads them whole: where nothing fails to be read or written its status
+/// is 0, unless memory runs out, and it is never 9.
 pub fn own_run_is_confirmed()
     ensures done { OwnRunIsConfirmed }
     ensures never { OwnRunIsNeverRefuted }

@@ -11,4 +11,8 @@ pub mod LineMarked
 pub mod Owed
 pub mod Listed
 pub mod Skipped
+pub mod Spared
+pub mod Places
+pub mod Indices
+pub mod Order
 pub mod Rosters

@@ -4,13 +4,13 @@ use Rattle.std.specs.List.{remove}
 use Rattle.std.proofs.lemmas.Bool.{cases_eq, eq-eqb, ne_eqb}
 use Rattle.slice_schedule.specs.Numbers.{for_each}
 use Rattle.slice_schedule.specs.World.{World, Rooms, ControlNow, FlowNow, start, slot_at, control_at, on_control, on_flow}
-use Rattle.slice_schedule.specs.Front.{Asks, nothing, command, packet, move, control_back, flow_back, control_offer, flow_offer, drain, controls_offered, flows_offered, all_drained, line_done}
+use Rattle.slice_schedule.specs.Front.{Asks, nothing, command, packet, move, control_back, flow_back, control_offer, flow_offer, drain, controls_offered, flows_offered, all_drained, send_packet, line_done}
 use Rattle.slice_schedule.specs.ControlTurns.{without, half_turned, control_turn}
 use Rattle.slice_schedule.specs.FlowTurns.{flow_turn}
 use Rattle.schedule_run.specs.Owing.{IsQuiet, OnlyMarked, is_in, Ascend, IsOwing, MayOwe, slot_asked, MayOweBy}
 use Rattle.schedule_run.proofs.Edited.{remove_is}
 use Rattle.slice_schedule.proofs.TurnsKept.{control_turn_by_keeps, flow_turn_keeps}
-use Rattle.schedule_run.proofs.Passed.{turns_marked, on_flow_marked, Passes, walked, only_if, controls_pass, flows_pass, drains_pass}
+use Rattle.schedule_run.proofs.Passed.{turns_marked, on_flow_marked, sends_still, Passes, walked, only_if, controls_pass, flows_pass, drains_pass}
 use Rattle.schedule_run.proofs.LineMarked.{control_back_marked, flow_back_marked, line_marked}
 
 -- lists that ascend
@@ -172,6 +172,12 @@ line_owes xs rooms bounds world (move s slice) owing =
     may_owe_on s xs world (line_done rooms bounds world (move s slice)).world owing
     (line_marked (is_in (s ∷ xs)) (length world.slots) rooms bounds world (move s slice) (own_in s xs))
 
+pub send_owes : (xs : List ℕ) (rooms : Rooms) (world : World) (s : ℕ) → IsOwing xs world
+    → IsOwing xs (send_packet rooms world s).world
+send_owes xs rooms world s owing =
+    owing_on xs world (send_packet rooms world s).world owing
+    (sends_still (is_in xs) (length world.slots) rooms world s (slot_at world s).flow owing.only)
+
 -- passes over all slots
 record PassedBy (xs : List ℕ) (few all : World) : Type 0 where
   same : few ≡ all
@@ -217,6 +223,13 @@ module _ (xs : List ℕ) (rooms : Rooms) (bounds : ℕ → ℕ) (world : World) 
 
   pub drains_owe : IsOwing xs (all_drained rooms world)
   drains_owe = drains_passed.owing
+
+pub none_pumped : (xs : List ℕ) (rooms : Rooms) (bounds : ℕ → ℕ) (world : World) → IsOwing xs world → length xs ≡ 0
+    → world ≡ all_drained rooms (flows_offered rooms bounds world)
+none_pumped [] rooms bounds world owing is =
+    flows_same [] rooms bounds world owing
+    ∙ drains_same [] rooms bounds (flows_offered rooms bounds world) (flows_owe [] rooms bounds world owing)
+none_pumped (x ∷ xs) rooms bounds world owing is = absurd (omega (arith, is))
 
 -- a quiet slot is left out
 ascend_without : (first last : ℕ) (xs : List ℕ) (n : ℕ) → Ascend first last xs → Ascend first last (without n xs)

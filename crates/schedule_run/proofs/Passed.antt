@@ -6,7 +6,7 @@ use Rattle.slice_schedule.specs.Numbers.{value_at, put_at, for_each}
 use Rattle.slice_schedule.specs.Slots.{CommandTags, Standing, absent, front, placed, recalled, leaving, is_placed, SlotNow, fresh_slot, destination}
 use Rattle.slice_schedule.specs.Halves.{batch_of, send, apply_some, next_batch, apply_batch, Worked, work_behind, control_work, take_batch, learn_batch, learn_one, batches_learnt, learn, handle}
 use Rattle.slice_schedule.specs.World.{World, Rooms, ControlOrder, come, FlowNow, FlowOrder, arrive, leave, item, fresh_flow, order_room, has_room, slot_at, on_slot, control_at, on_control, flow_at, on_flow}
-use Rattle.slice_schedule.specs.Front.{control_ordered, control_offer_at, control_offer, flow_ordered, flow_offer_at, flow_offer, drained, drain_at, drain}
+use Rattle.slice_schedule.specs.Front.{control_ordered, control_offer_at, control_offer, flow_ordered, flow_offer_at, flow_offer, drained, drain_at, drain, Done, accepted, refused, with_packet, send_packet_at}
 use Rattle.pc_base.specs.declared.packet.Place.TheVariants.{At}
 use Rattle.slice_schedule.proofs.Keeping.{put_each, cond_keeps, times_keeps}
 use Rattle.schedule_run.specs.Owing.{is_owed, IsQuiet, IsWithin, IsMarked, OnlyMarked}
@@ -186,6 +186,20 @@ module _ (marked : ℕ → Bool) (least : ℕ) where
         let slot = slot_at world s in
         still_marked world s (handle (At slice)) (quiet_still slot (handle (At slice) slot) refl) refl only;
   }
+
+  -- a packet that is sent
+  pub sends_still : (rooms : Rooms) (world : World) (s : ℕ) (standing : Standing) → OnlyMarked marked least world
+      → OnlyMarked marked least (send_packet_at rooms world s standing).world
+  sends_still rooms world s absent only = only
+  sends_still rooms world s front only = only
+  sends_still rooms world s (placed slice) only =
+      let change : FlowNow → FlowNow = λ worker. record worker { orders = worker.orders ++ item s ∷ [] } in
+      cond_keeps (λ (done : Done). OnlyMarked marked least done.world) (has_room rooms.lane (flow_at world slice).orders)
+      (accepted (on_slot (on_flow world slice change) s with_packet)) (refused world)
+      (still_marked (on_flow world slice change) s with_packet
+      (quiet_still (slot_at world s) (with_packet (slot_at world s)) refl) refl (on_flow_marked world slice change only)) only
+  sends_still rooms world s (recalled slice until) only = only
+  sends_still rooms world s leaving only = only
 
   -- a marked slot may owe
   pub on_marked : (world : World) (s : ℕ) (change : SlotNow → SlotNow) → marked s ≡ true → OnlyMarked marked least world

@@ -1,11 +1,11 @@
 -- Quiet halves are passed: a turn of them changes nothing.
-use Rattle.std.proofs.Common.{◌≡◌, ℕ, zero, suc, ◌+◌, ◌-◌, ◌<◌, ◌≤◌, ◌==◌, ◌||◌, Bool, true, false, not, nat_lt, Option, Some, None, List, [], ◌∷◌, ◌++◌, length, map, get_or, cond, refl, sym, ap, subst, ◌∙◌, inl, inr, arith, true≢false}
-use Rattle.std.proofs.lemmas.Bool.{cases_eq, cases_lt, lt-ltb, le-ltb, eq-eqb, eqb-true, ne_eqb}
+use Rattle.std.proofs.Common.{◌≡◌, ℕ, zero, suc, ◌+◌, ◌-◌, ◌<◌, ◌≤◌, ◌==◌, ◌||◌, Bool, true, false, not, nat_lt, Option, Some, None, List, [], ◌∷◌, length, get_or, cond, refl, sym, ap, subst, ◌∙◌, inl, inr, arith, true≢false}
+use Rattle.std.proofs.lemmas.Bool.{cases_eq, cases_lt, lt-ltb, le-ltb, eq-eqb, ne_eqb}
 use Rattle.slice_schedule.specs.Numbers.{value_at, put_at}
 use Rattle.slice_schedule.specs.Slots.{SlotNow, fresh_slot}
 use Rattle.slice_schedule.specs.Halves.{Worked, control_work}
 use Rattle.slice_schedule.specs.World.{World, Rooms, HeldControl, slot_at, control_at, cursor_next}
-use Rattle.slice_schedule.specs.ControlTurns.{without, held_at, slot_held, half_turned, has_worked, next_place, cursor_at, work_round, work_all}
+use Rattle.slice_schedule.specs.ControlTurns.{held_at, slot_held, half_turned, has_worked, next_place, cursor_at, work_round, work_all}
 use Rattle.schedule_run.specs.Owing.{IsQuiet, is_in, IsOwing}
 use Rattle.schedule_run.specs.Rosters.{RosterNow, roster_at}
 use Rattle.schedule_run.specs.Rounds.{slots_held, EachOnce, IsOrderly, place_held, distance, place_on, turn_at, turn_of, gone, ahead, IsHeld, IsNext, QuietHalf, QuietSpan, PassesOf}

@@ -1,17 +1,11 @@
 -- Turns of workers.
-use Rattle.std.proofs.Common.{◌≡◌, ℕ, ◌<◌, None, List, [], ◌∷◌, length, get_or, drop, refl, sym, ap, ◌∙◌, arith}
-use Rattle.slice_schedule.specs.World.{World, Rooms, ControlNow, ControlOrder, FlowNow, FlowOrder, fresh_control, control_at, on_control, flow_at, on_flow, on_slot, cursor_next}
+use Rattle.std.proofs.Common.{◌≡◌, ℕ, ◌<◌, Option, Some, None, List, ◌∷◌, length, get_or, set, drop, sym, ap, subst, ◌∙◌}
+use Rattle.slice_schedule.specs.Numbers.{put_at}
+use Rattle.slice_schedule.specs.World.{World, Rooms, ControlNow, ControlOrder, FlowNow, FlowOrder, item, fresh_control, fresh_flow, control_at, on_control, flow_at}
 use Rattle.slice_schedule.specs.ControlTurns.{behind_order, control_turn, control_turn_by}
-use Rattle.slice_schedule.specs.Halves.{learn}
-use Rattle.slice_schedule.specs.FlowTurns.{learn_next, next_order, obeyed}
-use Rattle.schedule_run.proofs.Grown.{changed_twice}
-
-pub next_learns : (slice : ℕ) (world : World) (held : List ℕ) → 0 < length held
-    → on_flow (on_slot world (get_or held (flow_at world slice).cursor 0) learn) slice
-    (λ (worker : FlowNow). record worker { cursor = cursor_next worker.cursor (length worker.held) })
-    ≡ learn_next slice world held
-next_learns slice world [] some = absurd (omega (arith, some))
-next_learns slice world (first ∷ others) some = refl
+use Rattle.slice_schedule.specs.FlowTurns.{next_order, obeyed}
+use Rattle.schedule_run.specs.Lanes.{Takes}
+use Rattle.schedule_run.proofs.Grown.{value-within, set-put, changed_twice}
 
 -- a taken order is done
 pub order_told : (rooms : Rooms) (slice : ℕ) (world : World) (order : ControlOrder)
@@ -26,8 +20,26 @@ order_told rooms slice world order is =
     ap worlds (changed_twice fresh_control world.controls slice taken (λ (worker : ControlNow). behind_order worker order))
     ∙ sym (ap (control_turn_by rooms slice world) is)
 
-pub order_obeyed : (slice : ℕ) (world : World) (order : FlowOrder)
-    → (flow_at world slice).orders ≡ order ∷ drop 1 (flow_at world slice).orders
-    → obeyed slice (on_flow world slice (λ (worker : FlowNow). record worker { orders = drop 1 worker.orders })) order
-    ≡ next_order slice world None (flow_at world slice).orders
-order_obeyed slice world order is = sym (ap (next_order slice world None) is)
+-- the next order of a data worker
+order_next : (slice : ℕ) (world : World) (worker : FlowNow) (order : FlowOrder) (kept : Option ℕ)
+    (orders : List FlowOrder) → Takes kept orders (flow_at world slice) worker order
+    → obeyed slice (record world { flows = put_at fresh_flow world.flows slice worker }) order
+    ≡ next_order slice world kept orders
+order_next slice world worker order (Some slot) orders takes =
+    ap (obeyed slice (record world { flows = put_at fresh_flow world.flows slice worker })) takes.0
+    ∙ ap (λ (w : FlowNow). obeyed slice (record world { flows = put_at fresh_flow world.flows slice w }) (item slot))
+    takes.1
+order_next slice world worker order None orders takes =
+    ap (λ (w : FlowNow). obeyed slice (record world { flows = put_at fresh_flow world.flows slice w }) order) takes.1
+    ∙ sym (ap (next_order slice world None) takes.0)
+
+pub order_taken : (slice : ℕ) (world : World) (old new : FlowNow) (order : FlowOrder) → slice < length world.flows
+    → old ≡ get_or world.flows slice old → Takes old.kept old.orders old new order
+    → obeyed slice (record world { flows = set world.flows slice new }) order
+    ≡ next_order slice world (flow_at world slice).kept (flow_at world slice).orders
+order_taken slice world old new order within is takes =
+    let own : old ≡ flow_at world slice = is ∙ value-within fresh_flow old world.flows slice within in
+    ap (λ (xs : List FlowNow). obeyed slice (record world { flows = xs }) order)
+    (set-put fresh_flow world.flows slice new within)
+    ∙ order_next slice world new order (flow_at world slice).kept (flow_at world slice).orders
+    (subst (λ (w : FlowNow). Takes w.kept w.orders w new order) own takes)

@@ -4,6 +4,7 @@ pub mod Plan
 pub mod Numbers
 pub mod Parts
 pub mod Growing
+pub mod Lanes
 pub mod Setups
 pub mod Worlds
 pub mod Owing

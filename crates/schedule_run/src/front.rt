@@ -1,5 +1,5 @@
 //! What the front does: it takes halves home, offers orders, and accepts or refuses.
-ghost use Rattle.std.specs.Prelude.{◌≡◌, ℕ, ◌+◌, ◌-◌, OnOk, IfOk, length, fold, min};
+ghost use Rattle.std.specs.Prelude.{◌≡◌, ℕ, ◌-◌, OnOk, IfOk, IfSome, length, min};
 ghost use Rattle.slice_schedule.specs.World as world;
 ghost use Rattle.slice_schedule.specs.Slots as slots;
 ghost use Rattle.slice_schedule.specs.Front as front;
@@ -12,13 +12,15 @@ ghost use Rattle.schedule_run.specs.Worlds.{world_of};
 use crate::owing::{mark, mark_asked, settle};
 use crate::setup::Setup;
 use crate::sides::{
-    clear_control_home, clear_flow_home, control_sent, flow_sent, lane_of, order_control,
-    order_flow, order_items, orders_of,
+    clear_control_home, clear_flow_home, control_sent, flow_sent, is_control_home_empty,
+    is_flow_home_empty, lane_of, order_control, order_flow, order_items, orders_of,
 };
+use crate::slot::{is_absent, is_front};
 use crate::standing::{ControlOrder, FlowOrder, Standing};
 use crate::world::{
     Numbers, add_command, add_packet, bound_for, call_control, call_flow, control_of, flow_of,
-    has_room, move_on, park, parks_at, queued_of, set_control, set_flow, set_queued, tell_moves,
+    has_room, is_settled, move_on, park, parks_at, queued_of, set_control, set_flow, set_queued,
+    tell_moves,
 };
 use crate::{Ask, Outcome};
 use std::alloc::AllocError;
@@ -78,8 +80,9 @@ fn flow_at_home(
     mark(numbers, owing, slot)
 }
 
-/// Takes the control halves home that a slice sent.
-fn control_home(
+/// Takes the control halves home that a slice sent, where any stands there.
+#[inline(never)]
+fn take_control_home(
     numbers: &mut Numbers,
     owing: &mut Vec<usize>,
     slice: usize,
@@ -97,8 +100,29 @@ fn control_home(
     clear_control_home(numbers, slice)
 }
 
-/// Takes the counter halves home that a slice sent.
-fn flow_home(numbers: &mut Numbers, owing: &mut Vec<usize>, slice: usize) -> Result<(), AllocError>
+/// Takes the control halves home that a slice sent.
+fn control_home(
+    numbers: &mut Numbers,
+    owing: &mut Vec<usize>,
+    slice: usize,
+) -> Result<(), AllocError>
+    requires { IsOwing owing.old.items (world_of numbers.old) }
+    ensures world { OnOk result (world_of numbers.new ≡ front.control_home (world_of numbers.old) slice) }
+    ensures owing { OnOk result (IsOwing owing.new.items (world_of numbers.new)) }
+{
+    if is_control_home_empty(numbers, slice) {
+        return Ok(());
+    }
+    take_control_home(numbers, owing, slice)
+}
+
+/// Takes the counter halves home that a slice sent, where any stands there.
+#[inline(never)]
+fn take_flow_home(
+    numbers: &mut Numbers,
+    owing: &mut Vec<usize>,
+    slice: usize,
+) -> Result<(), AllocError>
     requires { IsOwing owing.old.items (world_of numbers.old) }
     ensures world { OnOk result (world_of numbers.new ≡ front.flow_home (world_of numbers.old) slice) }
     ensures owing { OnOk result (IsOwing owing.new.items (world_of numbers.new)) }
@@ -110,6 +134,18 @@ fn flow_home(numbers: &mut Numbers, owing: &mut Vec<usize>, slice: usize) -> Res
         flow_at_home(numbers, owing, slot)?;
     }
     clear_flow_home(numbers, slice)
+}
+
+/// Takes the counter halves home that a slice sent.
+fn flow_home(numbers: &mut Numbers, owing: &mut Vec<usize>, slice: usize) -> Result<(), AllocError>
+    requires { IsOwing owing.old.items (world_of numbers.old) }
+    ensures world { OnOk result (world_of numbers.new ≡ front.flow_home (world_of numbers.old) slice) }
+    ensures owing { OnOk result (IsOwing owing.new.items (world_of numbers.new)) }
+{
+    if is_flow_home_empty(numbers, slice) {
+        return Ok(());
+    }
+    take_flow_home(numbers, owing, slice)
 }
 
 /// Offers an order to a control worker.
@@ -131,6 +167,7 @@ fn control_ordered(
 }
 
 /// Offers what the control half of a slot owes.
+#[inline(never)]
 fn control_offer(numbers: &mut Numbers, setup: &Setup<'_>, slot: usize) -> Result<(), AllocError>
     ensures { OnOk result (world_of numbers.new
         ≡ front.control_offer (bounds_of setup.now) (world_of numbers.old) slot) }
@@ -182,6 +219,7 @@ fn flow_ordered(
 }
 
 /// Offers what the counter half of a slot owes.
+#[inline(never)]
 fn flow_offer(numbers: &mut Numbers, setup: &Setup<'_>, slot: usize) -> Result<(), AllocError>
     ensures { OnOk result (world_of numbers.new
         ≡ front.flow_offer setup.now.rooms (bounds_of setup.now) (world_of numbers.old) slot) }
@@ -232,6 +270,7 @@ fn drain_on(
     set_queued(numbers, slot, queued - count)
 }
 
+#[inline(never)]
 fn drain(numbers: &mut Numbers, setup: &Setup<'_>, slot: usize) -> Result<(), AllocError>
     ensures { OnOk result (world_of numbers.new ≡ front.drain setup.now.rooms (world_of numbers.old) slot) }
 {
@@ -324,6 +363,9 @@ pub fn pump(
     controls_home(numbers, owing)?;
     controls_offered(numbers, setup, owing.as_slice())?;
     flows_home(numbers, owing)?;
+    if owing.is_empty() {
+        return Ok(());
+    }
     flows_offered(numbers, setup, owing.as_slice())?;
     all_drained(numbers, setup, owing.as_slice())?;
     settle(numbers, owing);
@@ -341,23 +383,10 @@ fn make(numbers: &mut Numbers, setup: &Setup<'_>, slot: usize) -> Result<(), All
     flow_offer(numbers, setup, slot)
 }
 
-/// Whether there is no half yet.
-fn is_absent(standing: Standing) -> bool
-    ensures { result ≡ slots.is_absent (standing_of standing) }
-{
-    matches!(standing, Standing::Absent)
-}
-
 fn is_placed(standing: Standing) -> bool
     ensures { result ≡ slots.is_placed (standing_of standing) }
 {
     matches!(standing, Standing::Placed(_))
-}
-
-fn is_front(standing: Standing) -> bool
-    ensures { result ≡ front.is_front (standing_of standing) }
-{
-    matches!(standing, Standing::Front)
 }
 
 /// A slot's first command or packet makes its halves.
@@ -418,6 +447,7 @@ fn park_packet(numbers: &mut Numbers, setup: &Setup<'_>, slot: usize) -> Result<
 }
 
 /// A packet goes into the lane of this slice.
+#[inline(always)]
 fn send_on(
     numbers: &mut Numbers,
     setup: &Setup<'_>,
@@ -436,6 +466,7 @@ fn send_on(
     }
 }
 
+#[inline(always)]
 fn send_packet(numbers: &mut Numbers, setup: &Setup<'_>, slot: usize) -> Result<Outcome, AllocError>
     ensures { IfOk result (λ outcome. record { world = world_of numbers.new; outcome = outcome }
         ≡ front.send_packet setup.now.rooms (world_of numbers.old) slot) }
@@ -534,8 +565,9 @@ fn line_asked(numbers: &mut Numbers, setup: &Setup<'_>, ask: Ask) -> Result<Outc
     }
 }
 
-/// What becomes of a line, behind the pump; its slot may owe something then.
-pub fn line_done(
+/// The same of any line.
+#[inline(never)]
+fn any_line(
     numbers: &mut Numbers,
     owing: &mut Vec<usize>,
     setup: &Setup<'_>,
@@ -549,4 +581,44 @@ pub fn line_done(
     let outcome = line_asked(numbers, setup, ask)?;
     mark_asked(numbers, owing, ask)?;
     Ok(outcome)
+}
+
+/// The slot of a packet that goes into the lane of its slice at once: its half is there, and no other waits.
+fn slot_sent(numbers: &Numbers, ask: Ask) -> Option<usize>
+    ensures { IfSome result (λ slot. (rooms : world.Rooms) → (bounds : ℕ → ℕ)
+        → front.line_done rooms bounds (world_of numbers.now) (asked ask)
+        ≡ front.send_packet rooms (world_of numbers.now) slot) }
+{
+    match ask {
+        Ask::Nothing => None,
+        Ask::Command(_) => None,
+        Ask::Packet(slot) => {
+            if is_settled(numbers, slot as usize) {
+                return Some(slot as usize);
+            }
+            None
+        }
+        Ask::Move(_, _) => None,
+    }
+}
+
+/// What becomes of a line, behind the pump; its slot may owe something then, but for a packet that is sent at once.
+pub fn line_done(
+    numbers: &mut Numbers,
+    owing: &mut Vec<usize>,
+    setup: &Setup<'_>,
+    ask: Ask,
+) -> Result<Outcome, AllocError>
+    requires { IsOwing owing.old.items (world_of numbers.old) }
+    ensures done { IfOk result (λ outcome. record { world = world_of numbers.new; outcome = outcome }
+        ≡ front.line_done setup.now.rooms (bounds_of setup.now) (world_of numbers.old) (asked ask)) }
+    ensures owing { OnOk result (IsOwing owing.new.items (world_of numbers.new)) }
+{
+    match slot_sent(numbers, ask) {
+        Some(slot) => {
+            let outcome = send_packet(numbers, setup, slot)?;
+            Ok(outcome)
+        }
+        None => any_line(numbers, owing, setup, ask),
+    }
 }

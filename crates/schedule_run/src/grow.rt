@@ -16,6 +16,16 @@ pub fn reach_slot(
 ) -> Result<(), AllocError>
     ensures { OnOk result (Reached fresh_slot slots.old.items slots.new.items slot) }
 {
+    if slot < slots.len() {
+        return Ok(());
+    }
+    grow_slot(slots, alloc, slot)
+}
+
+#[inline(never)]
+fn grow_slot(slots: &mut Vec<SlotNumbers>, alloc: Global, slot: usize) -> Result<(), AllocError>
+    ensures { OnOk result (Reached fresh_slot slots.old.items slots.new.items slot) }
+{
     while slots.len() <= slot {
         slots.push(SlotNumbers::new(alloc))?;
     }
@@ -24,6 +34,20 @@ pub fn reach_slot(
 
 /// Makes the list long enough for this slice.
 pub fn reach_control(
+    controls: &mut Vec<ControlNumbers>,
+    alloc: Global,
+    slice: usize,
+) -> Result<(), AllocError>
+    ensures { OnOk result (Reached fresh_control controls.old.items controls.new.items slice) }
+{
+    if slice < controls.len() {
+        return Ok(());
+    }
+    grow_control(controls, alloc, slice)
+}
+
+#[inline(never)]
+fn grow_control(
     controls: &mut Vec<ControlNumbers>,
     alloc: Global,
     slice: usize,
@@ -42,6 +66,16 @@ pub fn reach_flow(
     alloc: Global,
     slice: usize,
 ) -> Result<(), AllocError>
+    ensures { OnOk result (Reached fresh_flow flows.old.items flows.new.items slice) }
+{
+    if slice < flows.len() {
+        return Ok(());
+    }
+    grow_flow(flows, alloc, slice)
+}
+
+#[inline(never)]
+fn grow_flow(flows: &mut Vec<FlowNumbers>, alloc: Global, slice: usize) -> Result<(), AllocError>
     ensures { OnOk result (Reached fresh_flow flows.old.items flows.new.items slice) }
 {
     while flows.len() <= slice {

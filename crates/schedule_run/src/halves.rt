@@ -1,7 +1,6 @@
 //! What the halves of a slot do when they are turned, and what is left of a slot as its epoch closes.
-ghost use Rattle.std.specs.Prelude.{◌≡◌, ℕ, ◌+◌, ◌-◌, ◌==◌, ◌<◌, ◌≤◌, if◌then◌else◌, Some, None, ◌∷◌, [], ◌++◌};
+ghost use Rattle.std.specs.Prelude.{◌≡◌, ◌+◌, ◌-◌, ◌==◌, ◌<◌, ◌≤◌, if◌then◌else◌, Some, None, ◌∷◌, [], ◌++◌};
 ghost use Rattle.std.specs.Prelude.{IfOk, OnOk, OnErr, length, min, get_or, nat_le};
-ghost use Rattle.slice_schedule.specs.Slots.{SlotNow};
 ghost use Rattle.std.specs.Bool.{OnTrue};
 ghost use Rattle.slice_schedule.specs.Halves as halves;
 ghost use Rattle.schedule_run.specs.Numbers.{standing_of};
@@ -219,6 +218,13 @@ impl SlotNumbers {
         }
     }
 
+    /// Whether the counter half has nothing to learn.
+    pub fn has_learnt(&self) -> bool
+        ensures { OnTrue result (halves.learn self.now ≡ self.now) }
+    {
+        self.is_stuck()
+    }
+
     /// The counter half learns what it may.
     pub fn learn(&mut self)
         ensures { self.new ≡ halves.learn self.old }
@@ -236,7 +242,7 @@ impl SlotNumbers {
         ensures { result ≡ halves.may_handle self.now }
     {
         let next = self.met.len();
-        next < self.packets.len() && self.packets[next] <= self.learnt
+        next < self.packets.len() && self.packets.at(next) <= self.learnt
     }
 
     /// Its next packet is handled.

@@ -4,6 +4,7 @@
 
 mod ask;
 mod busy;
+mod floors;
 mod front;
 mod grow;
 mod halves;

@@ -1,6 +1,6 @@
 //! The slots that owe an order, have packets that wait, or have a control half with work: in their order, each once.
 //! No other slot is visited before a line.
-ghost use Rattle.std.specs.Prelude.{◌≡◌, ℕ, ◌<◌, ◌≤◌, ◌==◌, false, OnOk, length, get_or, nat_lt};
+ghost use Rattle.std.specs.Prelude.{◌≡◌, ◌<◌, ◌≤◌, ◌==◌, false, OnOk, length, get_or, nat_lt};
 ghost use Rattle.std.specs.Bool.{OnTrue, OnFalse};
 ghost use Rattle.std.specs.List.{prefix_len};
 ghost use Rattle.slice_schedule.specs.Numbers.{value_at};
@@ -71,6 +71,7 @@ fn insert(owing: &mut Vec<usize>, slot: usize) -> Result<(), AllocError>
 }
 
 /// Takes up a slot, if it owes anything.
+#[inline(never)]
 pub fn mark(numbers: &Numbers, owing: &mut Vec<usize>, slot: usize) -> Result<(), AllocError>
     requires { MayOwe slot owing.old.items (world_of numbers.now) }
     ensures { OnOk result (IsOwing owing.new.items (world_of numbers.now)) }
@@ -95,6 +96,7 @@ pub fn mark_asked(numbers: &Numbers, owing: &mut Vec<usize>, ask: Ask) -> Result
 }
 
 /// Leaves out the slots that owe nothing any more.
+#[inline(never)]
 pub fn settle(numbers: &Numbers, owing: &mut Vec<usize>)
     requires { IsOwing owing.old.items (world_of numbers.now) }
     ensures { IsOwing owing.new.items (world_of numbers.now) }

@@ -1,5 +1,5 @@
 //! The schedule of an epoch.
-ghost use Rattle.std.specs.Prelude.{◌≡◌, ℕ, ◌+◌, ◌*◌, ◌<◌, ◌≤◌, IfOk, OnOk, length, map, fold};
+ghost use Rattle.std.specs.Prelude.{◌≡◌, ℕ, ◌*◌, ◌<◌, ◌≤◌, IfOk, OnOk, length, map};
 ghost use Rattle.slice_schedule.specs.Slots.{SlotNow};
 ghost use Rattle.slice_schedule.specs.Halves.{closed};
 ghost use Rattle.slice_schedule.specs.World.{start};

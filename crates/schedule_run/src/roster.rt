@@ -1,7 +1,7 @@
 //! The halves that a worker holds.
 ghost use Rattle.std.specs.Prelude.{◌≡◌, ℕ, ◌+◌, ◌<◌, ◌≤◌, ◌==◌, List, ◌++◌, ◌∷◌, [], Option, Some, None};
 ghost use Rattle.std.specs.Prelude.{true, false, map};
-ghost use Rattle.std.specs.Prelude.{OnOk, OnErr, IfOk, IfNone, IfSome, length, nat_lt, take, set, get_or, is_some};
+ghost use Rattle.std.specs.Prelude.{OnOk, IfOk, IfNone, IfSome, length, nat_lt, take, set, get_or, is_some};
 ghost use Rattle.std.specs.Bool.{OnTrue, OnFalse};
 ghost use Rattle.slice_schedule.specs.World as world;
 ghost use Rattle.slice_schedule.specs.ControlTurns as control;
@@ -215,7 +215,7 @@ fn has_half(halves: &[Option<HeldControl>], index: &[usize], once: bool, slot: u
 }
 
 /// The slot of the half at an index.
-#[tactic(auto, using(crate::proofs::Rosters::held_some))]
+#[tactic(auto, using(crate::proofs::Places::held_some))]
 fn slot_in(halves: &[Option<HeldControl>], index: usize) -> usize
     ensures half { index < length halves.now → is_some (roster.entry halves.now index) ≡ true
         → result ≡ (control.held_at (roster.present halves.now) (roster.place_at halves.now index)).slot }
@@ -228,20 +228,11 @@ fn slot_in(halves: &[Option<HeldControl>], index: usize) -> usize
 }
 
 /// The slot of the half of a place.
-#[tactic(auto, using(crate::proofs::Rosters::held_none, crate::proofs::Rosters::place_all))]
+#[tactic(auto, using(crate::proofs::Places::held_none, crate::proofs::Places::place_all))]
 fn slot_of_place(halves: &[Option<HeldControl>], place: usize) -> usize
     ensures { result ≡ (control.held_at (roster.present halves.now) place).slot }
 {
     slot_in(halves, index_at(halves, place))
-}
-
-/// The slot of the first half from an index on.
-#[tactic(auto, using(crate::proofs::Rosters::held_none, crate::proofs::Rosters::place_all))]
-fn slot_from(halves: &[Option<HeldControl>], from: usize) -> usize
-    requires { from ≤ length halves.now }
-    ensures { result ≡ (control.held_at (roster.present halves.now) (roster.place_at halves.now from)).slot }
-{
-    slot_in(halves, first_from(halves, from))
 }
 
 /// Where the cursor stands behind the turn of the half of a place.
@@ -266,14 +257,17 @@ fn behind_slot(halves: &[Option<HeldControl>], index: &[usize], once: bool, slot
     }
 }
 
-/// Where the cursor stands behind the turn of the first half from an index on.
-fn behind_from(halves: &[Option<HeldControl>], from: usize) -> usize
+/// The slot of the first half from an index on, and where the cursor stands behind its turn.
+#[tactic(auto, using(crate::proofs::Places::held_none, crate::proofs::Places::place_all))]
+fn round_from(halves: &[Option<HeldControl>], from: usize) -> (usize, usize)
     requires { from ≤ length halves.now }
-    ensures place { roster.place_at halves.now result ≡ world.cursor_next (roster.place_at halves.now from)
+    ensures slot { result.0 ≡ (control.held_at (roster.present halves.now) (roster.place_at halves.now from)).slot }
+    ensures place { roster.place_at halves.now result.1 ≡ world.cursor_next (roster.place_at halves.now from)
         (length (roster.present halves.now)) }
-    ensures few { result ≤ length halves.now }
+    ensures few { result.1 ≤ length halves.now }
 {
-    settle_behind(halves, first_from(halves, from))
+    let at = first_from(halves, from);
+    (slot_in(halves, at), settle_behind(halves, at))
 }
 
 /// Makes a hole at an index.
@@ -551,13 +545,6 @@ impl Roster {
         )
     }
 
-    /// The slot of the half whose turn is next.
-    pub fn slot_next(&self) -> usize
-        ensures { result ≡ (control.held_at self.now.held self.now.cursor).slot }
-    {
-        slot_from(self.halves.as_slice(), self.next)
-    }
-
     /// The slot of the half of a place.
     pub fn slot_at(&self, place: usize) -> usize
         ensures { result ≡ (control.held_at self.now.held place).slot }
@@ -586,13 +573,16 @@ impl Roster {
         );
     }
 
-    /// The turn of the next half.
-    pub fn go_round(&mut self)
-        ensures { self.new ≡ record self.old {
+    /// The slot of the half whose turn is next; then that of the one behind it.
+    pub fn go_round(&mut self) -> usize
+        ensures slot { result ≡ (control.held_at self.old.held self.old.cursor).slot }
+        ensures round { self.new ≡ record self.old {
           cursor = world.cursor_next self.old.cursor (length self.old.held);
         } }
     {
-        self.next = behind_from(self.halves.as_slice(), self.next);
+        let (slot, next) = round_from(self.halves.as_slice(), self.next);
+        self.next = next;
+        slot
     }
 
     /// A half comes.

@@ -1,7 +1,8 @@
 //! What is read and changed of the workers of one slice.
-ghost use Rattle.std.specs.Prelude.{◌≡◌, ℕ, ◌<◌, ◌++◌, ◌∷◌, [], None, OnOk, IfNone, IfSome, length, drop};
+ghost use Rattle.std.specs.Prelude.{◌≡◌, ◌<◌, ◌++◌, ◌∷◌, [], None, Some, OnOk, IfNone, IfSome, length, drop};
 ghost use Rattle.std.specs.Prelude.{replicate, get_or, nat_lt, ◌&&◌};
 ghost use Rattle.slice_schedule.specs.World as world;
+ghost use Rattle.slice_schedule.specs.Front as front;
 ghost use Rattle.slice_schedule.specs.ControlTurns as control;
 ghost use Rattle.slice_schedule.specs.FlowTurns as flow;
 ghost use Rattle.schedule_run.specs.Numbers.{control_order, flow_order};
@@ -63,6 +64,30 @@ pub fn flow_sent(numbers: &Numbers, slice: usize) -> &[usize]
     }
 }
 
+/// Whether a control worker is there, and sent no half home.
+pub fn is_control_home_empty(numbers: &Numbers, slice: usize) -> bool
+    ensures { OnTrue result (front.control_home (world_of numbers.now) slice ≡ world_of numbers.now) }
+{
+    if slice < numbers.controls.len() {
+        let worker = &numbers.controls[slice];
+        worker.home().is_empty()
+    } else {
+        false
+    }
+}
+
+/// Whether a data worker is there, and sent no half home.
+pub fn is_flow_home_empty(numbers: &Numbers, slice: usize) -> bool
+    ensures { OnTrue result (front.flow_home (world_of numbers.now) slice ≡ world_of numbers.now) }
+{
+    if slice < numbers.flows.len() {
+        let worker = &numbers.flows[slice];
+        worker.home().is_empty()
+    } else {
+        false
+    }
+}
+
 /// How many halves a control worker holds.
 pub fn control_count(numbers: &Numbers, slice: usize) -> usize
     ensures { result ≡ length (world.control_at (world_of numbers.now) slice).held }
@@ -112,31 +137,6 @@ pub fn slot_held(numbers: &Numbers, slice: usize, place: usize) -> usize
     }
 }
 
-/// How many halves a data worker holds.
-pub fn flow_count(numbers: &Numbers, slice: usize) -> usize
-    ensures { result ≡ length (world.flow_at (world_of numbers.now) slice).held }
-{
-    if slice < numbers.flows.len() {
-        let worker = &numbers.flows[slice];
-        worker.held_count()
-    } else {
-        0
-    }
-}
-
-/// The slot of the half of a data worker whose turn is next.
-pub fn flow_next(numbers: &Numbers, slice: usize) -> usize
-    ensures { result ≡ get_or (world.flow_at (world_of numbers.now) slice).held
-        (world.flow_at (world_of numbers.now) slice).cursor 0 }
-{
-    if slice < numbers.flows.len() {
-        let worker = &numbers.flows[slice];
-        worker.slot_next()
-    } else {
-        0
-    }
-}
-
 /// The half that waits to go home.
 pub fn flow_waiting(numbers: &Numbers, slice: usize) -> Option<usize>
     ensures { result ≡ (world.flow_at (world_of numbers.now) slice).waiting }
@@ -144,18 +144,6 @@ pub fn flow_waiting(numbers: &Numbers, slice: usize) -> Option<usize>
     if slice < numbers.flows.len() {
         let worker = &numbers.flows[slice];
         worker.waiting()
-    } else {
-        None
-    }
-}
-
-/// The slot whose packet is kept.
-pub fn flow_kept(numbers: &Numbers, slice: usize) -> Option<usize>
-    ensures { result ≡ (world.flow_at (world_of numbers.now) slice).kept }
-{
-    if slice < numbers.flows.len() {
-        let worker = &numbers.flows[slice];
-        worker.kept()
     } else {
         None
     }
@@ -174,6 +162,7 @@ pub fn order_control(
     worker.order(order)
 }
 
+#[inline(always)]
 pub fn order_flow(numbers: &mut Numbers, slice: usize, order: FlowOrder) -> Result<(), AllocError>
     ensures { OnOk result (world_of numbers.new ≡ world.on_flow (world_of numbers.old) slice
         (λ worker. record worker { orders = worker.orders ++ flow_order order ∷ [] })) }
@@ -257,6 +246,7 @@ pub fn may_send(numbers: &Numbers, slice: usize) -> bool
 }
 
 /// The first half of a control worker that is done goes home.
+#[inline(never)]
 pub fn send_done(numbers: &mut Numbers, slice: usize) -> Result<(), AllocError>
     requires { control.place_done (world_of numbers.old) (world.control_at (world_of numbers.old) slice).held
         < length (world.control_at (world_of numbers.old) slice).held }
@@ -311,18 +301,18 @@ pub fn take_control(numbers: &mut Numbers, slice: usize) -> Option<ControlOrder>
     }
 }
 
-/// Takes the first order of a slice's lane.
-pub fn take_flow(numbers: &mut Numbers, slice: usize) -> Option<FlowOrder>
-    ensures none { IfNone result ((world_of numbers.new ≡ world_of numbers.old)
-        × ((world.flow_at (world_of numbers.old) slice).orders ≡ [])) }
-    ensures order { IfSome result (λ order. (world.flow_at (world_of numbers.old) slice).orders
-        ≡ flow_order order ∷ drop 1 (world.flow_at (world_of numbers.old) slice).orders) }
-    ensures rest { IfSome result (λ order. world_of numbers.new ≡ world.on_flow (world_of numbers.old) slice
-        (λ worker. record worker { orders = drop 1 worker.orders })) }
+/// Takes the next order of a data worker: a kept packet comes first.
+pub fn take_next(numbers: &mut Numbers, slice: usize) -> Option<FlowOrder>
+    ensures none { IfNone result (flow.doing (world_of numbers.new) flow.round
+        ≡ flow.next_order slice (world_of numbers.old) (world.flow_at (world_of numbers.old) slice).kept
+        (world.flow_at (world_of numbers.old) slice).orders) }
+    ensures order { IfSome result (λ order. flow.obeyed slice (world_of numbers.new) (flow_order order)
+        ≡ flow.next_order slice (world_of numbers.old) (world.flow_at (world_of numbers.old) slice).kept
+        (world.flow_at (world_of numbers.old) slice).orders) }
 {
     if slice < numbers.flows.len() {
         let worker = &mut numbers.flows[slice];
-        match worker.take() {
+        match worker.take_next() {
             Some(order) => Some(order),
             None => None,
         }
@@ -331,17 +321,19 @@ pub fn take_flow(numbers: &mut Numbers, slice: usize) -> Option<FlowOrder>
     }
 }
 
-pub fn keep(numbers: &mut Numbers, slice: usize, kept: Option<usize>) -> Result<(), AllocError>
+/// A data worker keeps the packet of a slot.
+pub fn keep(numbers: &mut Numbers, slice: usize, slot: usize) -> Result<(), AllocError>
     ensures { OnOk result (world_of numbers.new ≡ world.on_flow (world_of numbers.old) slice
-        (λ worker. record worker { kept = kept })) }
+        (λ worker. record worker { kept = Some slot })) }
 {
     reach_flow(&mut numbers.flows, numbers.alloc, slice)?;
     let worker = &mut numbers.flows[slice];
-    worker.keep(kept);
+    worker.keep(slot);
     Ok(())
 }
 
 /// A counter half arrives.
+#[inline(never)]
 pub fn hold_flow(numbers: &mut Numbers, slice: usize, slot: usize) -> Result<(), AllocError>
     ensures { OnOk result (world_of numbers.new ≡ world.on_flow (world_of numbers.old) slice
         (λ worker. record worker { held = worker.held ++ slot ∷ [] })) }
@@ -352,6 +344,7 @@ pub fn hold_flow(numbers: &mut Numbers, slice: usize, slot: usize) -> Result<(),
 }
 
 /// A counter half leaves, and waits.
+#[inline(never)]
 pub fn let_go(numbers: &mut Numbers, slice: usize, slot: usize) -> Result<(), AllocError>
     ensures { OnOk result (world_of numbers.new ≡ world.on_flow (world_of numbers.old) slice
         (λ worker. flow.left worker slot)) }
@@ -363,6 +356,7 @@ pub fn let_go(numbers: &mut Numbers, slice: usize, slot: usize) -> Result<(), Al
 }
 
 /// A counter half goes home.
+#[inline(never)]
 pub fn send_flow(numbers: &mut Numbers, slice: usize, slot: usize) -> Result<(), AllocError>
     ensures { OnOk result (world_of numbers.new ≡ world.on_flow (world_of numbers.old) slice
         (λ worker. record worker { home = worker.home ++ slot ∷ []; waiting = None })) }
@@ -372,13 +366,23 @@ pub fn send_flow(numbers: &mut Numbers, slice: usize, slot: usize) -> Result<(),
     worker.go_home(slot)
 }
 
-/// The turn of the next counter half.
-pub fn go_round(numbers: &mut Numbers, slice: usize) -> Result<(), AllocError>
-    ensures { OnOk result (world_of numbers.new ≡ world.on_flow (world_of numbers.old) slice
+/// The slot of the counter half whose turn is next, if there is one; then that of the one behind it.
+pub fn go_round(numbers: &mut Numbers, slice: usize) -> Option<usize>
+    ensures none { IfNone result ((world_of numbers.new ≡ world_of numbers.old)
+        × ((world.flow_at (world_of numbers.old) slice).held ≡ [])) }
+    ensures some { IfSome result (λ slot. 0 < length (world.flow_at (world_of numbers.old) slice).held) }
+    ensures slot { IfSome result (λ slot. slot ≡ get_or (world.flow_at (world_of numbers.old) slice).held
+        (world.flow_at (world_of numbers.old) slice).cursor 0) }
+    ensures round { IfSome result (λ slot. world_of numbers.new ≡ world.on_flow (world_of numbers.old) slice
         (λ worker. record worker { cursor = world.cursor_next worker.cursor (length worker.held) })) }
 {
-    reach_flow(&mut numbers.flows, numbers.alloc, slice)?;
-    let worker = &mut numbers.flows[slice];
-    worker.go_round();
-    Ok(())
+    if slice < numbers.flows.len() {
+        let worker = &mut numbers.flows[slice];
+        match worker.go_round() {
+            Some(slot) => Some(slot),
+            None => None,
+        }
+    } else {
+        None
+    }
 }

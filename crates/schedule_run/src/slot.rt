@@ -1,11 +1,15 @@
 //! The numbers of a slot.
-ghost use Rattle.std.specs.Prelude.{◌≡◌, ℕ, ◌+◌, ◌-◌, ◌^◌, ◌<◌, IfOk, OnOk, length, nat_lt, nat_le};
+ghost use Rattle.std.specs.Prelude.{◌≡◌, ◌+◌, ◌-◌, ◌^◌, ◌<◌, false, OnOk, length, nat_lt};
+ghost use Rattle.std.specs.Bool.{OnTrue};
 ghost use Rattle.slice_schedule.specs.Slots.{SlotNow, fresh_slot};
+ghost use Rattle.slice_schedule.specs.Slots as slots;
 ghost use Rattle.slice_schedule.specs.Front.{control_called, with_command, parks, with_packet, moved};
+ghost use Rattle.slice_schedule.specs.Front as front;
 ghost use Rattle.slice_schedule.specs.Halves as halves;
 ghost use Rattle.schedule_run.specs.Numbers.{standing_of};
 
 use crate::Met;
+use crate::floors::Floors;
 use crate::standing::{CommandTags, Standing};
 use pc_base::Place;
 use std::alloc::{AllocError, Global};
@@ -17,7 +21,7 @@ use std::marker::Model;
 pub struct SlotNumbers {
     pub(crate) moves: Vec<u8>,
     pub(crate) commands: Vec<CommandTags>,
-    pub(crate) packets: Vec<usize>,
+    pub(crate) packets: Floors,
     pub(crate) commands_before: usize,
     pub(crate) packets_before: usize,
     pub(crate) control: Standing,
@@ -45,7 +49,7 @@ impl Model for SlotNumbers {
       hop = length slot.moves.items;
       bound = last_of slot.moves.items;
       commands = slot.commands.items;
-      packets = slot.packets.items;
+      packets = slot.packets;
       commands_before = slot.commands_before;
       packets_before = slot.packets_before;
       control = standing_of slot.control;
@@ -65,6 +69,19 @@ impl Model for SlotNumbers {
         Sizes slot.learnt slot.batch slot.sent.items slot.unsent slot.applied (length slot.commands.items) };
 }
 
+/// Whether there is no half yet.
+pub fn is_absent(standing: Standing) -> bool
+    ensures { result ≡ slots.is_absent (standing_of standing) }
+{
+    matches!(standing, Standing::Absent)
+}
+
+pub fn is_front(standing: Standing) -> bool
+    ensures { result ≡ front.is_front (standing_of standing) }
+{
+    matches!(standing, Standing::Front)
+}
+
 impl SlotNumbers {
     /// A slot without a line.
     pub fn new(alloc: Global) -> SlotNumbers
@@ -73,7 +90,7 @@ impl SlotNumbers {
         SlotNumbers {
             moves: Vec::new(alloc),
             commands: Vec::new(alloc),
-            packets: Vec::new(alloc),
+            packets: Floors::new(alloc),
             commands_before: 0,
             packets_before: 0,
             control: Standing::Absent,
@@ -173,6 +190,15 @@ impl SlotNumbers {
         ensures { result ≡ parks self.now }
     {
         !self.moves.is_empty() && (!matches!(self.flow, Standing::Placed(_)) || self.queued > 0)
+    }
+
+    /// Whether the next packet goes into the lane of its slice at once.
+    pub fn is_settled(&self) -> bool
+        ensures made { OnTrue result (slots.is_absent self.now.control ≡ false) }
+        ensures parks { OnTrue result (parks self.now ≡ false) }
+        ensures gone { OnTrue result (front.is_front self.now.flow ≡ false) }
+    {
+        !is_absent(self.control) && !is_front(self.flow) && !self.parks()
     }
 
     /// How many packets wait at the front.

@@ -1,5 +1,6 @@
 //! The turns of workers.
-ghost use Rattle.std.specs.Prelude.{◌≡◌, ◌<◌, ◌≤◌, None, OnOk, IfOk, length, All};
+ghost use Rattle.std.specs.Prelude.{◌≡◌, ℕ, ◌<◌, ◌≤◌, OnOk, IfOk, length, All};
+ghost use Rattle.std.specs.Bool.{OnFalse};
 ghost use Rattle.slice_schedule.specs.World as world;
 ghost use Rattle.slice_schedule.specs.ControlTurns as control;
 ghost use Rattle.slice_schedule.specs.FlowTurns as flow;
@@ -13,9 +14,9 @@ ghost use Rattle.schedule_run.specs.Worlds.{world_of, going_of};
 use crate::busy::next_busy;
 use crate::setup::Setup;
 use crate::sides::{
-    control_count, control_cursor, flow_count, flow_kept, flow_next, flow_sent, flow_waiting,
-    go_round, hold_control, hold_flow, is_orderly, keep, let_go, mark_control, may_send, send_done,
-    send_flow, set_behind, set_behind_place, slot_held, take_control, take_flow,
+    control_count, control_cursor, flow_sent, flow_waiting, go_round, hold_control, hold_flow,
+    is_orderly, keep, let_go, mark_control, may_send, send_done, send_flow, set_behind,
+    set_behind_place, slot_held, take_control, take_next,
 };
 use crate::standing::{ControlOrder, FlowOrder, Going};
 use crate::world::{Numbers, handle, learn, may_handle, turn_half};
@@ -40,6 +41,7 @@ fn next_place(numbers: &Numbers, slice: usize, place: usize) -> usize
 }
 
 /// Turns control halves round the list until one works.
+#[inline(never)]
 fn work_round(
     numbers: &mut Numbers,
     setup: &Setup<'_>,
@@ -82,6 +84,7 @@ fn next_half(numbers: &Numbers, owing: &[usize], slice: usize, last: Option<usiz
 }
 
 /// Turns the control halves whose turn may change something until one works.
+#[inline(never)]
 fn work_busy(
     numbers: &mut Numbers,
     owing: &[usize],
@@ -114,6 +117,9 @@ fn work_all(
     ensures { OnOk result (world_of numbers.new ≡ control.work_all setup.now.rooms slice (world_of numbers.old)) }
 {
     if is_orderly(numbers, slice) {
+        if owing.is_empty() {
+            return Ok(());
+        }
         return work_busy(numbers, owing, setup, slice);
     }
     let first = control_cursor(numbers, slice);
@@ -138,6 +144,7 @@ fn go_or_work(
 }
 
 /// Does an order of a control worker.
+#[inline(never)]
 fn tell(numbers: &mut Numbers, slice: usize, order: ControlOrder) -> Result<(), AllocError>
     ensures { OnOk result (world_of numbers.new ≡ world.on_control (world_of numbers.old) slice
         (λ worker. control.behind_order worker (control_order order))) }
@@ -149,7 +156,7 @@ fn tell(numbers: &mut Numbers, slice: usize, order: ControlOrder) -> Result<(), 
 }
 
 /// A turn of the control worker of a slice.
-pub fn control_turn(
+fn control_turn(
     numbers: &mut Numbers,
     owing: &[usize],
     setup: &Setup<'_>,
@@ -194,7 +201,7 @@ fn handle_or_keep(numbers: &mut Numbers, slice: usize, slot: usize) -> Result<Go
         handle(numbers, slot, slice)?;
         Ok(Going::More)
     } else {
-        keep(numbers, slice, Some(slot))?;
+        keep(numbers, slice, slot)?;
         Ok(Going::Round)
     }
 }
@@ -221,31 +228,16 @@ fn obey(numbers: &mut Numbers, slice: usize, order: FlowOrder) -> Result<Going, 
     }
 }
 
-/// Does the lane's first order, if there is one.
-fn next_in_lane(numbers: &mut Numbers, slice: usize) -> Result<Going, AllocError>
-    requires { slice ≤ 63 }
-    ensures { IfOk result (λ going. flow.doing (world_of numbers.new) (going_of going)
-        ≡ flow.next_order slice (world_of numbers.old) None (world.flow_at (world_of numbers.old) slice).orders) }
-{
-    match take_flow(numbers, slice) {
-        None => Ok(Going::Round),
-        Some(order) => obey(numbers, slice, order),
-    }
-}
-
-/// Does the next order: a kept packet comes first.
+/// Does the next order, if there is one.
 fn next_order(numbers: &mut Numbers, slice: usize) -> Result<Going, AllocError>
     requires { slice ≤ 63 }
     ensures { IfOk result (λ going. flow.doing (world_of numbers.new) (going_of going)
         ≡ flow.next_order slice (world_of numbers.old) (world.flow_at (world_of numbers.old) slice).kept
         (world.flow_at (world_of numbers.old) slice).orders) }
 {
-    match flow_kept(numbers, slice) {
-        None => next_in_lane(numbers, slice),
-        Some(slot) => {
-            keep(numbers, slice, None)?;
-            obey(numbers, slice, FlowOrder::Item(slot))
-        }
+    match take_next(numbers, slice) {
+        None => Ok(Going::Round),
+        Some(order) => obey(numbers, slice, order),
     }
 }
 
@@ -261,6 +253,18 @@ fn order_step(numbers: &mut Numbers, slice: usize, going: Going) -> Result<Going
     }
 }
 
+/// Whether the next order is done, if there is one.
+fn goes_on(going: Going) -> bool
+    ensures { OnFalse result ((slice : ℕ) → (now : world.World)
+        → flow.order_step slice (flow.doing now (going_of going)) ≡ flow.doing now (going_of going)) }
+{
+    match going {
+        Going::More => true,
+        Going::Round => false,
+        Going::Over => false,
+    }
+}
+
 /// Does at most eight orders.
 fn take_orders(numbers: &mut Numbers, slice: usize, first: Going) -> Result<Going, AllocError>
     requires { slice ≤ 63 }
@@ -269,6 +273,9 @@ fn take_orders(numbers: &mut Numbers, slice: usize, first: Going) -> Result<Goin
 {
     let mut going = first;
     for _ in 0..8u32 {
+        if !goes_on(going) {
+            return Ok(going);
+        }
         going = order_step(numbers, slice, going)?;
     }
     Ok(going)
@@ -279,12 +286,10 @@ fn learn_next(numbers: &mut Numbers, slice: usize) -> Result<(), AllocError>
     ensures { OnOk result (world_of numbers.new ≡ flow.learn_next slice (world_of numbers.old)
         (world.flow_at (world_of numbers.old) slice).held) }
 {
-    if flow_count(numbers, slice) == 0 {
-        return Ok(());
+    match go_round(numbers, slice) {
+        None => Ok(()),
+        Some(slot) => learn(numbers, slot),
     }
-    let slot = flow_next(numbers, slice);
-    learn(numbers, slot)?;
-    go_round(numbers, slice)
 }
 
 fn end_turn(numbers: &mut Numbers, slice: usize, going: Going) -> Result<(), AllocError>
@@ -299,7 +304,7 @@ fn end_turn(numbers: &mut Numbers, slice: usize, going: Going) -> Result<(), All
 }
 
 /// A turn of the data worker of a slice.
-pub fn flow_turn(numbers: &mut Numbers, slice: usize) -> Result<(), AllocError>
+fn flow_turn(numbers: &mut Numbers, slice: usize) -> Result<(), AllocError>
     requires { slice ≤ 63 }
     ensures { OnOk result (world_of numbers.new ≡ flow.flow_turn slice (world_of numbers.old)) }
 {
@@ -309,6 +314,7 @@ pub fn flow_turn(numbers: &mut Numbers, slice: usize) -> Result<(), AllocError>
 }
 
 /// A worker's turn: of control, or of data.
+#[inline(always)]
 pub fn turn(
     numbers: &mut Numbers,
     owing: &[usize],

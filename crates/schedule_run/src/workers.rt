@@ -1,11 +1,11 @@
 //! The numbers of the workers of a slice.
-ghost use Rattle.std.specs.Prelude.{◌≡◌, ℕ, ◌<◌, ◌≤◌, ◌++◌, ◌∷◌, [], ◌&&◌, None, OnOk, IfOk, IfNone, IfSome};
+ghost use Rattle.std.specs.Prelude.{◌≡◌, ◌<◌, ◌++◌, ◌∷◌, [], ◌&&◌, None, Some, OnOk, IfNone, IfSome};
 ghost use Rattle.std.specs.Prelude.{length, drop, map, replicate, nat_lt, get_or};
-ghost use Rattle.std.specs.Bool.{OnTrue, OnFalse};
 ghost use Rattle.slice_schedule.specs.World as world;
 ghost use Rattle.slice_schedule.specs.ControlTurns as control;
 ghost use Rattle.slice_schedule.specs.FlowTurns as flow;
 ghost use Rattle.schedule_run.specs.Numbers.{control_order, flow_order};
+ghost use Rattle.schedule_run.specs.Lanes.{Takes};
 ghost use Rattle.schedule_run.specs.Rounds as rounds;
 
 use crate::roster::Roster;
@@ -211,15 +211,6 @@ impl FlowNumbers {
         Ok(())
     }
 
-    /// Takes the first order.
-    pub fn take(&mut self) -> Option<FlowOrder>
-        ensures none { IfNone result ((self.old.orders ≡ []) × (self.new ≡ self.old)) }
-        ensures first { IfSome result (λ order. self.old.orders ≡ flow_order order ∷ drop 1 self.old.orders) }
-        ensures rest { IfSome result (λ order. self.new ≡ record self.old { orders = drop 1 self.old.orders }) }
-    {
-        self.orders.pop_front()
-    }
-
     /// The halves that it sent home.
     pub fn home(&self) -> &[usize]
         ensures { result.now ≡ self.now.home }
@@ -233,28 +224,19 @@ impl FlowNumbers {
         self.home.clear();
     }
 
-    /// How many halves it holds.
-    #[tactic(auto, using(crate::proofs::Rosters::slots_count))]
-    pub fn held_count(&self) -> usize
-        ensures { result ≡ length self.now.held }
+    /// The slot of the half whose turn is next, if there is one; then that of the one behind it.
+    #[tactic(auto, using(crate::proofs::Order::slots_count, crate::proofs::Order::slots_at))]
+    pub fn go_round(&mut self) -> Option<usize>
+        ensures none { IfNone result ((self.old.held ≡ []) × (self.new ≡ self.old)) }
+        ensures some { IfSome result (λ slot. 0 < length self.old.held) }
+        ensures slot { IfSome result (λ slot. slot ≡ get_or self.old.held self.old.cursor 0) }
+        ensures round { IfSome result (λ slot. self.new
+            ≡ record self.old { cursor = world.cursor_next self.old.cursor (length self.old.held) }) }
     {
-        self.roster.len()
-    }
-
-    /// The slot of the half whose turn is next.
-    #[tactic(auto, using(crate::proofs::Rosters::slots_at))]
-    pub fn slot_next(&self) -> usize
-        ensures { result ≡ get_or self.now.held self.now.cursor 0 }
-    {
-        self.roster.slot_next()
-    }
-
-    /// The turn of the next half.
-    #[tactic(auto, using(crate::proofs::Rosters::slots_count))]
-    pub fn go_round(&mut self)
-        ensures { self.new ≡ record self.old { cursor = world.cursor_next self.old.cursor (length self.old.held) } }
-    {
-        self.roster.go_round();
+        if self.roster.len() == 0 {
+            return None;
+        }
+        Some(self.roster.go_round())
     }
 
     pub fn waiting(&self) -> Option<usize>
@@ -263,20 +245,39 @@ impl FlowNumbers {
         self.waiting
     }
 
-    pub fn kept(&self) -> Option<usize>
-        ensures { result ≡ self.now.kept }
+    /// Takes the lane's first order.
+    fn take(&mut self) -> Option<FlowOrder>
+        ensures none { IfNone result ((self.old.orders ≡ []) × (self.new ≡ self.old)) }
+        ensures first { IfSome result (λ order. self.old.orders ≡ flow_order order ∷ drop 1 self.old.orders) }
+        ensures rest { IfSome result (λ order. self.new ≡ record self.old { orders = drop 1 self.old.orders }) }
     {
-        self.kept
+        self.orders.pop_front()
     }
 
-    pub fn keep(&mut self, kept: Option<usize>)
-        ensures { self.new ≡ record self.old { kept = kept } }
+    /// Takes the next order: a kept packet comes first.
+    pub fn take_next(&mut self) -> Option<FlowOrder>
+        ensures none { IfNone result ((self.old.kept ≡ None) × (self.old.orders ≡ []) × (self.new ≡ self.old)) }
+        ensures order { IfSome result (λ order.
+            Takes self.old.kept self.old.orders self.old self.new (flow_order order)) }
     {
-        self.kept = kept;
+        match self.kept {
+            Some(slot) => {
+                self.kept = None;
+                Some(FlowOrder::Item(slot))
+            }
+            None => self.take(),
+        }
+    }
+
+    /// Keeps the packet of a slot.
+    pub fn keep(&mut self, slot: usize)
+        ensures { self.new ≡ record self.old { kept = Some slot } }
+    {
+        self.kept = Some(slot);
     }
 
     /// A half arrives.
-    #[tactic(auto, using(crate::proofs::Rosters::slots_pushed))]
+    #[tactic(auto, using(crate::proofs::Order::slots_pushed))]
     pub fn hold(&mut self, alloc: Global, slot: usize) -> Result<(), AllocError>
         ensures { OnOk result (self.new ≡ record self.old { held = self.old.held ++ slot ∷ [] }) }
     {

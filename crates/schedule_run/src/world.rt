@@ -1,6 +1,7 @@
 //! The numbers of all slots and workers: what is read and changed of one slot.
-ghost use Rattle.std.specs.Prelude.{◌≡◌, ℕ, ◌-◌, OnOk, IfOk, length, nat_lt, [], ◌≤◌, ◌<◌, ◌+◌, ◌^◌};
-ghost use Rattle.slice_schedule.specs.Slots.{SlotNow, destination};
+ghost use Rattle.std.specs.Prelude.{◌≡◌, ◌-◌, false, OnOk, IfOk, length, nat_lt, [], ◌≤◌, ◌<◌, ◌+◌, ◌^◌};
+ghost use Rattle.std.specs.Bool.{OnTrue};
+ghost use Rattle.slice_schedule.specs.Slots.{destination, is_absent};
 ghost use Rattle.slice_schedule.specs.World as world;
 ghost use Rattle.slice_schedule.specs.Front as front;
 ghost use Rattle.slice_schedule.specs.Halves as halves;
@@ -70,6 +71,32 @@ pub fn parks_at(numbers: &Numbers, slot: usize) -> bool
     if slot < numbers.slots.len() {
         let one = &numbers.slots[slot];
         one.parks()
+    } else {
+        false
+    }
+}
+
+/// Whether the next packet of a slot goes into the lane of its slice at once.
+pub fn is_settled(numbers: &Numbers, slot: usize) -> bool
+    ensures made { OnTrue result (is_absent (world.slot_at (world_of numbers.now) slot).control ≡ false) }
+    ensures parks { OnTrue result (front.parks (world.slot_at (world_of numbers.now) slot) ≡ false) }
+    ensures gone { OnTrue result (front.is_front (world.slot_at (world_of numbers.now) slot).flow ≡ false) }
+{
+    if slot < numbers.slots.len() {
+        let one = &numbers.slots[slot];
+        one.is_settled()
+    } else {
+        false
+    }
+}
+
+/// Whether the counter half of a slot has nothing to learn.
+fn has_learnt(numbers: &Numbers, slot: usize) -> bool
+    ensures { OnTrue result (world.on_slot (world_of numbers.now) slot halves.learn ≡ world_of numbers.now) }
+{
+    if slot < numbers.slots.len() {
+        let one = &numbers.slots[slot];
+        one.has_learnt()
     } else {
         false
     }
@@ -175,6 +202,7 @@ pub fn add_command(numbers: &mut Numbers, slot: usize) -> Result<(), AllocError>
     Ok(())
 }
 
+#[inline(always)]
 pub fn add_packet(numbers: &mut Numbers, slot: usize) -> Result<(), AllocError>
     ensures { OnOk result (world_of numbers.new ≡ world.on_slot (world_of numbers.old) slot front.with_packet) }
 {
@@ -235,7 +263,19 @@ pub fn turn_half(numbers: &mut Numbers, setup: &Setup<'_>, slot: usize) -> Resul
     one.control_work(room)
 }
 
+/// The counter half of a slot learns what it may.
+#[inline(always)]
 pub fn learn(numbers: &mut Numbers, slot: usize) -> Result<(), AllocError>
+    ensures { OnOk result (world_of numbers.new ≡ world.on_slot (world_of numbers.old) slot halves.learn) }
+{
+    if has_learnt(numbers, slot) {
+        return Ok(());
+    }
+    learn_more(numbers, slot)
+}
+
+#[inline(never)]
+fn learn_more(numbers: &mut Numbers, slot: usize) -> Result<(), AllocError>
     ensures { OnOk result (world_of numbers.new ≡ world.on_slot (world_of numbers.old) slot halves.learn) }
 {
     reach_slot(&mut numbers.slots, numbers.alloc, slot)?;

@@ -2,7 +2,7 @@
 use charging_book::ChargeRow;
 use packet_steps::{Effects, LentVerdict};
 use pc_base::{Place, Reply, Slot};
-use std::alloc::Global;
+use std::alloc::{AllocError, Global};
 use std::collections::VecDeque;
 
 /// The reply to the slot's command of this number.
@@ -48,19 +48,23 @@ pub struct Replayed<'a> {
 }
 
 impl Replayed<'_> {
-    ghost use Rattle.std.specs.Prelude.{◌≡◌, []};
+    ghost use Rattle.std.specs.Prelude.{◌≡◌, [], IfOk};
 
-    /// Nothing yet. It takes no memory.
-    pub(crate) fn new<'a>(alloc: Global) -> Replayed<'a>
-        ensures replies { result.replies.items ≡ [] }
-        ensures packets { result.packets.items ≡ [] }
-        ensures effects { result.effects.items ≡ [] }
+    /// Nothing yet, with room for what so many commands and packets lead to.
+    pub(crate) fn with_room<'a>(
+        alloc: Global,
+        commands: usize,
+        packets: usize,
+    ) -> Result<Replayed<'a>, AllocError>
+        ensures replies { IfOk result (λ replayed. replayed.replies.items ≡ []) }
+        ensures packets { IfOk result (λ replayed. replayed.packets.items ≡ []) }
+        ensures effects { IfOk result (λ replayed. replayed.effects.items ≡ []) }
     {
-        Replayed {
-            replies: VecDeque::new(alloc),
-            packets: VecDeque::new(alloc),
+        Ok(Replayed {
+            replies: VecDeque::with_capacity(alloc, commands)?,
+            packets: VecDeque::with_capacity(alloc, packets)?,
             effects: Vec::new(alloc),
             rows: Vec::new(alloc),
-        }
+        })
     }
 }

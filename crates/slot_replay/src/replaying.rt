@@ -52,7 +52,7 @@ pub fn replay<'a>(
     ensures last { OnOk result (moment_of subscriber.new ≡ latest_of (moment_of subscriber.old) packets.now) }
     ensures destination { OnOk result (subscriber.new.destination ≡ subscriber.old.destination) }
 {
-    let mut replayed = Replayed::new(alloc);
+    let mut replayed = Replayed::with_room(alloc, commands.len(), packets.len())?;
     let mut from = 0usize;
     let mut done = subscriber.commands();
     for placed in packets {
@@ -67,6 +67,8 @@ pub fn replay<'a>(
     Ok(replayed)
 }
 
+// Mostly there are none before a packet.
+#[inline(always)]
 fn do_commands(
     alloc: Global,
     subscriber: &mut Subscriber,

@@ -21,6 +21,12 @@ use Rattle.epoch_drive.proofs.Ends.{all_can, length-moments}
 use Rattle.epoch_drive.proofs.Keeping.{all_within_any, length-kept, mean_lent, placed_lent}
 use Rattle.epoch_drive.proofs.driving.do_lines.Goals as goal
 
+pub shares_of-requires-clause-slots : goal.shares_of-requires-clause-slots
+shares_of-requires-clause-slots c =
+    let may : MayDo c.args.slices c.args.count c.args.lines.now c.args.book.now c.args.subscribers.now.items =
+    c.requires.may in
+    c.len-slots.ensures.length ∙ sym may.are.turned.many ∙ ap length (sym c.as_slice.ensures.value)
+
 pub shares_of-requires-clause-within : goal.shares_of-requires-clause-within
 shares_of-requires-clause-within c =
     let may : MayDo c.args.slices c.args.count c.args.lines.now c.args.book.now c.args.subscribers.now.items =

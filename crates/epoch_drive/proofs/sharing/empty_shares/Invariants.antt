@@ -3,8 +3,8 @@ use Rattle.std.specs.List.{All}
 use Rattle.epoch_drive.specs.Shares.{IsEmpty}
 use Rattle.epoch_drive.proofs.sharing.empty_shares.Given as goal
 
-abbrev pub invariant-loop : goal.invariant-loop
-invariant-loop l = record {
-  many : vec_len l.shares ≡ l.counter;
+abbrev pub invariant-loop-i : goal.invariant-loop-i
+invariant-loop-i l = record {
+  many : vec_len l.shares ≡ l.i;
   empty : All IsEmpty l.shares.items;
 }

@@ -1,5 +1,4 @@
-use Rattle.std.proofs.Common.{rules, ◌≡◌, ◌<◌, ◌≤◌, false, length, sym, ◌∙◌, arith}
-use Rattle.std.proofs.lemmas.Bool.{ltb-false}
+use Rattle.std.proofs.Common.{rules, ◌<◌, ◌≤◌, length, arith}
 use Rattle.schedule_run.specs.Rounds.{place_held, turn_of, gone, ahead}
 use Rattle.schedule_run.proofs.Skipped.{passes_none, passes_before, passes_behind}
 use Rattle.schedule_run.proofs.busy.nearer.Goals as goal

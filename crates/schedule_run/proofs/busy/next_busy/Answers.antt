@@ -1,4 +1,4 @@
-use Rattle.std.proofs.Common.{rules, ◌≡◌, ◌≤◌, ℕ, length, get_or, subst, inl, inr, arith}
+use Rattle.std.proofs.Common.{rules, ◌≡◌, ◌≤◌, length, get_or, subst, inl, inr, arith}
 use Rattle.std.proofs.lemmas.Bool.{cases_lt}
 use Rattle.schedule_run.specs.Rounds.{gone, ahead, PassesOf}
 use Rattle.schedule_run.proofs.Skipped.{quiet_ahead, passes_less}

@@ -1,11 +1,9 @@
-use Rattle.std.proofs.Common.{rules, [], ◌∷◌, ◌++◌, ap, ◌∙◌}
-use Rattle.schedule_run.proofs.Grown.{grows_more, reached}
+use Rattle.std.proofs.Common.{rules}
+use Rattle.slice_schedule.specs.World.{fresh_flow}
+use Rattle.schedule_run.proofs.Grown.{grows_none, reached}
 use Rattle.schedule_run.proofs.grow.reach_flow.Goals as goal
 
-pub loop-alloc-preserved : goal.loop-alloc-preserved
-loop-alloc-preserved c =
-    grows_more _ _ c.loop-alloc.flows.items _ _ (search rules)
-    (c.in_ok-push.ensures.items ∙ ap (λ x. c.loop-alloc.flows.items ++ x ∷ []) c.new.ensures) c.loop-alloc.invariant
-
-pub returns : goal.returns
-returns c = reached _ _ _ _ (search rules) c.loop-alloc.invariant
+pub returns-then-slice-len : goal.returns-then-slice-len
+returns-then-slice-len c =
+    reached fresh_flow c.args.flows.now.items c.args.flows.now.items c.args.slice (search rules)
+    (grows_none fresh_flow c.args.flows.now.items c.args.slice)

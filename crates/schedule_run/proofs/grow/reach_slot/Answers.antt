@@ -1,11 +1,9 @@
-use Rattle.std.proofs.Common.{rules, [], ◌∷◌, ◌++◌, ap, ◌∙◌}
-use Rattle.schedule_run.proofs.Grown.{grows_more, reached}
+use Rattle.std.proofs.Common.{rules}
+use Rattle.slice_schedule.specs.Slots.{fresh_slot}
+use Rattle.schedule_run.proofs.Grown.{grows_none, reached}
 use Rattle.schedule_run.proofs.grow.reach_slot.Goals as goal
 
-pub loop-alloc-preserved : goal.loop-alloc-preserved
-loop-alloc-preserved c =
-    grows_more _ _ c.loop-alloc.slots.items _ _ (search rules)
-    (c.in_ok-push.ensures.items ∙ ap (λ x. c.loop-alloc.slots.items ++ x ∷ []) c.new.ensures) c.loop-alloc.invariant
-
-pub returns : goal.returns
-returns c = reached _ _ _ _ (search rules) c.loop-alloc.invariant
+pub returns-then-slot-len : goal.returns-then-slot-len
+returns-then-slot-len c =
+    reached fresh_slot c.args.slots.now.items c.args.slots.now.items c.args.slot (search rules)
+    (grows_none fresh_slot c.args.slots.now.items c.args.slot)

@@ -1,6 +1,6 @@
 use Rattle.std.proofs.Common.{ℕ, List, ap, ◌∙◌}
 use Rattle.schedule_run.specs.Owing.{is_in}
-use Rattle.schedule_run.proofs.Rosters.{in_pushed}
+use Rattle.schedule_run.proofs.Indices.{in_pushed}
 use Rattle.schedule_run.proofs.roster.all_indices.Goals as goal
 
 pub loop-index-preserved : goal.loop-index-preserved

@@ -1,7 +1,7 @@
 use Rattle.std.proofs.Common.{length, arith}
 use Rattle.schedule_run.specs.Rosters.{present}
 use Rattle.schedule_run.specs.Rounds.{place_held}
-use Rattle.schedule_run.proofs.Rosters.{lacks_place, stands_place, stands_some, half_within, none_next}
+use Rattle.schedule_run.proofs.Places.{lacks_place, stands_place, stands_some, half_within, none_next}
 use Rattle.schedule_run.proofs.roster.behind_slot.Goals as goal
 
 pub returns-in-None-clause-place : goal.returns-in-None-clause-place

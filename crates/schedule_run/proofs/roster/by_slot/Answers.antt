@@ -1,5 +1,5 @@
 use Rattle.std.proofs.Common.{rules, ◌≤◌, length}
-use Rattle.schedule_run.proofs.Rosters.{lacks_by}
+use Rattle.schedule_run.proofs.Indices.{lacks_by}
 use Rattle.schedule_run.proofs.roster.by_slot.Goals as goal
 
 pub returns-then-slot-index-clause-none : goal.returns-then-slot-index-clause-none

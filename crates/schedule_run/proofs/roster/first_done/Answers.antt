@@ -1,5 +1,5 @@
 use Rattle.std.proofs.Common.{rules, ◌≤◌, [], length, arith}
-use Rattle.schedule_run.proofs.Rosters.{done_first}
+use Rattle.schedule_run.proofs.Indices.{done_first}
 use Rattle.schedule_run.proofs.roster.first_done.Goals as goal
 
 pub returns-clause-place : goal.returns-clause-place

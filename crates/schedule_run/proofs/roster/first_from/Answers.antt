@@ -1,5 +1,5 @@
 use Rattle.std.proofs.Common.{rules, ◌∙◌}
-use Rattle.schedule_run.proofs.Rosters.{still_on}
+use Rattle.schedule_run.proofs.Places.{still_on}
 use Rattle.schedule_run.proofs.roster.first_from.Goals as goal
 
 pub loop-at-preserved : goal.loop-at-preserved

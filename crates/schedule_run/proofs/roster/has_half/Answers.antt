@@ -1,8 +1,8 @@
-use Rattle.std.proofs.Common.{length, sym, ap, ◌∙◌, arith}
+use Rattle.std.proofs.Common.{length, sym, arith}
 use Rattle.std.proofs.lemmas.Bool.{lt-ltb, le-ltb}
-use Rattle.schedule_run.specs.Rosters.{present, place_at}
+use Rattle.schedule_run.specs.Rosters.{present}
 use Rattle.schedule_run.specs.Rounds.{place_held}
-use Rattle.schedule_run.proofs.Rosters.{lacks_place, stands_place, place_below}
+use Rattle.schedule_run.proofs.Places.{lacks_place, stands_place, place_below}
 use Rattle.schedule_run.proofs.roster.has_half.Goals as goal
 
 pub returns-in-None : goal.returns-in-None

@@ -1,5 +1,5 @@
 use Rattle.std.proofs.Common.{arith}
-use Rattle.schedule_run.proofs.Rosters.{next_on, still_on}
+use Rattle.schedule_run.proofs.Places.{next_on, still_on}
 use Rattle.schedule_run.proofs.roster.index_at.Goals as goal
 use Rattle.schedule_run.proofs.roster.index_at.Goals.{then-is_half+else-left-eq0, else-is_half}
 

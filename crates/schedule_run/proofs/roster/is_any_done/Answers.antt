@@ -1,5 +1,5 @@
 use Rattle.std.proofs.Common.{[]}
-use Rattle.schedule_run.proofs.Rosters.{any_done}
+use Rattle.schedule_run.proofs.Order.{any_done}
 use Rattle.schedule_run.proofs.roster.is_any_done.Goals as goal
 
 pub returns : goal.returns

@@ -1,7 +1,7 @@
 use Rattle.std.proofs.Common.{nat_lt, length, sym, ap, ◌∙◌, arith}
 use Rattle.schedule_run.specs.Rosters.{present, place_at}
 use Rattle.schedule_run.specs.Rounds.{place_held, distance}
-use Rattle.schedule_run.proofs.Rosters.{lacks_place, stands_place}
+use Rattle.schedule_run.proofs.Places.{lacks_place, stands_place}
 use Rattle.schedule_run.proofs.roster.is_first.Goals as goal
 
 pub returns-in-None : goal.returns-in-None

@@ -1,7 +1,7 @@
 use Rattle.std.proofs.Common.{None, length, set, sym, ap, ◌∙◌, add-one}
 use Rattle.slice_schedule.specs.World.{cursor_within}
 use Rattle.schedule_run.specs.Rosters.{present, place_at}
-use Rattle.schedule_run.proofs.Rosters.{is_half, hole, one_less, cursor_left}
+use Rattle.schedule_run.proofs.Places.{is_half, hole, one_less, cursor_left}
 use Rattle.schedule_run.proofs.roster.leave_hole.Goals as goal
 
 pub returns-clause-held : goal.returns-clause-held

@@ -1,5 +1,5 @@
 use Rattle.std.proofs.Common.{rules, ◌<◌, length}
-use Rattle.schedule_run.proofs.Rosters.{settled_at}
+use Rattle.schedule_run.proofs.Places.{settled_at}
 use Rattle.schedule_run.proofs.roster.settle.Goals as goal
 
 pub returns-then-at-halves-clause-place : goal.returns-then-at-halves-clause-place

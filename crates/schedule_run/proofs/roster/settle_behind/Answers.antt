@@ -1,6 +1,6 @@
 use Rattle.std.proofs.Common.{rules, ◌<◌, length, ◌∙◌}
 use Rattle.schedule_run.specs.Rosters.{present}
-use Rattle.schedule_run.proofs.Rosters.{settled_behind}
+use Rattle.schedule_run.proofs.Places.{settled_behind}
 use Rattle.schedule_run.proofs.roster.settle_behind.Goals as goal
 
 pub returns-then-at-halves-clause-place : goal.returns-then-at-halves-clause-place

@@ -1,5 +1,5 @@
 use Rattle.std.proofs.Common.{rules, ◌<◌, ◌≤◌}
-use Rattle.schedule_run.proofs.Rosters.{first_both, first_late, first_soon, first_on}
+use Rattle.schedule_run.proofs.Order.{first_both, first_late, first_soon, first_on}
 use Rattle.schedule_run.proofs.roster.turns_first.Goals as goal
 
 pub returns-then-other-next : goal.returns-then-other-next

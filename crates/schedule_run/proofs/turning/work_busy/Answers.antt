@@ -4,7 +4,7 @@ use Rattle.slice_schedule.specs.ControlTurns.{next_place, cursor_at, work_all}
 use Rattle.schedule_run.specs.Rosters.{roster_at}
 use Rattle.schedule_run.specs.Rounds.{place_held, gone, ahead, QuietSpan}
 use Rattle.schedule_run.specs.Worlds.{world_of}
-use Rattle.schedule_run.proofs.Rosters.{none_of}
+use Rattle.schedule_run.proofs.Places.{none_of}
 use Rattle.schedule_run.proofs.Skipped.{Working, works_none, works_done, works_on}
 use Rattle.schedule_run.proofs.turning.work_busy.Goals as goal
 

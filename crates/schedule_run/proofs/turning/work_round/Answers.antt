@@ -1,5 +1,4 @@
-use Rattle.std.proofs.Common.{rules, ◌<◌, ◌∙◌}
-use Rattle.slice_schedule.specs.ControlTurns.{next_place}
+use Rattle.std.proofs.Common.{rules, ◌<◌}
 use Rattle.schedule_run.specs.Worlds.{world_of}
 use Rattle.schedule_run.proofs.Rounds.{round_on}
 use Rattle.schedule_run.proofs.turning.work_round.Goals as goal

@@ -63,6 +63,11 @@ returns-clause-setup c = λ start taken has.
 pub returns-clause-latest : goal.returns-clause-latest
 returns-clause-latest c = λ start taken has. has.latest
 
+pub returns-clause-lines : goal.returns-clause-lines
+returns-clause-lines c = λ start taken has.
+    let kept = as_many_kept start taken c.args.self.now c.args.lines.now has in
+    omega (arith, has.set_up.same_lines, kept, c.len.ensures)
+
 pub returns-clause-turns : goal.returns-clause-turns
 returns-clause-turns c = λ start taken has.
     let asks = as_many_asks start taken c.args.self.now c.args.lines.now has in

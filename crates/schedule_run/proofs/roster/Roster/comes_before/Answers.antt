@@ -1,4 +1,4 @@
-use Rattle.schedule_run.proofs.Rosters.{indexed_same}
+use Rattle.schedule_run.proofs.Indices.{indexed_same}
 use Rattle.schedule_run.proofs.roster.Roster.comes_before.Goals as goal
 
 pub is_first-requires-clause-indexed : goal.is_first-requires-clause-indexed

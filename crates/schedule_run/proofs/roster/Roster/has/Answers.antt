@@ -1,4 +1,4 @@
-use Rattle.schedule_run.proofs.Rosters.{indexed_same}
+use Rattle.schedule_run.proofs.Indices.{indexed_same}
 use Rattle.schedule_run.proofs.roster.Roster.has.Goals as goal
 
 pub has_half-requires : goal.has_half-requires

@@ -2,7 +2,9 @@ use Rattle.std.proofs.Common.{rules, ◌≤◌, length, subst, refl}
 use Rattle.std.proofs.lemmas.Bool.{OnTrue_from, ltb-true}
 use Rattle.schedule_run.specs.Rounds.{IsOrderly}
 use Rattle.schedule_run.specs.Rosters.{present, place_at}
-use Rattle.schedule_run.proofs.Rosters.{now_of, indexed_same, orderly_by}
+use Rattle.schedule_run.proofs.Indices.{indexed_same}
+use Rattle.schedule_run.proofs.Order.{orderly_by}
+use Rattle.schedule_run.proofs.Rosters.{now_of}
 use Rattle.schedule_run.proofs.roster.Roster.is_orderly.Goals as goal
 
 pub returns-then-len-slots : goal.returns-then-len-slots

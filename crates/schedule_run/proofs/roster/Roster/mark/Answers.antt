@@ -1,9 +1,10 @@
-use Rattle.std.proofs.Common.{rules, ◌≡◌, ◌≤◌, true, ℕ, List, Option, length, map, set, subst, refl, sym, ap, ◌∙◌, arith}
+use Rattle.std.proofs.Common.{rules, ◌≡◌, true, ℕ, List, Option, length, map, set, subst, refl, sym, ap, ◌∙◌, arith}
 use Rattle.std.proofs.lemmas.List.{length-map}
 use Rattle.slice_schedule.specs.World.{HeldControl}
 use Rattle.slice_schedule.specs.ControlTurns.{marked}
 use Rattle.schedule_run.specs.Rosters.{RosterNow, present, place_at, entry, mark_entry, StandsAt, OnlyCalled}
-use Rattle.schedule_run.proofs.Rosters.{now_of, indexed_same, lacks_same, roster_marked, marked_is, none_marked, one_marked, others_differ, all_called, called_set}
+use Rattle.schedule_run.proofs.Indices.{indexed_same, lacks_same, others_differ, all_called, called_set}
+use Rattle.schedule_run.proofs.Rosters.{now_of, roster_marked, marked_is, none_marked, one_marked}
 use Rattle.schedule_run.proofs.roster.Roster.mark.Goals as goal
 
 pub index_of-at-requires : goal.index_of-at-requires

@@ -2,7 +2,8 @@ use Rattle.std.proofs.Common.{rules, ◌≡◌, List, Option, [], ◌∷◌, ◌
 use Rattle.slice_schedule.specs.World.{HeldControl}
 use Rattle.schedule_run.specs.Owing.{is_in}
 use Rattle.schedule_run.specs.Rosters.{RosterNow, present, place_at, IsRoster}
-use Rattle.schedule_run.proofs.Rosters.{now_of, indexed_same, lacks_same, roster_grown, roster_push, push_is}
+use Rattle.schedule_run.proofs.Indices.{indexed_same, lacks_same}
+use Rattle.schedule_run.proofs.Rosters.{now_of, roster_grown, roster_push, push_is}
 use Rattle.schedule_run.proofs.roster.Roster.push.Goals as goal
 
 pub still_once-still-requires : goal.still_once-still-requires

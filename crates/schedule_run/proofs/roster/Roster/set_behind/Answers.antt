@@ -1,4 +1,4 @@
-use Rattle.schedule_run.proofs.Rosters.{indexed_same}
+use Rattle.schedule_run.proofs.Indices.{indexed_same}
 use Rattle.schedule_run.proofs.roster.Roster.set_behind.Goals as goal
 
 pub behind_slot-self-inside-requires : goal.behind_slot-self-inside-requires

@@ -2,7 +2,9 @@ use Rattle.std.proofs.Common.{◌≡◌, length, subst}
 use Rattle.slice_schedule.specs.World.{cursor_within}
 use Rattle.schedule_run.specs.Rosters.{RosterNow, present, place_at, left, StandsAt, Lacks}
 use Rattle.schedule_run.specs.Rounds.{place_held}
-use Rattle.schedule_run.proofs.Rosters.{now_of, indexed_same, roster_left, still_called, left_is, stands_place, none_left_is}
+use Rattle.schedule_run.proofs.Places.{stands_place}
+use Rattle.schedule_run.proofs.Indices.{indexed_same, still_called}
+use Rattle.schedule_run.proofs.Rosters.{now_of, roster_left, left_is, none_left_is}
 use Rattle.schedule_run.proofs.roster.Roster.take.Goals as goal
 
 pub index_of-at-requires : goal.index_of-at-requires

@@ -1,6 +1,7 @@
 use Rattle.std.proofs.Common.{None, List, ℕ, set, subst, sym}
 use Rattle.schedule_run.specs.Rosters.{OnlyCalled}
-use Rattle.schedule_run.proofs.Rosters.{roster_left, less_called}
+use Rattle.schedule_run.proofs.Indices.{less_called}
+use Rattle.schedule_run.proofs.Rosters.{roster_left}
 use Rattle.schedule_run.proofs.roster.Roster.take_done.Goals as goal
 
 pub invariant_of-self : goal.invariant_of-self

@@ -5,7 +5,7 @@ use Rattle.slice_schedule.specs.FlowTurns.{place_of, left}
 use Rattle.schedule_run.specs.Numbers.{flow_order}
 use Rattle.schedule_run.specs.Rosters.{RosterNow}
 use Rattle.schedule_run.specs.Rounds.{slots_held, place_held}
-use Rattle.schedule_run.proofs.Rosters.{slots_left, cursor_slots}
+use Rattle.schedule_run.proofs.Order.{slots_left, cursor_slots}
 use Rattle.schedule_run.proofs.workers.FlowNumbers.let_go.Goals as goal
 
 pub returns : goal.returns

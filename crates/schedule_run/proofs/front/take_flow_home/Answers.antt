@@ -3,7 +3,7 @@ use Rattle.slice_schedule.specs.World.{World, FlowNow}
 use Rattle.schedule_run.specs.Owing.{IsOwing}
 use Rattle.schedule_run.specs.Worlds.{world_of}
 use Rattle.schedule_run.proofs.Owed.{flow_still_owes, on_ok}
-use Rattle.schedule_run.proofs.front.flow_home.Goals as goal
+use Rattle.schedule_run.proofs.front.take_flow_home.Goals as goal
 
 pub returns-clause-owing : goal.returns-clause-owing
 returns-clause-owing c =

@@ -3,7 +3,7 @@ use Rattle.slice_schedule.specs.World.{control_at}
 use Rattle.slice_schedule.specs.Front.{control_back}
 use Rattle.schedule_run.specs.Owing.{IsOwing}
 use Rattle.schedule_run.specs.Worlds.{world_of}
-use Rattle.schedule_run.proofs.front.control_home.Given as goal
+use Rattle.schedule_run.proofs.front.take_control_home.Given as goal
 
 abbrev pub invariant-loop-place : goal.invariant-loop-place
 invariant-loop-place l = record {

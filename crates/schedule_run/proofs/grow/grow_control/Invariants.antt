@@ -1,7 +1,7 @@
 use Rattle.std.proofs.Common.{◌+◌, ◌-◌, length}
 use Rattle.slice_schedule.specs.World.{fresh_control}
 use Rattle.schedule_run.proofs.Grown.{Grows}
-use Rattle.schedule_run.proofs.grow.reach_control.Given as goal
+use Rattle.schedule_run.proofs.grow.grow_control.Given as goal
 
 abbrev pub invariant-loop-alloc : goal.invariant-loop-alloc
 invariant-loop-alloc l = Grows fresh_control l.fn.controls.items l.controls.items l.slice

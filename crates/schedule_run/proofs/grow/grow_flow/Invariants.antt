@@ -1,7 +1,7 @@
 use Rattle.std.proofs.Common.{◌+◌, ◌-◌, length}
 use Rattle.slice_schedule.specs.World.{fresh_flow}
 use Rattle.schedule_run.proofs.Grown.{Grows}
-use Rattle.schedule_run.proofs.grow.reach_flow.Given as goal
+use Rattle.schedule_run.proofs.grow.grow_flow.Given as goal
 
 abbrev pub invariant-loop-alloc : goal.invariant-loop-alloc
 invariant-loop-alloc l = Grows fresh_flow l.fn.flows.items l.flows.items l.slice

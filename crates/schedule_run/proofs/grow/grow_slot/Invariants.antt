@@ -1,7 +1,7 @@
 use Rattle.std.proofs.Common.{◌+◌, ◌-◌, length}
 use Rattle.slice_schedule.specs.Slots.{fresh_slot}
 use Rattle.schedule_run.proofs.Grown.{Grows}
-use Rattle.schedule_run.proofs.grow.reach_slot.Given as goal
+use Rattle.schedule_run.proofs.grow.grow_slot.Given as goal
 
 abbrev pub invariant-loop-alloc : goal.invariant-loop-alloc
 invariant-loop-alloc l = Grows fresh_slot l.fn.slots.items l.slots.items l.slot

@@ -1,0 +1,20 @@
+use Rattle.std.proofs.Common.{rules, ◌≡◌, ◌<◌, length, get_or, sym, ap, ◌∙◌}
+use Rattle.std.proofs.lemmas.Bool.{OnTrue_from, eqb-true}
+use Rattle.slice_schedule.specs.World.{FlowNow, fresh_flow, flow_at}
+use Rattle.schedule_run.specs.Worlds.{world_of}
+use Rattle.schedule_run.proofs.Grown.{value-within}
+use Rattle.schedule_run.proofs.Spared.{flow_home_none}
+use Rattle.schedule_run.proofs.sides.is_flow_home_empty.Goals as goal
+
+pub returns-then-slice-len : goal.returns-then-slice-len
+returns-then-slice-len c =
+    let world = world_of c.args.numbers.now in
+    let within : c.args.slice < length world.flows = search rules in
+    let worker = c.index-worker.result.now in
+    let here : worker ≡ get_or world.flows c.args.slice worker = search rules in
+    let own : worker ≡ flow_at world c.args.slice =
+    here ∙ value-within fresh_flow worker world.flows c.args.slice within in
+    OnTrue_from _ _ (λ is.
+    flow_home_none world c.args.slice within
+    (ap (λ (w : FlowNow). length w.home) (sym own) ∙ sym (ap length c.home.ensures)
+    ∙ eqb-true _ _ (sym c.is_empty.ensures ∙ is)))

@@ -1,0 +1,66 @@
+//! How many commands the accepted packets of a slot wait for.
+ghost use Rattle.std.specs.Prelude.{◌≡◌, ◌++◌, ◌∷◌, [], OnOk, length, get_or};
+
+use std::alloc::{AllocError, Global};
+use std::marker::Model;
+
+/// In the order of the packets. Those before the first one that waits for a command are counted alone.
+#[derive(Drop)]
+pub struct Floors {
+    free: u32,
+    others: Vec<usize>,
+}
+
+impl Model for Floors {
+    ghost use Rattle.std.specs.Prelude.{ℕ, List, ◌++◌, replicate};
+
+    ghost Value = { List ℕ };
+
+    ghost view = { λ floors. replicate floors.free 0 ++ floors.others.items };
+}
+
+impl Floors {
+    pub fn new(alloc: Global) -> Floors
+        ensures { result ≡ [] }
+    {
+        Floors {
+            free: 0,
+            others: Vec::new(alloc),
+        }
+    }
+
+    /// How many packets there are.
+    pub fn len(&self) -> usize
+        ensures { result ≡ length self.now }
+    {
+        self.free as usize + self.others.len()
+    }
+
+    /// One more packet, which waits for so many commands.
+    pub fn push(&mut self, floor: usize) -> Result<(), AllocError>
+        ensures { OnOk result (self.new ≡ self.old ++ floor ∷ []) }
+    {
+        if floor == 0 && self.others.is_empty() && self.free < u32::MAX {
+            self.free += 1;
+            return Ok(());
+        }
+        self.others.push(floor)?;
+        Ok(())
+    }
+
+    /// How many commands the packet of this number waits for, none where there is no such packet.
+    pub fn at(&self, number: usize) -> usize
+        ensures { result ≡ get_or self.now number 0 }
+    {
+        let free = self.free as usize;
+        if number < free {
+            return 0;
+        }
+        let place = number - free;
+        if place < self.others.len() {
+            self.others[place]
+        } else {
+            0
+        }
+    }
+}
