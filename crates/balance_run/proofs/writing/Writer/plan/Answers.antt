@@ -14,5 +14,5 @@ returns-clause-stands c = λ written stands.
     let steps : c.deref-2.result.now ≡ plan_of old.slices old.most due =
     c.deref-2.ensures.value ∙ c.in_ok-steps.ensures
     ∙ ap (plan_of old.slices old.most) (c.deref.ensures.value ∙ c.in_ok-loads.ensures.loads written stands) in
-    subst (λ moves. OnOk c.order_all.result (Stands c.order_all.new.self (written ++ map planned moves)))
-    (λ i. map (move_line fence (stands.book i)) (steps i)) (c.order_all.ensures.stands written stands)
+    subst (λ moves. OnOk c.push_moves.result (Stands c.push_moves.new.self (written ++ map planned moves)))
+    (λ i. map (move_line fence (stands.book i)) (steps i)) (c.push_moves.ensures.stands written stands)
