@@ -8,7 +8,7 @@ use Rattle.slice_schedule.specs.World.{World, Rooms, HeldControl, slot_at, contr
 use Rattle.slice_schedule.specs.ControlTurns.{held_at, slot_held, half_turned, has_worked, next_place, cursor_at, work_round, work_all}
 use Rattle.schedule_run.specs.Owing.{IsQuiet, is_in, IsOwing}
 use Rattle.schedule_run.specs.Rosters.{RosterNow, roster_at}
-use Rattle.schedule_run.specs.Rounds.{slots_held, EachOnce, IsOrderly, place_held, distance, place_on, turn_at, turn_of, gone, ahead, IsHeld, IsNext, QuietHalf, QuietSpan, PassesOf}
+use Rattle.schedule_run.specs.Rounds.{slots_held, EachOnce, IsOrderly, place_held, distance, place_on, turn_at, turn_of, gone, IsHeld, IsNext, QuietHalf, QuietSpan, PassesOf}
 use Rattle.schedule_run.proofs.Owed.{half_still_owes}
 use Rattle.schedule_run.proofs.Passed.{quiet_turned, put_same, length_put}
 use Rattle.schedule_run.proofs.Rounds.{round_on, round_done}
