@@ -43,7 +43,7 @@ pub fn replay_all<'a>(
         slots) }
 {
     let mut replays = Replays {
-        answers: Vec::new(alloc),
+        answers: Vec::with_capacity(alloc, slots as usize)?,
         effects: Vec::new(alloc),
         rows: Vec::new(alloc),
     };
@@ -126,6 +126,9 @@ fn add_effects(all: &mut Vec<Caused>, effects: Vec<Caused>) -> Result<(), AllocE
     ensures { OnOk result (effects_told all.new.items
         ≡ effects_told all.old.items ++ effects_told effects.items) }
 {
+    if effects.is_empty() {
+        return Ok(());
+    }
     let mut effects = effects;
     all.append(&mut effects)
 }
