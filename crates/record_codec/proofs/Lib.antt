@@ -1,0 +1,14 @@
+pub mod Codecs
+pub mod Numbers
+pub mod Loops
+pub mod Tests
+pub mod FilterCodec
+pub mod SessionCodecs
+pub mod CounterCodecs
+pub mod FileCodecs
+pub mod PieceLemmas
+pub mod RoomLemmas
+pub mod SlotLoops
+pub mod MadeLemmas
+pub mod WholeLemmas
+pub mod PutLemmas

@@ -1,0 +1,34 @@
+//! Subscribers at rest as octets (this project's own format, version 1), both ways: a state file has all of them with
+//! how many lines were read and when. What may be read is just what may be written, so octets are one file's or none's.
+//! How a file comes to and from a trace is left to the crates above.
+//!
+//! ```
+//! use record_codec::{read, text};
+//! use std::test::Fail;
+//!
+//! fn main(rt: HostRuntime) -> Result<(), Fail> {
+//!     let octets = [1, 0, 0, 0, 0, 0, 0, 0, 2, 0, 0, 0, 0, 0, 0, 0, 7, 0, 0, 0, 0];
+//!     let file = read(rt.alloc(), &octets)?.ok_or("two lines, the last one at moment 7")?;
+//!     assert_eq!(rt; (file.lines, file.moment.0, file.subscribers.len()), (2, 7, 0));
+//!     assert_eq!(rt; text(rt.alloc(), &file)?.as_slice(), octets.as_slice());
+//!     Ok(())
+//! }
+//! ```
+#![tactic(auto)]
+
+mod counters;
+mod fault;
+mod fields;
+mod filters;
+mod laws;
+mod reading;
+mod sessions;
+mod state_file;
+mod subscribers;
+mod writing;
+
+pub use laws::one_file_of_a_state;
+pub use reading::read;
+pub use state_file::{FORMAT_VERSION, StateFile};
+pub use std::alloc::AllocError as NoMemory;
+pub use writing::text;
