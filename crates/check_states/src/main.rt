@@ -28,7 +28,7 @@ fn bits_at(alloc: Global, octets: &mut [u8], place: usize) -> Result<u8, AllocEr
 {
     let octet = octets[place];
     let mut digit = b'0';
-    for bit in 0..8 {
+    for bit in 0..8_u8 {
         octets[place] = octet ^ (1 << bit);
         if is_state(alloc, octets)? {
             digit += 1;
