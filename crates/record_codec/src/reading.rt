@@ -10,10 +10,8 @@ use crate::fault::Fault;
 use crate::fields::{Input, count_at, moment_at, u8_at, u32_at};
 use crate::state_file::{FORMAT_VERSION, StateFile};
 use crate::subscribers::{book_of, subscribers_at};
+use pc_base::LAST_SLOT;
 use std::alloc::Global;
-
-/// As many subscribers as have an address.
-const POOL: u32 = 65_533;
 
 /// The octet of the version, which is this one.
 #[tactic(auto, unfolding(crate::specs::Read::such))]
@@ -27,14 +25,14 @@ fn version_at(input: &mut Input<'_>) -> Result<(), Fault>
     Ok(())
 }
 
-/// How many subscribers there are.
+/// How many subscribers there are: at most one a slot.
 #[tactic(auto, unfolding(crate::specs::Read::such))]
 fn pool_at(input: &mut Input<'_>) -> Result<u32, Fault>
     ensures read { Reads (λ x. x) result (such is_pool (number_at w32) input.old.rest.now) input.new.rest.now }
     ensures range { IfOk result (λ x. x ≤ 65533) }
 {
     let count = u32_at(input)?;
-    if count > POOL {
+    if count > LAST_SLOT + 1 {
         return Err(Fault::NotState);
     }
     Ok(count)
