@@ -386,6 +386,44 @@ lines_push : (entries : List Taken) (taken : Taken)
     → lines_of (entries ++ taken ∷ []) ≡ lines_of entries ++ taken.line.value ∷ []
 lines_push entries taken = map-append (λ (t : Taken). t.line.value) entries (taken ∷ [])
 
+-- what a line is to
+turned_to : (opened : Rest) (slices lane lines latest : ℕ) (book book_now : List (List ℕ))
+    (subs turned : List SubscriberState) (old : Halves) (entries : List Taken) (line : Line) (it : Meant)
+    → FrontKeeps opened slices lane lines latest book subs old entries
+    → Turned slices book subs line it book_now turned → IsTo slices (length turned) (meaning_of it)
+turned_to opened slices lane lines latest book book_now subs turned old entries line it keeps turns =
+    let prior : List Line = keeps.first ++ lines_of entries in
+    let before : Stand slices book subs prior = keeps.stand keeps.first keeps.behind in
+    let more = turns.more in
+    let many = keeps.as_many in
+    goes_to slices book subs (length turned) prior line (meaning_of it) before (omega (arith, many, more))
+    (turns.means prior before) turns.within
+
+-- a line may be taken
+pub line_may : (opened : Rest) (slices lane lines latest : ℕ) (book book_now : List (List ℕ))
+    (subs turned : List SubscriberState) (old mid : Halves) (entries : List Taken) (line : Line) (it : Meant)
+    → FrontKeeps opened slices lane lines latest book subs old entries → Settles old mid
+    → Turned slices book subs line it book_now turned → MayTake (meaning_of it) turned mid
+line_may opened slices lane lines latest book book_now subs turned old mid entries line it keeps pump turns =
+    let more = turns.more in
+    let counted = keeps.counted in
+    let few = keeps.few in
+    record {
+      slices = slices;
+      room = opened.room;
+      lane = lane;
+      lines = length entries;
+      all = lines;
+      latest = latest;
+      few = (omega (arith, counted), few);
+      roomy = keeps.roomy;
+      is_to = turned_to opened slices lane lines latest book book_now subs turned old entries line it keeps turns;
+      rest = turns.rest lines latest keeps.at_rest;
+      keeps = halves_settle slices opened.room lane (length turned) (length entries) latest (2 * length entries) old mid
+          pump (halves_wider slices opened.room lane (length subs) (length turned) (length entries) latest
+          (2 * length entries) (2 * length entries) old more (omega arith) keeps.halves_keep);
+    }
+
 -- all that is kept, behind a line
 pub line_keeps : (opened : Rest) (slices lane lines latest : ℕ) (book book_now : List (List ℕ))
     (subs turned after : List SubscriberState) (old mid new : Halves) (entries : List Taken) (taken : Taken)
@@ -402,12 +440,9 @@ line_keeps opened slices lane lines latest book book_now subs turned after old m
     halves_wider slices opened.room lane (length subs) (length turned) (length entries) latest (2 * length entries)
     (2 * length entries) old more (omega arith) keeps.halves_keep in
     let rest : AreAtRest slices lines latest turned = turns.rest lines latest keeps.at_rest in
-    let before : Stand slices book subs (keeps.first ++ lines_of entries) = keeps.stand keeps.first keeps.behind in
     let many = turns.many in
-    let was_many = keeps.as_many in
     let to : IsTo slices (length turned) (meaning_of it) =
-    goes_to slices book subs (length turned) (keeps.first ++ lines_of entries) line (meaning_of it) before
-    (omega (arith, was_many, more)) (turns.means (keeps.first ++ lines_of entries) before) turns.within in
+    turned_to opened slices lane lines latest book book_now subs turned old entries line it keeps turns in
     let goes = line_goes slices opened.room lane (length entries) latest line.moment (lines + 1) turned old mid new pump
     halves late lines (lines + 1) (meaning_of it) taken.open after rest to turns.moment takes in
     let counted = keeps.counted in

@@ -1,3 +1,4 @@
+mod Becoming
 pub mod Bridging
 pub mod Keeping
 pub mod Allowing

@@ -1,12 +1,19 @@
--- A line may be taken.
-use Rattle.std.proofs.Common.{◌≡◌, ℕ, ◌+◌, ◌*◌, ◌^◌, ◌<◌, ◌≤◌, List, length, get_or, set, refl, sym, ap, subst, ◌∙◌, arith}
+-- A line may be taken, and what it comes to.
+use Rattle.std.proofs.Common.{◌≡◌, ℕ, ◌+◌, ◌*◌, ◌^◌, ◌<◌, ◌≤◌, Bool, true, false, List, length, get_or, set, refl, subst, inl, inr, arith}
+use Rattle.pc_base.specs.declared.packet.Packet.{Packet}
+use Rattle.control_steps.specs.declared.command.CommandKind.{CommandKind}
+use Rattle.demux.specs.Packets.{numbered}
 use Rattle.demux.specs.Trace.{Meaning}
+use Rattle.demux.specs.declared.packet.LentPacket.{LentPacket}
 use Rattle.subscriber.specs.Standing.{SubscriberState}
 use Rattle.at_rest.specs.Rest.{RestLeavesRoom}
 use Rattle.front_halves.specs.declared.halves.Halves.{Halves}
-use Rattle.front_halves.specs.Steps.{IsReady, MayAdmit, MayGive, MayMove}
+use Rattle.front_halves.specs.declared.tried.Given.TheVariants as given
+use Rattle.front_halves.specs.Steps.{IsReady, MayAdmit, MayGive, MayMove, Received}
+use Rattle.front_halves.specs.Tries.{GivesCommand, GivesPacket}
 use Rattle.front_halves.proofs.Settling.{settles_none}
-use Rattle.front_core.specs.Taking.{MakesReady, MayTake}
+use Rattle.front_core.specs.declared.taken.Open.TheVariants as entry
+use Rattle.front_core.specs.Taking.{MakesReady, MayTake, TakesCommand, TakesPacket}
 use Rattle.front_core.proofs.Allowing.{may_admit, may_give, may_move}
 use Rattle.front_core.proofs.Bridging.{prepared}
 use Rattle.front_core.proofs.Fronts.{ready_goes}
@@ -38,3 +45,46 @@ module _ (now : Meaning) (subs : List SubscriberState) (halves : Halves) (may : 
       (settles_none mid) in
       may_give may.slices may.room may.lane (length subs) may.lines may.latest (2 * may.lines + 1) mid goes.keeps slot
       prep.end prep.lot (omega (arith, few, most)) (omega (arith, few, most))
+
+-- what its slot's subscriber was given
+module _ (slot line tries : ℕ) (subs after : List SubscriberState) (old mid new : Halves)
+    (ready : MakesReady slot subs after old mid) where
+  pub command_came : (c : CommandKind) (parked : Bool)
+      → GivesCommand slot line c tries (given.Accepted parked) mid new
+      → TakesCommand slot line c (entry.Command slot) subs after old new
+  command_came c parked gives = record {
+    mid = mid;
+    ready = ready;
+    came = inl (record { is = refl; mid = gives.0; settles = gives.1; sent = gives.2 });
+  }
+
+  pub command_refused : (c : CommandKind) → GivesCommand slot line c tries given.Full mid new
+      → TakesCommand slot line c (entry.Full slot false) subs after old new
+  command_refused c gives = record {
+    mid = mid;
+    ready = ready;
+    came = inr (record { is = refl; settles = gives.0; full = gives.1 });
+  }
+
+  pub packet_came : (p : LentPacket) (made : Packet) (parked : Bool) → made ≡ numbered 0 p
+      → GivesPacket slot line made tries (given.Accepted parked) mid new
+      → TakesPacket slot line p (entry.Packet slot parked) subs after old new
+  packet_came p made parked is gives = record {
+    mid = mid;
+    ready = ready;
+    came = inl (record {
+      parked = parked;
+      is = refl;
+      mid = gives.0;
+      settles = gives.1;
+      received = subst (λ (m : Packet). Received slot line m parked gives.0 new) is gives.2;
+    });
+  }
+
+  pub packet_refused : (p : LentPacket) (made : Packet) → GivesPacket slot line made tries given.Full mid new
+      → TakesPacket slot line p (entry.Full slot true) subs after old new
+  packet_refused p made gives = record {
+    mid = mid;
+    ready = ready;
+    came = inr (record { is = refl; settles = gives.0; full = gives.1 });
+  }
