@@ -285,10 +285,10 @@ module _ (slices room lane lines latest later n : ℕ) (subs : List SubscriberSt
         keeps = ready.keeps;
       }
 
-  command_on : (all slot line : ℕ) (c : CommandKind) (open_ : Open) (after : List SubscriberState)
-      → AreAtRest slices all latest subs → TakesCommand slot line c open_ subs after mid new
+  command_on : (all slot line tries : ℕ) (c : CommandKind) (open_ : Open) (after : List SubscriberState)
+      → AreAtRest slices all latest subs → TakesCommand slot line tries c open_ subs after mid new
       → LineGoes slices room lane (length subs) lines latest later n subs after old new (command slot c) open_
-  command_on all slot line c open_ after rest takes =
+  command_on all slot line tries c open_ after rest takes =
       let makes = takes.ready in
       let ready = pumped_ready all slot after takes.mid rest makes in
       elim takes.came [
@@ -320,10 +320,10 @@ module _ (slices room lane lines latest later n : ℕ) (subs : List SubscriberSt
             }
       ]
 
-  packet_on : (all slot line : ℕ) (p : LentPacket) (open_ : Open) (after : List SubscriberState)
-      → AreAtRest slices all latest subs → p.moment ≡ later → TakesPacket slot line p open_ subs after mid new
+  packet_on : (all slot line tries : ℕ) (p : LentPacket) (open_ : Open) (after : List SubscriberState)
+      → AreAtRest slices all latest subs → p.moment ≡ later → TakesPacket slot line tries p open_ subs after mid new
       → LineGoes slices room lane (length subs) lines latest later n subs after old new (packet slot p) open_
-  packet_on all slot line p open_ after rest moment takes =
+  packet_on all slot line tries p open_ after rest moment takes =
       let makes = takes.ready in
       let ready = pumped_ready all slot after takes.mid rest makes in
       elim takes.came [
@@ -361,16 +361,17 @@ module _ (slices room lane lines latest later n : ℕ) (subs : List SubscriberSt
             }
       ]
 
-  pub line_goes : (all line : ℕ) (now : Meaning) (open_ : Open) (after : List SubscriberState)
+  pub line_goes : (all line tries : ℕ) (now : Meaning) (open_ : Open) (after : List SubscriberState)
       → AreAtRest slices all latest subs → IsTo slices (length subs) now → HasItsMoment later now
-      → Takes line now open_ subs after mid new
+      → Takes line tries now open_ subs after mid new
       → LineGoes slices room lane (length subs) lines latest later n subs after old new now open_
-  line_goes all line (command slot c) open_ after rest to moment takes = command_on all slot line c open_ after rest takes
-  line_goes all line (packet slot p) open_ after rest to moment takes =
-      packet_on all slot line p open_ after rest moment takes
-  line_goes all line (move slot slice text) open_ after rest to moment takes =
+  line_goes all line tries (command slot c) open_ after rest to moment takes =
+      command_on all slot line tries c open_ after rest takes
+  line_goes all line tries (packet slot p) open_ after rest to moment takes =
+      packet_on all slot line tries p open_ after rest moment takes
+  line_goes all line tries (move slot slice text) open_ after rest to moment takes =
       move_on slot slice text open_ after takes to.0
-  line_goes all line (note text) open_ after rest to moment takes = note_goes text open_ after takes
+  line_goes all line tries (note text) open_ after rest to moment takes = note_goes text open_ after takes
 
 -- entries and lines, with one more
 opens_push : (n : ℕ) (entries : List Taken) (taken : Taken)
@@ -425,14 +426,14 @@ line_may opened slices lane lines latest book book_now subs turned old mid entri
     }
 
 -- all that is kept, behind a line
-pub line_keeps : (opened : Rest) (slices lane lines latest : ℕ) (book book_now : List (List ℕ))
+pub line_keeps : (opened : Rest) (slices lane lines latest tries : ℕ) (book book_now : List (List ℕ))
     (subs turned after : List SubscriberState) (old mid new : Halves) (entries : List Taken) (taken : Taken)
     (it : Meant) → FrontKeeps opened slices lane lines latest book subs old entries → lines < 2 ^ 39
     → latest ≤ taken.line.value.moment → Settles old mid
     → Turned slices book subs taken.line.value it book_now turned
-    → Takes (lines + 1) (meaning_of it) taken.open turned after mid new
+    → Takes (lines + 1) tries (meaning_of it) taken.open turned after mid new
     → FrontKeeps opened slices lane (lines + 1) taken.line.value.moment book_now after new (entries ++ taken ∷ [])
-line_keeps opened slices lane lines latest book book_now subs turned after old mid new entries taken it keeps few late
+line_keeps opened slices lane lines latest tries book book_now subs turned after old mid new entries taken it keeps few late
     pump turns takes =
     let line : Line = taken.line.value in
     let more = turns.more in
@@ -444,7 +445,7 @@ line_keeps opened slices lane lines latest book book_now subs turned after old m
     let to : IsTo slices (length turned) (meaning_of it) =
     turned_to opened slices lane lines latest book book_now subs turned old entries line it keeps turns in
     let goes = line_goes slices opened.room lane (length entries) latest line.moment (lines + 1) turned old mid new pump
-    halves late lines (lines + 1) (meaning_of it) taken.open after rest to turns.moment takes in
+    halves late lines (lines + 1) tries (meaning_of it) taken.open after rest to turns.moment takes in
     let counted = keeps.counted in
     let count = length-append entries (taken ∷ []) in
     let still = goes.goes.many in

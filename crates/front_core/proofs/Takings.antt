@@ -51,7 +51,7 @@ module _ (slot line tries : ℕ) (subs after : List SubscriberState) (old mid ne
     (ready : MakesReady slot subs after old mid) where
   pub command_came : (c : CommandKind) (parked : Bool)
       → GivesCommand slot line c tries (given.Accepted parked) mid new
-      → TakesCommand slot line c (entry.Command slot) subs after old new
+      → TakesCommand slot line tries c (entry.Command slot) subs after old new
   command_came c parked gives = record {
     mid = mid;
     ready = ready;
@@ -59,16 +59,16 @@ module _ (slot line tries : ℕ) (subs after : List SubscriberState) (old mid ne
   }
 
   pub command_refused : (c : CommandKind) → GivesCommand slot line c tries given.Full mid new
-      → TakesCommand slot line c (entry.Full slot false) subs after old new
+      → TakesCommand slot line tries c (entry.Full slot false) subs after old new
   command_refused c gives = record {
     mid = mid;
     ready = ready;
-    came = inr (record { is = refl; settles = gives.0; full = gives.1 });
+    came = inr (record { is = refl; settles = gives.0; full = gives.1; rises = gives.2; lane_rises = gives.3 });
   }
 
   pub packet_came : (p : LentPacket) (made : Packet) (parked : Bool) → made ≡ numbered 0 p
       → GivesPacket slot line made tries (given.Accepted parked) mid new
-      → TakesPacket slot line p (entry.Packet slot parked) subs after old new
+      → TakesPacket slot line tries p (entry.Packet slot parked) subs after old new
   packet_came p made parked is gives = record {
     mid = mid;
     ready = ready;
@@ -82,9 +82,9 @@ module _ (slot line tries : ℕ) (subs after : List SubscriberState) (old mid ne
   }
 
   pub packet_refused : (p : LentPacket) (made : Packet) → GivesPacket slot line made tries given.Full mid new
-      → TakesPacket slot line p (entry.Full slot true) subs after old new
+      → TakesPacket slot line tries p (entry.Full slot true) subs after old new
   packet_refused p made gives = record {
     mid = mid;
     ready = ready;
-    came = inr (record { is = refl; settles = gives.0; full = gives.1 });
+    came = inr (record { is = refl; settles = gives.0; full = gives.1; rises = gives.2; side_rises = gives.3 });
   }

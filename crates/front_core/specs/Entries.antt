@@ -31,10 +31,3 @@ took_of (entry.Note text) = answer.Answered
 took_of (entry.Command slot) = answer.Accepted false
 took_of (entry.Packet slot parked) = answer.Accepted parked
 took_of (entry.Full slot packet) = answer.Full
-
--- each try was answered Full
-abbrev pub is_full : Open → Bool
-is_full (entry.Note text) = false
-is_full (entry.Command slot) = false
-is_full (entry.Packet slot parked) = false
-is_full (entry.Full slot packet) = true

@@ -9,6 +9,7 @@ use Rattle.at_rest.specs.Meant.{IsWithin}
 use Rattle.at_rest.specs.Rest.{AreAtRest}
 use Rattle.front_halves.specs.declared.halves.Halves.{Halves}
 use Rattle.front_halves.specs.Steps.{Settles, SlotMoves, IsReady, Commanded, CommandsFull, Received, PacketsFull}
+use Rattle.front_halves.specs.Tries.{RisesBy, lane_fulls, packets_refused}
 use Rattle.front_core.specs.declared.taken.Open.{Open}
 use Rattle.front_core.specs.declared.taken.Open.TheVariants as entry
 use Rattle.front_core.specs.Keeping.{HalvesKeep}
@@ -46,26 +47,29 @@ pub record MakesReady (slot : ℕ) (old new : List SubscriberState) (halves now 
   pub changed : new ≡ set old slot is
   pub ready : IsReady slot was is halves now
   pub lots : GrowsTo slot halves now
+  pub fulls : now.fulls ≡ halves.fulls
 
--- a command was sent, behind tries that were refused; or each of them was
+-- a command was sent, behind tries that were refused; or each of them was, as the count of its lane tells
 pub record Accepts (slot line : ℕ) (c : CommandKind) (open_ : Open) (old new : Halves) : Type 0 where
   pub is : open_ ≡ entry.Command slot
   pub mid : Halves
   pub settles : Settles old mid
   pub sent : Commanded slot line c mid new
 
-pub record Refuses (slot : ℕ) (open_ : Open) (old new : Halves) : Type 0 where
+pub record Refuses (slot tries : ℕ) (open_ : Open) (old new : Halves) : Type 0 where
   pub is : open_ ≡ entry.Full slot false
   pub settles : Settles old new
   pub full : CommandsFull slot new
+  pub rises : RisesBy tries old.fulls new.fulls
+  pub lane_rises : RisesBy tries (lane_fulls slot old) (lane_fulls slot new)
 
-pub record TakesCommand (slot line : ℕ) (c : CommandKind) (open_ : Open) (subs now : List SubscriberState)
+pub record TakesCommand (slot line tries : ℕ) (c : CommandKind) (open_ : Open) (subs now : List SubscriberState)
     (old new : Halves) : Type 0 where
   pub mid : Halves
   pub ready : MakesReady slot subs now old mid
-  pub came : Accepts slot line c open_ mid new ⊎ Refuses slot open_ mid new
+  pub came : Accepts slot line c open_ mid new ⊎ Refuses slot tries open_ mid new
 
--- the same of a packet
+-- the same of a packet, by the count of the side of counter halves
 pub record AcceptsPacket (slot line : ℕ) (p : LentPacket) (open_ : Open) (old new : Halves) : Type 0 where
   pub parked : Bool
   pub is : open_ ≡ entry.Packet slot parked
@@ -73,16 +77,18 @@ pub record AcceptsPacket (slot line : ℕ) (p : LentPacket) (open_ : Open) (old 
   pub settles : Settles old mid
   pub received : Received slot line (numbered 0 p) parked mid new
 
-pub record RefusesPacket (slot : ℕ) (open_ : Open) (old new : Halves) : Type 0 where
+pub record RefusesPacket (slot tries : ℕ) (open_ : Open) (old new : Halves) : Type 0 where
   pub is : open_ ≡ entry.Full slot true
   pub settles : Settles old new
   pub full : PacketsFull slot old new
+  pub rises : RisesBy tries old.fulls new.fulls
+  pub side_rises : RisesBy tries (packets_refused old) (packets_refused new)
 
-pub record TakesPacket (slot line : ℕ) (p : LentPacket) (open_ : Open) (subs now : List SubscriberState)
+pub record TakesPacket (slot line tries : ℕ) (p : LentPacket) (open_ : Open) (subs now : List SubscriberState)
     (old new : Halves) : Type 0 where
   pub mid : Halves
   pub ready : MakesReady slot subs now old mid
-  pub came : AcceptsPacket slot line p open_ mid new ⊎ RefusesPacket slot open_ mid new
+  pub came : AcceptsPacket slot line p open_ mid new ⊎ RefusesPacket slot tries open_ mid new
 
 -- a slot moves
 pub record TakesMove (slot : ℕ) (text : List ℕ) (open_ : Open) (subs now : List SubscriberState) (old new : Halves) :
@@ -98,8 +104,9 @@ pub record TakesNote (text : List ℕ) (open_ : Open) (subs now : List Subscribe
   pub same : now ≡ subs
   pub still : Settles old new
 
-abbrev pub Takes : ℕ → Meaning → Open → (subs now : List SubscriberState) → Halves → Halves → Type 0
-Takes line (command slot c) open_ subs now old new = TakesCommand slot line c open_ subs now old new
-Takes line (packet slot p) open_ subs now old new = TakesPacket slot line p open_ subs now old new
-Takes line (move slot slice text) open_ subs now old new = TakesMove slot text open_ subs now old new
-Takes line (note text) open_ subs now old new = TakesNote text open_ subs now old new
+-- what the line of this number does, with so many tries
+abbrev pub Takes : (line tries : ℕ) → Meaning → Open → (subs now : List SubscriberState) → Halves → Halves → Type 0
+Takes line tries (command slot c) open_ subs now old new = TakesCommand slot line tries c open_ subs now old new
+Takes line tries (packet slot p) open_ subs now old new = TakesPacket slot line tries p open_ subs now old new
+Takes line tries (move slot slice text) open_ subs now old new = TakesMove slot text open_ subs now old new
+Takes line tries (note text) open_ subs now old new = TakesNote text open_ subs now old new

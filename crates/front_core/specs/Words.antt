@@ -53,8 +53,8 @@ abbrev pub flow_lanes : Front → List Lanes
 flow_lanes front = lanes_of (both front.halves).desks
 
 -- What a line does: behind a pump it is decided, which may bring a subscriber or bind one for another slice, and what it
--- means is done. Its entry is left open as the answer says.
-pub record TakesLine (line : Line) (took : Took) (old new : Front) : Type 0 where
+-- means is done, with so many tries. Its entry is left open as the answer says.
+pub record TakesLine (line : Line) (tries : ℕ) (took : Took) (old new : Front) : Type 0 where
   pub taken : Taken
   pub entries : entries_in new ≡ entries_in old ++ taken ∷ []
   pub line_is : taken.line.value ≡ line
@@ -64,7 +64,7 @@ pub record TakesLine (line : Line) (took : Took) (old new : Front) : Type 0 wher
   pub now : Meant
   pub turned : List SubscriberState
   pub turns : Turned old.slices old.book old.subscribers.items line now new.book turned
-  pub takes : Takes new.lines (meaning_of now) taken.open turned new.subscribers.items pumped new.halves
+  pub takes : Takes new.lines tries (meaning_of now) taken.open turned new.subscribers.items pumped new.halves
 
 -- What may become of a line that means this: a note or an instruction to move is answered, and nothing else is; a
 -- command isn't parked.

@@ -1,5 +1,5 @@
 //! The front of an epoch.
-ghost use Rattle.std.specs.Prelude.{◌≡◌, ◌<◌, ◌≤◌, ◌+◌, ◌++◌, ◌∷◌, [], ◌^◌, Ok, map, OnOk, OnErr, IfOk};
+ghost use Rattle.std.specs.Prelude.{◌≡◌, ◌<◌, ◌≤◌, ◌+◌, ◌++◌, ◌∷◌, [], ◌^◌, map, OnOk, OnErr, IfOk};
 
 use crate::opening::{Opened, controls_of, flows_of};
 use crate::taken::{Open, Taken};
@@ -154,12 +154,13 @@ impl Front {
         ensures lanes { (control_lanes self.new ≡ control_lanes self.old) × (flow_lanes self.new ≡ flow_lanes self.old) }
 
         // What became of it: as its entry says, which is what the line means behind those before it.
-        ensures takes { IfOk result (λ took. TakesLine line.now took self.old self.new) }
+        ensures takes { IfOk result (λ took. TakesLine line.now (patience + 1) took self.old self.new) }
         ensures means { (prior : List Line) → IsBehind (opened_of self.old) prior → IfOk result (λ took.
             MayBecome (meant_next (opened_of self.old).slices (prior ++ taken_by self.old) line.now) took) }
 
         // A refusal is the last of so many tries and one.
-        ensures full { result ≡ Ok Full → RisesBy (patience + 1) (fulls_in self.old) (fulls_in self.new) }
+        ensures full { IfOk result (λ took. took ≡ Full
+            → RisesBy (patience + 1) (fulls_in self.old) (fulls_in self.new)) }
 
         // Out of memory nothing is accepted.
         ensures none { OnErr result (entries_in self.new ≡ entries_in self.old) }

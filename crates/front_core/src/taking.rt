@@ -1,10 +1,8 @@
 //! What is done with a line, by what it means.
-ghost use Rattle.std.specs.Prelude.{◌≡◌, ◌+◌, true, IfOk};
+ghost use Rattle.std.specs.Prelude.{◌≡◌, ◌+◌, IfOk};
 ghost use Rattle.demux.specs.Trace.{command, packet};
 ghost use Rattle.demux.specs.Meant.{meaning_of};
 ghost use Rattle.front_halves.specs.Steps.{MayMove, SlotMoves};
-ghost use Rattle.front_halves.specs.Tries.{RisesBy};
-ghost use Rattle.front_core.specs.Entries.{is_full};
 ghost use Rattle.front_core.specs.Taking.{GrowsTo, MayTake, Takes, TakesCommand, TakesPacket};
 ghost use Rattle.front_core.specs.declared.taken.Open.TheVariants.{Note};
 
@@ -30,10 +28,8 @@ pub(crate) fn take<R: Wait>(
     patience: u32,
 ) -> Result<Open, NoMemory>
     requires { MayTake (meaning_of meant) subscribers.old halves.old }
-    ensures takes { IfOk result (λ open_. Takes line (meaning_of meant) open_ subscribers.old subscribers.new
+    ensures { IfOk result (λ open_. Takes line (patience + 1) (meaning_of meant) open_ subscribers.old subscribers.new
         halves.old halves.new) }
-    ensures full { IfOk result (λ open_. is_full open_ ≡ true
-        → RisesBy (patience + 1) halves.old.fulls halves.new.fulls) }
 {
     match meant {
         Meant::Note(text) => Ok(Open::Note(text)),
@@ -72,10 +68,8 @@ fn take_command<R: Wait>(
     patience: u32,
 ) -> Result<Open, NoMemory>
     requires { MayTake (command slot asks) subscribers.old halves.old }
-    ensures takes { IfOk result (λ open_. TakesCommand slot line asks open_ subscribers.old subscribers.new
+    ensures { IfOk result (λ open_. TakesCommand slot line (patience + 1) asks open_ subscribers.old subscribers.new
         halves.old halves.new) }
-    ensures full { IfOk result (λ open_. is_full open_ ≡ true
-        → RisesBy (patience + 1) halves.old.fulls halves.new.fulls) }
 {
     rest_leaves_room();
     halves.admit(rt, slot, &mut subscribers[slot.0 as usize])?;
@@ -99,10 +93,8 @@ fn take_packet<R: Wait>(
     patience: u32,
 ) -> Result<Open, NoMemory>
     requires { MayTake (packet slot lent.now) subscribers.old halves.old }
-    ensures takes { IfOk result (λ open_. TakesPacket slot line lent.now open_ subscribers.old subscribers.new
-        halves.old halves.new) }
-    ensures full { IfOk result (λ open_. is_full open_ ≡ true
-        → RisesBy (patience + 1) halves.old.fulls halves.new.fulls) }
+    ensures { IfOk result (λ open_. TakesPacket slot line (patience + 1) lent.now open_ subscribers.old
+        subscribers.new halves.old halves.new) }
 {
     let numbered = lent.numbered(alloc, 0)?;
     rest_leaves_room();
