@@ -16,8 +16,7 @@ use Rattle.front_core.specs.declared.took.Took.{Took}
 use Rattle.front_core.specs.declared.took.Took.TheVariants as answer
 use Rattle.front_core.specs.Entries.{lines_of, took_of}
 use Rattle.front_core.specs.Keeping.{FrontKeeps}
-use Rattle.front_core.specs.Taking.{Takes}
-use Rattle.front_core.specs.Words.{MayBecome}
+use Rattle.front_core.specs.Taking.{MayBecome, Takes}
 
 became : (n tries : ℕ) (now : Meaning) (open_ : Open) (subs after : List SubscriberState) (old new : Halves)
     → Takes n tries now open_ subs after old new → MayBecome now (took_of open_)

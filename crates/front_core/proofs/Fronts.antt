@@ -383,7 +383,7 @@ opens_push n (first ∷ entries) taken =
     ap (λ (l : List LineEntry). open_of n first.open ∷ l)
     (rest ∙ ap (λ (k : ℕ). opens_of (n + 1) entries ++ open_of k taken.open ∷ []) at)
 
-lines_push : (entries : List Taken) (taken : Taken)
+pub lines_push : (entries : List Taken) (taken : Taken)
     → lines_of (entries ++ taken ∷ []) ≡ lines_of entries ++ taken.line.value ∷ []
 lines_push entries taken = map-append (λ (t : Taken). t.line.value) entries (taken ∷ [])
 

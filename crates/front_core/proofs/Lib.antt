@@ -5,5 +5,9 @@ pub mod Allowing
 pub mod Starting
 pub mod Moved
 pub mod Fronts
-pub mod Opening
+pub mod Opens
+mod LineDone
+mod Pairs
+mod Pumps
+mod Sides
 pub mod Takings

@@ -1,5 +1,5 @@
 -- A line may be taken, and what it comes to.
-use Rattle.std.proofs.Common.{◌≡◌, ℕ, ◌+◌, ◌*◌, ◌^◌, ◌<◌, ◌≤◌, Bool, true, false, List, length, get_or, set, refl, subst, inl, inr, arith}
+use Rattle.std.proofs.Common.{◌≡◌, ℕ, ◌+◌, ◌*◌, ◌^◌, ◌<◌, ◌≤◌, Bool, true, false, List, length, get_or, set, refl, sym, ap, ◌∙◌, subst, inl, inr, arith}
 use Rattle.pc_base.specs.declared.packet.Packet.{Packet}
 use Rattle.control_steps.specs.declared.command.CommandKind.{CommandKind}
 use Rattle.demux.specs.Packets.{numbered}
@@ -13,7 +13,7 @@ use Rattle.front_halves.specs.Steps.{IsReady, MayAdmit, MayGive, MayMove, Receiv
 use Rattle.front_halves.specs.Tries.{GivesCommand, GivesPacket}
 use Rattle.front_halves.proofs.Settling.{settles_none}
 use Rattle.front_core.specs.declared.taken.Open.TheVariants as entry
-use Rattle.front_core.specs.Taking.{MakesReady, MayTake, TakesCommand, TakesPacket}
+use Rattle.front_core.specs.Taking.{GrowsTo, MakesReady, MayTake, TakesCommand, TakesPacket}
 use Rattle.front_core.proofs.Allowing.{may_admit, may_give, may_move}
 use Rattle.front_core.proofs.Bridging.{prepared}
 use Rattle.front_core.proofs.Fronts.{ready_goes}
@@ -33,6 +33,27 @@ module _ (now : Meaning) (subs : List SubscriberState) (halves : Halves) (may : 
       let most = may.few.1 in
       may_admit may.slices may.room may.lane (length subs) may.lines may.latest (2 * may.lines) halves may.keeps slot
       may.all subs was leaves_room (omega (arith, most)) may.roomy may.rest low is (omega (arith, few, most))
+
+  -- the subscriber at this place
+  pub admits_at : (slot at : ℕ) (was : SubscriberState) → at ≡ slot → RestLeavesRoom → slot < length subs
+      → was ≡ get_or subs at was → MayAdmit slot (get_or subs at was) halves
+  admits_at slot at was same leaves_room low found =
+      subst (λ (s : SubscriberState). MayAdmit slot s halves) found
+      (takes_admit slot was leaves_room low (found ∙ ap (λ (k : ℕ). get_or subs k was) same))
+
+  pub makes : (slot at : ℕ) (was is : SubscriberState) (mid : Halves) → at ≡ slot → slot < length subs
+      → was ≡ get_or subs at was → IsReady slot (get_or subs at was) is halves mid → GrowsTo slot halves mid
+      → mid.fulls ≡ halves.fulls → MakesReady slot subs (set subs at is) halves mid
+  makes slot at was is mid same low found ready lots fulls = record {
+    low = low;
+    was = was;
+    is = is;
+    found = found ∙ ap (λ (k : ℕ). get_or subs k was) same;
+    changed = ap (λ (k : ℕ). set subs k is) same;
+    ready = subst (λ (s : SubscriberState). IsReady slot s is halves mid) (sym found) ready;
+    lots = lots;
+    fulls = fulls;
+  }
 
   pub takes_give : (slot : ℕ) (after : List SubscriberState) (mid : Halves) → MakesReady slot subs after halves mid
       → MayGive slot mid

@@ -12,6 +12,8 @@ use Rattle.front_halves.specs.Steps.{Settles, SlotMoves, IsReady, Commanded, Com
 use Rattle.front_halves.specs.Tries.{RisesBy, lane_fulls, packets_refused}
 use Rattle.front_core.specs.declared.taken.Open.{Open}
 use Rattle.front_core.specs.declared.taken.Open.TheVariants as entry
+use Rattle.front_core.specs.declared.took.Took.{Took}
+use Rattle.front_core.specs.declared.took.Took.TheVariants as answer
 use Rattle.front_core.specs.Keeping.{HalvesKeep}
 
 -- a line may be taken: a command or packet of one of the subscribers, or a move to one of the slices
@@ -110,3 +112,11 @@ Takes line tries (command slot c) open_ subs now old new = TakesCommand slot lin
 Takes line tries (packet slot p) open_ subs now old new = TakesPacket slot line tries p open_ subs now old new
 Takes line tries (move slot slice text) open_ subs now old new = TakesMove slot text open_ subs now old new
 Takes line tries (note text) open_ subs now old new = TakesNote text open_ subs now old new
+
+-- What may become of a line that means this: a note or an instruction to move is answered, and nothing else is; a
+-- command isn't parked.
+abbrev pub MayBecome : Meaning → Took → Type 0
+MayBecome (command slot c) took = (took ≡ answer.Accepted false) ⊎ (took ≡ answer.Full)
+MayBecome (packet slot p) took = ((parked : Bool) × (took ≡ answer.Accepted parked)) ⊎ (took ≡ answer.Full)
+MayBecome (move slot slice text) took = took ≡ answer.Answered
+MayBecome (note text) took = took ≡ answer.Answered

@@ -1,9 +1,8 @@
 -- Parts of a front that clauses speak of.
-use Rattle.std.specs.Prelude.{◌≡◌, ℕ, ◌⊎◌, Bool, false, List, ◌∷◌, [], ◌++◌}
+use Rattle.std.specs.Prelude.{◌≡◌, ℕ, List, ◌∷◌, [], ◌++◌}
 use Rattle.worker_core.specs.Workers.{Lanes}
 use Rattle.worker_core.specs.Desks.{lanes_of}
 use Rattle.trace_lines.specs.Line.{Line}
-use Rattle.demux.specs.Trace.{Meaning, command, packet, move, note}
 use Rattle.demux.specs.Meant.{meaning_of}
 use Rattle.demux.specs.declared.meant.Meant.{Meant}
 use Rattle.subscriber.specs.Standing.{SubscriberState}
@@ -15,7 +14,6 @@ use Rattle.front_halves.specs.Views.{both}
 use Rattle.front_core.specs.declared.front.Front.{Front}
 use Rattle.front_core.specs.declared.taken.Taken.{Taken}
 use Rattle.front_core.specs.declared.took.Took.{Took}
-use Rattle.front_core.specs.declared.took.Took.TheVariants as answer
 use Rattle.front_core.specs.Entries.{lines_of, took_of}
 use Rattle.front_core.specs.Keeping.{FrontKeeps}
 use Rattle.front_core.specs.Taking.{Takes}
@@ -65,11 +63,3 @@ pub record TakesLine (line : Line) (tries : ℕ) (took : Took) (old new : Front)
   pub turned : List SubscriberState
   pub turns : Turned old.slices old.book old.subscribers.items line now new.book turned
   pub takes : Takes new.lines tries (meaning_of now) taken.open turned new.subscribers.items pumped new.halves
-
--- What may become of a line that means this: a note or an instruction to move is answered, and nothing else is; a
--- command isn't parked.
-abbrev pub MayBecome : Meaning → Took → Type 0
-MayBecome (command slot c) took = (took ≡ answer.Accepted false) ⊎ (took ≡ answer.Full)
-MayBecome (packet slot p) took = ((parked : Bool) × (took ≡ answer.Accepted parked)) ⊎ (took ≡ answer.Full)
-MayBecome (move slot slice text) took = took ≡ answer.Answered
-MayBecome (note text) took = took ≡ answer.Answered

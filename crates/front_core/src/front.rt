@@ -62,7 +62,8 @@ impl Front {
     ghost use Rattle.front_core.specs.declared.took.Took.TheVariants.{Full};
     ghost use Rattle.front_core.specs.Keeping.{FrontKeeps};
     ghost use Rattle.front_core.specs.Words.{IsWhole, opened_of, entries_in, taken_by, lines_in, latest_in, fulls_in};
-    ghost use Rattle.front_core.specs.Words.{control_lanes, flow_lanes, TakesLine, MayBecome};
+    ghost use Rattle.front_core.specs.Words.{control_lanes, flow_lanes, TakesLine};
+    ghost use Rattle.front_core.specs.Taking.{MayBecome};
     ghost use Rattle.front_halves.specs.Views.{both};
     ghost use Rattle.worker_core.specs.Desks.{lanes_of};
 
@@ -151,7 +152,8 @@ impl Front {
         ensures taken { OnOk result (taken_by self.new ≡ taken_by self.old ++ line.now ∷ []) }
         ensures counts { OnOk result ((lines_in self.new ≡ lines_in self.old + 1)
             × (latest_in self.new ≡ line.now.moment)) }
-        ensures lanes { (control_lanes self.new ≡ control_lanes self.old) × (flow_lanes self.new ≡ flow_lanes self.old) }
+        ensures lanes { OnOk result ((control_lanes self.new ≡ control_lanes self.old)
+            × (flow_lanes self.new ≡ flow_lanes self.old)) }
 
         // What became of it: as its entry says, which is what the line means behind those before it.
         ensures takes { IfOk result (λ took. TakesLine line.now (patience + 1) took self.old self.new) }

@@ -34,6 +34,7 @@ pub(crate) struct Flows {
 }
 
 pub(crate) fn controls_of(alloc: Global, slices: u8) -> Result<Controls, NoMemory>
+    requires { slices ≤ 64 }
     ensures count { IfOk result (λ made. length made.desks.items ≡ slices) }
     ensures lanes { IfOk result (λ made. lanes_of made.desks.items ≡ map worker_lanes made.workers.items) }
     ensures new { IfOk result (λ made. All IsNewDesk made.desks.items) }
@@ -49,7 +50,8 @@ pub(crate) fn controls_of(alloc: Global, slices: u8) -> Result<Controls, NoMemor
 }
 
 pub(crate) fn flows_of(alloc: Global, slices: u8, lane: u32) -> Result<Flows, NoMemory>
-    requires { (1 ≤ lane) × (lane ≤ 16384) }
+    requires few { slices ≤ 64 }
+    requires lane { (1 ≤ lane) × (lane ≤ 16384) }
     ensures lanes { IfOk result (λ made. lanes_of made.desks.items ≡ map flow_worker.worker_lanes made.workers.items) }
     ensures rooms { IfOk result (λ made. map (λ (lanes : Lanes). lanes.0.room) (lanes_of made.desks.items)
         ≡ replicate slices lane) }

@@ -28,8 +28,8 @@ pub(crate) fn take<R: Wait>(
     patience: u32,
 ) -> Result<Open, NoMemory>
     requires { MayTake (meaning_of meant) subscribers.old halves.old }
-    ensures { IfOk result (λ open_. Takes line (patience + 1) (meaning_of meant) open_ subscribers.old subscribers.new
-        halves.old halves.new) }
+    ensures { IfOk result (λ open_. Takes line (patience + 1) (meaning_of meant.entry) open_ subscribers.old
+        subscribers.new halves.old halves.new) }
 {
     match meant {
         Meant::Note(text) => Ok(Open::Note(text)),

@@ -7,6 +7,7 @@ use Rattle.trace_lines.specs.Line.{Line}
 use Rattle.lawful_run.specs.Merging.{Histories}
 use Rattle.subscriber.specs.Standing.{SubscriberState}
 use Rattle.worker_core.specs.Desks.{lanes_of}
+use Rattle.worker_core.specs.Workers.{desk_lanes}
 use Rattle.at_rest.specs.Meant.{Stand}
 use Rattle.at_rest.specs.Rest.{AreAtRest, IsBehind, RepresentsAll, Rest}
 use Rattle.lines_kept.specs.Kept.{LinesKept, Load, Part, no_load, no_part}
@@ -26,6 +27,7 @@ use Rattle.front_halves.specs.declared.halves.Halves.{Halves}
 use Rattle.front_halves.specs.declared.lot.Lot.{Lot}
 use Rattle.front_halves.specs.Lots.{lot_of}
 use Rattle.front_halves.specs.Views.{both, lane_rooms, load_of, moved_by, own_of, parts_of, view_at}
+use Rattle.front_core.specs.declared.taken.Taken.{Taken}
 use Rattle.front_core.specs.Keeping.{AreStarts, FrontKeeps, HalvesKeep, LotKeeps, ViewKeeps, start_in, starts_of}
 
 -- nothing is split, and sides have no places
@@ -127,3 +129,26 @@ front_opens rest halves prior before behind represents slices_few roomy lane_roo
       (sym (no_loads rest.slices rest.room rest.lane rest.latest halves lots controls flows asked))
       (no_line rest.slices rest.room rest.lane (rest.lines + 1)));
 }
+
+-- by what the body of `open` has of it
+pub opened_so : (given rest opened : Rest) (halves : Halves) (entries : List Taken) (prior : List Line)
+    (before : Histories) → rest ≡ given → opened ≡ given → entries ≡ [] → IsBehind given prior
+    → RepresentsAll given before → (1 ≤ rest.slices) × (rest.slices ≤ 64)
+    → (1 ≤ rest.room) × (rest.room ≤ 256) → (1 ≤ rest.lane) × (rest.lane ≤ 16384)
+    → length rest.subscribers ≡ length rest.book → rest.lines ≤ 2 ^ 39
+    → AreAtRest rest.slices rest.lines rest.latest rest.subscribers
+    → halves.lots.items ≡ [] → (both halves).control_places ≡ [] → (both halves).places ≡ []
+    → length (both halves).control_desks ≡ rest.slices
+    → lane_rooms halves ≡ replicate rest.slices rest.lane → (both halves).queue_room ≡ rest.room
+    → halves.room ≡ rest.room → (both halves).control_asked ≡ 0 → (both halves).asked ≡ 0
+    → FrontKeeps opened rest.slices rest.lane rest.lines rest.latest rest.book rest.subscribers halves entries
+opened_so given rest opened halves entries prior before is opened_is none behind represents slices_few roomy lane_roomy
+    many few at_rest lots controls flows control_count rooms queues room_is control_asked asked =
+    let kept = front_opens rest halves prior before (subst (λ (r : Rest). IsBehind r prior) (sym is) behind)
+    (subst (λ (r : Rest). RepresentsAll r before) (sym is) represents) slices_few roomy lane_roomy many few at_rest lots
+    controls flows (length-map (both halves).control_desks desk_lanes ∙ control_count) rooms queues room_is control_asked
+    asked in
+    subst (λ (o : Rest). FrontKeeps o rest.slices rest.lane rest.lines rest.latest rest.book rest.subscribers halves
+    entries) (is ∙ sym opened_is)
+    (subst (λ (e : List Taken). FrontKeeps rest rest.slices rest.lane rest.lines rest.latest rest.book rest.subscribers
+    halves e) (sym none) kept)
