@@ -38,7 +38,7 @@ and_first : (x y : Bool) → (x && y) ≡ true → x ≡ true
 and_first true y is = refl
 and_first false y is = is
 
-parks_moved : {F I : Type 0} (place : FlowPlace F I) → flow_place.parks_at (Some place) ≡ true → place.moved ≡ true
+pub parks_moved : {F I : Type 0} (place : FlowPlace F I) → flow_place.parks_at (Some place) ≡ true → place.moved ≡ true
 parks_moved place parks =
     and_first place.moved (not (flow_place.is_placed place.state) || not (nat_eq (length place.queue.items) 0)) parks
 

@@ -1,7 +1,8 @@
 -- An item was accepted.
-use Rattle.std.proofs.Common.{◌≡◌, ℕ, ◌+◌, ◌<◌, inl, inr, true, false, true≢false, is_some, List, [], ◌∷◌, length, set, sym, ap, ◌∙◌, arith, length-append}
-use Rattle.std.specs.Prelude.{Option, Some, None, Result, Ok, count_by}
+use Rattle.std.proofs.Common.{◌≡◌, ℕ, ◌+◌, ◌<◌, inl, inr, true, false, true≢false, is_some, List, [], ◌∷◌, length, set, refl, sym, ap, ◌∙◌, arith, length-append}
+use Rattle.std.specs.Prelude.{◌&&◌, ◌||◌, ◌++◌, Bool, not, nat_eq, Option, Some, None, Result, Ok, count_by}
 use Rattle.std.specs.List.{sum_by}
+use Rattle.std.proofs.lemmas.Bool.{ne_eqb}
 use Rattle.std.proofs.lemmas.List.Sums.{sum_by-set}
 use Rattle.worker_core.specs.Desks.{lanes_of}
 use Rattle.migration.specs.Places as control_place
@@ -17,6 +18,7 @@ use Rattle.flow_migration.specs.Steps.{AtSlot, Gave, Serves, DeliversPlace}
 use Rattle.flow_migration.proofs.Queues.{rests_at}
 use Rattle.front_sides.specs.Sides.{Both}
 use Rattle.front_sides.specs.Steps.{Received}
+use Rattle.front_sides.proofs.Admitting.{parks_moved}
 use Rattle.front_sides.proofs.Lists.{same_at, sum_map}
 use Rattle.front_sides.proofs.Settling.{views_same, place_here, place_other}
 
@@ -58,6 +60,38 @@ module _ {F I : Type 0} where
   gave_rests slot_of item_slot handled slot room item answer old new desks now admitted gave rests =
       let placed = gave.placed rests in
       delivered_rests slot item answer old new desks now admitted gave.moved placed.0 placed.1 rests
+
+  -- a slot whose items are parked, when one went into its queue
+  queued_parks : (item : I) (a : FlowPlace F I) (new : Option (FlowPlace F I)) → flow_place.moved_at new ≡ a.moved
+      → flow_place.queue_at new ≡ a.queue.items ++ item ∷ [] → flow_place.parks_at (Some a) ≡ true
+      → flow_place.parks_at new ≡ true
+  queued_parks item a None moved queue parks = absurd (true≢false (sym (moved ∙ parks_moved a parks)))
+  queued_parks item a (Some b) moved queue parks =
+      let count = ap length queue ∙ length-append a.queue.items (item ∷ []) in
+      let some : nat_eq (length b.queue.items) 0 ≡ false =
+      ne_eqb (length b.queue.items) 0 (λ none. absurd (omega (arith, count, none))) in
+      ap (λ m. m && (not (flow_place.is_placed b.state) || not (nat_eq (length b.queue.items) 0)))
+      (moved ∙ parks_moved a parks)
+      ∙ ap (λ n. not (flow_place.is_placed b.state) || not n) some ∙ or_true (not (flow_place.is_placed b.state))
+    where
+      or_true : (p : Bool) → (p || true) ≡ true
+      or_true true = refl
+      or_true false = refl
+
+  -- where an item was accepted, it is parked as before
+  gave_same : (slot_of : F → ℕ) (item_slot : I → ℕ) (handled : F → List I) (slot room : ℕ) (item : I)
+      (old new : Option (FlowPlace F I)) (desks now : List (FlowDesk F I)) → flow_place.is_admitted old ≡ true
+      → Gave slot_of item_slot handled slot room item (Ok tt) old new desks now
+      → flow_place.parks_at new ≡ flow_place.parks_at old
+  gave_same slot_of item_slot handled slot room item None new desks now admitted gave =
+      absurd (true≢false (sym admitted))
+  gave_same slot_of item_slot handled slot room item (Some a) new desks now admitted gave =
+      elim (flow_place.parks_at (Some a)) as (λ b. flow_place.parks_at (Some a) ≡ b
+      → flow_place.parks_at new ≡ b) [
+        | true ↦ λ parks. queued_parks item a new gave.moved (gave.parked parks).1.0 parks
+        | false ↦ λ rests. gave_rests slot_of item_slot handled slot room item (Ok tt) (Some a) new desks now admitted
+            gave rests
+      ] refl
 
   -- sums of what was accepted
   pub accepted_set : (ps : List (Option (FlowPlace F I))) (slot : ℕ) (place : Option (FlowPlace F I)) (more : ℕ)
@@ -101,10 +135,9 @@ module _ {H N F M I : Type 0} (control_name : H → N) (flow_name : F → M) (sl
         flow = same_at (flow_place.name_at flow_name) old.places new.places slot None names;
         moved = ap flow_place.moved_at here ∙ gave.3.moved;
         accepted = ap flow_place.accepted_at here ∙ gave.3.accepted;
-        parks = λ rests.
-            ap flow_place.parks_at here
-            ∙ gave_rests slot_of item_slot handled slot room item (Ok tt) (flow_place.place_at old.places slot) place
-            old.desks new.desks admitted gave.3 rests;
+        parks = ap flow_place.parks_at here
+            ∙ gave_same slot_of item_slot handled slot room item (flow_place.place_at old.places slot) place
+            old.desks new.desks admitted gave.3;
         load_accepted = ap (λ ps. sum_by (λ (items : List I). length items) (flows.accepts_of ps)) gave.2
             ∙ accepted_set old.places slot place 1 gave.1 count;
         load_admitted = ap (count_by (λ (name : Option M). is_some name)) names;

@@ -87,7 +87,7 @@ module _ {H N F M I : Type 0} (control_name : H → N) (flow_name : F → M) whe
     pub admitted : is_some (view_of control_name flow_name both slot).flow ≡ true
     pub asked : both.asked < 2 ^ 48
 
-  -- an item was accepted; its slot's items are parked then only where they were before
+  -- an item was accepted; its slot's items are parked then exactly where they were before
   pub record Received (slot : ℕ) (item : I) (old new : Both H F I) : Type 0 where
     pub others : OthersSettle slot old new
     pub sides : SidesKeep old new
@@ -96,8 +96,7 @@ module _ {H N F M I : Type 0} (control_name : H → N) (flow_name : F → M) whe
     pub moved : (view_of control_name flow_name new slot).moved ≡ (view_of control_name flow_name old slot).moved
     pub accepted : (view_of control_name flow_name new slot).accepted
         ≡ (view_of control_name flow_name old slot).accepted ++ item ∷ []
-    pub parks : (view_of control_name flow_name old slot).parks ≡ false
-        → (view_of control_name flow_name new slot).parks ≡ false
+    pub parks : (view_of control_name flow_name new slot).parks ≡ (view_of control_name flow_name old slot).parks
     pub load_accepted : (load_of flow_name new).accepted ≡ (load_of flow_name old).accepted + 1
     pub load_admitted : (load_of flow_name new).admitted ≡ (load_of flow_name old).admitted
     pub load_asked : new.asked ≡ old.asked + 1

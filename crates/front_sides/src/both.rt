@@ -17,15 +17,17 @@ pub struct BothSides<H: Traveller, F: Flow> {
 }
 
 impl<H: Traveller, F: Flow> BothSides<H, F> {
-    ghost use Rattle.flow_migration.specs.Steps.{no_item, is_full};
+    ghost use Rattle.flow_migration.specs.Steps.{no_item, is_full, refused_after};
+    ghost use Rattle.flow_migration.specs.Words.{refused_of};
     ghost use Rattle.front_sides.specs.Sides.{both_of, view_of};
     ghost use Rattle.front_sides.specs.Steps.{Settles, MayMove, SlotMoves, MayAdmit, SlotAdmits, MayGive, Received};
     ghost use Rattle.front_sides.specs.Steps.{AreLanes, WasFull};
 
     /// Pumps both, the control halves' side first.
     pub fn pump<R: Wait>(&mut self, rt: &R)
-        ensures { Settles H.name F.name (both_of self.old.controls self.old.flows)
+        ensures settles { Settles H.name F.name (both_of self.old.controls self.old.flows)
             (both_of self.new.controls self.new.flows) }
+        ensures count { refused_of self.new.flows ≡ refused_of self.old.flows }
     {
         self.controls.pump(rt);
         self.flows.pump(rt);
@@ -88,6 +90,7 @@ impl<H: Traveller, F: Flow> BothSides<H, F> {
         ensures full { (lane : ℕ) → AreLanes lane (both_of self.old.controls self.old.flows)
             → IfErr result (λ refusal. is_full refusal ≡ true → WasFull H.name F.name (F.item_slot item) lane
             (both_of self.old.controls self.old.flows) (both_of self.new.controls self.new.flows)) }
+        ensures count { refused_of self.new.flows ≡ refused_after result (refused_of self.old.flows) }
     {
         self.flows.give(rt, item)
     }

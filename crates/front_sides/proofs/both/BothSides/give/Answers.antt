@@ -36,3 +36,6 @@ returns-clause-full g c = λ lane are.
     c.args.self.now.flows.aside.items c.give.new.self.aside.items c.args.self.now.flows.admitted
     c.give.new.self.admitted c.give.new.self.room lane c.args.self.now.flows.laid c.give.new.self.laid refl are
     c.give.result c.give.ensures.gives c.give.ensures.counts.0 c.give.ensures.full
+
+pub returns-clause-count : goal.returns-clause-count
+returns-clause-count g c = c.give.ensures.counts.1

@@ -1,0 +1,13 @@
+pub mod Telling
+pub mod Places
+pub mod Answering
+pub mod Matched
+pub mod Fronts
+pub mod Bounds
+pub mod Passing
+pub mod Gateway
+pub mod Charges
+pub mod Same
+pub mod OfSlots
+pub mod OfLines
+pub mod Why

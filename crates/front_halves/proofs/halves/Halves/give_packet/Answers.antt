@@ -1,0 +1,40 @@
+use Rattle.std.proofs.Common.{◌≡◌, ◌+◌, refl, arith}
+use Rattle.front_halves.proofs.Setting.{sides_settle}
+use Rattle.front_halves.proofs.Trying.{no_packet_tried, packet_full, packet_given, packet_tried}
+use Rattle.front_halves.proofs.halves.Halves.give_packet.Goals as goal
+use Rattle.front_halves.proofs.halves.Halves.give_packet.Goals.{in-Accepted-try_packet, in-Full-try_packet, in-NoMemory-try_packet}
+
+pub loop-init : goal.loop-init
+loop-init g c = no_packet_tried c.args.slot c.args.packet c.args.self.now c.requires
+
+pub try_packet-requires : goal.try_packet-requires
+try_packet-requires g c = c.loop.invariant.may
+
+pub loop-preserved : goal.loop-preserved
+loop-preserved g c =
+    packet_tried c.args.slot c.args.packet c.loop.packet c.loop.counter c.args.self.now c.loop.self c.loop.invariant
+    c.args.line c.in-Full.back c.try_packet.new.self _ c.in-Full.ensures
+    (sides_settle c.try_packet.new.self _ c.pump.ensures.settles refl refl) refl c.pump.ensures.count
+
+pub returns-in-Accepted : goal.returns-in-Accepted
+returns-in-Accepted g c =
+    packet_given c.args.slot c.args.packet c.loop.packet c.loop.counter c.args.self.now c.loop.self c.loop.invariant
+    c.args.line (c.args.patience + 1) c.in-Accepted.parked c.try_packet.new.self c.in-Accepted.ensures
+
+pub returns : goal.returns
+returns g c =
+    elim c.match-try_packet-2.branch [
+      | in-Accepted-try_packet w ↦
+          rw w.result-is
+          (packet_given c.args.slot c.args.packet c.loop.packet c.loop.counter c.args.self.now c.loop.self
+          c.loop.invariant c.args.line (c.args.patience + 1) w.in-Accepted-try_packet.parked c.try_packet-2.new.self
+          w.in-Accepted-try_packet.ensures)
+      | in-Full-try_packet w ↦
+          let same : c.loop.counter + 1 ≡ c.args.patience + 1 =
+          omega (arith, c.loop-test.false, c.loop.auto.counter-end) in
+          rw w.result-is
+          (packet_full c.args.slot c.args.packet c.loop.packet c.loop.counter c.args.self.now c.loop.self
+          c.loop.invariant c.args.line (c.args.patience + 1) w.in-Full-try_packet.field-0 c.try_packet-2.new.self
+          w.in-Full-try_packet.ensures same)
+      | in-NoMemory-try_packet w ↦ rw w.result-is tt
+    ]

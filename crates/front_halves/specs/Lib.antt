@@ -1,0 +1,4 @@
+pub mod Lots
+pub mod Views
+pub mod Steps
+pub mod Tries
