@@ -40,7 +40,8 @@ line_done opened slices lane lines latest tries book book_now subs turned now ol
     (subst (λ (m : ℕ). FrontKeeps opened slices lane (lines + 1) m book_now now new (entries ++ taken ∷ []))
     (at ∙ sym moment_is) kept)
 
-pub taken_more : (entries more : List Taken) (taken : Taken) (line : Line) → more ≡ entries ++ taken ∷ []
-    → taken.line.value ≡ line → lines_of more ≡ lines_of entries ++ line ∷ []
-taken_more entries more taken line more_is line_is =
-    ap lines_of more_is ∙ lines_push entries taken ∙ ap (λ (l : Line). lines_of entries ++ l ∷ []) line_is
+pub taken_more : (entries kept more : List Taken) (taken : Taken) (line : Line) → kept ≡ entries
+    → more ≡ kept ++ taken ∷ [] → taken.line.value ≡ line → lines_of more ≡ lines_of entries ++ line ∷ []
+taken_more entries kept more taken line same more_is line_is =
+    ap lines_of more_is ∙ ap (λ (k : List Taken). lines_of (k ++ taken ∷ [])) same ∙ lines_push entries taken
+    ∙ ap (λ (l : Line). lines_of entries ++ l ∷ []) line_is

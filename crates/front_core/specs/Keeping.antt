@@ -23,8 +23,8 @@ use Rattle.front_halves.specs.Steps.{AreOneSplit}
 use Rattle.lane_core.specs.Ends.{sender_lane}
 use Rattle.front_halves.specs.Views.{both, View, view_at, parts_of, load_of, lane_rooms}
 
--- Of a split subscriber, behind so many lines, the last at this moment: its halves are those that are admitted, what was
--- accepted is what its front end counted, and that is few.
+-- Of a split subscriber, behind so many lines, the last at this moment: its halves are those that are admitted, what
+-- was accepted is what its front end counted, and that is few.
 pub record SplitKeeps (slot lines latest : ℕ) (end : FrontEnd) (view : View) : Type 0 where
   pub own : end.slot ≡ slot
   pub control_admitted : is_some view.control ≡ true

@@ -50,8 +50,8 @@ control_lanes front = lanes_of (both front.halves).control_desks
 abbrev pub flow_lanes : Front → List Lanes
 flow_lanes front = lanes_of (both front.halves).desks
 
--- What a line does: behind a pump it is decided, which may bring a subscriber or bind one for another slice, and what it
--- means is done, with so many tries. Its entry is left open as the answer says.
+-- What a line does: behind a pump it is decided, which may bring a subscriber or bind one for another slice, and what
+-- it means is done, with so many tries. Its entry is left open as the answer says.
 pub record TakesLine (line : Line) (tries : ℕ) (took : Took) (old new : Front) : Type 0 where
   pub taken : Taken
   pub entries : entries_in new ≡ entries_in old ++ taken ∷ []

@@ -129,7 +129,8 @@ impl Front {
         ensures same { (opened_of self.new ≡ opened_of self.old) × (entries_in self.new ≡ entries_in self.old) }
         ensures counts { (lines_in self.new ≡ lines_in self.old) × (latest_in self.new ≡ latest_in self.old)
             × (fulls_in self.new ≡ fulls_in self.old) }
-        ensures lanes { (control_lanes self.new ≡ control_lanes self.old) × (flow_lanes self.new ≡ flow_lanes self.old) }
+        ensures lanes { (control_lanes self.new ≡ control_lanes self.old)
+            × (flow_lanes self.new ≡ flow_lanes self.old) }
     {
         self.halves.pump(rt);
     }

@@ -50,8 +50,8 @@ returns-clause-whole g c =
 pub returns-clause-taken : goal.returns-clause-taken
 returns-clause-taken g c =
     let taken : Taken = record { line = c.of.result; «open» = c.in_ok-open.open } in
-    taken_more c.args.self.now.entries.items c.push_reserved.new.self.items taken c.args.line.now
-    (c.push_reserved.ensures.items ∙ ap (λ (e : List Taken). e ++ taken ∷ []) c.reserve.ensures.items) c.of.ensures
+    taken_more c.args.self.now.entries.items c.reserve.new.self.items c.push_reserved.new.self.items taken
+    c.args.line.now c.reserve.ensures.items c.push_reserved.ensures.items c.of.ensures
 
 pub returns-clause-counts : goal.returns-clause-counts
 returns-clause-counts g c =
