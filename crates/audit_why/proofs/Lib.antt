@@ -20,3 +20,4 @@ pub mod PlaceLemmas
 pub mod RoomLemmas
 pub mod EpochBreaks
 pub mod ItemLemmas
+pub mod RefutingLemmas

@@ -11,3 +11,4 @@ pub mod Same
 pub mod OfSlots
 pub mod OfLines
 pub mod Why
+pub mod Refuting

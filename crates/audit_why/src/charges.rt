@@ -23,6 +23,7 @@ use audit_reading::{
     opens_placed, places_of, rows_placed, same_charge, told_effect,
 };
 use audit_sentences::{Keyed, arranged, shares_of};
+use pc_base::Slot;
 use report_lines::{ChargeEntry, EffectEntry, Entry};
 use std::alloc::Global;
 
@@ -320,19 +321,32 @@ fn surplus_at(made: &[ChargeEntry], told: &[&ChargeEntry]) -> usize
     told.len()
 }
 
+// Whose charge it is.
+fn slot_of(charge: &ChargeEntry) -> Slot
+    ensures { result ≡ slot_charged charge.now }
+{
+    match charge {
+        ChargeEntry::R { slot, .. } => *slot,
+        ChargeEntry::O { slot, .. } => *slot,
+    }
+}
+
 // The first open counters that are missing.
 fn open_missing(
     alloc: Global,
+    slots: u32,
     made: &[ChargeEntry],
     told: &[&ChargeEntry],
 ) -> Result<Option<Break>, NoMemory>
+    requires { All (λ charge. slot_charged charge < slots) made.now }
     ensures some { IfOk result (λ found. IfSome found (OpenMissing (lent told.now) made.now)) }
     ensures none { IfOk result (λ found. IfNone found (All (Contains (lent told.now)) made.now)) }
 {
-    for open in made {
-        if !is_among(open, told) {
-            let stands = told_of_life(alloc, open, told)?;
-            let due = charge_said(alloc, open)?;
+    let shares = shares_of(alloc, slots as usize, &charges_by_slot(alloc, told)?)?;
+    for charge in made {
+        if !is_among(charge, &shares[slot_of(charge).0 as usize]) {
+            let stands = told_of_life(alloc, charge, told)?;
+            let due = charge_said(alloc, charge)?;
             return Ok(Some(tells(alloc, stands, Some(due))?));
         }
     }
@@ -341,13 +355,15 @@ fn open_missing(
 
 fn opens_broken(
     alloc: Global,
+    slots: u32,
     made: &[ChargeEntry],
     told: &[&ChargeEntry],
 ) -> Result<Option<Break>, NoMemory>
+    requires { All (λ charge. slot_charged charge < slots) made.now }
     ensures some { IfOk result (λ found. IfSome found (OpenBreakOf (lent told.now) made.now)) }
     ensures none { IfOk result (λ found. IfNone found (AreTold (lent told.now) made.now)) }
 {
-    if let Some(found) = open_missing(alloc, made, told)? {
+    if let Some(found) = open_missing(alloc, slots, made, told)? {
         return Ok(Some(found));
     }
     if told.len() == made.len() {
@@ -367,6 +383,7 @@ pub(crate) fn charges_broken(
 ) -> Result<Option<Break>, NoMemory>
     requires lines { All (IsLine (length (all_lines (meanings_made made.now)))) entries.now }
     requires made { All (IsBySlot slots) made.now }
+    requires opens { All (λ charge. slot_charged charge < slots) opens.now }
     ensures some { IfOk result (λ found. IfSome found (ChargeBreak slots (meanings_made made.now) entries.now
         (report_made made.now opens.now))) }
     ensures none { IfOk result (λ found. IfNone found (ChargesAre (meanings_made made.now) entries.now
@@ -381,5 +398,5 @@ pub(crate) fn charges_broken(
     if let Some(found) = rows_broken(alloc, slots, made, &rows)? {
         return Ok(Some(found));
     }
-    opens_broken(alloc, opens, &opens_placed(alloc, entries)?)
+    opens_broken(alloc, slots, opens, &opens_placed(alloc, entries)?)
 }

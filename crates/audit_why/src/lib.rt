@@ -9,12 +9,14 @@ mod due;
 mod epochs;
 mod fronts;
 mod gateway;
+mod judging;
 mod laws;
 mod order;
 mod sentences;
 mod slots;
 mod telling;
 
+pub use judging::{Told, tell};
 pub use laws::breaks_are_broken;
 pub use sentences::why;
 pub use std::alloc::AllocError as NoMemory;

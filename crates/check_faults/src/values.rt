@@ -52,12 +52,14 @@ pub fn words(alloc: Global, row: &Call, text: &mut String) -> Result<(), AllocEr
                 slices,
                 room,
                 lane,
+                why,
             },
         ) => {
             push_told(text, "audit: solo ", &solo)?;
             push_told(text, ", ", &slices)?;
             push_told(text, " slices, room ", &room)?;
             push_told(text, ", lane ", &lane)?;
+            push_told(text, ", why ", &why)?;
             text.push('\n')
         }
         Some(Job::Balance { slices, most }) => {

@@ -15,7 +15,7 @@ fn letter(outcome: Outcome) -> u8 {
     }
 }
 
-fn push_met(text: &mut Text, met: &Met) -> Result<(), AllocError> {
+fn push_met(text: &mut Text, met: Met) -> Result<(), AllocError> {
     text.push_number(met.commands as u64)?;
     match met.place {
         Place::At(slice) => {
@@ -35,11 +35,11 @@ fn push_digits(text: &mut Text, number: u64) -> Result<(), AllocError> {
     Ok(())
 }
 
-fn push_slot(text: &mut Text, slot: u32, mets: &[Met]) -> Result<(), AllocError> {
+fn push_slot(text: &mut Text, slot: u32, scheduled: &Scheduled) -> Result<(), AllocError> {
     text.extend_from_slice(b" |")?;
     text.push_number(u64::from(slot))?;
-    for met in mets {
-        push_met(text, met)?;
+    for number in 0..scheduled.met_count(slot) {
+        push_met(text, scheduled.met(slot, number))?;
     }
     Ok(())
 }
@@ -55,9 +55,8 @@ pub fn push_schedule(
         text.push(letter(*outcome))?;
     }
     for slot in 0..slots {
-        let mets = scheduled.mets(slot);
-        if !mets.is_empty() {
-            push_slot(text, slot, mets)?;
+        if scheduled.met_count(slot) > 0 {
+            push_slot(text, slot, scheduled)?;
         }
     }
     if let Turns::Drawn { state, .. } = turns {

@@ -71,10 +71,10 @@ make_keeps given asked is =
 solo_keeps : (given : List Given) (asked : Job) → solo_audit given ≡ Some asked → IsInRange asked
 solo_keeps given asked is = go (has_number given) is
   where
-    go : (numbered : Bool) → cond numbered None (Some (job.Audit true 64 64 1024)) ≡ Some asked → IsInRange asked
+    go : (numbered : Bool) → cond numbered None (Some (job.Audit true 64 64 1024 (has_flag (codes "why") given))) ≡ Some asked → IsInRange asked
     go true e = absurd (cc)
     go false e =
-        let same : job.Audit true 64 64 1024 ≡ asked = cc in
+        let same : job.Audit true 64 64 1024 (has_flag (codes "why") given) ≡ asked = cc in
         subst IsInRange same (lit≤ tt, lit≤ tt, (λ yes. refl), lit≤ tt, lit≤ tt, lit≤ tt, lit≤ tt)
 
 number_or_within : (least last default : ℕ) (text : Option Text) (n : ℕ) → IsWithin least last default
@@ -105,13 +105,14 @@ lanes_keep : (given : List Given) (asked : Job) → lanes_audit given ≡ Some a
 lanes_keep given asked is = go (lanes_of given) refl is
   where
     go : (found : Option Lanes) → lanes_of given ≡ found
-        → option_map (λ (lanes : Lanes). job.Audit false lanes.slices lanes.room lanes.lane) found ≡ Some asked
+        → option_map (λ (lanes : Lanes). job.Audit false lanes.slices lanes.room lanes.lane
+        (has_flag (codes "why") given)) found ≡ Some asked
         → IsInRange asked
     go None known e = absurd (cc)
     go (Some lanes) known e =
         let range = lanes_within (value_of (codes "slices") given) (value_of (codes "room") given)
         (value_of (codes "lane") given) lanes known in
-        let same : job.Audit false lanes.slices lanes.room lanes.lane ≡ asked = cc in
+        let same : job.Audit false lanes.slices lanes.room lanes.lane (has_flag (codes "why") given) ≡ asked = cc in
         subst IsInRange same (
           range.0,
           range.1,

@@ -66,12 +66,15 @@ abbrev pub has_number : List Given → Bool
 has_number given = is_some (value_of (codes "slices") given) || is_some (value_of (codes "room") given)
     || is_some (value_of (codes "lane") given)
 
--- `audit --solo` is of 64 slices, and has no other option
+-- `audit --solo` is of 64 slices, and has no numbers; both tell where a report is refuted, if that is asked for
 abbrev pub solo_audit : List Given → Option Job
-solo_audit given = if has_number given then None else Some (job.Audit true 64 64 1024)
+solo_audit given =
+    if has_number given then None else Some (job.Audit true 64 64 1024 (has_flag (codes "why") given))
 
 abbrev pub lanes_audit : List Given → Option Job
-lanes_audit given = option_map (λ (lanes : Lanes). job.Audit false lanes.slices lanes.room lanes.lane) (lanes_of given)
+lanes_audit given =
+    option_map (λ (lanes : Lanes). job.Audit false lanes.slices lanes.room lanes.lane (has_flag (codes "why") given))
+    (lanes_of given)
 
 abbrev pub audit_job : List Given → Option Job
 audit_job given = if has_flag (codes "solo") given then solo_audit given else lanes_audit given
@@ -97,7 +100,7 @@ make_forms = with_value (codes "seed") ∷ with_value (codes "subs") ∷ with_va
 
 abbrev pub audit_forms : List Form
 audit_forms = without_value (codes "solo") ∷ with_value (codes "slices") ∷ with_value (codes "room")
-    ∷ with_value (codes "lane") ∷ []
+    ∷ with_value (codes "lane") ∷ without_value (codes "why") ∷ []
 
 abbrev pub balance_forms : List Form
 balance_forms = with_value (codes "slices") ∷ with_value (codes "most") ∷ []
@@ -154,7 +157,7 @@ IsInRange (job.Drive lanes turns places) = LanesInRange lanes × TurnsInRange la
 IsInRange (job.Make seed subs lines summary) = (1 ≤ subs) × (subs ≤ 65533) × (lines ≤ 100000)
 IsInRange job.Import = Unit {0}
 IsInRange job.Export = Unit {0}
-IsInRange (job.Audit solo slices room lane) =
+IsInRange (job.Audit solo slices room lane why) =
     (1 ≤ slices) × (slices ≤ 64) × (IsTrue solo → slices ≡ 64) × (1 ≤ room) × (room ≤ 256) × (1 ≤ lane)
     × (lane ≤ 16384)
 IsInRange (job.Balance slices most) = (1 ≤ slices) × (slices ≤ 64) × (1 ≤ most) × (most ≤ 16)

@@ -34,12 +34,14 @@ pub enum Job {
     /// `export`: make a capture of a trace.
     Export,
     /// `audit`: judge a report, as one of `solo` (then with 64 slices) or of lanes: 1 to 64 slices,
-    /// room for 1 to 256 items of a subscriber, and for 1 to 16,384 of a slice.
+    /// room for 1 to 256 items of a subscriber, and for 1 to 16,384 of a slice; and tell where it is
+    /// refuted, or not.
     Audit {
         solo: bool,
         slices: u8,
         room: u32,
         lane: u32,
+        why: bool,
     },
     /// `balance`: write a trace with moves planned by a report of it, over 1 to 64 slices, at most so many
     /// (1 to 16) behind each `FENCE`.

@@ -59,8 +59,10 @@ fn make<'a>(alloc: Global) -> Result<Command<'a>, AllocError>
         .arg(without_value(alloc, "summary"))
 }
 
-fn audit<'a>(alloc: Global) -> Result<Command<'a>, AllocError>
-    ensures shape { IfOk result (λ command. shape_of command ≡ command_shape audit_command) }
+// The command `audit` with the options of its setup alone.
+fn audit_setup<'a>(alloc: Global) -> Result<Command<'a>, AllocError>
+    ensures shape { IfOk result (λ command. shape_of command
+        ≡ command_shape (record audit_command { forms = take 4 audit_command.forms })) }
     ensures local { IfOk result (λ command. (fields_of command).has_globals ≡ false) }
 {
     Command::new(alloc, "audit")
@@ -68,6 +70,13 @@ fn audit<'a>(alloc: Global) -> Result<Command<'a>, AllocError>
         .arg(with_value(alloc, "slices"))?
         .arg(with_value(alloc, "room"))?
         .arg(with_value(alloc, "lane"))
+}
+
+fn audit<'a>(alloc: Global) -> Result<Command<'a>, AllocError>
+    ensures shape { IfOk result (λ command. shape_of command ≡ command_shape audit_command) }
+    ensures local { IfOk result (λ command. (fields_of command).has_globals ≡ false) }
+{
+    audit_setup(alloc)?.arg(without_value(alloc, "why"))
 }
 
 fn balance<'a>(alloc: Global) -> Result<Command<'a>, AllocError>

@@ -100,7 +100,7 @@ fn make_job(matches: &ArgMatches<'_>) -> Option<Job>
     })
 }
 
-// `audit --solo` has no other option.
+// `audit --solo` has no numbers.
 fn audit_job(matches: &ArgMatches<'_>) -> Option<Job>
     ensures { (given : List Given) → Gives matches.now audit_forms given → result ≡ audit_job given }
 {
@@ -122,6 +122,7 @@ fn solo_audit(matches: &ArgMatches<'_>) -> Option<Job>
         slices: 64,
         room: 64,
         lane: 1_024,
+        why: matches.get_flag("why"),
     })
 }
 
@@ -149,6 +150,7 @@ fn lanes_audit(matches: &ArgMatches<'_>) -> Option<Job>
         slices: lanes.slices,
         room: lanes.room,
         lane: lanes.lane,
+        why: matches.get_flag("why"),
     })
 }
 

@@ -122,10 +122,7 @@ pub fn keep(alloc: Global, lines: &mut EpochLines, meant: Meant<'_>) -> Result<(
     ensures { OnOk result (KeepsLine lines.old lines.new meant.entry) }
 {
     match meant {
-        Meant::Packet { slot, packet } => {
-            let packet = place_packet(&mut lines.octets, &packet)?;
-            add(lines, Kept::Packet { slot, packet })
-        }
+        Meant::Packet { slot, packet } => keep_packet(lines, slot, &packet),
         Meant::Command { slot, command } => {
             let command = Box::new(alloc, command)?;
             add(lines, Kept::Command { slot, command })
@@ -133,6 +130,18 @@ pub fn keep(alloc: Global, lines: &mut EpochLines, meant: Meant<'_>) -> Result<(
         Meant::Move { slot, slice, text } => add(lines, Kept::Move { slot, slice, text }),
         Meant::Note(text) => add(lines, Kept::Note(text)),
     }
+}
+
+/// A packet of a slot is kept.
+pub fn keep_packet(
+    lines: &mut EpochLines,
+    slot: Slot,
+    packet: &LentPacket<'_>,
+) -> Result<(), AllocError>
+    ensures { OnOk result (KeepsLine lines.old lines.new (Meant.Packet slot packet.now)) }
+{
+    let packet = place_packet(&mut lines.octets, packet)?;
+    add(lines, Kept::Packet { slot, packet })
 }
 
 // One line more, with what it asks of the schedule: once for each kind, so that its parts go straight to their places.

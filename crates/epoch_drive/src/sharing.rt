@@ -79,7 +79,7 @@ fn empty_shares<'a>(
     for i in 0..slots {
         let share: Share<'a> = Share {
             commands: Vec::new(alloc),
-            packets: Vec::with_capacity(alloc, scheduled.mets(i).len())?,
+            packets: Vec::with_capacity(alloc, scheduled.met_count(i))?,
         };
         shares.push(share)?;
     }
@@ -158,8 +158,7 @@ fn give_packet<'a>(
     let before = subscribers[place].commands();
     let share = &mut shares[place];
     let number = share.packets.len();
-    let mets = scheduled.mets(slot.0);
-    let met = mets[number];
+    let met = scheduled.met(slot.0, number);
     let placed = Placed {
         commands: before + met.commands as u64,
         place: met.place,

@@ -53,16 +53,10 @@ fn fill_next(line: u64, left: &mut Vec<Taken>, answers: &mut Vec<Answers>) -> En
     requires within { All (λ taken. IsWithin (length answers.old.items) taken.open) (reverse left.old.items) }
     ensures { FillsFirst line left.old.items left.new.items answers.old.items answers.new.items result }
 {
-    let Some(
-        Taken {
-            line: _,
-            open: entry,
-        },
-    ) = left.pop()
-    else {
+    let Some(taken) = left.pop() else {
         unreachable!()
     };
-    entry_of(line, entry, answers)
+    entry_of(line, taken.open, answers)
 }
 
 fn entry_of(line: u64, entry: Open, answers: &mut Vec<Answers>) -> Entry

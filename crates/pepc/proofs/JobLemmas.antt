@@ -43,8 +43,8 @@ nothing_done (Some (job.Make seed subs lines summary)) source_failed start old =
     (refl, nothing_made seed subs lines summary old)
 nothing_done (Some job.Import) source_failed start old = nothing_imported source_failed start old
 nothing_done (Some job.Export) source_failed start old = nothing_exported source_failed start old
-nothing_done (Some (job.Audit solo slices room lane)) source_failed start old =
-    nothing_audited (audit_setup solo slices room lane) start old
+nothing_done (Some (job.Audit solo slices room lane why)) source_failed start old =
+    nothing_audited why (audit_setup solo slices room lane) start old
 nothing_done (Some (job.Balance slices most)) source_failed start old = nothing_balanced slices most start old
 
 pub nothing_completes : (asked : Option Job) (start : Option (List ℕ)) → Completes asked status.NoMemory start
@@ -54,7 +54,7 @@ nothing_completes (Some (job.Drive lanes turns places)) start = λ octets is sto
 nothing_completes (Some (job.Make seed subs lines summary)) start = inr refl
 nothing_completes (Some job.Import) start = λ octets is stop. inr refl
 nothing_completes (Some job.Export) start = λ octets is stop. inr refl
-nothing_completes (Some (job.Audit solo slices room lane)) start = λ octets is stop found finds. nothing_settles found
+nothing_completes (Some (job.Audit solo slices room lane why)) start = λ octets is stop found finds. nothing_settles found
 nothing_completes (Some (job.Balance slices most)) start = λ octets is stop good each. inr refl
 
 make_complete : (ending : Status) (sink_failed : Type 0) (summary : Bool) (lines : List Line) (text : List ℕ)
@@ -95,10 +95,10 @@ job_completes job.Import ending source_failed sink_failed start left old new no_
 job_completes job.Export ending source_failed sink_failed start left old new no_source no_sink read write usage does =
     λ octets is stop.
     export_complete ending source_failed sink_failed octets start left old new is stop no_source no_sink read write does
-job_completes (job.Audit solo slices room lane) ending source_failed sink_failed start left old new no_source no_sink
-    read write usage does =
+job_completes (job.Audit solo slices room lane why) ending source_failed sink_failed start left old new no_source
+    no_sink read write usage does =
     λ octets is stop found finds.
-    audit_complete (audit_setup solo slices room lane) ending source_failed sink_failed octets start left old new found is
+    audit_complete why (audit_setup solo slices room lane) ending source_failed sink_failed octets start left old new found is
     stop no_source no_sink read write finds does
 job_completes (job.Balance slices most) ending source_failed sink_failed start left old new no_source no_sink read write
     usage does =

@@ -1,16 +1,18 @@
 -- What a run of `audit` wrote, by its status.
-use Rattle.std.specs.Prelude.{◌≡◌, ℕ, ◌⊎◌, Bool, List, [], Option, None, Some, if◌then◌else◌}
+use Rattle.std.specs.Prelude.{◌≡◌, ℕ, ◌⊎◌, Bool, List, [], ◌++◌, Option, None, Some, Result, Ok, Err, if◌then◌else◌}
 use Rattle.std.specs.Io.KnownBytes.{Appends}
 use Rattle.lawful_run.specs.Setup.{Setup, sliced, solo}
 use Rattle.audit_reading.specs.Progress.{IsReadWhole, IsTaken}
-use Rattle.audit_run.specs.Report.{SaysPart, SaysWhole}
 use Rattle.audit_reading.specs.Texts.{big, long, texts_of}
+use Rattle.audit_run.specs.Findings.{Finds}
 use Rattle.audit_run.specs.declared.auditing.Audited.{Audited}
 use Rattle.audit_run.specs.declared.auditing.Audited.TheVariants as audited
+use Rattle.audit_why.specs.Refuting.{SaysFinding}
 use Rattle.trace_run.specs.declared.status.Status.{Status}
 use Rattle.trace_run.specs.declared.status.Status.TheVariants as status
 use Rattle.trace_run.specs.Report.{IsDone}
 use Rattle.pc_outside.specs.WhereTold.{WhereTold}
+use Rattle.pc_outside.specs.declared.writing.WriteFault.{WriteFault}
 
 -- the gateway whose report it should be
 abbrev pub audit_setup : Bool → ℕ → ℕ → ℕ → Setup
@@ -25,26 +27,43 @@ status_of audited.NoMemory = status.NoMemory
 status_of audited.LineLong = status.LineLong
 status_of audited.TooLong = status.TooLong
 
+-- what a run comes to, by what is found and whether it was written
+abbrev pub settled_as : Option ℕ → Result Unit WriteFault → Status
+settled_as found (Err fault) = status.WriteFault
+settled_as None (Ok written) = status.Ok
+settled_as (Some k) (Ok written) = status.Refuted
+
+-- the text says what is found of octets, and where the report is refuted, if that is asked for
+pub record SaysWhole (why : Bool) (setup : Setup) (octets text : List ℕ) (found : Option ℕ) : Type 0 where
+  pub finds : Finds setup (texts_of octets).lines found
+  pub says : SaysFinding why setup (texts_of octets).lines found text
+
+-- it is a prefix of that
+pub record SaysPart (why : Bool) (setup : Setup) (octets text : List ℕ) : Type 0 where
+  pub found : Option ℕ
+  pub more : List ℕ
+  pub whole : SaysWhole why setup octets (text ++ more) found
+
 -- An audit stops at no bad line, and its input is no capture.
-abbrev pub AuditReports : Status → Setup → List ℕ → List ℕ → List ℕ → Type 0
-AuditReports status.Ok setup octets left text = IsReadWhole octets left × SaysWhole setup octets text None
-AuditReports status.Usage setup octets left text = ⊥
-AuditReports status.ReadFault setup octets left text = IsTaken octets left × (text ≡ [])
-AuditReports status.WriteFault setup octets left text = IsReadWhole octets left × SaysPart setup octets text
-AuditReports status.NoMemory setup octets left text = text ≡ []
-AuditReports status.BadLine setup octets left text = ⊥
-AuditReports status.LineLong setup octets left text = ((texts_of octets).stop ≡ long) × (text ≡ [])
-AuditReports status.TooLong setup octets left text = ((texts_of octets).stop ≡ big) × (text ≡ [])
-AuditReports status.Refuted setup octets left text =
-    IsReadWhole octets left × ((k : ℕ) × SaysWhole setup octets text (Some k))
-AuditReports status.BadCapture setup octets left text = ⊥
-AuditReports status.BadReport setup octets left text = ⊥
+abbrev pub AuditReports : Status → Bool → Setup → List ℕ → List ℕ → List ℕ → Type 0
+AuditReports status.Ok why setup octets left text = IsReadWhole octets left × SaysWhole why setup octets text None
+AuditReports status.Usage why setup octets left text = ⊥
+AuditReports status.ReadFault why setup octets left text = IsTaken octets left × (text ≡ [])
+AuditReports status.WriteFault why setup octets left text = IsReadWhole octets left × SaysPart why setup octets text
+AuditReports status.NoMemory why setup octets left text = text ≡ []
+AuditReports status.BadLine why setup octets left text = ⊥
+AuditReports status.LineLong why setup octets left text = ((texts_of octets).stop ≡ long) × (text ≡ [])
+AuditReports status.TooLong why setup octets left text = ((texts_of octets).stop ≡ big) × (text ≡ [])
+AuditReports status.Refuted why setup octets left text =
+    IsReadWhole octets left × ((k : ℕ) × SaysWhole why setup octets text (Some k))
+AuditReports status.BadCapture why setup octets left text = ⊥
+AuditReports status.BadReport why setup octets left text = ⊥
 
 -- octets were appended to what a sink tells, and they say what is found of those that a source told
-pub record Audits (setup : Setup) (ending : Status) (start left old new : Option (List ℕ)) : Type 0 where
+pub record Audits (why : Bool) (setup : Setup) (ending : Status) (start left old new : Option (List ℕ)) : Type 0 where
   pub text : List ℕ
   pub written : Appends old new text
-  pub report : WhereTold start left (λ octets rest. AuditReports ending setup octets rest text)
+  pub report : WhereTold start left (λ octets rest. AuditReports ending why setup octets rest text)
 
 -- the status that a finding comes to, unless memory ran out
 abbrev pub Settles : Option ℕ → Status → Type 0

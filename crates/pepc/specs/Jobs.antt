@@ -32,8 +32,8 @@ Does (Some (job.Make seed subs lines summary)) ending source_failed start left o
     (left ≡ start) × Makes seed subs lines summary ending old new
 Does (Some job.Import) ending source_failed start left old new = Imports ending source_failed start left old new
 Does (Some job.Export) ending source_failed start left old new = Exports ending source_failed start left old new
-Does (Some (job.Audit solo slices room lane)) ending source_failed start left old new =
-    Audits (audit_setup solo slices room lane) ending start left old new
+Does (Some (job.Audit solo slices room lane why)) ending source_failed start left old new =
+    Audits why (audit_setup solo slices room lane) ending start left old new
 Does (Some (job.Balance slices most)) ending source_failed start left old new =
     Balances slices most ending start left old new
 
@@ -49,7 +49,7 @@ Completes (Some job.Import) ending start =
     (octets : List ℕ) → start ≡ Some octets → capture.stop_of octets ≡ capture.ended → IsDone ending
 Completes (Some job.Export) ending start =
     (octets : List ℕ) → start ≡ Some octets → (input_of octets).stop ≡ ended → IsDone ending
-Completes (Some (job.Audit solo slices room lane)) ending start =
+Completes (Some (job.Audit solo slices room lane why)) ending start =
     (octets : List ℕ) → start ≡ Some octets → (texts.texts_of octets).stop ≡ texts.ended → (found : Option ℕ)
     → Finds (audit_setup solo slices room lane) (texts.texts_of octets).lines found → Settles found ending
 Completes (Some (job.Balance slices most)) ending start =

@@ -1,9 +1,10 @@
-//! A run of `audit`: the status of what `audit_run` does.
+//! A run of `audit`: the status of what `audit_run` does, or what is told with the place of a break.
 ghost use Rattle.std.specs.Prelude.{◌≡◌, ◌≤◌};
 ghost use Rattle.pc_outside.specs.Faults.{Rises};
 ghost use Rattle.audit_reading.specs.Setups.{IsSetup, setup_of};
 ghost use Rattle.pepc.specs.Audit.{Audits, status_of};
 
+use crate::refuting::audit_with_place;
 use audit_reading::Setup;
 use audit_run::Audited;
 use pc_outside::{Sink, Source};
@@ -11,17 +12,18 @@ use std::alloc::Global;
 use trace_run::Status;
 
 /// Does the command `audit`: reads a trace and its report from the source, and writes to the sink whether
-/// the report is a lawful one.
+/// the report is a lawful one; and where it isn't, if that is asked for.
 pub fn audit<S: Source, K: Sink>(
     alloc: Global,
     setup: &Setup,
+    why: bool,
     source: &mut S,
     sink: &mut K,
 ) -> Status
     requires { IsSetup setup.now }
 
-    ensures audits { Audits (setup_of setup.now) result (S.left source.old) (S.left source.new) (K.written sink.old)
-        (K.written sink.new) }
+    ensures audits { Audits why (setup_of setup.now) result (S.left source.old) (S.left source.new)
+        (K.written sink.old) (K.written sink.new) }
     ensures no_usage { result ≡ Status.Usage → ⊥ }
 
     ensures source_later { S.faults source.old ≤ S.faults source.new }
@@ -29,7 +31,11 @@ pub fn audit<S: Source, K: Sink>(
     ensures read_fault { result ≡ Status.ReadFault → Rises (S.faults source.old) (S.faults source.new) }
     ensures write_fault { result ≡ Status.WriteFault → Rises (K.faults sink.old) (K.faults sink.new) }
 {
-    status_of(audit_run::audit(alloc, setup, source, sink))
+    if why {
+        audit_with_place(alloc, setup, source, sink)
+    } else {
+        status_of(audit_run::audit(alloc, setup, source, sink))
+    }
 }
 
 fn status_of(audited: Audited) -> Status

@@ -12,6 +12,7 @@ mod import;
 mod laws;
 mod make;
 mod plain;
+mod refuting;
 mod run;
 mod solo;
 mod summary;

@@ -53,6 +53,7 @@ fn do_job<S: Source, K: Sink>(alloc: Global, asked: Job, source: &mut S, sink: &
             slices,
             room,
             lane,
+            why,
         } => {
             let setup = Setup {
                 solo,
@@ -60,7 +61,7 @@ fn do_job<S: Source, K: Sink>(alloc: Global, asked: Job, source: &mut S, sink: &
                 room,
                 lane,
             };
-            audit(alloc, &setup, source, sink)
+            audit(alloc, &setup, why, source, sink)
         }
         Job::Balance { slices, most } => balance(alloc, slices, most, source, sink),
     }

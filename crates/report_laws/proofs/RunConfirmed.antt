@@ -21,13 +21,13 @@ as_many true room lane = refl
 as_many false room lane = refl
 
 pub run_confirmed : OwnRunIsConfirmed
-run_confirmed octets text alone room lane ending own completes =
+run_confirmed octets text alone why room lane ending own completes =
     completes (audited_octets octets text) refl own.read None
     (own_text_confirmed (audit_setup alone 64 room lane) octets text (as_many alone room lane) (own_text octets text own)
     own.read)
 
 pub run_never_refuted : OwnRunIsNeverRefuted
-run_never_refuted octets text left told alone room lane own audits =
+run_never_refuted octets text left told alone why room lane own audits =
     let k : ℕ = audits.1.0 in
     let none : Some k ≡ None =
     own_text_never_refuted (audit_setup alone 64 room lane) octets text (Some k) (as_many alone room lane)

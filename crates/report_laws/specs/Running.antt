@@ -20,12 +20,12 @@ pub record IsOwnRun (octets text : List ℕ) : Type 0 where
   pub read : (texts_of (audited_octets octets text)).stop ≡ ended
 
 -- Where no count of faults rises, a run of `audit` over it has status 0, unless memory runs out: of one thread, or of
--- 64 slices with any room and lanes.
+-- 64 slices with any room and lanes, whether or not it is asked where a report is refuted.
 abbrev pub OwnRunIsConfirmed : Type 0
-OwnRunIsConfirmed = (octets text : List ℕ) (alone : Bool) (room lane : ℕ) (ending : Status) → IsOwnRun octets text
-    → Completes (Some (job.Audit alone 64 room lane)) ending (Some (audited_octets octets text)) → IsDone ending
+OwnRunIsConfirmed = (octets text : List ℕ) (alone why : Bool) (room lane : ℕ) (ending : Status) → IsOwnRun octets text
+    → Completes (Some (job.Audit alone 64 room lane why)) ending (Some (audited_octets octets text)) → IsDone ending
 
 -- and never status 9
 abbrev pub OwnRunIsNeverRefuted : Type 0
-OwnRunIsNeverRefuted = (octets text left told : List ℕ) (alone : Bool) (room lane : ℕ) → IsOwnRun octets text
-    → AuditReports status.Refuted (audit_setup alone 64 room lane) (audited_octets octets text) left told → ⊥
+OwnRunIsNeverRefuted = (octets text left told : List ℕ) (alone why : Bool) (room lane : ℕ) → IsOwnRun octets text
+    → AuditReports status.Refuted why (audit_setup alone 64 room lane) (audited_octets octets text) left told → ⊥

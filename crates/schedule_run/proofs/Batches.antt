@@ -1,5 +1,6 @@
 -- Batches of commands, and what is learnt of them.
-use Rattle.std.proofs.Common.{◌≡◌, ℕ, zero, suc, ◌+◌, ◌-◌, ◌<◌, List, [], ◌∷◌, ◌++◌, length, refl, sym, ap, ◌∙◌, arith}
+use Rattle.std.proofs.Common.{◌≡◌, ℕ, zero, suc, ◌+◌, ◌-◌, ◌<◌, ◌≤◌, List, [], ◌∷◌, ◌++◌, map, take, drop, set, get_or, length, refl, sym, ap, ◌∙◌, arith, append_assoc, append-nil}
+use Rattle.std.proofs.lemmas.List.{drop-set-lt, drop_all, drop_more, map_push, take_all, take_more_set}
 use Rattle.pc_base.specs.declared.packet.Place.TheVariants.{Closing}
 use Rattle.slice_schedule.specs.Numbers.{times}
 use Rattle.slice_schedule.specs.Slots.{CommandTags, SlotNow, Met}
@@ -24,3 +25,32 @@ pub met_less : (commands : List CommandTags) (learnt : ℕ) (met : List Met) (n 
 met_less commands learnt met n i below =
     let one : n - i ≡ suc (n - (i + 1)) = omega (arith, below) in
     ap (met_behind commands learnt met) one
+
+-- what the packets of slots met, of which the first ones are closed
+pub closed_more : (slots : List SlotNow) (i : ℕ) (old new : SlotNow) (whole : List (List Met)) → i < length slots
+    → old ≡ get_or slots i old → new.met ≡ (closed old).met
+    → map (λ (slot : SlotNow). slot.met) (take i slots)
+    ++ map (λ (slot : SlotNow). (closed slot).met) (drop i slots) ≡ whole
+    → map (λ (slot : SlotNow). slot.met) (take (i + 1) (set slots i new))
+    ++ map (λ (slot : SlotNow). (closed slot).met) (drop (i + 1) (set slots i new)) ≡ whole
+closed_more slots i old new whole low is met all =
+    let mets : List SlotNow → List (List Met) = map (λ (slot : SlotNow). slot.met) in
+    let left : List SlotNow → List (List Met) = map (λ (slot : SlotNow). (closed slot).met) in
+    ap (λ xs. mets xs ++ left (drop (i + 1) (set slots i new))) (take_more_set slots i new low)
+    ∙ ap (λ xs. mets (take i slots ++ new ∷ []) ++ left xs) (drop-set-lt (i + 1) slots i new (omega arith))
+    ∙ ap (λ xs. xs ++ left (drop (i + 1) slots)) (map_push (λ (slot : SlotNow). slot.met) (take i slots) new)
+    ∙ append_assoc (mets (take i slots)) (new.met ∷ []) (left (drop (i + 1) slots))
+    ∙ ap (λ x. mets (take i slots) ++ x ∷ left (drop (i + 1) slots)) met
+    ∙ ap (λ x. mets (take i slots) ++ (closed x).met ∷ left (drop (i + 1) slots)) is
+    ∙ ap (λ xs. mets (take i slots) ++ left xs) (sym (drop_more slots i old low))
+    ∙ all
+
+pub closed_all : (slots : List SlotNow) (i : ℕ) (whole : List (List Met)) → length slots ≤ i
+    → map (λ (slot : SlotNow). slot.met) (take i slots)
+    ++ map (λ (slot : SlotNow). (closed slot).met) (drop i slots) ≡ whole
+    → map (λ (slot : SlotNow). slot.met) slots ≡ whole
+closed_all slots i whole over all =
+    let mets : List SlotNow → List (List Met) = map (λ (slot : SlotNow). slot.met) in
+    let left : List SlotNow → List (List Met) = map (λ (slot : SlotNow). (closed slot).met) in
+    sym (append-nil (mets slots)) ∙ ap (λ xs. mets xs ++ []) (sym (take_all i slots over))
+    ∙ ap (λ xs. mets (take i slots) ++ left xs) (sym (drop_all i slots over)) ∙ all

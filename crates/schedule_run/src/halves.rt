@@ -250,8 +250,15 @@ impl SlotNumbers {
         ensures { OnOk result (self.new ≡ halves.handle place self.old) }
     {
         let commands = self.learnt;
-        self.met.push(Met { commands, place })?;
-        Ok(())
+        self.met.push(Met { commands, place })
+    }
+
+    /// The epoch closes: the packets that are left are handled.
+    pub fn close(&mut self) -> Result<(), AllocError>
+        ensures { OnOk result (self.new.met ≡ (halves.closed self.old).met) }
+    {
+        let rest = self.packets.len().saturating_sub(self.met.len());
+        close_rest(self.commands.as_slice(), self.learnt, &mut self.met, rest)
     }
 }
 
@@ -275,11 +282,11 @@ fn learn_all(commands: &[CommandTags], learnt: usize, handled: usize) -> usize
 fn close_rest(
     commands: &[CommandTags],
     learnt: usize,
-    met: &mut Vec<Met>,
+    met: &mut SlotMets,
     rest: usize,
 ) -> Result<(), AllocError>
     requires { learnt ≤ length commands.now }
-    ensures { OnOk result (met.new.items ≡ met_behind commands.now learnt met.old.items rest) }
+    ensures { OnOk result (met.new ≡ met_behind commands.now learnt met.old rest) }
 {
     let mut known = learnt;
     for _ in 0..rest {
@@ -290,16 +297,4 @@ fn close_rest(
         })?;
     }
     Ok(())
-}
-
-/// What the packets of a slot met, as its epoch closes.
-pub fn close(slot: SlotNumbers) -> Result<SlotMets, AllocError>
-    ensures { IfOk result (λ met. met ≡ (halves.closed slot).met) }
-{
-    let rest = slot.packets.len().saturating_sub(slot.met.len());
-    let learnt = slot.learnt;
-    let commands = slot.commands;
-    let mut met = slot.met;
-    close_rest(commands.as_slice(), learnt, &mut met, rest)?;
-    Ok(SlotMets { items: met })
 }

@@ -1,5 +1,9 @@
 //! What a schedule says.
+ghost use Rattle.std.specs.Prelude.{◌≡◌, ◌<◌, [], ◌∷◌, ◌++◌, OnOk, length, get_or};
+ghost use Rattle.std.specs.Bool.{OnTrue};
+
 use pc_base::Place;
+use std::alloc::{AllocError, Global};
 use std::marker::Model;
 
 /// What becomes of a line: whether it is taken or refused, and whether its packet is parked.
@@ -36,17 +40,90 @@ impl Model for Met {
     ghost inverse = { λ met. record { commands = met.commands; place = met.place } };
 }
 
-/// What the packets of a slot meet, in their order.
+/// Whether two packets meet the same.
+fn is_same(one: &Met, other: &Met) -> bool
+    ensures { OnTrue result (one.now ≡ other.now) }
+{
+    one.commands == other.commands && one.place == other.place
+}
+
+/// What the packets of a slot meet, in their order. Those at the front that meet the same are counted alone.
 #[derive(Drop)]
 pub struct SlotMets {
-    pub items: Vec<Met>,
+    first: Met,
+    same: u32,
+    others: Vec<Met>,
 }
 
 impl Model for SlotMets {
-    ghost use Rattle.std.specs.Prelude.{List};
+    ghost use Rattle.std.specs.Prelude.{List, ◌++◌, replicate};
     ghost use Rattle.slice_schedule.specs.Slots as slots;
 
     ghost Value = { List slots.Met };
 
-    ghost view = { λ met. met.items.items };
+    ghost view = { λ met. replicate met.same met.first ++ met.others.items };
+}
+
+impl SlotMets {
+    pub fn new(alloc: Global) -> SlotMets
+        ensures { result ≡ [] }
+    {
+        SlotMets {
+            first: Met {
+                commands: 0,
+                place: Place::Closing,
+            },
+            same: 0,
+            others: Vec::new(alloc),
+        }
+    }
+
+    /// How many packets there are.
+    pub fn len(&self) -> usize
+        ensures { result ≡ length self.now }
+    {
+        self.same as usize + self.others.len()
+    }
+
+    /// What the packet of this number meets.
+    pub fn at(&self, number: usize) -> Met
+        requires { number < length self.now }
+        ensures { result ≡ get_or self.now number result }
+    {
+        let same = self.same as usize;
+        if number < same {
+            return self.first;
+        }
+        self.others[number - same]
+    }
+
+    /// Makes room for so many packets more, but for few.
+    pub fn make_room(&mut self, packets: usize) -> Result<(), AllocError>
+        ensures { OnOk result (self.new ≡ self.old) }
+    {
+        if packets > 4 {
+            return self.others.reserve_exact(packets);
+        }
+        Ok(())
+    }
+
+    /// One more packet.
+    #[inline(always)]
+    pub fn push(&mut self, met: Met) -> Result<(), AllocError>
+        ensures { OnOk result (self.new ≡ self.old ++ met ∷ []) }
+    {
+        if self.others.is_empty() && self.same < u32::MAX {
+            if self.same == 0 {
+                self.first = met;
+                self.same = 1;
+                return Ok(());
+            }
+            if is_same(&self.first, &met) {
+                self.same += 1;
+                return Ok(());
+            }
+        }
+        self.others.push(met)?;
+        Ok(())
+    }
 }

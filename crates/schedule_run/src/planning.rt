@@ -1,5 +1,5 @@
 //! The schedule of an epoch.
-ghost use Rattle.std.specs.Prelude.{◌≡◌, ℕ, ◌*◌, ◌<◌, ◌≤◌, IfOk, OnOk, length, map};
+ghost use Rattle.std.specs.Prelude.{◌≡◌, ℕ, ◌*◌, ◌<◌, ◌≤◌, IfOk, OnOk, get_or, length, map};
 ghost use Rattle.slice_schedule.specs.Slots.{SlotNow};
 ghost use Rattle.slice_schedule.specs.Halves.{closed};
 ghost use Rattle.slice_schedule.specs.World.{start};
@@ -13,8 +13,6 @@ ghost use Rattle.schedule_run.specs.TurnsTold.{AreWorkers, turns_told, turns_beh
 ghost use Rattle.schedule_run.specs.Worlds.{world_of};
 
 use crate::front::{line_done, pump};
-use crate::halves::close;
-use crate::met::SlotMets;
 use crate::roster::reach;
 use crate::setup::Setup;
 use crate::slot::SlotNumbers;
@@ -28,15 +26,20 @@ use std::marker::Model;
 #[derive(Drop)]
 pub struct Scheduled {
     outcomes: Vec<Outcome>,
-    mets: Vec<SlotMets>,
+    slots: Vec<SlotNumbers>,
 }
 
 impl Model for Scheduled {
+    ghost use Rattle.std.specs.Prelude.{map};
+    ghost use Rattle.slice_schedule.specs.Slots.{SlotNow};
     ghost use Rattle.schedule_run.specs.Plan.{Plan};
 
     ghost Value = { Plan };
 
-    ghost view = { λ plan. record { outcomes = plan.outcomes.items; mets = plan.mets.items } };
+    ghost view = { λ plan. record {
+      outcomes = plan.outcomes.items;
+      mets = map (λ (slot : SlotNow). slot.met) plan.slots.items;
+    } };
 }
 
 impl Scheduled {
@@ -47,17 +50,26 @@ impl Scheduled {
         self.outcomes.as_slice()
     }
 
-    /// What the accepted packets of this slot met, in their order.
-    pub fn mets(&self, slot: u32) -> &[Met]
-        ensures { result.now ≡ mets_of self.now slot }
+    /// How many packets of this slot were accepted.
+    pub fn met_count(&self, slot: u32) -> usize
+        ensures { result ≡ length (mets_of self.now slot) }
     {
         let slot = slot as usize;
-        if slot < self.mets.len() {
-            let met = &self.mets[slot];
-            met.items.as_slice()
+        if slot < self.slots.len() {
+            let one = &self.slots[slot];
+            one.met_count()
         } else {
-            &[]
+            0
         }
+    }
+
+    /// What the accepted packet of this number met, of those of this slot.
+    pub fn met(&self, slot: u32, number: usize) -> Met
+        requires { number < length (mets_of self.now slot) }
+        ensures { result ≡ get_or (mets_of self.now slot) number result }
+    {
+        let one = &self.slots[slot as usize];
+        one.met_at(number)
     }
 }
 
@@ -194,16 +206,16 @@ fn count_packets(alloc: Global, asks: &[Ask]) -> Result<Vec<usize>, AllocError> 
     Ok(counts)
 }
 
-/// What the packets of each slot met, as the epoch closes.
-fn close_all(alloc: Global, slots: Vec<SlotNumbers>) -> Result<Vec<SlotMets>, AllocError>
-    ensures { IfOk result (λ mets. mets.items ≡ map (λ (slot : SlotNow). (closed slot).met) slots.items) }
+/// The epoch closes: of each slot the packets that are left are handled.
+fn close_all(slots: &mut Vec<SlotNumbers>) -> Result<(), AllocError>
+    ensures { OnOk result (map (λ (slot : SlotNow). slot.met) slots.new.items
+        ≡ map (λ (slot : SlotNow). (closed slot).met) slots.old.items) }
 {
-    let mut mets = Vec::with_capacity(alloc, slots.len())?;
-    for slot in slots {
-        let met = close(slot)?;
-        mets.push(met)?;
+    for slot in 0..slots.len() {
+        let one = &mut slots[slot];
+        one.close()?;
     }
-    Ok(mets)
+    Ok(())
 }
 
 /// The schedule of an epoch: by the rooms of its queues, how many slices it has, where each slot is bound for as it
@@ -238,6 +250,7 @@ pub fn schedule(
     };
     let mut owing = Vec::new(alloc);
     let outcomes = lines(&mut numbers, &mut owing, &setup, slices, asks, turns)?;
-    let mets = close_all(alloc, numbers.slots)?;
-    Ok(Scheduled { outcomes, mets })
+    let mut slots = numbers.slots;
+    close_all(&mut slots)?;
+    Ok(Scheduled { outcomes, slots })
 }

@@ -1,5 +1,5 @@
 //! The numbers of a slot.
-ghost use Rattle.std.specs.Prelude.{◌≡◌, ◌+◌, ◌-◌, ◌^◌, ◌<◌, false, OnOk, length, nat_lt};
+ghost use Rattle.std.specs.Prelude.{◌≡◌, ◌+◌, ◌-◌, ◌^◌, ◌<◌, false, OnOk, get_or, length, nat_lt};
 ghost use Rattle.std.specs.Bool.{OnTrue};
 ghost use Rattle.slice_schedule.specs.Slots.{SlotNow, fresh_slot};
 ghost use Rattle.slice_schedule.specs.Slots as slots;
@@ -10,6 +10,7 @@ ghost use Rattle.schedule_run.specs.Numbers.{standing_of};
 
 use crate::Met;
 use crate::floors::Floors;
+use crate::met::SlotMets;
 use crate::standing::{CommandTags, Standing};
 use pc_base::Place;
 use std::alloc::{AllocError, Global};
@@ -33,7 +34,7 @@ pub struct SlotNumbers {
     pub(crate) flow: Standing,
     pub(crate) batch: Option<usize>,
     pub(crate) learnt: usize,
-    pub(crate) met: Vec<Met>,
+    pub(crate) met: SlotMets,
     pub(crate) queued: usize,
 }
 
@@ -61,7 +62,7 @@ impl Model for SlotNumbers {
       flow = standing_of slot.flow;
       batch = slot.batch;
       learnt = slot.learnt;
-      met = slot.met.items;
+      met = slot.met;
       queued = slot.queued;
     } };
 
@@ -102,7 +103,7 @@ impl SlotNumbers {
             flow: Standing::Absent,
             batch: None,
             learnt: 0,
-            met: Vec::new(alloc),
+            met: SlotMets::new(alloc),
             queued: 0,
         }
     }
@@ -253,13 +254,21 @@ impl SlotNumbers {
     pub fn make_room(&mut self, packets: usize) -> Result<(), AllocError>
         ensures { OnOk result (self.new ≡ self.old) }
     {
-        self.met.reserve_exact(packets)
+        self.met.make_room(packets)
     }
 
-    /// What its packets met.
-    pub fn met(&self) -> &[Met]
-        ensures { result.now ≡ self.now.met }
+    /// How many of its packets are handled.
+    pub fn met_count(&self) -> usize
+        ensures { result ≡ length self.now.met }
     {
-        self.met.as_slice()
+        self.met.len()
+    }
+
+    /// What its packet of this number met.
+    pub fn met_at(&self, number: usize) -> Met
+        requires { number < length self.now.met }
+        ensures { result ≡ get_or self.now.met number result }
+    {
+        self.met.at(number)
     }
 }

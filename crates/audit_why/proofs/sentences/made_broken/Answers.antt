@@ -1,8 +1,8 @@
-use Rattle.std.proofs.Common.{◌≡◌, ◌∙◌, IfNone, IfOk, IfSome, length, sym, ap, subst}
+use Rattle.std.proofs.Common.{◌≡◌, ◌<◌, ◌∙◌, IfNone, IfOk, IfSome, length, sym, ap, subst}
 use Rattle.std.specs.List.{All}
 use Rattle.lawful_run.specs.Outcomes.{opens}
 use Rattle.lawful_run.specs.Run.{by_slot}
-use Rattle.audit_sentences.specs.Entries.{all_lines}
+use Rattle.audit_sentences.specs.Entries.{all_lines, slot_charged}
 use Rattle.audit_sentences.specs.Sentences.{ChargesAre, made_report, told_epochs}
 use Rattle.audit_reading.specs.Agreeing.{IsBySlot}
 use Rattle.audit_reading.specs.Holding.{epochs_held}
@@ -10,6 +10,7 @@ use Rattle.audit_reading.specs.Made.{meanings_made, report_made}
 use Rattle.audit_reading.specs.Placing.{IsLine}
 use Rattle.audit_run.proofs.AuditLemmas.{meanings_are, report_is}
 use Rattle.audit_run.proofs.InRangeLemmas.{are_lines}
+use Rattle.audit_run.proofs.RunLemmas.{opens_below}
 use Rattle.audit_why.specs.Charges.{ChargeBreak}
 use Rattle.audit_why.proofs.sentences.made_broken.Goals as goal
 
@@ -32,6 +33,15 @@ charges_broken-requires-clause-lines c =
 pub charges_broken-requires-clause-made : goal.charges_broken-requires-clause-made
 charges_broken-requires-clause-made c =
     subst (All (IsBySlot c.args.slots)) (sym c.deref.ensures.value) c.in_ok-run.ensures.runs.by_slot
+
+pub charges_broken-requires-clause-opens : goal.charges_broken-requires-clause-opens
+charges_broken-requires-clause-opens c =
+    let has = c.in_ok-run.ensures in
+    let opened : c.in_ok-opens.opens.items ≡ by_slot c.args.slots (λ slot. opens slot (has.before slot)) =
+    c.in_ok-opens.ensures has.before has.runs.stand
+    ∙ ap (λ n. by_slot n (λ slot. opens slot (has.before slot))) has.runs.many in
+    subst (All (λ charge. slot_charged charge < c.args.slots)) (sym (c.deref-2.ensures.value ∙ opened))
+    (opens_below c.args.slots has.before)
 
 pub returns-clause-some : goal.returns-clause-some
 returns-clause-some c = λ made meant told answered.

@@ -27,8 +27,6 @@ returns c =
     c.index_mut-share.ensures.value ∙ ap (λ k. get_or shares k share) c.slot.view_is in
     let number : c.len-number.result ≡ length share.packets.items =
     omega (arith, c.len-number.ensures, share.packets.ok.0) in
-    let mets : c.mets-mets.result.now ≡ mets_of c.args.scheduled.now c.args.slot =
-    c.mets-mets.ensures ∙ ap (mets_of c.args.scheduled.now) c.slot.view_is in
     record {
       share = share;
       after = after;
@@ -38,8 +36,9 @@ returns c =
       there = c.index-subscribers-place.is ∙ ap (λ k. get_or c.args.subscribers.now k subscriber) c.slot.view_is;
       meets = subst (λ m. m ≡ get_or (mets_of c.args.scheduled.now c.args.slot) (length share.packets.items) m)
           (sym c.met.view_is)
-          (c.index-mets-number.is ∙ ap (λ k. get_or c.mets-mets.result.now k c.index-mets-number.result) number
-          ∙ ap (λ l. get_or l (length share.packets.items) c.index-mets-number.result) mets);
+          (c.met-met.ensures
+          ∙ ap (λ k. get_or (mets_of c.args.scheduled.now k) c.len-number.result c.met-met.result) c.slot.view_is
+          ∙ ap (λ k. get_or (mets_of c.args.scheduled.now c.args.slot) k c.met-met.result) number);
       within = subst (λ (s : Share). length s.packets.items < length (mets_of c.args.scheduled.now c.args.slot)) (sym found)
           (c.requires.met.within share);
       is = ap (λ k. set shares k after) c.slot.view_is;

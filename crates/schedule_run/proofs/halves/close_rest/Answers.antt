@@ -8,13 +8,13 @@ pub loop-preserved : goal.loop-preserved
 loop-preserved c =
     let commands = c.args.commands.now in
     let left = c.args.rest - (c.loop.counter + 1) in
-    let learnt : c.learn_all-known.result ≡ all_learnt commands c.loop.known (length c.loop.met.items) = search rules in
+    let learnt : c.learn_all-known.result ≡ all_learnt commands c.loop.known (length c.loop.met) = search rules in
     let below : c.loop.counter < c.args.rest = search rules in
     record {
       known = c.learn_all-known.ensures.few;
-      ahead = ap (λ met. met_behind commands c.learn_all-known.result met left) c.in_ok-push.ensures.items
+      ahead = ap (λ met. met_behind commands c.learn_all-known.result met left) c.in_ok-push.ensures
           ∙ ap
-          (λ k. met_behind commands k (c.loop.met.items ++ record { commands = k; place = Closing } ∷ []) left) learnt
-          ∙ sym (met_less commands c.loop.known c.loop.met.items c.args.rest c.loop.counter below)
+          (λ k. met_behind commands k (c.loop.met ++ record { commands = k; place = Closing } ∷ []) left) learnt
+          ∙ sym (met_less commands c.loop.known c.loop.met c.args.rest c.loop.counter below)
           ∙ c.loop.invariant.ahead;
     }

@@ -5,6 +5,6 @@ use Rattle.schedule_run.proofs.halves.close_rest.Given as goal
 abbrev pub invariant-loop : goal.invariant-loop
 invariant-loop l = record {
   known : l.known ≤ length l.commands;
-  ahead : met_behind l.commands l.known l.met.items (l.rest - l.counter)
-      ≡ met_behind l.commands l.learnt l.fn.met.items l.rest;
+  ahead : met_behind l.commands l.known l.met (l.rest - l.counter)
+      ≡ met_behind l.commands l.learnt l.fn.met l.rest;
 }

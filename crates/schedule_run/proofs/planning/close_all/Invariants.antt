@@ -1,9 +1,12 @@
-use Rattle.std.proofs.Common.{◌≡◌, ◌++◌, map}
+use Rattle.std.proofs.Common.{◌≡◌, ◌++◌, length, map, take, drop}
 use Rattle.slice_schedule.specs.Slots.{SlotNow}
 use Rattle.slice_schedule.specs.Halves.{closed}
 use Rattle.schedule_run.proofs.planning.close_all.Given as goal
 
 abbrev pub invariant-loop-slot : goal.invariant-loop-slot
-invariant-loop-slot l =
-    l.mets.items ++ map (λ (slot : SlotNow). (closed slot).met) l.slot-iterator.rest.items
-    ≡ map (λ (slot : SlotNow). (closed slot).met) l.fn.slots.items
+invariant-loop-slot l = record {
+  many : length l.slots.items ≡ length l.fn.slots.items;
+  whole : map (λ (slot : SlotNow). slot.met) (take l.slot l.slots.items)
+      ++ map (λ (slot : SlotNow). (closed slot).met) (drop l.slot l.slots.items)
+      ≡ map (λ (slot : SlotNow). (closed slot).met) l.fn.slots.items;
+}

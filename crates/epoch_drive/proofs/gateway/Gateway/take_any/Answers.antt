@@ -1,6 +1,6 @@
 use Rattle.std.proofs.Common.{◌≡◌, refl, arith, rules}
 use Rattle.epoch_drive.proofs.Keeping.{takes_so}
-use Rattle.epoch_drive.proofs.gateway.Gateway.take.Goals as goal
+use Rattle.epoch_drive.proofs.gateway.Gateway.take_any.Goals as goal
 
 pub decide_line-requires-clause-slices : goal.decide_line-requires-clause-slices
 decide_line-requires-clause-slices c =

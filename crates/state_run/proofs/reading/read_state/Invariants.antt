@@ -1,0 +1,19 @@
+use Rattle.std.proofs.Common.{◌≤◌, ◌^◌, List}
+use Rattle.std.specs.Io.KnownBytes.{prepend_known}
+use Rattle.pc_outside.specs.WhereTold.{WhereTold}
+use Rattle.audit_reading.specs.Progress.{HasRead}
+use Rattle.audit_reading.specs.Texts.{Text}
+use Rattle.state_run.specs.Front.{HasHeard}
+use Rattle.state_run.proofs.reading.read_state.Given as goal
+
+abbrev pub invariant-loop-front : goal.invariant-loop-front
+invariant-loop-front g l = record {
+  read : (done : List Text) × HasHeard l.front done
+      × WhereTold (g.S.Source.left l.fn.source) (prepend_known l.buf.front (g.S.Source.left l.source))
+      (λ octets rest. HasRead octets rest l.buf.room done);
+  roomy : l.buf.room ≤ 2 ^ 40;
+  later : g.S.Source.faults l.fn.source ≤ g.S.Source.faults l.source;
+}
+
+abbrev pub decreases-loop-front : goal.decreases-loop-front
+decreases-loop-front g l = l.buf.room

@@ -1,0 +1,4 @@
+pub mod Text
+pub mod Front
+pub mod Reading
+pub mod Laws

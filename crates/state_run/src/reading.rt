@@ -1,0 +1,66 @@
+//! A state before a trace, read line by line.
+ghost use Rattle.std.specs.Prelude.{◌≡◌, ◌≤◌, ◌^◌, [], false, IfOk};
+ghost use Rattle.std.specs.Io.KnownBytes.{prepend_known};
+ghost use Rattle.pc_outside.specs.Faults.{Rises};
+ghost use Rattle.state_run.specs.Reading.{Found, Stopped};
+
+use crate::NoMemory;
+use crate::front::{Front, Said};
+use pc_outside::{LineBuf, LineRead, Source, read_line};
+use record_codec::StateFile;
+use std::alloc::Global;
+
+/// What came of reading a state.
+#[derive(Drop)]
+pub enum StateRead {
+    /// A state, and the line `TRACE`. What comes next is the trace.
+    Found(StateFile),
+    /// The lines are no state before a trace.
+    BadState,
+    /// The source failed before that was known.
+    ReadFault,
+    /// A line before it was known has more than 132,000 octets.
+    LineLong,
+    /// 2^40 octets were read before it was known.
+    TooLong,
+}
+
+/// Reads a state before a trace, from the first line on; what comes behind it is left to the buffer and the source.
+pub fn read_state<S: Source>(
+    alloc: Global,
+    source: &mut S,
+    buf: &mut LineBuf,
+) -> Result<StateRead, NoMemory>
+    requires fresh { buf.old ≡ record { line = []; last = false; front = []; room = 2 ^ 40 } }
+
+    // What stands behind a state that was found is ahead, in the buffer and in the source.
+    ensures found { IfOk result (λ read. Found read (S.left source.old)
+        (prepend_known buf.new.front (S.left source.new)) buf.new.room) }
+    ensures room { IfOk result (λ read. buf.new.room ≤ 2 ^ 40) }
+
+    // Why none was found.
+    ensures stopped { IfOk result (λ read. Stopped read (S.left source.old) (S.left source.new)) }
+
+    ensures later { S.faults source.old ≤ S.faults source.new }
+    ensures fault { IfOk result (λ read. read ≡ StateRead.ReadFault
+        → Rises (S.faults source.old) (S.faults source.new)) }
+{
+    let mut front = Front::new(alloc);
+    loop {
+        match read_line(source, buf) {
+            LineRead::Line => match front.take(alloc, buf.line())? {
+                Said::Found(file) => return Ok(StateRead::Found(file)),
+                Said::BadState => return Ok(StateRead::BadState),
+                Said::More => {
+                    if buf.is_last() {
+                        return Ok(StateRead::BadState);
+                    }
+                }
+            },
+            LineRead::End => return Ok(StateRead::BadState),
+            LineRead::LineLong => return Ok(StateRead::LineLong),
+            LineRead::TooLong => return Ok(StateRead::TooLong),
+            LineRead::ReadFault => return Ok(StateRead::ReadFault),
+        }
+    }
+}
