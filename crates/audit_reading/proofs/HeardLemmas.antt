@@ -1,6 +1,6 @@
 -- What was heard, one line more.
 use Rattle.std.proofs.Common.{◌≡◌, ℕ, ◌+◌, ◌<◌, Bool, true, false, List, [], ◌∷◌, ◌++◌, length, map, All, Option, None, Some, Result, Ok, Err, bytes_eq, is_some, OnOk, ◌⊎◌, inl, inr, refl, sym, ap, ◌∙◌, subst, arith, append_assoc, append-nil}
-use Rattle.std.proofs.lemmas.List.Elements.{All-nil, All-push, Contains-append_left, Contains-push}
+use Rattle.std.proofs.lemmas.List.Elements.{All-nil, All-push, Contains-append_right}
 use Rattle.std.specs.List.{Contains}
 use Rattle.std.specs.declared.alloc.AllocError.{AllocError}
 use Rattle.std.specs.Prelude.{alloc_error}
@@ -16,7 +16,7 @@ use Rattle.trace_lines.specs.declared.bad.LineBad.TheVariants as whys
 use Rattle.audit_reading.specs.Setups.{input_with}
 use Rattle.audit_reading.specs.declared.setup.BadAt.{BadAt}
 use Rattle.audit_reading.specs.Heard.{HasHeard, SaysReport, SaysTrace, StopsAt, with_report}
-use Rattle.audit_reading.specs.Said.{AreEntries, HasNoEntry, marker, report_texts, trace_from, trace_said, trace_texts}
+use Rattle.audit_reading.specs.Said.{AreEntries, EndsAtNone, HasNoEntry, marker, report_texts, trace_from, trace_said, trace_texts}
 use Rattle.audit_reading.specs.Texts.{Text}
 use Rattle.audit_reading.specs.declared.heard.Heard.{Heard}
 use Rattle.audit_reading.proofs.SaidLemmas.{NoMarker, all_trace, next_bad, next_entry, next_line, no_report, report_behind, trace_before}
@@ -28,19 +28,34 @@ passed_over lines at least texts text says behind =
     ap (trace_from 1 0) (append_assoc texts (text ∷ []) behind) ∙ says (text ∷ behind)
 
 -- and a report, behind a line that is no entry
-pub still_outside : (texts : List Text) (text : Text) → HasNoEntry texts → HasNoEntry (texts ++ text ∷ [])
-still_outside texts text has = record {
-  text = has.text;
-  stands = Contains-append_left texts (text ∷ []) has.text has.stands;
-  none = has.none;
+pub still_outside : (texts : List Text) (entries : List Entry) (text : Text) → EndsAtNone texts entries
+    → EndsAtNone (texts ++ text ∷ []) entries
+still_outside texts entries text ends = record {
+  text = ends.text;
+  later = ends.later ++ text ∷ [];
+  parts = ap (λ t. t ++ text ∷ []) ends.parts
+      ∙ append_assoc (map entry_text entries) (ends.text ∷ ends.later) (text ∷ []);
+  ranges = ends.ranges;
+  none = ends.none;
 }
 
-pub now_outside : (texts : List Text) (text : Text)
-    → ((entry : Entry) → IsEntry entry → text ≡ entry_text entry → ⊥) → HasNoEntry (texts ++ text ∷ [])
-now_outside texts text none = record {
+pub now_outside : (texts : List Text) (entries : List Entry) (text : Text) → AreEntries texts entries
+    → ((entry : Entry) → IsEntry entry → text ≡ entry_text entry → ⊥) → EndsAtNone (texts ++ text ∷ []) entries
+now_outside texts entries text are none = record {
   text = text;
-  stands = Contains-push texts text;
+  later = [];
+  parts = ap (λ t. t ++ text ∷ []) are.same;
+  ranges = are.ranges;
   none = none;
+}
+
+-- such a line is one of the report's
+pub has_none : (texts : List Text) (entries : List Entry) → EndsAtNone texts entries → HasNoEntry texts
+has_none texts entries ends = record {
+  text = ends.text;
+  stands = subst (λ its. Contains its ends.text) (sym ends.parts)
+      (Contains-append_right (map entry_text entries) (ends.text ∷ ends.later) ends.text (0, omega arith, refl));
+  none = ends.none;
 }
 
 -- one line more stands in the trace, or in the report
@@ -108,11 +123,17 @@ entries_heard heard texts hears inside =
     subst (λ report. AreEntries report heard.entries.items) (sym (report_heard heard texts hears))
     (subst (λ b. SaysReport b hears.report heard.entries.items) inside hears.says_report)
 
+-- one that is none stands behind those heard
+pub none_heard : (heard : Heard) (texts : List Text) → (hears : HasHeard heard texts) → heard.outside ≡ true
+    → EndsAtNone (report_texts texts) heard.entries.items
+none_heard heard texts hears outside =
+    subst (λ report. EndsAtNone report heard.entries.items) (sym (report_heard heard texts hears))
+    (subst (λ b. SaysReport b hears.report heard.entries.items) outside hears.says_report)
+
 pub outside_heard : (heard : Heard) (texts : List Text) → (hears : HasHeard heard texts) → heard.outside ≡ true
     → HasNoEntry (report_texts texts)
 outside_heard heard texts hears outside =
-    subst HasNoEntry (sym (report_heard heard texts hears))
-    (subst (λ b. SaysReport b hears.report heard.entries.items) outside hears.says_report)
+    has_none (report_texts texts) heard.entries.items (none_heard heard texts hears outside)
 
 -- One line more was heard: of the report, of the trace, or the one between them.
 pub report_more : (old new : Heard) (texts : List Text) (text : Text) → old.in_report ≡ true

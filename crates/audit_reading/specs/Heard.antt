@@ -6,7 +6,7 @@ use Rattle.trace_lines.specs.Input.{after_lines}
 use Rattle.trace_lines.specs.Line.{Line}
 use Rattle.audit_reading.specs.Setups.{input_with}
 use Rattle.audit_reading.specs.declared.setup.BadAt.{BadAt}
-use Rattle.audit_reading.specs.Said.{AreEntries, HasNoEntry, marker, trace_from}
+use Rattle.audit_reading.specs.Said.{AreEntries, EndsAtNone, marker, trace_from}
 use Rattle.audit_reading.specs.Texts.{Text}
 use Rattle.audit_reading.specs.declared.heard.Heard.{Heard}
 
@@ -18,10 +18,10 @@ SaysTrace lines None least texts =
 SaysTrace lines (Some at) least texts =
     (behind : List Text) → trace_from 1 0 (texts ++ behind) ≡ input_with lines (Some at)
 
--- the report so far has these entries, or a line that is none
+-- the report so far has these entries, or a line that is none behind them
 abbrev pub SaysReport : Bool → List Text → List Entry → Type 0
 SaysReport false texts entries = AreEntries texts entries
-SaysReport true texts entries = HasNoEntry texts
+SaysReport true texts entries = EndsAtNone texts entries
 
 -- lines of a trace, and behind the one that says so those of its report
 abbrev pub with_report : Bool → List Text → List Text

@@ -1,5 +1,5 @@
 -- What the lines of an audit's input say: a trace, and behind the line `REPORT` a report of it.
-use Rattle.std.specs.Prelude.{◌≡◌, ℕ, ◌+◌, List, [], ◌∷◌, map, All, Contains, bytes_eq, codes, if◌then◌else◌}
+use Rattle.std.specs.Prelude.{◌≡◌, ℕ, ◌+◌, List, [], ◌∷◌, ◌++◌, map, All, Contains, bytes_eq, codes, if◌then◌else◌}
 use Rattle.report_lines.specs.Ranges.{IsEntry}
 use Rattle.report_lines.specs.Text.{entry_text}
 use Rattle.report_lines.specs.declared.entry.Entry.{Entry}
@@ -30,7 +30,8 @@ trace_from number least (text ∷ texts) =
 abbrev pub trace_said : List Text → Input
 trace_said texts = trace_from 1 0 (trace_texts texts)
 
--- these lines are those of these entries · one of the lines is no entry's
+-- these lines are those of these entries · one of the lines is no entry's · the first such line stands behind those of
+-- these entries
 pub record AreEntries (texts : List Text) (entries : List Entry) : Type 0 where
   pub same : texts ≡ map entry_text entries
   pub ranges : All IsEntry entries
@@ -38,4 +39,11 @@ pub record AreEntries (texts : List Text) (entries : List Entry) : Type 0 where
 pub record HasNoEntry (texts : List Text) : Type 0 where
   pub text : Text
   pub stands : Contains texts text
+  pub none : (entry : Entry) → IsEntry entry → text ≡ entry_text entry → ⊥
+
+pub record EndsAtNone (texts : List Text) (entries : List Entry) : Type 0 where
+  pub text : Text
+  pub later : List Text
+  pub parts : texts ≡ map entry_text entries ++ text ∷ later
+  pub ranges : All IsEntry entries
   pub none : (entry : Entry) → IsEntry entry → text ≡ entry_text entry → ⊥

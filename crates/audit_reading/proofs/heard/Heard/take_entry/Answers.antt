@@ -8,7 +8,7 @@ use Rattle.audit_reading.proofs.heard.Heard.take_entry.Goals as goal
 pub returns-then-self-clause-heard : goal.returns-then-self-clause-heard
 returns-then-self-clause-heard c = λ texts hears.
     report_more c.args.self.now _ texts c.args.text.now c.requires.open refl refl refl refl
-    (λ report. rw c.if-self.true (still_outside report c.args.text.now)) hears
+    (λ report. rw c.if-self.true (still_outside report _ c.args.text.now)) hears
 
 pub returns-in_ok-push-in-Some-clause-heard : goal.returns-in_ok-push-in-Some-clause-heard
 returns-in_ok-push-in-Some-clause-heard c = λ texts hears.
@@ -22,5 +22,5 @@ returns-in_ok-push-in-Some-clause-heard c = λ texts hears.
 pub returns-in-None-clause-heard : goal.returns-in-None-clause-heard
 returns-in-None-clause-heard c = λ texts hears.
     report_more c.args.self.now _ texts c.args.text.now c.requires.open refl refl refl refl
-    (λ report are. now_outside report c.args.text.now
-    (none_read c.in_ok-entry.field-0 c.args.text.now c.in-None.is c.in_ok-entry.ensures.only)) hears
+    (λ report. rw c.if-self.false (λ are. now_outside report _ c.args.text.now are
+    (none_read c.in_ok-entry.field-0 c.args.text.now c.in-None.is c.in_ok-entry.ensures.only))) hears

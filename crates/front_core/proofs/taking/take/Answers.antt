@@ -1,0 +1,13 @@
+use Rattle.std.proofs.Common.{◌+◌, refl, sym, subst}
+use Rattle.demux.specs.Meant.{meaning_of}
+use Rattle.demux.specs.declared.meant.Meant.{Meant}
+use Rattle.front_halves.proofs.Settling.{settles_none}
+use Rattle.front_core.specs.Taking.{Takes}
+use Rattle.front_core.specs.declared.taken.Open.TheVariants as entry
+use Rattle.front_core.proofs.taking.take.Goals as goal
+
+pub returns-in-Note : goal.returns-in-Note
+returns-in-Note g c =
+    subst (λ (m : Meant). Takes c.args.line (c.args.patience + 1) (meaning_of m) (entry.Note c.in-Note.text)
+    c.args.subscribers.now c.args.subscribers.now c.args.halves.now c.args.halves.now) (sym c.in-Note.is)
+    (record { is = refl; same = refl; still = settles_none c.args.halves.now })

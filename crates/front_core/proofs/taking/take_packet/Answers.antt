@@ -1,0 +1,51 @@
+use Rattle.std.proofs.Common.{◌≡◌, ◌+◌, List, slice_set, subst, sym, ap, ◌∙◌}
+use Rattle.demux.specs.Trace.{packet}
+use Rattle.subscriber.specs.Standing.{SubscriberState}
+use Rattle.front_core.specs.Taking.{MakesReady}
+use Rattle.front_halves.specs.declared.tried.Given.{Given}
+use Rattle.front_halves.specs.Tries.{GivesPacket}
+use Rattle.front_core.proofs.Takings.{admits_at, makes, packet_came, packet_refused, takes_give}
+use Rattle.front_core.proofs.taking.take_packet.Goals as goal
+
+pub admit-requires : goal.admit-requires
+admit-requires g c =
+    let at : c.slot.inside.0 ≡ c.args.slot = c.slot.view_is in
+    admits_at (packet c.args.slot c.args.lent.now) c.args.subscribers.now c.args.halves.now c.requires c.args.slot c.slot.inside.0
+    c.index-subscribers-slot.result at c.rest_leaves_room.ensures c.requires.is_to c.index-subscribers-slot.is
+
+pub give_packet-requires : goal.give_packet-requires
+give_packet-requires g c =
+    let at : c.slot.inside.0 ≡ c.args.slot = c.slot.view_is in
+    let now = packet c.args.slot c.args.lent.now in
+    let after = slice_set c.args.subscribers.now c.slot.inside.0 c.admit.new.subscriber in
+    let ready = makes now c.args.subscribers.now c.args.halves.now c.requires c.args.slot c.slot.inside.0
+    c.index-subscribers-slot.result c.admit.new.subscriber c.admit.new.self at c.requires.is_to
+    c.index-subscribers-slot.is c.in_ok-admit.ensures.ready c.admit.ensures.lots c.admit.ensures.fulls in
+    takes_give now c.args.subscribers.now c.args.halves.now c.requires c.args.slot after c.admit.new.self ready
+
+pub returns-in-Accepted : goal.returns-in-Accepted
+returns-in-Accepted g c =
+    let at : c.slot.inside.0 ≡ c.args.slot = c.slot.view_is in
+    let now = packet c.args.slot c.args.lent.now in
+    let after = slice_set c.args.subscribers.now c.slot.inside.0 c.admit.new.subscriber in
+    let ready = makes now c.args.subscribers.now c.args.halves.now c.requires c.args.slot c.slot.inside.0
+    c.index-subscribers-slot.result c.admit.new.subscriber c.admit.new.self at c.requires.is_to
+    c.index-subscribers-slot.is c.in_ok-admit.ensures.ready c.admit.ensures.lots c.admit.ensures.fulls in
+    packet_came c.args.slot c.args.line (c.args.patience + 1) c.args.subscribers.now after c.args.halves.now
+    c.admit.new.self c.give_packet.new.self ready c.args.lent.now c.in_ok-numbered.numbered c.in-Accepted.parked
+    c.in_ok-numbered.ensures
+    (subst (λ (given : Given). GivesPacket c.args.slot c.args.line c.in_ok-numbered.numbered (c.args.patience + 1) given
+    c.admit.new.self c.give_packet.new.self) c.in-Accepted.is c.in_ok-parked.ensures)
+
+pub returns-in-Full : goal.returns-in-Full
+returns-in-Full g c =
+    let at : c.slot.inside.0 ≡ c.args.slot = c.slot.view_is in
+    let now = packet c.args.slot c.args.lent.now in
+    let after = slice_set c.args.subscribers.now c.slot.inside.0 c.admit.new.subscriber in
+    let ready = makes now c.args.subscribers.now c.args.halves.now c.requires c.args.slot c.slot.inside.0
+    c.index-subscribers-slot.result c.admit.new.subscriber c.admit.new.self at c.requires.is_to
+    c.index-subscribers-slot.is c.in_ok-admit.ensures.ready c.admit.ensures.lots c.admit.ensures.fulls in
+    packet_refused c.args.slot c.args.line (c.args.patience + 1) c.args.subscribers.now after c.args.halves.now
+    c.admit.new.self c.give_packet.new.self ready c.args.lent.now c.in_ok-numbered.numbered
+    (subst (λ (given : Given). GivesPacket c.args.slot c.args.line c.in_ok-numbered.numbered (c.args.patience + 1) given
+    c.admit.new.self c.give_packet.new.self) c.in-Full.is c.in_ok-parked.ensures)

@@ -1,0 +1,33 @@
+-- The open entries of the lines that were taken.
+use Rattle.std.specs.Prelude.{ℕ, ◌+◌, Bool, true, false, List, [], ◌∷◌, map}
+use Rattle.trace_lines.specs.Line.{Line}
+use Rattle.report_lines.specs.declared.entry.LineEntry.{LineEntry}
+use Rattle.report_lines.specs.declared.entry.LineEntry.TheVariants as line
+use Rattle.epoch_join.specs.Opened.{open_command, open_packet}
+use Rattle.lines_kept.specs.Lines.{noted}
+use Rattle.front_core.specs.declared.taken.Open.{Open}
+use Rattle.front_core.specs.declared.taken.Open.TheVariants as entry
+use Rattle.front_core.specs.declared.taken.Taken.{Taken}
+use Rattle.front_core.specs.declared.took.Took.{Took}
+use Rattle.front_core.specs.declared.took.Took.TheVariants as answer
+
+abbrev pub open_of : ℕ → Open → LineEntry
+open_of n (entry.Note text) = noted n text
+open_of n (entry.Command slot) = open_command n slot true
+open_of n (entry.Packet slot parked) = open_packet n slot true parked
+open_of n (entry.Full slot packet) = line.F (record { line = n; slot = slot; packet = packet })
+
+-- those of lines from this number on
+abbrev pub opens_of : ℕ → List Taken → List LineEntry
+opens_of n [] = []
+opens_of n (taken ∷ later) = open_of n taken.open ∷ opens_of (n + 1) later
+
+abbrev pub lines_of : List Taken → List Line
+lines_of entries = map (λ (taken : Taken). taken.line.value) entries
+
+-- what is answered where an entry was left open so
+abbrev pub took_of : Open → Took
+took_of (entry.Note text) = answer.Answered
+took_of (entry.Command slot) = answer.Accepted false
+took_of (entry.Packet slot parked) = answer.Accepted parked
+took_of (entry.Full slot packet) = answer.Full

@@ -1,0 +1,5 @@
+pub mod Entries
+pub mod Keeping
+pub mod Ready
+pub mod Taking
+pub mod Words

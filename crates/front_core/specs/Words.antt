@@ -1,0 +1,65 @@
+-- Parts of a front that clauses speak of.
+use Rattle.std.specs.Prelude.{◌≡◌, ℕ, List, ◌∷◌, [], ◌++◌}
+use Rattle.worker_core.specs.Workers.{Lanes}
+use Rattle.worker_core.specs.Desks.{lanes_of}
+use Rattle.trace_lines.specs.Line.{Line}
+use Rattle.demux.specs.Meant.{meaning_of}
+use Rattle.demux.specs.declared.meant.Meant.{Meant}
+use Rattle.subscriber.specs.Standing.{SubscriberState}
+use Rattle.at_rest.specs.Meant.{Turned}
+use Rattle.at_rest.specs.Rest.{Rest}
+use Rattle.front_halves.specs.declared.halves.Halves.{Halves}
+use Rattle.front_halves.specs.Steps.{Settles}
+use Rattle.front_halves.specs.Views.{both}
+use Rattle.front_core.specs.declared.front.Front.{Front}
+use Rattle.front_core.specs.declared.taken.Taken.{Taken}
+use Rattle.front_core.specs.declared.took.Took.{Took}
+use Rattle.front_core.specs.Entries.{lines_of, took_of}
+use Rattle.front_core.specs.Keeping.{FrontKeeps}
+use Rattle.front_core.specs.Taking.{Takes}
+
+-- the gateway that it was opened with
+abbrev pub opened_of : Front → Rest
+opened_of front = front.opened.value
+
+-- no line of it ran out of memory: all is known that a front keeps
+abbrev pub IsWhole : Front → Type 0
+IsWhole front = FrontKeeps front.opened.value front.slices front.lane front.lines front.latest front.book
+    front.subscribers.items front.halves front.entries.items
+
+-- the lines that it took since, with what is told of each until the epoch closes
+abbrev pub entries_in : Front → List Taken
+entries_in front = front.entries.items
+
+abbrev pub taken_by : Front → List Line
+taken_by front = lines_of front.entries.items
+
+abbrev pub lines_in : Front → ℕ
+lines_in front = front.lines
+
+abbrev pub latest_in : Front → ℕ
+latest_in front = front.latest
+
+abbrev pub fulls_in : Front → ℕ
+fulls_in front = front.halves.fulls
+
+-- the lanes of the desks of both sides, by slice
+abbrev pub control_lanes : Front → List Lanes
+control_lanes front = lanes_of (both front.halves).control_desks
+
+abbrev pub flow_lanes : Front → List Lanes
+flow_lanes front = lanes_of (both front.halves).desks
+
+-- What a line does: behind a pump it is decided, which may bring a subscriber or bind one for another slice, and what it
+-- means is done, with so many tries. Its entry is left open as the answer says.
+pub record TakesLine (line : Line) (tries : ℕ) (took : Took) (old new : Front) : Type 0 where
+  pub taken : Taken
+  pub entries : entries_in new ≡ entries_in old ++ taken ∷ []
+  pub line_is : taken.line.value ≡ line
+  pub took_is : took ≡ took_of taken.open
+  pub pumped : Halves
+  pub pumps : Settles old.halves pumped
+  pub now : Meant
+  pub turned : List SubscriberState
+  pub turns : Turned old.slices old.book old.subscribers.items line now new.book turned
+  pub takes : Takes new.lines tries (meaning_of now) taken.open turned new.subscribers.items pumped new.halves

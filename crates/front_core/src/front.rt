@@ -1,0 +1,254 @@
+//! The front of an epoch.
+ghost use Rattle.std.specs.Prelude.{◌≡◌, ◌<◌, ◌≤◌, ◌+◌, ◌++◌, ◌∷◌, [], ◌^◌, map, OnOk, OnErr, IfOk};
+
+use crate::opening::{Opened, controls_of, flows_of};
+use crate::taken::{Open, Taken};
+use crate::taking::take;
+use crate::{NoMemory, Took};
+use address_book::AddressBook;
+use at_rest::{AtRest, decide_line};
+use flow_migration::FlowSide;
+use front_halves::Halves;
+use front_sides::BothSides;
+use migration::Side;
+use std::alloc::Global;
+use std::snapshot::Snapshot;
+use std::sync::Wait;
+use subscriber::Subscriber;
+use trace_lines::TraceLine;
+
+/// The front of an epoch: what it was opened with, and what came since.
+#[derive(Drop)]
+pub struct Front {
+    alloc: Global,
+    /// The gateway as it was, for clauses alone.
+    opened: Snapshot<AtRest>,
+    slices: u8,
+    lane: u32,
+    book: AddressBook,
+    /// By slot. In place of one that is split stands one without events.
+    subscribers: Vec<Subscriber>,
+    halves: Halves,
+    /// Of each line of the epoch.
+    entries: Vec<Taken>,
+    /// How many lines the run had, and the moment of the last one.
+    lines: u64,
+    latest: u64,
+}
+
+/// What a front has.
+#[derive(Drop)]
+pub struct Parts {
+    pub alloc: Global,
+    pub slices: u8,
+    pub lane: u32,
+    pub book: AddressBook,
+    pub subscribers: Vec<Subscriber>,
+    pub halves: Halves,
+    pub entries: Vec<Taken>,
+    pub lines: u64,
+    pub latest: u64,
+}
+
+impl Front {
+    ghost use Rattle.std.specs.Prelude.{List};
+    ghost use Rattle.trace_lines.specs.Line.{Line};
+    ghost use Rattle.lawful_run.specs.Merging.{Histories};
+    ghost use Rattle.lawful_run.specs.Trace.{meant_next};
+    ghost use Rattle.at_rest.specs.Rest.{IsBehind, RepresentsAll};
+    ghost use Rattle.worker_core.specs.Workers.{worker_lanes};
+    ghost use Rattle.flow_core.specs.Workers as flow_worker;
+    ghost use Rattle.front_halves.specs.Tries.{RisesBy};
+    ghost use Rattle.front_core.specs.declared.took.Took.TheVariants.{Full};
+    ghost use Rattle.front_core.specs.Keeping.{FrontKeeps};
+    ghost use Rattle.front_core.specs.Words.{IsWhole, opened_of, entries_in, taken_by, lines_in, latest_in, fulls_in};
+    ghost use Rattle.front_core.specs.Words.{control_lanes, flow_lanes, TakesLine};
+    ghost use Rattle.front_core.specs.Taking.{MayBecome};
+    ghost use Rattle.front_halves.specs.Views.{both};
+    ghost use Rattle.worker_core.specs.Desks.{lanes_of};
+
+    /// Opens an epoch: the gateway at rest is taken apart, and each slice gets its workers. Out of
+    /// memory, all is given up.
+    pub fn open(alloc: Global, rest: AtRest) -> Result<Opened, NoMemory>
+        requires behind { (prior : List Line) × IsBehind rest prior }
+        requires represents { (before : Histories) × RepresentsAll rest before }
+
+        ensures whole { IfOk result (λ made. IsWhole made.front) }
+        ensures opened { IfOk result (λ made. (opened_of made.front ≡ rest) × (entries_in made.front ≡ [])) }
+        ensures counts { IfOk result (λ made. (lines_in made.front ≡ rest.lines) × (latest_in made.front ≡ rest.latest)
+            × (fulls_in made.front ≡ rest.fulls)) }
+
+        // The workers are those of the desks, in the order of slices.
+        ensures controls { IfOk result (λ made. control_lanes made.front ≡ map worker_lanes made.controls.items) }
+        ensures flows { IfOk result (λ made. flow_lanes made.front ≡ map flow_worker.worker_lanes made.flows.items) }
+    {
+        let opened = Snapshot::of(&rest);
+        let AtRest {
+            slices,
+            room,
+            lane,
+            book,
+            subscribers,
+            lines,
+            latest,
+            fulls,
+        } = rest;
+        let controls = controls_of(alloc, slices)?;
+        let flows = flows_of(alloc, slices, lane)?;
+        let front = Front {
+            alloc,
+            opened,
+            slices,
+            lane,
+            book,
+            subscribers,
+            halves: Halves {
+                alloc,
+                room,
+                lots: Vec::new(alloc),
+                sides: BothSides {
+                    controls: Side::new(alloc, controls.desks),
+                    flows: FlowSide::new(alloc, flows.desks, room),
+                },
+                fulls,
+            },
+            entries: Vec::new(alloc),
+            lines,
+            latest,
+        };
+        Ok(Opened {
+            front,
+            controls: controls.workers,
+            flows: flows.workers,
+        })
+    }
+
+    /// Takes home what came, and gives what orders and items wait.
+    pub fn pump<R: Wait>(&mut self, rt: &R)
+        ensures whole { IsWhole self.old → IsWhole self.new }
+        ensures same { (opened_of self.new ≡ opened_of self.old) × (entries_in self.new ≡ entries_in self.old) }
+        ensures counts { (lines_in self.new ≡ lines_in self.old) × (latest_in self.new ≡ latest_in self.old)
+            × (fulls_in self.new ≡ fulls_in self.old) }
+        ensures lanes { (control_lanes self.new ≡ control_lanes self.old) × (flow_lanes self.new ≡ flow_lanes self.old) }
+    {
+        self.halves.pump(rt);
+    }
+
+    /// Takes a line. What it means is decided behind a pump. A command's or packet's subscriber is split, if it
+    /// isn't in this epoch; one that finds its queue or lane full is tried again so many times, a packet behind
+    /// a pump. Out of memory the line isn't taken, and the front may only be dropped.
+    pub fn line<R: Wait>(
+        &mut self,
+        rt: &R,
+        line: &TraceLine,
+        patience: u32,
+    ) -> Result<Took, NoMemory>
+        requires whole { IsWhole self.old }
+        requires few { lines_in self.old < 2 ^ 39 }
+        requires late { latest_in self.old ≤ line.now.moment }
+
+        ensures whole { OnOk result (IsWhole self.new) }
+        ensures opened { opened_of self.new ≡ opened_of self.old }
+        ensures taken { OnOk result (taken_by self.new ≡ taken_by self.old ++ line.now ∷ []) }
+        ensures counts { OnOk result ((lines_in self.new ≡ lines_in self.old + 1)
+            × (latest_in self.new ≡ line.now.moment)) }
+        ensures lanes { OnOk result ((control_lanes self.new ≡ control_lanes self.old)
+            × (flow_lanes self.new ≡ flow_lanes self.old)) }
+
+        // What became of it: as its entry says, which is what the line means behind those before it.
+        ensures takes { IfOk result (λ took. TakesLine line.now (patience + 1) took self.old self.new) }
+        ensures means { (prior : List Line) → IsBehind (opened_of self.old) prior → IfOk result (λ took.
+            MayBecome (meant_next (opened_of self.old).slices (prior ++ taken_by self.old) line.now) took) }
+
+        // A refusal is the last of so many tries and one.
+        ensures full { IfOk result (λ took. took ≡ Full
+            → RisesBy (patience + 1) (fulls_in self.old) (fulls_in self.new)) }
+
+        // Out of memory nothing is accepted.
+        ensures none { OnErr result (entries_in self.new ≡ entries_in self.old) }
+    {
+        self.halves.pump(rt);
+        self.entries.reserve(1)?;
+        let meant = decide_line(
+            self.alloc,
+            self.slices,
+            &mut self.book,
+            &mut self.subscribers,
+            line,
+        )?;
+        let open = take(
+            rt,
+            self.alloc,
+            self.lines + 1,
+            meant,
+            self.subscribers.as_mut_slice(),
+            &mut self.halves,
+            patience,
+        )?;
+        let took = open.took();
+        self.entries.push_reserved(Taken {
+            line: Snapshot::of(line),
+            open,
+        });
+        self.lines += 1;
+        self.latest = line.moment.0;
+        Ok(took)
+    }
+
+    /// How many lines the run had, those of this epoch too.
+    pub fn lines(&self) -> u64
+        ensures { result ≡ lines_in self.now }
+    {
+        self.lines
+    }
+
+    /// The moment of the last line.
+    pub fn latest(&self) -> u64
+        ensures { result ≡ latest_in self.now }
+    {
+        self.latest
+    }
+
+    /// How many tries of the run were answered Full; at the last u64 it stays.
+    pub fn fulls(&self) -> u64
+        ensures { result ≡ fulls_in self.now }
+    {
+        self.halves.fulls
+    }
+
+    /// Gives what the front has, to close its epoch.
+    pub fn into_parts(self) -> Parts
+        requires { IsWhole self }
+        ensures keeps { FrontKeeps (opened_of self) result.slices result.lane result.lines result.latest result.book
+            result.subscribers.items result.halves result.entries.items }
+        ensures entries { result.entries.items ≡ entries_in self }
+        ensures counts { (result.lines ≡ lines_in self) × (result.latest ≡ latest_in self)
+            × (result.halves.fulls ≡ fulls_in self) }
+        ensures lanes { (lanes_of (both result.halves).control_desks ≡ control_lanes self)
+            × (lanes_of (both result.halves).desks ≡ flow_lanes self) }
+    {
+        let Front {
+            alloc,
+            slices,
+            lane,
+            book,
+            subscribers,
+            halves,
+            entries,
+            lines,
+            latest,
+            ..
+        } = self;
+        Parts {
+            alloc,
+            slices,
+            lane,
+            book,
+            subscribers,
+            halves,
+            entries,
+            lines,
+            latest,
+        }
+    }
+}

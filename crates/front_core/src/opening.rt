@@ -1,0 +1,68 @@
+//! An epoch is opened: each slice gets a worker of each kind.
+ghost use Rattle.std.specs.Prelude.{◌≡◌, ◌≤◌, All, IfOk, length, map, replicate};
+ghost use Rattle.worker_core.specs.Desks.{lanes_of};
+ghost use Rattle.worker_core.specs.Workers.{IsNewDesk, Lanes, worker_lanes};
+ghost use Rattle.flow_core.specs.Workers as flow_worker;
+
+use crate::{Front, NoMemory};
+use control_half::ControlHalf;
+use counter_half::FlowHalf;
+use flow_core::{FlowDesk, FlowWorker, flow_pair};
+use pc_base::SliceNo;
+use std::alloc::Global;
+use worker_core::{Desk, Worker, pair};
+
+/// A front, and for each slice in order the worker of its control halves and that of its counter halves.
+#[derive(Drop)]
+pub struct Opened {
+    pub front: Front,
+    pub controls: Vec<Worker<ControlHalf>>,
+    pub flows: Vec<FlowWorker<FlowHalf>>,
+}
+
+/// The desks of workers, and these.
+#[derive(Drop)]
+pub(crate) struct Controls {
+    pub(crate) desks: Vec<Desk<ControlHalf>>,
+    pub(crate) workers: Vec<Worker<ControlHalf>>,
+}
+
+#[derive(Drop)]
+pub(crate) struct Flows {
+    pub(crate) desks: Vec<FlowDesk<FlowHalf>>,
+    pub(crate) workers: Vec<FlowWorker<FlowHalf>>,
+}
+
+pub(crate) fn controls_of(alloc: Global, slices: u8) -> Result<Controls, NoMemory>
+    requires { slices ≤ 64 }
+    ensures count { IfOk result (λ made. length made.desks.items ≡ slices) }
+    ensures lanes { IfOk result (λ made. lanes_of made.desks.items ≡ map worker_lanes made.workers.items) }
+    ensures new { IfOk result (λ made. All IsNewDesk made.desks.items) }
+{
+    let mut desks = Vec::new(alloc);
+    let mut workers = Vec::new(alloc);
+    for i in 0..slices {
+        let (desk, worker) = pair(alloc, SliceNo(i))?;
+        desks.push(desk)?;
+        workers.push(worker)?;
+    }
+    Ok(Controls { desks, workers })
+}
+
+pub(crate) fn flows_of(alloc: Global, slices: u8, lane: u32) -> Result<Flows, NoMemory>
+    requires few { slices ≤ 64 }
+    requires lane { (1 ≤ lane) × (lane ≤ 16384) }
+    ensures lanes { IfOk result (λ made. lanes_of made.desks.items ≡ map flow_worker.worker_lanes made.workers.items) }
+    ensures rooms { IfOk result (λ made. map (λ (lanes : Lanes). lanes.0.room) (lanes_of made.desks.items)
+        ≡ replicate slices lane) }
+    ensures new { IfOk result (λ made. All IsNewDesk made.desks.items) }
+{
+    let mut desks = Vec::new(alloc);
+    let mut workers = Vec::new(alloc);
+    for i in 0..slices {
+        let (desk, worker) = flow_pair(alloc, SliceNo(i), lane)?;
+        desks.push(desk)?;
+        workers.push(worker)?;
+    }
+    Ok(Flows { desks, workers })
+}

@@ -1,0 +1,44 @@
+//! What is kept of a line that was taken, until the epoch closes.
+ghost use Rattle.std.specs.Prelude.{◌≡◌};
+ghost use Rattle.front_core.specs.Entries.{took_of};
+
+use crate::Took;
+use pc_base::{Octets, Slot};
+use std::snapshot::Snapshot;
+use trace_lines::TraceLine;
+
+/// The entry of a line, left open for what becomes of its command or packet.
+#[derive(Drop)]
+pub enum Open {
+    Note(Octets),
+    Command(Slot),
+    Packet {
+        slot: Slot,
+        parked: bool,
+    },
+    Full {
+        slot: Slot,
+        packet: bool,
+    },
+}
+
+impl Open {
+    /// What became of the line.
+    pub(crate) fn took(&self) -> Took
+        ensures { result ≡ took_of self.now }
+    {
+        match self {
+            Open::Note(_) => Took::Answered,
+            Open::Command(_) => Took::Accepted { parked: false },
+            Open::Packet { parked, .. } => Took::Accepted { parked: *parked },
+            Open::Full { .. } => Took::Full,
+        }
+    }
+}
+
+/// A line, which clauses alone read, and its entry.
+#[derive(Drop)]
+pub struct Taken {
+    pub line: Snapshot<TraceLine>,
+    pub open: Open,
+}

@@ -1,0 +1,106 @@
+//! What is done with a line, by what it means.
+ghost use Rattle.std.specs.Prelude.{◌≡◌, ◌+◌, IfOk};
+ghost use Rattle.demux.specs.Trace.{command, packet};
+ghost use Rattle.demux.specs.Meant.{meaning_of};
+ghost use Rattle.front_halves.specs.Steps.{MayMove, SlotMoves};
+ghost use Rattle.front_core.specs.Taking.{GrowsTo, MayTake, Takes, TakesCommand, TakesPacket};
+ghost use Rattle.front_core.specs.declared.taken.Open.TheVariants.{Note};
+
+use crate::NoMemory;
+use crate::taken::Open;
+use at_rest::rest_leaves_room;
+use control_steps::Command;
+use demux::{LentPacket, Meant};
+use front_halves::{Given, Halves};
+use pc_base::{Octets, SliceNo, Slot};
+use std::alloc::Global;
+use std::sync::Wait;
+use subscriber::Subscriber;
+
+/// Does what a line of this number means: its open entry.
+pub(crate) fn take<R: Wait>(
+    rt: &R,
+    alloc: Global,
+    line: u64,
+    meant: Meant<'_>,
+    subscribers: &mut [Subscriber],
+    halves: &mut Halves,
+    patience: u32,
+) -> Result<Open, NoMemory>
+    requires { MayTake (meaning_of meant) subscribers.old halves.old }
+    ensures { IfOk result (λ open_. Takes line (patience + 1) (meaning_of meant.entry) open_ subscribers.old
+        subscribers.new halves.old halves.new) }
+{
+    match meant {
+        Meant::Note(text) => Ok(Open::Note(text)),
+        Meant::Move { slot, slice, text } => take_move(rt, slot, slice, text, halves),
+        Meant::Command { slot, command } => {
+            take_command(rt, line, slot, command, subscribers, halves, patience)
+        }
+        Meant::Packet { slot, packet } => {
+            take_packet(rt, alloc, line, slot, &packet, subscribers, halves, patience)
+        }
+    }
+}
+
+fn take_move<R: Wait>(
+    rt: &R,
+    slot: Slot,
+    slice: SliceNo,
+    text: Octets,
+    halves: &mut Halves,
+) -> Result<Open, NoMemory>
+    requires may { MayMove slot slice halves.old }
+    ensures takes { IfOk result (λ open_. (open_ ≡ Note text) × SlotMoves slot halves.old halves.new) }
+    ensures lots { GrowsTo slot halves.old halves.new }
+{
+    halves.go(rt, slot, slice)?;
+    Ok(Open::Note(text))
+}
+
+fn take_command<R: Wait>(
+    rt: &R,
+    line: u64,
+    slot: Slot,
+    asks: Command,
+    subscribers: &mut [Subscriber],
+    halves: &mut Halves,
+    patience: u32,
+) -> Result<Open, NoMemory>
+    requires { MayTake (command slot asks) subscribers.old halves.old }
+    ensures { IfOk result (λ open_. TakesCommand slot line (patience + 1) asks open_ subscribers.old subscribers.new
+        halves.old halves.new) }
+{
+    rest_leaves_room();
+    halves.admit(rt, slot, &mut subscribers[slot.0 as usize])?;
+    match halves.give_command(rt, slot, line, asks, patience) {
+        Given::Accepted { .. } => Ok(Open::Command(slot)),
+        Given::Full => Ok(Open::Full {
+            slot,
+            packet: false,
+        }),
+    }
+}
+
+fn take_packet<R: Wait>(
+    rt: &R,
+    alloc: Global,
+    line: u64,
+    slot: Slot,
+    lent: &LentPacket<'_>,
+    subscribers: &mut [Subscriber],
+    halves: &mut Halves,
+    patience: u32,
+) -> Result<Open, NoMemory>
+    requires { MayTake (packet slot lent.now) subscribers.old halves.old }
+    ensures { IfOk result (λ open_. TakesPacket slot line (patience + 1) lent.now open_ subscribers.old
+        subscribers.new halves.old halves.new) }
+{
+    let numbered = lent.numbered(alloc, 0)?;
+    rest_leaves_room();
+    halves.admit(rt, slot, &mut subscribers[slot.0 as usize])?;
+    match halves.give_packet(rt, slot, line, numbered, patience)? {
+        Given::Accepted { parked } => Ok(Open::Packet { slot, parked }),
+        Given::Full => Ok(Open::Full { slot, packet: true }),
+    }
+}
