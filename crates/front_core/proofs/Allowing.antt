@@ -1,5 +1,5 @@
 -- What is kept lets a line be taken.
-use Rattle.std.proofs.Common.{◌≡◌, ℕ, ◌+◌, ◌*◌, ◌^◌, ◌<◌, ◌≤◌, true≢false, is_some, List, length, map, replicate, get_or, refl, sym, ap, subst, ◌∙◌, arith}
+use Rattle.std.proofs.Common.{◌≡◌, ℕ, ◌^◌, ◌<◌, ◌≤◌, true≢false, is_some, List, length, get_or, sym, ap, subst, ◌∙◌, arith}
 use Rattle.std.specs.Prelude.{Option, Some, None}
 use Rattle.std.proofs.lemmas.List.{length-map, length-replicate}
 use Rattle.worker_core.specs.Desks.{lanes_of}
@@ -8,13 +8,12 @@ use Rattle.gate_model.specs.Events.{FewEvents}
 use Rattle.subscriber.specs.Standing.{SubscriberState}
 use Rattle.at_rest.specs.Rest.{AreAtRest, RestLeavesRoom}
 use Rattle.split_record.specs.declared.front.FrontEnd.{FrontEnd}
-use Rattle.split_record.specs.Rejoined.{commands_sent}
 use Rattle.front_halves.specs.declared.lot.Lot.{Lot}
 use Rattle.front_halves.specs.declared.lot.Lot.TheVariants.{Moved, Split}
 use Rattle.front_halves.specs.declared.halves.Halves.{Halves}
 use Rattle.front_halves.specs.Lots.{end_of}
 use Rattle.front_halves.specs.Steps.{MayAdmit, MayGive, MayMove}
-use Rattle.front_halves.specs.Views.{both, View, view_at, lane_rooms}
+use Rattle.front_halves.specs.Views.{both, View, view_at}
 use Rattle.front_core.specs.Keeping.{HalvesKeep, LotKeeps, SplitKeeps}
 
 rests_fresh : (slot lines latest : ℕ) (lot : Option Lot) (view : View) → LotKeeps slot lines latest lot view

@@ -1,5 +1,5 @@
 -- What steps of the halves make of what is kept of lines.
-use Rattle.std.proofs.Common.{◌≡◌, ◌≢◌, ℕ, ◌+◌, ◌<◌, ◌≤◌, ◌⊎◌, inl, inr, Bool, true, false, true≢false, is_some, List, [], ◌∷◌, ◌++◌, length, map, refl, sym, ap, subst, ◌∙◌, arith}
+use Rattle.std.proofs.Common.{◌≡◌, ℕ, ◌+◌, ◌≤◌, ◌⊎◌, inl, inr, Bool, true, false, true≢false, is_some, List, [], ◌∷◌, ◌++◌, length, map, refl, sym, ap, subst, ◌∙◌, arith}
 use Rattle.std.specs.Prelude.{Option, Some, None}
 use Rattle.std.specs.Option.{option_map}
 use Rattle.std.proofs.lemmas.List.{map-append, length-map}
@@ -10,15 +10,15 @@ use Rattle.subscriber.specs.Standing.{SubscriberState, commands_met}
 use Rattle.control_half.specs.declared.items.CommandItem.{CommandItem}
 use Rattle.counter_half.specs.declared.items.FlowItem.{FlowItem}
 use Rattle.split_record.specs.declared.front.FrontEnd.{FrontEnd}
-use Rattle.split_record.specs.Rejoined.{AreAccepted, Sends, IsItemOf, commands_sent, start_of}
-use Rattle.lines_kept.specs.Kept.{Ends, Part, Load, new_ends, with_command, with_packet, moved_on}
+use Rattle.split_record.specs.Rejoined.{AreAccepted, IsItemOf, commands_sent}
+use Rattle.lines_kept.specs.Kept.{Ends, Load, new_ends, with_command, with_packet, moved_on}
 use Rattle.lines_kept.specs.Lines.{Goes, Eases, IsAdmitted, LaneWasFull, MayPark, Commands, Packets, newly}
 use Rattle.front_halves.specs.declared.lot.Lot.{Lot}
 use Rattle.front_halves.specs.declared.lot.Lot.TheVariants.{Moved, Split}
 use Rattle.front_halves.specs.declared.halves.Halves.{Halves}
 use Rattle.front_halves.specs.Lots.{EndSettles, EndMoved, EndSends, EndAccepts, LotSettles, LotMoves, end_of}
 use Rattle.lane_core.specs.Ends.{sender_lane}
-use Rattle.front_halves.specs.Steps.{AreLanes, ViewSettles, OthersSettle, SidesKeep, Settles, SlotMoves, SlotAdmits, WasSplit, IsReady, Commanded, CommandsFull, Received, WasFull, PacketsFull}
+use Rattle.front_halves.specs.Steps.{AreLanes, ViewSettles, OthersSettle, Settles, SlotMoves, SlotAdmits, IsReady, Commanded, CommandsFull, Received, PacketsFull}
 use Rattle.front_halves.specs.Views.{both, View, view_at, part_of, parts_of, own_of, moved_by, ends_of, lent_of, load_of}
 use Rattle.front_halves.proofs.Settling.{view_then, sides_then, settles_then}
 use Rattle.front_halves.proofs.Trying.{was_parked}
@@ -256,8 +256,11 @@ prepared_admits slot old mid next new was is first admits last =
       moved = after.moved ∙ moved_next ∙ before.moved;
       parks = λ parks.
           let now = after.parks parks in
-          inr (own, sym (moved_next ∙ before.moved) ∙ ap (λ l. moved_by l (view_at next slot).moved) admits.lot
-          ∙ admits.parks now);
+          inr (
+            own,
+            sym (moved_next ∙ before.moved) ∙ ap (λ l. moved_by l (view_at next slot).moved) admits.lot
+                ∙ admits.parks now,
+          );
       load_accepted = omega (arith, accepted_first, accepted_last, load_accepted);
       load_admitted = omega (arith, admitted_first, admitted_last, load_admitted, one);
       load_asked = omega (arith, asked_first, asked_last, asked, one);
@@ -360,9 +363,9 @@ packets_so room lane slot line packet parked old mid new ready does =
       admitted_as = ready.admitted_as;
       accepted_as = λ yes. (
         ap (λ l. own_of l (view_at new slot).accepted) does.is
-        ∙ ap Some (ends_accepts line parked packet does.item does.end does.after (view_at mid slot).accepted
-        (view_at new slot).accepted does.accepts does.made does.accepted
-        ∙ ap (λ e. with_packet (lent_of packet) (ends_of e (view_at mid slot).accepted)) (sym same)),
+            ∙ ap Some (ends_accepts line parked packet does.item does.end does.after (view_at mid slot).accepted
+            (view_at new slot).accepted does.accepts does.made does.accepted
+            ∙ ap (λ e. with_packet (lent_of packet) (ends_of e (view_at mid slot).accepted)) (sym same)),
         λ is. ready.parks (sym does.parked_is ∙ is),
         λ now. sym does.parks ∙ now,
         omega (arith, accepted, accepted_was),

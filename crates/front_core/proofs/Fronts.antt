@@ -1,5 +1,5 @@
 -- What a front keeps stays true behind a line.
-use Rattle.std.proofs.Common.{◌≡◌, ℕ, zero, suc, ◌+◌, ◌*◌, ◌^◌, ◌<◌, ◌≤◌, ◌⊎◌, inl, inr, Bool, true, false, List, [], ◌∷◌, ◌++◌, length, map, replicate, get_or, set, length-set, length-append, append_assoc, refl, sym, ap, subst, ◌∙◌, arith}
+use Rattle.std.proofs.Common.{◌≡◌, ℕ, zero, suc, ◌+◌, ◌*◌, ◌^◌, ◌<◌, ◌≤◌, inl, inr, Bool, true, false, List, [], ◌∷◌, ◌++◌, length, replicate, get_or, set, length-set, length-append, append_assoc, refl, sym, ap, subst, ◌∙◌, arith}
 use Rattle.std.specs.Prelude.{Option, Some, None, unwrap_or}
 use Rattle.std.proofs.lemmas.List.{length-map, length-replicate, map-append}
 use Rattle.trace_lines.specs.Line.{Line}
@@ -9,34 +9,30 @@ use Rattle.demux.specs.Packets.{numbered}
 use Rattle.demux.specs.Trace.{Meaning, command, packet, move, note}
 use Rattle.demux.specs.declared.packet.LentPacket.{LentPacket}
 use Rattle.lawful_run.specs.Merging.{Histories}
-use Rattle.lawful_run.specs.Trace.{meant_from, meant_next}
+use Rattle.lawful_run.specs.Trace.{meant_from}
 use Rattle.lawful_run.proofs.CutEpochs.{meant_from-append}
 use Rattle.lawful_run.proofs.CutLines.{length-meant_from}
 use Rattle.report_lines.specs.declared.entry.LineEntry.{LineEntry}
-use Rattle.subscriber.specs.Standing.{SubscriberState, Represents, last_of}
-use Rattle.at_rest.specs.Meant.{AreStanding, HasItsMoment, IsWithin, Stand, Turned}
+use Rattle.subscriber.specs.Standing.{SubscriberState, last_of}
+use Rattle.at_rest.specs.Meant.{HasItsMoment, Stand, Turned}
 use Rattle.at_rest.specs.Rest.{AreAtRest, Rest}
 use Rattle.demux.specs.declared.meant.Meant.{Meant}
 use Rattle.demux.specs.Meant.{meaning_of}
 use Rattle.at_rest.proofs.Resting.{goes_on, new_rests}
 use Rattle.epoch_join.specs.Opened.{open_command, open_packet}
-use Rattle.lines_kept.specs.Kept.{LinesKept, Load, Part}
+use Rattle.lines_kept.specs.Kept.{LinesKept, Load}
 use Rattle.lines_kept.specs.Lines.{noted}
 use Rattle.lines_kept.proofs.Keeps.{kept_noted, kept_moved, kept_command, kept_packet}
-use Rattle.split_record.specs.declared.front.FrontEnd.{FrontEnd}
-use Rattle.front_halves.specs.declared.lot.Lot.TheVariants.{Split}
 use Rattle.front_halves.specs.declared.halves.Halves.{Halves}
-use Rattle.front_halves.specs.Steps.{AreLanes, Commanded, IsReady, Received, Settles, SlotAdmits, SlotMoves, WasSplit}
-use Rattle.front_halves.specs.Views.{both, lane_rooms, lent_of, load_of, parts_of, view_at}
+use Rattle.front_halves.specs.Steps.{AreLanes, Commanded, Received, Settles, SlotAdmits, SlotMoves, WasSplit}
+use Rattle.front_halves.specs.Views.{load_of, parts_of, view_at}
 use Rattle.front_halves.proofs.Settling.{settles_none, settles_then}
 use Rattle.front_core.proofs.Moved.{goes_to}
 use Rattle.front_core.specs.declared.taken.Open.{Open}
-use Rattle.front_core.specs.declared.taken.Open.TheVariants as entry
 use Rattle.front_core.specs.declared.taken.Taken.{Taken}
 use Rattle.front_core.specs.Entries.{lines_of, open_of, opens_of}
 use Rattle.front_core.specs.Keeping.{AreStarts, FrontKeeps, HalvesKeep, starts_of, unless_split}
-use Rattle.front_core.specs.Ready.{Prepared}
-use Rattle.front_core.specs.Taking.{Accepts, AcceptsPacket, GrowsTo, IsTo, MakesReady, MayTake, Refuses, RefusesPacket, Takes, TakesCommand, TakesMove, TakesNote, TakesPacket}
+use Rattle.front_core.specs.Taking.{GrowsTo, IsTo, MakesReady, MayTake, Takes, TakesCommand, TakesMove, TakesNote, TakesPacket}
 use Rattle.front_core.proofs.Bridging.{commands_full, commands_so, eases, goes_so, packets_full, packets_so, prepared}
 use Rattle.front_core.proofs.Keeping.{split_keeps, halves_admit, halves_command, halves_later, halves_move, halves_receive, halves_settle, halves_wider}
 use Rattle.front_core.proofs.Starting.{others_start, rest_admit, start_none, start_split, stand_admit, starts_admit, starts_command, starts_move, starts_receive, starts_settle}

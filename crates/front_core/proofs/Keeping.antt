@@ -1,9 +1,9 @@
 -- What is kept of the halves stays true.
-use Rattle.std.proofs.Common.{◌≡◌, ◌≢◌, ℕ, ◌+◌, ◌-◌, ◌*◌, ◌<◌, ◌≤◌, Bool, true, false, true≢false, is_some, unwrap_or, List, [], ◌∷◌, ◌++◌, length, map, replicate, refl, sym, ap, subst, ◌∙◌, arith, inl, inr, length-append}
+use Rattle.std.proofs.Common.{◌≡◌, ◌≢◌, ℕ, ◌+◌, ◌-◌, ◌<◌, ◌≤◌, Bool, false, true≢false, is_some, unwrap_or, List, [], ◌∷◌, ◌++◌, length, map, refl, sym, ap, subst, ◌∙◌, arith, inl, inr, length-append}
 use Rattle.std.specs.Prelude.{Option, Some, None, All, take}
 use Rattle.std.proofs.lemmas.Bool.{cases_eq}
 use Rattle.std.proofs.lemmas.List.Elements.{All-head, All-map, All-nil, All-push, All-tail, All-weaker}
-use Rattle.std.proofs.lemmas.List.{length-map, map-append, take-append-le}
+use Rattle.std.proofs.lemmas.List.{map-append, take-append-le}
 use Rattle.lane_core.specs.Ends.{Lane, sender_lane}
 use Rattle.control_steps.specs.declared.command.CommandKind.{CommandKind}
 use Rattle.pc_base.specs.declared.packet.Packet.{Packet}
@@ -16,14 +16,14 @@ use Rattle.counter_half.specs.declared.items.FlowItem.{FlowItem}
 use Rattle.counter_half.specs.Tells.{AreLate}
 use Rattle.split_record.specs.declared.front.FrontEnd.{FrontEnd}
 use Rattle.split_record.specs.Accepted.{MayStand, AreNumbered}
-use Rattle.split_record.specs.Rejoined.{AreAccepted, IsSameFront, Sends, IsItemOf, commands_sent, start_of}
+use Rattle.split_record.specs.Rejoined.{AreAccepted, IsSameFront, IsItemOf, commands_sent, start_of}
 use Rattle.lines_kept.specs.Kept.{Load}
 use Rattle.front_halves.specs.declared.lot.Lot.{Lot}
 use Rattle.front_halves.specs.declared.lot.Lot.TheVariants.{Moved, Split}
 use Rattle.front_halves.specs.declared.halves.Halves.{Halves}
-use Rattle.front_halves.specs.Lots.{EndSettles, EndMoved, EndSends, EndAccepts, LotSettles, LotMoves, lot_of, end_of}
+use Rattle.front_halves.specs.Lots.{EndMoved, EndSends, EndAccepts, LotSettles, LotMoves, end_of}
 use Rattle.front_halves.specs.Steps.{AreOneSplit, OthersSettle, ViewSettles, SidesKeep, Settles, SlotMoves, SlotAdmits, Commanded, Received}
-use Rattle.front_halves.specs.Views.{both, View, view_at, load_of, lane_rooms}
+use Rattle.front_halves.specs.Views.{both, View, view_at, load_of}
 use Rattle.front_core.specs.Keeping.{SplitKeeps, RestsHere, LotKeeps, ViewKeeps, HalvesKeep}
 use Rattle.front_core.proofs.Bridging.{split_same}
 
@@ -364,27 +364,27 @@ stands_more first commands more item stands =
 accepted_sends : (line : ℕ) (c : CommandKind) (end after : FrontEnd) (items : List FlowItem)
     → EndSends line c end after → AreAccepted end items → AreAccepted after items
 accepted_sends line c end after items sends are =
-  let one : CommandItem = record {
-    number = end.commands;
-    hop = end.hop;
-    floor = end.packets_before;
-    line = line;
-    command = c;
-  } in
-  record {
-  counted = sends.packets ∙ are.counted ∙ ap (λ s. s.value.packets + length items) (sym sends.same.started);
-  numbered = subst (λ n. AreNumbered n (start_of after).packets items) (sym sends.same.slot)
-      (subst (λ n. AreNumbered end.slot n items) (ap (λ s. s.value.packets) (sym sends.same.started)) are.numbered);
-  standing = subst (λ n. All (MayStand n (commands_sent after)) items)
-      (ap (λ s. commands_met s.value) (sym sends.same.started))
-      (subst (λ cs. All (MayStand (commands_met (start_of end)) cs) items) (sym sends.sends.sent_is)
-      (All-weaker (MayStand (commands_met (start_of end)) (commands_sent end))
-      (MayStand (commands_met (start_of end)) (commands_sent end ++ one ∷ []))
-      (λ item stands. stands_more (commands_met (start_of end)) (commands_sent end) (one ∷ []) item stands) items
-      are.standing));
-  late = subst (λ n. AreLate (unwrap_or n 0) (map (λ (i : FlowItem). i.packet.moment) items))
-      (ap (λ s. last_of s.value) (sym sends.same.started)) are.late;
-}
+    let one : CommandItem = record {
+      number = end.commands;
+      hop = end.hop;
+      floor = end.packets_before;
+      line = line;
+      command = c;
+    } in
+    record {
+      counted = sends.packets ∙ are.counted ∙ ap (λ s. s.value.packets + length items) (sym sends.same.started);
+      numbered = subst (λ n. AreNumbered n (start_of after).packets items) (sym sends.same.slot)
+          (subst (λ n. AreNumbered end.slot n items) (ap (λ s. s.value.packets) (sym sends.same.started)) are.numbered);
+      standing = subst (λ n. All (MayStand n (commands_sent after)) items)
+          (ap (λ s. commands_met s.value) (sym sends.same.started))
+          (subst (λ cs. All (MayStand (commands_met (start_of end)) cs) items) (sym sends.sends.sent_is)
+          (All-weaker (MayStand (commands_met (start_of end)) (commands_sent end))
+          (MayStand (commands_met (start_of end)) (commands_sent end ++ one ∷ []))
+          (λ item stands. stands_more (commands_met (start_of end)) (commands_sent end) (one ∷ []) item stands) items
+          are.standing));
+      late = subst (λ n. AreLate (unwrap_or n 0) (map (λ (i : FlowItem). i.packet.moment) items))
+          (ap (λ s. last_of s.value) (sym sends.same.started)) are.late;
+    }
 
 -- what is kept of a split subscriber
 pub split_keeps : (slot lines latest : ℕ) (end : FrontEnd) (view : View) → view.lot ≡ Some (Split end)

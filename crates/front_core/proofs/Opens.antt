@@ -1,6 +1,6 @@
 -- What a front keeps when it is opened.
-use Rattle.std.proofs.Common.{◌≡◌, ℕ, zero, suc, ◌+◌, ◌*◌, ◌^◌, ◌<◌, ◌≤◌, true, false, true≢false, is_some, List, [], ◌∷◌, ◌++◌, length, map, replicate, get_or, refl, sym, ap, subst, ◌∙◌, arith, append-nil}
-use Rattle.std.specs.Prelude.{Option, Some, None, count_by}
+use Rattle.std.proofs.Common.{◌≡◌, ℕ, ◌+◌, ◌^◌, ◌≤◌, false, true≢false, is_some, List, [], length, replicate, refl, sym, ap, subst, ◌∙◌, arith, append-nil}
+use Rattle.std.specs.Prelude.{Option, None, count_by}
 use Rattle.std.specs.List.{sum_by}
 use Rattle.std.proofs.lemmas.List.{length-map}
 use Rattle.trace_lines.specs.Line.{Line}
@@ -98,37 +98,37 @@ pub front_opens : (rest : Rest) (halves : Halves) (prior : List Line) (before : 
     → FrontKeeps rest rest.slices rest.lane rest.lines rest.latest rest.book rest.subscribers halves []
 front_opens rest halves prior before behind represents slices_few roomy lane_roomy many few at_rest lots controls flows
     control_count rooms queues room_is control_asked asked = record {
-  slices_are = refl;
-  lane_is = refl;
-  slices_few = slices_few;
-  roomy = roomy;
-  lane_roomy = lane_roomy;
-  as_many = many;
-  counted = omega arith;
-  few = few;
-  at_rest = at_rest;
-  first = prior;
-  behind = record { book_is = behind.book; bounds = behind.bounds };
-  history = before;
-  represents = record { each = represents.each; beyond = represents.beyond };
-  events_few = represents.few;
-  stand = λ lines stand.
-      subst (λ (l : List Line). Stand rest.slices rest.book rest.subscribers l) (sym (append-nil lines)) stand;
-  starts = λ history standing.
-      subst (λ (s : ℕ → Option SubscriberState). AreStarts rest.subscribers s history)
-      (sym (no_starts rest.slices rest.room rest.lane rest.latest halves lots controls flows)) (record {
-        standing = standing;
-        split = λ slot start is. absurd (true≢false (sym (ap is_some is)));
-      });
-  halves_keep = halves_open rest.slices rest.room rest.lane rest.latest halves lots controls flows
-      (length rest.subscribers) control_count rooms queues room_is control_asked asked;
-  lines_keep = λ lines stand.
-      subst (λ (p : ℕ → Part). LinesKept rest.slices rest.room rest.lane (rest.lines + 1) [] [] p (load_of halves))
-      (sym (no_parts rest.slices rest.room rest.lane rest.latest halves lots controls flows))
-      (subst (λ (l : Load). LinesKept rest.slices rest.room rest.lane (rest.lines + 1) [] [] (λ (slot : ℕ). no_part) l)
-      (sym (no_loads rest.slices rest.room rest.lane rest.latest halves lots controls flows asked))
-      (no_line rest.slices rest.room rest.lane (rest.lines + 1)));
-}
+      slices_are = refl;
+      lane_is = refl;
+      slices_few = slices_few;
+      roomy = roomy;
+      lane_roomy = lane_roomy;
+      as_many = many;
+      counted = omega arith;
+      few = few;
+      at_rest = at_rest;
+      first = prior;
+      behind = record { book_is = behind.book; bounds = behind.bounds };
+      history = before;
+      represents = record { each = represents.each; beyond = represents.beyond };
+      events_few = represents.few;
+      stand = λ lines stand.
+          subst (λ (l : List Line). Stand rest.slices rest.book rest.subscribers l) (sym (append-nil lines)) stand;
+      starts = λ history standing.
+          subst (λ (s : ℕ → Option SubscriberState). AreStarts rest.subscribers s history)
+          (sym (no_starts rest.slices rest.room rest.lane rest.latest halves lots controls flows)) (record {
+            standing = standing;
+            split = λ slot start is. absurd (true≢false (sym (ap is_some is)));
+          });
+      halves_keep = halves_open rest.slices rest.room rest.lane rest.latest halves lots controls flows
+          (length rest.subscribers) control_count rooms queues room_is control_asked asked;
+      lines_keep = λ lines stand.
+          subst (λ (p : ℕ → Part). LinesKept rest.slices rest.room rest.lane (rest.lines + 1) [] [] p (load_of halves))
+          (sym (no_parts rest.slices rest.room rest.lane rest.latest halves lots controls flows))
+          (subst (λ (l : Load). LinesKept rest.slices rest.room rest.lane (rest.lines + 1) [] [] (λ (slot : ℕ). no_part) l)
+          (sym (no_loads rest.slices rest.room rest.lane rest.latest halves lots controls flows asked))
+          (no_line rest.slices rest.room rest.lane (rest.lines + 1)));
+    }
 
 -- by what the body of `open` has of it
 pub opened_so : (given rest opened : Rest) (halves : Halves) (entries : List Taken) (prior : List Line)

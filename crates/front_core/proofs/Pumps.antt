@@ -1,16 +1,15 @@
 -- What a front keeps stays true behind a pump.
-use Rattle.std.proofs.Common.{◌≡◌, ℕ, ◌+◌, ◌*◌, true, is_some, List, length, sym, ap, subst, ◌∙◌}
-use Rattle.std.specs.Prelude.{Option, None}
+use Rattle.std.proofs.Common.{ℕ, ◌+◌, ◌*◌, is_some, List, length, sym, ap, subst, ◌∙◌}
+use Rattle.std.specs.Prelude.{Option}
 use Rattle.lawful_run.specs.LinesTold.{LineTold, lines_told}
-use Rattle.lawful_run.specs.Merging.{Histories}
 use Rattle.lawful_run.specs.Trace.{meant_from}
 use Rattle.subscriber.specs.Standing.{SubscriberState}
 use Rattle.at_rest.specs.Rest.{Rest}
-use Rattle.lines_kept.specs.Kept.{Ends, LinesKept, Load, LoadTold, OwnTold, Part, PartTold}
+use Rattle.lines_kept.specs.Kept.{Ends, Load, LoadTold, OwnTold, Part, PartTold}
 use Rattle.lines_kept.specs.Lines.{Eases}
 use Rattle.front_halves.specs.declared.halves.Halves.{Halves}
 use Rattle.front_halves.specs.Steps.{Settles}
-use Rattle.front_halves.specs.Views.{load_of, parts_of, view_at}
+use Rattle.front_halves.specs.Views.{parts_of, view_at}
 use Rattle.front_core.specs.declared.taken.Taken.{Taken}
 use Rattle.front_core.specs.Entries.{lines_of, opens_of}
 use Rattle.front_core.specs.Keeping.{AreStarts, FrontKeeps}

@@ -1,5 +1,5 @@
 -- The lanes stay as they are.
-use Rattle.std.proofs.Common.{◌≡◌, ℕ, List, inl, inr}
+use Rattle.std.proofs.Common.{ℕ, List, inl, inr}
 use Rattle.demux.specs.Trace.{Meaning, command, packet, move, note}
 use Rattle.subscriber.specs.Standing.{SubscriberState}
 use Rattle.front_halves.specs.declared.halves.Halves.{Halves}

@@ -1,12 +1,12 @@
 -- The subscribers as they were at the epoch's start.
-use Rattle.std.proofs.Common.{◌≡◌, ◌≢◌, ℕ, zero, suc, ◌<◌, ◌≤◌, true, false, true≢false, is_some, if◌then◌else◌, Bool, List, [], ◌∷◌, length, length-set, get_or, get_or-set_other, get_or-set_same, set, refl, sym, ap, subst, ◌∙◌, inl, inr, arith}
+use Rattle.std.proofs.Common.{◌≡◌, ◌≢◌, ℕ, zero, suc, ◌<◌, true≢false, is_some, if◌then◌else◌, Bool, List, [], ◌∷◌, length, length-set, get_or, get_or-set_other, get_or-set_same, set, refl, sym, ap, subst, ◌∙◌, inl, inr, arith}
 use Rattle.std.specs.Prelude.{Option, Some, None, slice_get}
 use Rattle.std.proofs.lemmas.Bool.{cases_eq}
 use Rattle.trace_lines.specs.Line.{Line}
 use Rattle.gate_model.specs.declared.event.Event.{Event}
 use Rattle.lawful_run.specs.Merging.{Histories}
-use Rattle.subscriber.specs.Standing.{SubscriberState, Represents, StandsFor, last_of}
-use Rattle.at_rest.specs.Meant.{AreStanding, Stand, bound_of}
+use Rattle.subscriber.specs.Standing.{SubscriberState, Represents, last_of}
+use Rattle.at_rest.specs.Meant.{Stand}
 use Rattle.at_rest.specs.Rest.{AreAtRest, IsAtRest, NewOneIsAtRest, destination_or}
 use Rattle.at_rest.proofs.Places.{all_set}
 use Rattle.demux.specs.Destinations.{home_slice}
@@ -15,7 +15,7 @@ use Rattle.front_halves.specs.declared.lot.Lot.{Lot}
 use Rattle.front_halves.specs.declared.lot.Lot.TheVariants.{Moved, Split}
 use Rattle.front_halves.specs.declared.halves.Halves.{Halves}
 use Rattle.front_halves.specs.Lots.{LotMoves, LotSettles, end_of}
-use Rattle.front_halves.specs.Steps.{Commanded, OthersSettle, Received, Settles, SlotAdmits, SlotMoves}
+use Rattle.front_halves.specs.Steps.{Commanded, OthersSettle, Received, Settles, SlotMoves}
 use Rattle.front_halves.specs.Views.{view_at}
 use Rattle.front_core.specs.Keeping.{AreStarts, start_in, starts_of, unless_split}
 

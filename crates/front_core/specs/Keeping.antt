@@ -1,8 +1,7 @@
 -- What a front keeps: of the split subscribers and their halves, and of the lines.
-use Rattle.std.specs.Prelude.{◌≡◌, ℕ, ◌+◌, ◌*◌, ◌≤◌, ◌<◌, ◌^◌, Bool, true, false, if◌then◌else◌, Option, Some, None}
-use Rattle.std.specs.Prelude.{List, [], ◌++◌, length, replicate, get_or, All, unwrap_or, is_some}
+use Rattle.std.specs.Prelude.{◌≡◌, ℕ, ◌+◌, ◌*◌, ◌≤◌, ◌^◌, true, false, if◌then◌else◌, Option, Some, None}
+use Rattle.std.specs.Prelude.{List, [], ◌++◌, length, replicate, All, unwrap_or, is_some}
 use Rattle.trace_lines.specs.Line.{Line}
-use Rattle.gate_model.specs.declared.event.Event.{Event}
 use Rattle.lawful_run.specs.Merging.{Histories}
 use Rattle.lawful_run.specs.Trace.{meant_from}
 use Rattle.subscriber.specs.Standing.{SubscriberState, last_of, Represents}

@@ -1,5 +1,5 @@
 -- A slot whose subscriber is split, behind a pump and what else settles.
-use Rattle.std.specs.Prelude.{◌≡◌, ◌≢◌, ℕ, ◌+◌, ◌≤◌, true, Some}
+use Rattle.std.specs.Prelude.{◌≡◌, ℕ, ◌+◌, ◌≤◌, true, Some}
 use Rattle.split_record.specs.declared.front.FrontEnd.{FrontEnd}
 use Rattle.lines_kept.specs.Lines.{IsAdmitted, MayPark, newly}
 use Rattle.front_halves.specs.declared.lot.Lot.TheVariants.{Split}

@@ -1,11 +1,10 @@
 -- What a line does to the subscribers and the halves, and its open entry.
-use Rattle.std.specs.Prelude.{◌≡◌, ℕ, ◌+◌, ◌*◌, ◌≤◌, ◌<◌, ◌^◌, ◌⊎◌, Bool, true, false, List, length, get_or, set}
+use Rattle.std.specs.Prelude.{◌≡◌, ℕ, ◌*◌, ◌≤◌, ◌<◌, ◌^◌, ◌⊎◌, Bool, true, false, List, length, get_or, set}
 use Rattle.control_steps.specs.declared.command.CommandKind.{CommandKind}
 use Rattle.demux.specs.Packets.{numbered}
 use Rattle.demux.specs.Trace.{Meaning, command, packet, move, note}
 use Rattle.demux.specs.declared.packet.LentPacket.{LentPacket}
 use Rattle.subscriber.specs.Standing.{SubscriberState}
-use Rattle.at_rest.specs.Meant.{IsWithin}
 use Rattle.at_rest.specs.Rest.{AreAtRest}
 use Rattle.front_halves.specs.declared.halves.Halves.{Halves}
 use Rattle.front_halves.specs.Steps.{Settles, SlotMoves, IsReady, Commanded, CommandsFull, Received, PacketsFull}

@@ -12,14 +12,8 @@ use trace_lines::TraceLine;
 pub enum Open {
     Note(Octets),
     Command(Slot),
-    Packet {
-        slot: Slot,
-        parked: bool,
-    },
-    Full {
-        slot: Slot,
-        packet: bool,
-    },
+    Packet { slot: Slot, parked: bool },
+    Full { slot: Slot, packet: bool },
 }
 
 impl Open {

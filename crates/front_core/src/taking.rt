@@ -38,7 +38,16 @@ pub(crate) fn take<R: Wait>(
             take_command(rt, line, slot, command, subscribers, halves, patience)
         }
         Meant::Packet { slot, packet } => {
-            take_packet(rt, alloc, line, slot, &packet, subscribers, halves, patience)
+            take_packet(
+                rt,
+                alloc,
+                line,
+                slot,
+                &packet,
+                subscribers,
+                halves,
+                patience,
+            )
         }
     }
 }

@@ -1,7 +1,5 @@
-use Rattle.std.proofs.Common.{◌≡◌, ◌+◌, List, slice_set, subst, sym, ap, ◌∙◌}
+use Rattle.std.proofs.Common.{◌≡◌, ◌+◌, slice_set}
 use Rattle.demux.specs.Trace.{command}
-use Rattle.subscriber.specs.Standing.{SubscriberState}
-use Rattle.front_core.specs.Taking.{MakesReady}
 use Rattle.front_core.proofs.Takings.{admits_at, command_came, command_refused, makes, takes_give}
 use Rattle.front_core.proofs.taking.take_command.Goals as goal
 

@@ -1,7 +1,5 @@
-use Rattle.std.proofs.Common.{◌≡◌, ◌+◌, List, slice_set, subst, sym, ap, ◌∙◌}
+use Rattle.std.proofs.Common.{◌≡◌, ◌+◌, slice_set, subst}
 use Rattle.demux.specs.Trace.{packet}
-use Rattle.subscriber.specs.Standing.{SubscriberState}
-use Rattle.front_core.specs.Taking.{MakesReady}
 use Rattle.front_halves.specs.declared.tried.Given.{Given}
 use Rattle.front_halves.specs.Tries.{GivesPacket}
 use Rattle.front_core.proofs.Takings.{admits_at, makes, packet_came, packet_refused, takes_give}

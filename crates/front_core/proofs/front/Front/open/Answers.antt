@@ -1,4 +1,4 @@
-use Rattle.std.proofs.Common.{◌≡◌, List, length, map, refl, sym, ap, ◌∙◌, arith}
+use Rattle.std.proofs.Common.{length, map, refl, ap, ◌∙◌, arith}
 use Rattle.worker_core.specs.Desks.{lanes_of}
 use Rattle.worker_core.specs.Workers.{Lanes}
 use Rattle.at_rest.specs.Rest.{Rest}

@@ -1,0 +1,13 @@
+pub mod Telling
+pub mod Resting
+pub mod Joining
+pub mod Epochs
+pub mod Pairing
+pub mod Closed
+pub mod Pushing
+pub mod Popping
+pub mod Nexts
+pub mod Endings
+pub mod Entries
+pub mod Within
+pub mod Answered

@@ -1,0 +1,98 @@
+//! An epoch is closed.
+ghost use Rattle.std.specs.Prelude.{◌≡◌, map, IfOk};
+ghost use Rattle.worker_core.specs.Workers as worker;
+ghost use Rattle.flow_core.specs.Workers as flow_worker;
+ghost use Rattle.front_core.specs.declared.taken.Taken.{Taken};
+ghost use Rattle.front_core.specs.Entries.{took_of};
+ghost use Rattle.front_core.specs.Words.{IsWhole, control_lanes, entries_in, flow_lanes, opened_of, taken_by};
+ghost use Rattle.front_core.specs.Words.{fulls_in, latest_in, lines_in};
+ghost use Rattle.front_close.specs.Closing.{Closes};
+ghost use Rattle.front_close.specs.Filled.{told_by, took_told};
+
+use crate::NoMemory;
+use crate::epoch::{Ended, Epoch};
+use crate::filling::fill_all;
+use crate::finishing::finish_all;
+use crate::homes::{controls_home, flows_home};
+use crate::told::Told;
+use at_rest::AtRest;
+use control_half::ControlHalf;
+use counter_half::FlowHalf;
+use flow_core::FlowEnd;
+use front_core::{Front, Parts};
+use front_halves::Halves;
+use front_sides::BothSides;
+use gate_model::sessions_keep_their_slot;
+use std::sync::Wait;
+use worker_core::WorkerEnd;
+
+/// Closes an epoch whose workers have stopped; their ends come in the order of slices. What is left to do is
+/// done, and the gateway is at rest again. Out of memory, all is given up.
+pub fn close<R: Wait>(
+    rt: &R,
+    front: Front,
+    controls: Vec<WorkerEnd<ControlHalf>>,
+    flows: Vec<FlowEnd<FlowHalf>>,
+) -> Result<Ended, NoMemory>
+    requires whole { IsWhole front }
+    requires controls { map worker.end_lanes controls.items ≡ control_lanes front }
+    requires flows { map flow_worker.end_lanes flows.items ≡ flow_lanes front }
+
+    ensures closes { IfOk result (λ ended. Closes (opened_of front) (taken_by front) ended.rest (told_by ended.epoch)) }
+    ensures counts { IfOk result (λ ended. (ended.rest.lines ≡ lines_in front)
+        × (ended.rest.latest ≡ latest_in front) × (ended.rest.fulls ≡ fulls_in front)) }
+
+    // Each entry says what was answered when its line was taken.
+    ensures answered { IfOk result (λ ended. map took_told (told_by ended.epoch).lines
+        ≡ map (λ (taken : Taken). took_of taken.open) (entries_in front)) }
+{
+    sessions_keep_their_slot();
+    let Parts {
+        alloc,
+        slices,
+        lane,
+        book,
+        mut subscribers,
+        halves,
+        entries,
+        lines,
+        latest,
+    } = front.into_parts();
+    let Halves {
+        alloc: _,
+        room,
+        lots,
+        sides,
+        fulls,
+    } = halves;
+    let BothSides {
+        controls: control_side,
+        flows: flow_side,
+    } = sides;
+    let halves = controls_home(rt, alloc, control_side.into_end(), controls)?;
+    let homes = flows_home(rt, alloc, flow_side.into_end(), flows)?;
+    let Told {
+        mut answers,
+        effects,
+        rows,
+    } = finish_all(rt, alloc, lots, halves, homes, subscribers.as_mut_slice())?;
+    let first = lines - entries.len() as u64 + 1;
+    let told = fill_all(alloc, first, entries, &mut answers)?;
+    Ok(Ended {
+        epoch: Epoch {
+            lines: told,
+            effects,
+            rows,
+        },
+        rest: AtRest {
+            slices,
+            room,
+            lane,
+            book,
+            subscribers,
+            lines,
+            latest,
+            fulls,
+        },
+    })
+}

@@ -1,0 +1,167 @@
+//! The subscribers are one again, slot after slot.
+ghost use Rattle.std.specs.Prelude.{◌≡◌, ℕ, ◌≤◌, ◌<◌, ◌++◌, ◌∷◌, List, Option, Some, length, vec_len, reverse};
+ghost use Rattle.std.specs.Prelude.{IfOk, OnOk};
+ghost use Rattle.counter_half.specs.Half.{handled_by};
+ghost use Rattle.counter_half.specs.declared.items.FlowItem.{FlowItem};
+ghost use Rattle.split_record.specs.Rejoined.{AreAccepted, AreOfOneSplit, Finishes, commands_sent, start_of};
+ghost use Rattle.front_halves.specs.declared.lot.Lot as lot;
+ghost use Rattle.front_halves.specs.declared.lot.Lot.TheVariants.{Split};
+ghost use Rattle.front_close.specs.Ending.{
+  CanEndAll,
+  EndsNext,
+  EndsSplit,
+  HaveEnded,
+  Tells,
+  came_of,
+  nothing_came,
+};
+
+use crate::NoMemory;
+use crate::told::{Told, tell, tell_nothing};
+use control_half::ControlHalf;
+use counter_half::FlowHalf;
+use flow_home::Home;
+use front_halves::Lot;
+use pc_base::Slot;
+use split_record::{Finished, FrontEnd, finish};
+use std::alloc::Global;
+use std::sync::Wait;
+use subscriber::Subscriber;
+
+/// Each split subscriber is one again. The halves are those of the split ones, by slot.
+pub(crate) fn finish_all<R: Wait>(
+    rt: &R,
+    alloc: Global,
+    mut lots: Vec<Option<Lot>>,
+    mut controls: Vec<ControlHalf>,
+    mut homes: Vec<Home<FlowHalf>>,
+    subscribers: &mut [Subscriber],
+) -> Result<Told, NoMemory>
+    requires may { (items : ℕ → List FlowItem) × CanEndAll 0 items lots.items controls.items homes.items }
+    requires lots { vec_len lots ≤ length subscribers.old }
+    ensures { (items : ℕ → List FlowItem) → CanEndAll 0 items lots.items controls.items homes.items
+        → IfOk result (λ told. HaveEnded items lots.items subscribers.old subscribers.new told) }
+{
+    let mut told = Told {
+        answers: Vec::with_capacity(alloc, lots.len())?,
+        effects: Vec::new(alloc),
+        rows: Vec::new(alloc),
+    };
+    lots.reverse();
+    controls.reverse();
+    homes.reverse();
+    for place in 0..lots.len() {
+        finish_next(
+            rt,
+            alloc,
+            &mut lots,
+            &mut controls,
+            &mut homes,
+            &mut subscribers[place],
+            &mut told,
+        )?;
+    }
+    Ok(told)
+}
+
+// The first of the slots that are left, which are in the order from the last, as their halves are.
+fn finish_next<R: Wait>(
+    rt: &R,
+    alloc: Global,
+    lots: &mut Vec<Option<Lot>>,
+    controls: &mut Vec<ControlHalf>,
+    homes: &mut Vec<Home<FlowHalf>>,
+    subscriber: &mut Subscriber,
+    told: &mut Told,
+) -> Result<(), NoMemory>
+    requires some { 0 < vec_len lots.old }
+    requires may { (slot : ℕ) × (items : ℕ → List FlowItem) × CanEndAll slot items (reverse lots.old.items)
+        (reverse controls.old.items) (reverse homes.old.items) }
+    ensures { (slot : ℕ) (items : ℕ → List FlowItem) → CanEndAll slot items (reverse lots.old.items)
+        (reverse controls.old.items) (reverse homes.old.items)
+        → OnOk result (EndsNext slot items lots.old.items lots.new.items controls.new.items homes.new.items
+        subscriber.old subscriber.new told.old told.new) }
+{
+    let Some(lot) = lots.pop() else {
+        unreachable!()
+    };
+    match lot {
+        Some(Lot::Split(end)) => finish_split(rt, alloc, end, controls, homes, subscriber, told),
+        Some(Lot::Moved) => tell_nothing(alloc, told),
+        None => tell_nothing(alloc, told),
+    }
+}
+
+// A split subscriber. Its halves are the first of those that are left.
+fn finish_split<R: Wait>(
+    rt: &R,
+    alloc: Global,
+    end: FrontEnd,
+    controls: &mut Vec<ControlHalf>,
+    homes: &mut Vec<Home<FlowHalf>>,
+    subscriber: &mut Subscriber,
+    told: &mut Told,
+) -> Result<(), NoMemory>
+    requires may { (slot : ℕ) × (items : ℕ → List FlowItem) × (lots : List (Option lot.Lot))
+        × CanEndAll slot items (Some (Split end) ∷ lots) (reverse controls.old.items) (reverse homes.old.items) }
+    ensures { (slot : ℕ) (items : ℕ → List FlowItem) (lots : List (Option lot.Lot))
+        → CanEndAll slot items (Some (Split end) ∷ lots) (reverse controls.old.items) (reverse homes.old.items)
+        → OnOk result (EndsSplit slot end items lots controls.new.items homes.new.items
+        subscriber.old subscriber.new told.old told.new) }
+{
+    let Some(control) = controls.pop() else {
+        unreachable!()
+    };
+    let Some(home) = homes.pop() else {
+        unreachable!()
+    };
+    let slot = end.slot();
+    let finished = finish_slot(rt, alloc, end, control, home)?;
+    end_slot(told, slot, subscriber, finished)
+}
+
+// One subscriber is one again. Where memory runs out, it is tried once more.
+fn finish_slot<R: Wait>(
+    rt: &R,
+    alloc: Global,
+    end: FrontEnd,
+    control: ControlHalf,
+    home: Home<FlowHalf>,
+) -> Result<Finished, NoMemory>
+    requires one { AreOfOneSplit end control home.half }
+    requires accepted { AreAccepted end (handled_by home.half ++ home.left.items) }
+    ensures { IfOk result (λ made. Finishes (start_of end) (commands_sent end)
+        (handled_by home.half ++ home.left.items) end.destination made) }
+{
+    let Home { half, left } = home;
+    match finish(rt, alloc, end, control, half, left) {
+        Ok(finished) => Ok(finished),
+        Err(parts) => match parts.again(rt) {
+            Ok(finished) => Ok(finished),
+            Err(_) => Err(NoMemory),
+        },
+    }
+}
+
+// What became of a slot is told. Where the subscriber is bound for stays as the front has it.
+fn end_slot(
+    told: &mut Told,
+    slot: Slot,
+    subscriber: &mut Subscriber,
+    finished: Finished,
+) -> Result<(), NoMemory>
+    ensures { OnOk result ((subscriber.new ≡ record finished.record { destination = subscriber.old.destination })
+        × Tells (came_of slot finished) told.old told.new) }
+{
+    let Finished {
+        record: own,
+        commands,
+        packets,
+        effects,
+        rows,
+    } = finished;
+    let destination = subscriber.destination();
+    *subscriber = own;
+    subscriber.set_destination(destination);
+    tell(told, slot, commands, packets, effects, rows)
+}
