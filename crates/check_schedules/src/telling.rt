@@ -15,7 +15,7 @@ fn letter(outcome: Outcome) -> u8 {
     }
 }
 
-fn push_met(text: &mut Text, met: Met) -> Result<(), AllocError> {
+fn push_met(text: &mut Text, met: &Met) -> Result<(), AllocError> {
     text.push_number(met.commands as u64)?;
     match met.place {
         Place::At(slice) => {
@@ -39,7 +39,7 @@ fn push_slot(text: &mut Text, slot: u32, scheduled: &Scheduled) -> Result<(), Al
     text.extend_from_slice(b" |")?;
     text.push_number(u64::from(slot))?;
     for number in 0..scheduled.met_count(slot) {
-        push_met(text, scheduled.met(slot, number))?;
+        push_met(text, &scheduled.met(slot, number))?;
     }
     Ok(())
 }
