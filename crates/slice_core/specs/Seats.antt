@@ -1,4 +1,4 @@
--- The seat of a worker: its place and its lanes. A worker's end has that of its worker, in whatever thread it was served.
+-- The seat of a worker: its place and its lanes. A worker's end has that of its worker, whatever thread served it.
 use Rattle.std.specs.Prelude.{ℕ}
 use Rattle.worker_core.specs.declared.traveller.Traveller as traveller
 use Rattle.worker_core.specs.declared.worker.Worker.{Worker}

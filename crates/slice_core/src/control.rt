@@ -21,7 +21,7 @@ pub enum ControlThread {
 }
 
 impl ControlThread {
-    // Gives the worker to a thread. Where none can be started its flag is set, so its end comes at once, without a turn.
+    // Gives the worker to a thread. Where none can be started its flag is set: its end comes at once, without a turn.
     fn start<'s, E, R: Wait + Sync>(
         scope: &Scope<'s, E>,
         rt: &'s R,
@@ -54,7 +54,7 @@ impl ControlThread {
     }
 }
 
-/// Gives each worker to a thread of its own, with the flag at its index. The memory for the threads is handed in, empty.
+/// Gives each worker to a thread of its own, with the flag at its index. Memory for the threads is handed in, empty.
 pub fn start_controls<'s, E, R: Wait + Sync>(
     scope: &Scope<'s, E>,
     rt: &'s R,
@@ -75,7 +75,7 @@ pub fn start_controls<'s, E, R: Wait + Sync>(
     threads
 }
 
-/// Waits for the end of each thread; the flags are to be set before. The memory for the ends is handed in, empty.
+/// Waits for the end of each thread; the flags are to be set before. Memory for the ends is handed in, empty.
 pub fn join_controls<R: Threads>(
     rt: &R,
     threads: Vec<ControlThread>,

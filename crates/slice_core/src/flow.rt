@@ -57,7 +57,7 @@ impl FlowThread {
     }
 }
 
-/// Gives each worker to a thread of its own, with the flag at its index. The memory for the threads is handed in, empty.
+/// Gives each worker to a thread of its own, with the flag at its index. Memory for the threads is handed in, empty.
 pub fn start_flows<'s, E, G: Gate, R: Wait + Sync>(
     scope: &Scope<'s, E>,
     rt: &'s R,
@@ -79,7 +79,7 @@ pub fn start_flows<'s, E, G: Gate, R: Wait + Sync>(
     threads
 }
 
-/// Waits for the end of each thread; the flags are to be set before. The memory for the ends is handed in, empty.
+/// Waits for the end of each thread; the flags are to be set before. Memory for the ends is handed in, empty.
 pub fn join_flows<R: Threads>(
     rt: &R,
     threads: Vec<FlowThread>,
