@@ -1,0 +1,9 @@
+use Rattle.flow_core.specs.Workers.{end_lanes, worker_lanes}
+use Rattle.check_fronts.proofs.Ends.{HaveEnded}
+use Rattle.check_fronts.proofs.workers.flow_ends.Given as goal
+
+abbrev pub invariant-loop-worker : goal.invariant-loop-worker
+invariant-loop-worker l = HaveEnded worker_lanes end_lanes l.fn.workers.items l.workers.items l.ends.items
+
+abbrev pub decreases-loop-worker : goal.decreases-loop-worker
+decreases-loop-worker l = l.workers.len

@@ -1,0 +1,127 @@
+//! Takes the lines of traces through fronts whose workers are turned by hand, and writes the report of each trace,
+//! epoch by epoch, with what an audit finds of it. Standard input has a trace behind each `#`: first a row
+//! `run SLICES ROOM LANE PATIENCE PLACES TURNS`, then its lines. Behind each line each of TURNS is a turn of a
+//! worker: of slice i those of numbers 2 i and 2 i + 1. A FENCE ends an epoch. Or it is a row `made SEED RUNS`: so
+//! many traces and orders of turns are drawn, of four epochs each, and what an audit finds of their reports is
+//! counted. Out of memory, nothing is written, and the status is 5.
+#![tactic(auto)]
+
+ghost use Rattle.std.specs.Prelude.{OnOk, IfOk};
+ghost use Rattle.check_fronts.specs.Benches.{IsGateway};
+ghost use Rattle.check_fronts.specs.Stands.{Stands};
+
+mod bench;
+mod drawing;
+mod entries;
+mod rows;
+mod stop;
+mod workers;
+
+use bench::Bench;
+use drawing::play_made;
+use rows::{Row, Run, row_of};
+use std::alloc::{AllocError, Global};
+use std::io::{self, Read, Write};
+use std::process::ExitCode;
+use std::sync::Wait;
+use stop::Stop;
+use text_fields::{Text, cut};
+use trace_lines::LineKind;
+
+// Turns workers one after another.
+fn turn_all<R: Wait>(rt: &R, bench: &mut Bench, workers: &[u8]) -> Result<(), Stop>
+    requires { Stands bench.old }
+    ensures { OnOk result (Stands bench.new) }
+{
+    for worker in workers {
+        bench.turn(rt, *worker)?;
+    }
+    Ok(())
+}
+
+// A line, and the turns behind it.
+fn play_line<R: Wait>(rt: &R, mut bench: Bench, octets: &[u8], run: &Run) -> Result<Bench, Stop>
+    requires { Stands bench }
+    ensures { IfOk result Stands }
+{
+    let line = bench.read(octets)?;
+    let fence = matches!(line.kind, LineKind::Fence);
+    bench.take(rt, line)?;
+    turn_all(rt, &mut bench, run.turns.as_slice())?;
+    if fence {
+        return bench.close(rt, run.places);
+    }
+    Ok(bench)
+}
+
+// The lines of a text.
+fn pieces_of(alloc: Global, text: &[u8]) -> Result<Vec<&[u8]>, AllocError> {
+    let mut lines = Vec::new(alloc);
+    for line in text.split(|octet| *octet == b'\n') {
+        if !line.is_empty() {
+            lines.push(line)?;
+        }
+    }
+    Ok(lines)
+}
+
+// A trace, from its row to what is found of its report.
+fn play_lines<R: Wait>(
+    rt: &R,
+    alloc: Global,
+    run: &Run,
+    lines: &[u8],
+    text: &mut Text,
+) -> Result<(), Stop>
+    requires { IsGateway run.now.setup }
+{
+    let lines = pieces_of(alloc, lines)?;
+    let mut bench = Bench::new(alloc, run.setup, run.patience)?;
+    for octets in lines.as_slice() {
+        bench = play_line(rt, bench, octets, run)?;
+    }
+    bench.end(rt, run.places)?.push(text)
+}
+
+fn play<R: Wait>(rt: &R, alloc: Global, block: &[u8], text: &mut Text) -> Result<(), Stop> {
+    let (head, lines) = cut(b'\n', block);
+    match row_of(alloc, head)? {
+        Row::Run(run) => play_lines(rt, alloc, &run, lines.unwrap_or(&[]), text),
+        Row::Made { seed, runs } => play_made(rt, alloc, seed, runs, text),
+    }
+}
+
+fn play_all<R: Wait>(rt: &R, alloc: Global, octets: &[u8]) -> Result<Text, Stop> {
+    let mut text = Text::new(alloc);
+    for block in octets.split(|octet| *octet == b'#') {
+        if !block.is_empty() {
+            play(rt, alloc, block, &mut text)?;
+        }
+    }
+    Ok(text)
+}
+
+// Why standard input couldn't be read.
+fn unread(error: &io::Error) -> Stop {
+    match error.kind() {
+        io::ErrorKind::OutOfMemory => Stop::NoMemory,
+        _ => Stop::Row,
+    }
+}
+
+fn main(rt: HostRuntime) -> ExitCode {
+    let mut octets = Vec::new(rt.alloc());
+    let played = match rt.reader().read_to_end(&mut octets) {
+        Ok(_) => play_all(&rt, rt.alloc(), octets.as_slice()),
+        Err(error) => Err(unread(&error)),
+    };
+    let text = match played {
+        Ok(text) => text,
+        Err(Stop::NoMemory) => return ExitCode::from(5),
+        Err(Stop::Row) => return ExitCode::FAILURE,
+    };
+    match io::writer(&rt).write_all(text.as_slice()) {
+        Ok(()) => ExitCode::SUCCESS,
+        Err(_) => ExitCode::FAILURE,
+    }
+}
