@@ -1,3 +1,4 @@
 pub mod Resting
 pub mod Places
+pub mod Coming
 pub mod Turning

@@ -1,5 +1,5 @@
 -- One more epoch behind those that were driven.
-use Rattle.std.proofs.Common.{◌≡◌, ℕ, zero, suc, ◌+◌, ◌*◌, List, [], ◌∷◌, ◌++◌, length, drop, replicate, refl, sym, ap, ◌∙◌, arith, length-append, add-zero}
+use Rattle.std.proofs.Common.{◌≡◌, ℕ, zero, suc, ◌+◌, ◌*◌, List, [], ◌∷◌, ◌++◌, length, drop, replicate, refl, sym, ap, ◌∙◌, arith}
 use Rattle.trace_lines.specs.Line.{Line}
 use Rattle.demux.specs.Trace.{Meaning}
 use Rattle.lawful_run.specs.Cut.{lines_in}
@@ -7,18 +7,13 @@ use Rattle.lawful_run.specs.Merging.{Histories, behind}
 use Rattle.lawful_run.specs.Report.{EpochReport}
 use Rattle.lawful_run.specs.Run.{behind_all, told_in}
 use Rattle.lawful_run.specs.Trace.{meant_epochs, meant_from}
-use Rattle.lawful_run.proofs.CutLines.{length-meant_from}
+use Rattle.lawful_run.proofs.MoreEpochs.{first_behind}
 use Rattle.slice_schedule.specs.Turns.{state_behind}
 use Rattle.slice_schedule.specs.World.{Rooms}
 use Rattle.schedule_run.specs.TurnsTold.{drawn_told}
 use Rattle.driven_run.specs.Driven.{IsDriven}
 use Rattle.driven_run.specs.Runs.{AreDriven, bounds_behind}
 use Rattle.drive_run.specs.Driven.{Turns, listed, drawn, bounds_all, turns_by_epoch, turns_for, turns_left, turns_past}
-
--- the number of the next line behind epochs
-abbrev pub first_behind : ℕ → List (List Meaning) → ℕ
-first_behind first [] = first
-first_behind first (made ∷ epochs) = first_behind (first + length made) epochs
 
 -- how many there are
 pub told_length : (rooms : Rooms) (bounds : ℕ → ℕ) (given : List (List (List ℕ))) (slots first : ℕ) (before : Histories)
@@ -55,23 +50,6 @@ pub bounds_all-push : (bounds : ℕ → ℕ) (made : List (List Meaning)) (next 
     → bounds_all bounds (made ++ next ∷ []) ≡ bounds_behind (bounds_all bounds made) next
 bounds_all-push bounds [] next = refl
 bounds_all-push bounds (now ∷ made) next = bounds_all-push (bounds_behind bounds now) made next
-
-pub behind_all-push : (before : Histories) (made : List (List Meaning)) (next : List Meaning) (told : List EpochReport)
-    (entry : EpochReport) → length told ≡ length made
-    → behind_all before (made ++ next ∷ []) (told ++ entry ∷ [])
-    ≡ behind (behind_all before made told) (told_in next entry)
-behind_all-push before [] next [] entry same = refl
-behind_all-push before [] next (own ∷ told) entry same = absurd (omega (arith, same))
-behind_all-push before (now ∷ made) next [] entry same = absurd (omega (arith, same))
-behind_all-push before (now ∷ made) next (own ∷ told) entry same =
-    behind_all-push (behind before (told_in now own)) made next told entry (omega (arith, same))
-
-pub first_behind-meant : (slices first : ℕ) (before : List Line) (closed : List (List Line))
-    → first_behind first (meant_epochs slices before closed) ≡ first + length (lines_in closed)
-first_behind-meant slices first before [] = sym (add-zero first)
-first_behind-meant slices first before (epoch ∷ closed) =
-    first_behind-meant slices (first + length (meant_from slices before epoch)) (before ++ epoch) closed
-    ∙ omega (arith, length-meant_from slices before epoch, length-append epoch (lines_in closed))
 
 length-meant_epochs : (slices : ℕ) (before : List Line) (closed : List (List Line))
     → length (meant_epochs slices before closed) ≡ length closed

@@ -1,4 +1,3 @@
 pub mod EpochLemmas
-pub mod Texts
 pub mod StandLemmas
 pub mod Reports

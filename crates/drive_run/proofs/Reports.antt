@@ -2,46 +2,45 @@
 use Rattle.std.proofs.Common.{◌≡◌, ℕ, ◌+◌, ◌%◌, ◌≤◌, Bool, true, false, not, MatchBool, Option, None, Some, is_some, List, [], ◌∷◌, ◌++◌, codes, length, flat_map, map, refl, sym, ap, ap₂, subst, ◌∙◌, arith, length-append, append_assoc, append-nil, true≢false}
 use Rattle.trace_lines.specs.Input.{Stop, ended}
 use Rattle.trace_lines.specs.Line.{Line}
-use Rattle.trace_lines.specs.Word.{word_of}
 use Rattle.trace_lines.specs.declared.bad.LineBad.{LineBad}
 use Rattle.demux.specs.Trace.{Meaning, book_of}
 use Rattle.report_lines.specs.declared.entry.Entry.TheVariants as entry
-use Rattle.lawful_run.specs.Answers.{AnswersAll}
 use Rattle.lawful_run.specs.Cut.{IsCut, lines_in}
 use Rattle.lawful_run.specs.Merging.{Histories, behind}
 use Rattle.lawful_run.specs.Outcomes.{opens}
 use Rattle.lawful_run.specs.Report.{EpochReport, Report, epoch_entries}
 use Rattle.lawful_run.specs.Run.{behind_all, by_slot, no_events, told_in}
-use Rattle.lawful_run.specs.Trace.{epochs_from, epochs_told, meant_from, open_epoch, own_epoch, stop_noted}
-use Rattle.lawful_run.proofs.CutEpochs.{cut_means}
+use Rattle.lawful_run.specs.Trace.{epochs_told, meant_from, open_epoch, own_epoch, stop_noted}
 use Rattle.lawful_run.proofs.CutLines.{cut_closed, cut_nothing, epochs_are, length-meant_from, lines_in-push, meant_epochs-push}
+use Rattle.lawful_run.proofs.MoreEpochs.{behind_all-push}
 use Rattle.at_rest.specs.Rest.{IsBehind, Rest, RepresentsAll, bound_at, new_rest}
 use Rattle.slice_schedule.specs.World.{Rooms}
 use Rattle.schedule_run.specs.TurnsTold.{AreWorkers}
 use Rattle.epoch_drive.specs.Kept.{AreNone}
-use Rattle.epoch_drive.specs.Lines.{AreLater, latest_behind}
+use Rattle.at_rest.specs.Coming.{AreLater, latest_behind}
+use Rattle.at_rest.proofs.Coming.{latest-push, later-push}
 use Rattle.at_rest.specs.Meant.{AreStanding, Stand}
 use Rattle.epoch_drive.specs.Taken.{HasTaken, IsResting, MayCome}
 use Rattle.epoch_drive.specs.declared.gateway.Gateway.{Gateway}
 use Rattle.epoch_drive.specs.declared.kept.EpochLines.{EpochLines}
 use Rattle.epoch_drive.proofs.Keeping.{lines_begin}
 use Rattle.driven_run.specs.Driven.{IsDriven}
-use Rattle.driven_run.specs.Noted.{with_note}
 use Rattle.driven_run.specs.Runs.{AreDriven}
-use Rattle.driven_run.proofs.NotedEpoch.{events_noted, note_is_driven}
-use Rattle.trace_run.specs.Entries.{charges_text, closing_text, lines_text}
+use Rattle.driven_run.proofs.NotedEpoch.{note_is_driven}
+use Rattle.trace_run.specs.Entries.{charges_text, closing_text, epochs_text, lines_text}
 use Rattle.trace_run.specs.Lines.{stop_of}
+use Rattle.trace_run.specs.Noted.{bad_at, meant_all, noted, noted_entry, noted_meant, words_of}
 use Rattle.trace_run.specs.Reporting.{IsDue, SaysEpochs}
 use Rattle.trace_run.specs.Takers.{IsNextOf}
 use Rattle.trace_run.specs.declared.ending.Ending.{Ending}
-use Rattle.trace_run.specs.declared.ending.Ending.TheVariants.{Ended, ReadFault, BadLine, LineLong, TooLong}
 use Rattle.drive_run.specs.Driven.{IsDrivenReport, Schedule, Turns, drawn, listed, rooms_in, turns_by_epoch, turns_for, turns_in, turns_left}
-use Rattle.drive_run.specs.Standing.{Drove, DroveAll, DroveLines, DroveOn, Stands, bad_at, driven_text, events_behind, homes, meant_all, meant_in, noted, noted_meant, schedule_of}
+use Rattle.drive_run.specs.Standing.{Drove, DroveAll, DroveLines, DroveOn, Stands, events_behind, homes, meant_in, schedule_of}
 use Rattle.drive_run.specs.declared.driver.Driver.{Driver}
 use Rattle.lawful_run.proofs.BookGrows.{book_grows_all}
-use Rattle.drive_run.proofs.EpochLemmas.{behind_all-push, driven_untold, length-turns_for, told_length, turns_by_epoch-push}
+use Rattle.drive_run.proofs.EpochLemmas.{driven_untold, length-turns_for, told_length, turns_by_epoch-push}
 use Rattle.drive_run.proofs.StandLemmas.{drives_more}
-use Rattle.trace_run.proofs.EntryLemmas.{epochs_text-push, lines-append, texts-append}
+use Rattle.trace_run.proofs.EntryLemmas.{texts-append}
+use Rattle.trace_run.proofs.NotedLemmas.{cut_so, noted_behind, on_text, own_so, same_note, some_noted}
 
 -- ---- between two epochs
 
@@ -106,15 +105,6 @@ begins_so now rest slices room lane is represents behind resting none workers = 
 
 -- ---- one line more
 
-later-push : (latest : ℕ) (lines : List Line) (line : Line) → AreLater latest lines
-    → latest_behind latest lines ≤ line.moment → AreLater latest (lines ++ line ∷ [])
-later-push latest [] line later last = (last, tt)
-later-push latest (first ∷ lines) line later last = (later.0, later-push first.moment lines line later.1 last)
-
-latest-push : (latest : ℕ) (lines : List Line) (line : Line) → latest_behind latest (lines ++ line ∷ []) ≡ line.moment
-latest-push latest [] line = refl
-latest-push latest (first ∷ lines) line = latest-push first.moment lines line
-
 pub takes_so : (first old now : Driver) (done : List Line) (latest : ℕ) (closed : List (List Line)) (open_ : List Line)
     (sent waiting : List ℕ) (line : Line) → Drove first old done latest closed open_ sent waiting
     → IsNextOf done latest line → (now.turns ≡ old.turns) × (now.places ≡ old.places)
@@ -143,23 +133,18 @@ abbrev report_of : (schedule : Schedule) (done : List Line) (closed : List (List
 report_of schedule done closed open_ bad told = record {
   epochs = told;
   opens = by_slot (length (book_of done))
-      (λ slot. opens slot (behind_all no_events (meant_all schedule closed open_ bad) told slot));
+      (λ slot. opens slot (behind_all no_events (meant_all schedule.slices closed open_ bad) told slot));
 }
 
 is_report : (schedule : Schedule) (done : List Line) (closed : List (List Line)) (open_ : List Line) (stop : Stop)
     (bad : Option LineBad) (told : List EpochReport) → IsCut done closed open_ → stop_noted stop ≡ noted_meant bad
     → AreDriven (rooms_in schedule) (homes schedule)
     (turns_by_epoch schedule.turns schedule.slices (closed ++ open_epoch open_)) (length (book_of done)) 1 no_events
-    (meant_all schedule closed open_ bad) told
+    (meant_all schedule.slices closed open_ bad) told
     → IsDrivenReport schedule (record { lines = done; stop = stop }) (report_of schedule done closed open_ bad told)
 is_report schedule done closed open_ stop bad told cut same driven =
     let slots = length (book_of done) in
-    let means : epochs_told schedule.slices (record { lines = done; stop = stop })
-    ≡ meant_all schedule closed open_ bad =
-    ap (λ epochs. epochs_from schedule.slices [] epochs (stop_noted stop)) (epochs_are done closed open_ cut)
-    ∙ cut_means schedule.slices [] closed open_ (stop_noted stop) cut.whole cut.unfinished
-    ∙ ap (λ last. meant_in schedule closed ++ own_epoch (meant_from schedule.slices (lines_in closed) open_ ++ last))
-    same in
+    let means = cut_so schedule.slices done closed open_ stop bad cut same in
     record {
       epochs = subst (λ epochs. AreDriven (rooms_in schedule) (homes schedule)
           (turns_by_epoch schedule.turns schedule.slices epochs) slots 1 no_events
@@ -177,10 +162,10 @@ driven_whole : (schedule : Schedule) (closed : List (List Line)) (told : List Ep
     no_events (meant_in schedule closed) told
     → AreDriven (rooms_in schedule) (homes schedule)
     (turns_by_epoch schedule.turns schedule.slices (closed ++ open_epoch [])) slots 1 no_events
-    (meant_all schedule closed [] None) told
+    (meant_all schedule.slices closed [] None) told
 driven_whole schedule closed told slots driven =
     subst (λ epochs. AreDriven (rooms_in schedule) (homes schedule)
-    (turns_by_epoch schedule.turns schedule.slices epochs) slots 1 no_events (meant_all schedule closed [] None) told)
+    (turns_by_epoch schedule.turns schedule.slices epochs) slots 1 no_events (meant_all schedule.slices closed [] None) told)
     (sym (append-nil closed))
     (subst (λ made. AreDriven (rooms_in schedule) (homes schedule)
     (turns_by_epoch schedule.turns schedule.slices closed) slots 1 no_events made told)
@@ -208,27 +193,6 @@ says_nothing schedule places = record {
 }
 
 -- ---- the open epoch
-
--- its text, with the note of a bad line
-abbrev noted_entry : EpochReport → Option LineBad → ℕ → EpochReport
-noted_entry told None n = told
-noted_entry told (Some why) n = with_note told n (codes "line" ++ 32 ∷ word_of why)
-
-noted_text : (places : Bool) (told : EpochReport) (bad : Option LineBad) (n : ℕ)
-    → lines_text places (noted_entry told bad n).lines ++ closing_text places (noted_entry told bad n)
-    ≡ lines_text places told.lines ++ lines_text places (noted bad n) ++ closing_text places told
-noted_text places told None n =
-    ap (λ lines. lines ++ closing_text places told) (sym (append-nil (lines_text places told.lines)))
-noted_text places told (Some why) n =
-    ap (λ lines. lines ++ closing_text places told) (lines-append places told.lines (noted (Some why) n))
-
-on_text : (places : Bool) (told : List EpochReport) (now : EpochReport) (bad : Option LineBad) (n : ℕ)
-    (sent text : List ℕ) → sent ≡ driven_text places told
-    → text ≡ lines_text places now.lines ++ lines_text places (noted bad n) ++ closing_text places now
-    → sent ++ text ≡ driven_text places (told ++ noted_entry now bad n ∷ [])
-on_text places told now bad n sent text before behind =
-    ap₂ (λ one two. one ++ two) before (behind ∙ sym (noted_text places now bad n))
-    ∙ sym (epochs_text-push places told (noted_entry now bad n))
 
 pub closes_so : (first old now : Driver) (done : List Line) (latest : ℕ) (closed : List (List Line))
     (open_ : List Line) (sent : List ℕ) (n : ℕ) (text : List ℕ)
@@ -300,17 +264,7 @@ noted_driven : (rooms : Rooms) (bounds : ℕ → ℕ) (turned : List (List ℕ))
 noted_driven rooms bounds turned slots first before made told None same is =
     subst (λ all. IsDriven rooms bounds turned slots first before all told) (sym (append-nil made)) is
 noted_driven rooms bounds turned slots first before made told (Some why) same is =
-    note_is_driven rooms bounds turned slots first before made told (codes "line" ++ 32 ∷ word_of why) same is
-
--- and a note is no event
-noted_behind : (first : ℕ) (before : Histories) (made : List Meaning) (told : EpochReport) (bad : Option LineBad)
-    (all : AnswersAll first made told.lines)
-    → behind before (told_in (made ++ noted_meant bad) (noted_entry told bad (first + length made)))
-    ≡ behind before (told_in made told)
-noted_behind first before made told None all =
-    ap (λ lines. behind before (told_in lines told)) (append-nil made)
-noted_behind first before made told (Some why) all =
-    λ i slot. before slot ++ events_noted first before made told (codes "line" ++ 32 ∷ word_of why) all slot i
+    note_is_driven rooms bounds turned slots first before made told (words_of why) same is
 
 -- behind no lines there are no turns
 no_turns : (turns : Turns) (slices : ℕ) → turns_for turns slices 0 ≡ []
@@ -343,19 +297,6 @@ some_lines schedule turns closed told (line ∷ open_) noted slots goes_on some 
     (ap (λ t. turns_by_epoch schedule.turns schedule.slices closed
     ++ turns_for t schedule.slices (length (line ∷ open_)) ∷ []) goes_on
     ∙ sym (turns_by_epoch-push schedule.turns schedule.slices closed (line ∷ open_))) driven
-
-some_noted : (open_ : List Line) (bad : Option LineBad) → (open_ ≡ [] → bad ≡ None → ⊥)
-    → open_ ≡ [] → noted_meant bad ≡ [] → ⊥
-some_noted open_ None some none_open none = some none_open refl
-some_noted open_ (Some why) some none_open none = cc
-
-own_so : (schedule : Schedule) (closed : List (List Line)) (open_ : List Line) (bad : Option LineBad)
-    → (open_ ≡ [] → noted_meant bad ≡ [] → ⊥)
-    → meant_in schedule closed ++ (meant_from schedule.slices (lines_in closed) open_ ++ noted_meant bad) ∷ []
-    ≡ meant_all schedule closed open_ bad
-own_so schedule closed [] None some = absurd (some refl refl)
-own_so schedule closed [] (Some why) some = refl
-own_so schedule closed (line ∷ open_) bad some = refl
 
 pub all_so : (first old now : Driver) (done : List Line) (latest : ℕ) (closed : List (List Line))
     (open_ : List Line) (sent : List ℕ) (bad : Option LineBad) (n : ℕ) (text : List ℕ)
@@ -416,20 +357,12 @@ all_so first old now done latest closed open_ sent bad n text counted some on =
       represents = stand_still on.rest now.gateway now.lines _ on.opened
           (subst (RepresentsAll on.rest) (events ∙ ap (λ epochs. behind_all no_events epochs
           (told ++ noted_entry on.entry bad n ∷ []))
-          (own_so schedule closed open_ bad (some_noted open_ bad some))) on.stands.represents);
+          (own_so schedule.slices closed open_ bad (some_noted open_ bad some))) on.stands.represents);
       slots = slots_so on.rest now.gateway now.lines done on.opened
           (subst (IsBehind on.rest) (lines_in-push closed open_ ∙ sym on.so_far.parts) on.stands.behind);
       places = on.places;
       said = on_text first.places told on.entry bad n sent text on.so_far.said on.said;
     }
-
--- whether no epoch is open, and no line is bad
-pub both_none : (none : Bool) (taken : List Line) (bad : Option LineBad) → is_some bad ≡ not none → taken ≡ []
-    → MatchBool none ((taken ≡ []) × (bad ≡ None)) (taken ≡ [] → bad ≡ None → ⊥)
-both_none true taken None is empty = (empty, refl)
-both_none false taken None is empty = absurd (true≢false (sym is))
-both_none true taken (Some why) is empty = absurd (true≢false is)
-both_none false taken (Some why) is empty = λ same other. cc
 
 -- no epoch is open, and no line is bad
 pub none_so : (first now : Driver) (done : List Line) (latest : ℕ) (closed : List (List Line))
@@ -454,18 +387,11 @@ none_so first now done latest closed sent waiting so_far =
 
 -- ---- the end
 
-same_note : (ending : Ending) (n : ℕ) → stop_noted (stop_of ending n) ≡ noted_meant (bad_at ending)
-same_note Ended n = refl
-same_note ReadFault n = refl
-same_note (BadLine why) n = refl
-same_note LineLong n = refl
-same_note TooLong n = refl
-
 pub due_so : (first now : Driver) (done : List Line) (closed : List (List Line)) (open_ : List Line)
     (ending : Ending) (sent text after : List ℕ) → IsCut done closed open_
     → (all : DroveAll first now done closed open_ (bad_at ending) (sent ++ text))
     → after ≡ text ++ charges_text first.places (by_slot (length now.gateway.subscribers.items)
-    (λ slot. opens slot (behind_all no_events (meant_all (schedule_of first) closed open_ (bad_at ending)) all.told slot)))
+    (λ slot. opens slot (behind_all no_events (meant_all (schedule_of first).slices closed open_ (bad_at ending)) all.told slot)))
     → IsDue (IsDrivenReport (schedule_of first)) first.places ending done (sent ++ after)
 due_so first now done closed open_ ending sent text after cut all appended =
     let schedule = schedule_of first in
@@ -478,9 +404,9 @@ due_so first now done closed open_ ending sent text after cut all appended =
           (same_note ending (length done + 1)) all.driven;
       written = ap (λ t. sent ++ t) appended
           ∙ sym (append_assoc sent text (charges_text first.places (by_slot (length now.gateway.subscribers.items)
-          (λ slot. opens slot (behind_all no_events (meant_all schedule closed open_ bad) all.told slot)))))
+          (λ slot. opens slot (behind_all no_events (meant_all schedule.slices closed open_ bad) all.told slot)))))
           ∙ ap₂ (λ one two. one ++ two) all.said
           (ap (λ m. charges_text first.places (by_slot m
-          (λ slot. opens slot (behind_all no_events (meant_all schedule closed open_ bad) all.told slot)))) slots)
+          (λ slot. opens slot (behind_all no_events (meant_all schedule.slices closed open_ bad) all.told slot)))) slots)
           ∙ sym (texts-append first.places (flat_map epoch_entries all.told) (map entry.Charge report.opens));
     }

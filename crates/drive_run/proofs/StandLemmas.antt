@@ -18,7 +18,8 @@ use Rattle.epoch_drive.specs.Lines.{rooms_of}
 use Rattle.drive_run.specs.Driven.{Schedule, bounds_all, rooms_in, turns_by_epoch, turns_for, turns_in, turns_past}
 use Rattle.drive_run.specs.Standing.{DrivesNext, Stands, events_behind, homes, meant_in}
 use Rattle.lawful_run.proofs.BookGrows.{book_grows_all}
-use Rattle.drive_run.proofs.EpochLemmas.{behind_all-push, bounds_all-push, driven-push, first_behind-meant, same_many, told_length, turns_by_epoch-push, turns_left-push}
+use Rattle.lawful_run.proofs.MoreEpochs.{behind_all-push, first_behind-meant}
+use Rattle.drive_run.proofs.EpochLemmas.{bounds_all-push, driven-push, same_many, told_length, turns_by_epoch-push, turns_left-push}
 
 -- the turns that the code has
 told_for : (given : run.Turns) (slices n : ℕ) → turns_told given slices n ≡ turns_for (turns_in given) slices n

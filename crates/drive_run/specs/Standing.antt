@@ -1,30 +1,25 @@
 -- What stands behind epochs that were driven.
-use Rattle.std.specs.Prelude.{◌≡◌, ℕ, ◌+◌, ◌≤◌, ◌%◌, ◌^◌, Bool, Option, None, Some, List, [], ◌∷◌, ◌++◌, length, codes}
-use Rattle.std.specs.Prelude.{flat_map}
+use Rattle.std.specs.Prelude.{◌≡◌, ℕ, ◌+◌, ◌≤◌, ◌%◌, ◌^◌, Bool, Option, List, [], ◌∷◌, ◌++◌, length}
 use Rattle.trace_lines.specs.Line.{Line}
-use Rattle.trace_lines.specs.Word.{word_of}
 use Rattle.trace_lines.specs.declared.bad.LineBad.{LineBad}
-use Rattle.demux.specs.Trace.{Meaning, book_of, note}
-use Rattle.report_lines.specs.declared.entry.LineEntry.{LineEntry}
-use Rattle.report_lines.specs.declared.entry.LineEntry.TheVariants as line_entry
+use Rattle.demux.specs.Trace.{Meaning, book_of}
 use Rattle.lawful_run.specs.Cut.{lines_in}
 use Rattle.lawful_run.specs.Merging.{Histories}
-use Rattle.lawful_run.specs.Report.{EpochReport, epoch_entries, texts_of}
+use Rattle.lawful_run.specs.Report.{EpochReport}
 use Rattle.lawful_run.specs.Run.{behind_all, no_events}
-use Rattle.lawful_run.specs.Trace.{meant_epochs, meant_from, open_epoch, own_epoch}
+use Rattle.lawful_run.specs.Trace.{meant_epochs, meant_from, open_epoch}
 use Rattle.at_rest.specs.Rest.{IsBehind, Rest, RepresentsAll, bound_at}
 use Rattle.schedule_run.specs.TurnsTold.{AreWorkers}
 use Rattle.schedule_run.specs.declared.turns.Turns as run
-use Rattle.epoch_drive.specs.Lines.{AreLater, latest_behind}
+use Rattle.at_rest.specs.Coming.{AreLater, latest_behind}
 use Rattle.at_rest.specs.Meant.{AreStanding}
 use Rattle.epoch_drive.specs.Taken.{HasTaken}
 use Rattle.epoch_drive.specs.declared.gateway.Gateway.{Gateway}
 use Rattle.epoch_drive.specs.declared.kept.EpochLines.{EpochLines}
 use Rattle.driven_run.specs.Driven.{IsDriven}
 use Rattle.driven_run.specs.Runs.{AreDriven}
-use Rattle.trace_run.specs.Entries.{closing_text, lines_text}
-use Rattle.trace_run.specs.declared.ending.Ending.{Ending}
-use Rattle.trace_run.specs.declared.ending.Ending.TheVariants.{Ended, ReadFault, BadLine, LineLong, TooLong}
+use Rattle.trace_run.specs.Entries.{closing_text, epochs_text, lines_text}
+use Rattle.trace_run.specs.Noted.{meant_all, noted}
 use Rattle.drive_run.specs.Driven.{Schedule, Turns, bounds_all, rooms_in, turns_by_epoch, turns_for, turns_in}
 use Rattle.drive_run.specs.Driven.{turns_left}
 use Rattle.drive_run.specs.declared.driver.Driver.{Driver}
@@ -65,15 +60,6 @@ DrivesNext schedule rest turns closed told lines now = (slots : ℕ) → length 
     (1 + length (lines_in closed)) (events_behind schedule closed told)
     (meant_from schedule.slices (lines_in closed) lines) now
 
--- what a line that can't be read means, and its entry
-abbrev pub noted_meant : Option LineBad → List Meaning
-noted_meant None = []
-noted_meant (Some why) = note (codes "line" ++ 32 ∷ word_of why) ∷ []
-
-abbrev pub noted : Option LineBad → ℕ → List LineEntry
-noted None n = []
-noted (Some why) n = line_entry.N (record { line = n; note = codes "line" ++ 32 ∷ word_of why }) ∷ []
-
 -- so the epoch was driven and told
 pub record Drives (schedule : Schedule) (old : Rest) (old_turns : run.Turns) (closed : List (List Line))
     (told : List EpochReport) (lines : List Line) (bad : Option LineBad) (n : ℕ) (places : Bool)
@@ -103,9 +89,6 @@ schedule_of first = record {
   turns = turns_in first.turns;
 }
 
-abbrev pub driven_text : Bool → List EpochReport → List ℕ
-driven_text places told = texts_of places (flat_map epoch_entries told)
-
 -- A run began with the first and has come to these lines: the whole epochs are driven and told, and the lines of the
 -- open one are taken.
 pub record Drove (first now : Driver) (done : List Line) (latest : ℕ) (closed : List (List Line)) (open_ : List Line)
@@ -120,7 +103,7 @@ pub record Drove (first now : Driver) (done : List Line) (latest : ℕ) (closed 
   pub workers : AreWorkers start.slices now.turns
   pub later : AreLater start.latest open_
   pub latest_is : latest_behind start.latest open_ ≡ latest
-  pub said : sent ≡ driven_text first.places told
+  pub said : sent ≡ epochs_text first.places told
   pub waits : waiting ≡ []
 
 -- The open epoch was driven: these epochs were told before it, and now one more.
@@ -138,28 +121,15 @@ pub record DroveOn (first old now : Driver) (done : List Line) (latest : ℕ) (c
   pub said : text ≡ lines_text first.places entry.lines ++ lines_text first.places (noted bad n)
       ++ closing_text first.places entry
 
--- what the last epoch means, with the note of a bad line, and all before it
-abbrev pub meant_all : Schedule → List (List Line) → List Line → Option LineBad → List (List Meaning)
-meant_all schedule closed open_ bad =
-    meant_in schedule closed ++ own_epoch (meant_from schedule.slices (lines_in closed) open_ ++ noted_meant bad)
-
 -- the open epoch is driven too, if there is one
 pub record DroveAll (first now : Driver) (done : List Line) (closed : List (List Line)) (open_ : List Line)
     (bad : Option LineBad) (text : List ℕ) : Type 0 where
   pub told : List EpochReport
   pub driven : AreDriven (rooms_in (schedule_of first)) (homes (schedule_of first))
       (turns_by_epoch (turns_in first.turns) first.gateway.slices (closed ++ open_epoch open_))
-      (length (book_of done)) 1 no_events (meant_all (schedule_of first) closed open_ bad) told
+      (length (book_of done)) 1 no_events (meant_all (schedule_of first).slices closed open_ bad) told
   pub represents : AreStanding now.gateway.subscribers.items
-      (behind_all no_events (meant_all (schedule_of first) closed open_ bad) told)
+      (behind_all no_events (meant_all (schedule_of first).slices closed open_ bad) told)
   pub slots : length now.gateway.subscribers.items ≡ length (book_of done)
   pub places : now.places ≡ first.places
-  pub said : text ≡ driven_text first.places told
-
--- why the next line can't be read, where lines end so
-abbrev pub bad_at : Ending → Option LineBad
-bad_at Ended = None
-bad_at ReadFault = None
-bad_at (BadLine why) = Some why
-bad_at LineLong = None
-bad_at TooLong = None
+  pub said : text ≡ epochs_text first.places told

@@ -13,7 +13,7 @@ ghost use Rattle.epoch_drive.specs.Taken.{HasTaken};
 ghost use Rattle.trace_run.specs.Entries.{charges_text};
 ghost use Rattle.trace_run.specs.Reporting.{IsDue, SaysEpochs};
 ghost use Rattle.drive_run.specs.Driven.{IsDrivenReport, turns_in};
-ghost use Rattle.drive_run.specs.Standing.{Drove, DroveAll, DroveOn, bad_at, schedule_of};
+ghost use Rattle.drive_run.specs.Standing.{Drove, DroveAll, DroveOn, schedule_of};
 
 use crate::epochs::drive_lines;
 use at_rest::AtRest;
@@ -22,7 +22,7 @@ use schedule_run::Turns;
 use std::alloc::{AllocError, Global};
 use text_fields::Text;
 use trace_lines::{LineBad, TraceLine};
-use trace_run::{Ending, Reporter, push_opens};
+use trace_run::{Ending, Reporter, bad_at, push_opens};
 
 /// Drives a trace epoch by epoch: the gateway, what the lines of the open epoch mean, and how its turns go on.
 #[derive(Drop)]
@@ -125,16 +125,6 @@ fn push_counters(text: &mut Text, gateway: &Gateway) -> Result<(), AllocError>
         (λ slot. opens slot (events slot)))) }
 {
     push_opens(text, gateway.subscribers.as_slice())
-}
-
-// Why the next line can't be read, where a run ends so.
-fn bad_at(ending: Ending) -> Option<LineBad>
-    ensures { result ≡ bad_at ending }
-{
-    match ending {
-        Ending::BadLine(why) => Some(why),
-        Ending::Ended | Ending::ReadFault | Ending::LineLong | Ending::TooLong => None,
-    }
 }
 
 impl Reporter for Driver {

@@ -7,8 +7,9 @@ ghost use Rattle.at_rest.specs.Rest.{Rest};
 ghost use Rattle.epoch_drive.specs.Taken.{HasTaken, MayCome};
 ghost use Rattle.epoch_drive.specs.Telling.{AreShort, told_by};
 ghost use Rattle.trace_run.specs.Entries.{closing_text, lines_text};
+ghost use Rattle.trace_run.specs.Noted.{noted};
 ghost use Rattle.drive_run.specs.Driven.{Schedule};
-ghost use Rattle.drive_run.specs.Standing.{DroveLines, Stands, noted};
+ghost use Rattle.drive_run.specs.Standing.{DroveLines, Stands};
 
 use crate::telling::push_lines;
 use epoch_drive::{Epoch, EpochLines, Gateway};
@@ -16,17 +17,7 @@ use schedule_run::Turns;
 use std::alloc::AllocError;
 use text_fields::Text;
 use trace_lines::LineBad;
-use trace_run::{push_bad, push_effects, push_records};
-
-// Appends the note of a bad line, where there is one.
-fn push_noted(report: &mut Text, bad: Option<LineBad>, number: u64) -> Result<(), AllocError>
-    ensures { (places : Bool) → OnOk result (report.new ≡ report.old ++ lines_text places (noted bad number)) }
-{
-    match bad {
-        Some(why) => push_bad(report, number, why),
-        None => Ok(()),
-    }
-}
+use trace_run::push_closing;
 
 // Appends what is told of an epoch, with the note of a bad line of this number behind the entries of its lines.
 fn tell(
@@ -41,9 +32,13 @@ fn tell(
         ++ lines_text places (noted bad number) ++ closing_text places (told_by epoch.now))) }
 {
     push_lines(report, epoch.lines.as_slice(), places)?;
-    push_noted(report, bad, number)?;
-    push_effects(report, epoch.effects.as_slice())?;
-    push_records(report, epoch.rows.as_slice())
+    push_closing(
+        report,
+        bad,
+        number,
+        epoch.effects.as_slice(),
+        epoch.rows.as_slice(),
+    )
 }
 
 /// Drives the lines of the open epoch, and appends its text, with the note of a bad line of this number behind the

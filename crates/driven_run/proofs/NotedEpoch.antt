@@ -1,24 +1,19 @@
 -- A note behind an epoch's lines changes nothing that is told of them.
-use Rattle.std.proofs.Common.{◌≡◌, ℕ, zero, suc, true, false, min, replicate, ◌+◌, ◌-◌, ◌<◌, List, [], ◌∷◌, ◌++◌, Option, None, Some, map, filter_map, length, fold, drop, nat_le, cond, refl, sym, ap, ap₂, subst, ◌∙◌, arith, append-nil, add-zero}
+use Rattle.std.proofs.Common.{◌≡◌, ℕ, zero, suc, true, false, min, replicate, ◌+◌, ◌-◌, ◌<◌, List, [], ◌∷◌, ◌++◌, Some, map, length, fold, drop, nat_le, cond, refl, sym, ap, ◌∙◌, arith}
 use Rattle.std.proofs.lemmas.List.{map-append}
-use Rattle.std.proofs.lemmas.List.Elements.{filter_map-append}
 use Rattle.std.proofs.lemmas.List.Sums.{fold-append}
-use Rattle.std.specs.List.{cons_option, prefix_len}
+use Rattle.std.specs.List.{prefix_len}
 use Rattle.demux.specs.Trace.{Meaning, command, packet, move, note}
 use Rattle.gate_model.specs.Events.{commands_of, packets_of}
-use Rattle.gate_model.specs.declared.event.Event.{Event}
 use Rattle.pc_base.specs.declared.packet.Place.TheVariants.{Closing}
-use Rattle.report_lines.specs.declared.entry.LineEntry.{LineEntry}
-use Rattle.report_lines.specs.declared.entry.LineEntry.TheVariants as line
-use Rattle.lawful_run.specs.Accepted.{accepted_command, accepted_packet, commands_accepted, packets_accepted}
-use Rattle.lawful_run.specs.Answers.{Answers, AnswersAll}
 use Rattle.lawful_run.specs.Bounds.{count_before}
-use Rattle.lawful_run.specs.LinesTold.{LineTold, lines_told}
-use Rattle.lawful_run.specs.Merging.{Histories, merged}
+use Rattle.lawful_run.specs.Merging.{Histories}
+use Rattle.lawful_run.specs.Noted.{note_entry, with_note}
 use Rattle.lawful_run.specs.Outcomes as made_of
 use Rattle.lawful_run.specs.Report.{EpochReport}
-use Rattle.lawful_run.specs.Run.{by_slot, events_now, told_in}
+use Rattle.lawful_run.specs.Run.{by_slot}
 use Rattle.lawful_run.specs.Telling.{command_number, packet_number, commands_told, counted, reply_told, verdict_told}
+use Rattle.lawful_run.proofs.NotedEpoch.{answers_noted, commands_noted, entry_noted, events_noted, packets_noted}
 use Rattle.slice_schedule.specs.Front as ask
 use Rattle.slice_schedule.specs.Front.{back, control_back, control_home, flow_back, flow_home, control_ordered, control_offer_at, control_offer, flow_ordered, flow_offer_at, flow_offer, drained, drain_at, drain, controls_home, controls_offered, flows_home, flows_offered, pumped}
 use Rattle.slice_schedule.specs.Halves.{close_one, closed}
@@ -28,7 +23,7 @@ use Rattle.slice_schedule.specs.Slots.{CommandTags, Met, SlotNow, Standing, abse
 use Rattle.slice_schedule.specs.World.{World, Rooms, ControlOrder, FlowOrder, come, go, arrive, item, leave, order_room, has_room, slot_at, on_slot, control_at, on_control, flow_at, on_flow, start}
 use Rattle.slice_schedule.proofs.Keeping.{cond_keeps, fold_keeps, for_each_keeps, put_each}
 use Rattle.driven_run.specs.Driven.{IsDriven, asks_of, driven, mets_driven, outcome_told, place_told}
-use Rattle.driven_run.specs.Noted.{NoteIsDriven, with_note}
+use Rattle.driven_run.specs.Noted.{NoteIsDriven}
 
 -- ---- what the closing pass looks at
 
@@ -190,102 +185,44 @@ outcomes_noted rooms bounds world (now ∷ lines) =
     ap (λ outcomes. (line_of rooms bounds world now).outcome ∷ outcomes)
     (outcomes_noted rooms bounds (behind_line rooms bounds world now) lines)
 
--- ---- the entries with its entry behind them
+-- ---- the epoch with it
 
-abbrev note_entry : ℕ → List ℕ → LineEntry
-note_entry n text = line.N (record { line = n; note = text })
-
-answers_noted : (first : ℕ) (made : List Meaning) (entries : List LineEntry) (text : List ℕ)
-    → AnswersAll first made entries
-    → AnswersAll first (made ++ note text ∷ []) (entries ++ note_entry (first + length made) text ∷ [])
-answers_noted first [] [] text all = (ap (λ n. record { line = n; note = text }) (add-zero first), tt)
-answers_noted first [] (entry ∷ entries) text all = absurd all
-answers_noted first (now ∷ made) [] text all = absurd all
-answers_noted first (now ∷ made) (entry ∷ entries) text all = (
-  all.0,
-  subst (λ n. AnswersAll (first + 1) (made ++ note text ∷ []) (entries ++ note_entry n text ∷ []))
-      (omega arith)
-      (answers_noted (first + 1) made entries text all.1),
-)
-
-told_noted : (first : ℕ) (made : List Meaning) (entries : List LineEntry) (last : LineEntry) (text : List ℕ)
-    → AnswersAll first made entries
-    → lines_told (made ++ note text ∷ []) (entries ++ last ∷ [])
-    ≡ lines_told made entries ++ record { meaning = note text; entry = last } ∷ []
-told_noted first [] [] last text all = refl
-told_noted first [] (entry ∷ entries) last text all = absurd all
-told_noted first (now ∷ made) [] last text all = absurd all
-told_noted first (now ∷ made) (entry ∷ entries) last text all =
-    ap (λ lines. record { meaning = now; entry = entry } ∷ lines)
-    (told_noted (first + 1) made entries last text all.1)
-
--- a selector that gives nothing of the note
-none_more : {X Y : Type 0} (select : X → Option Y) (items : List X) (last : X) → select last ≡ None
-    → filter_map select (items ++ last ∷ []) ≡ filter_map select items
-none_more select items last none =
-    filter_map-append select items (last ∷ []) ∙ ap (λ more. filter_map select items ++ cons_option more []) none
-    ∙ append-nil (filter_map select items)
-
-module _ (first : ℕ) (before : Histories) (made : List Meaning) (told : EpochReport) (text : List ℕ)
-    (all : AnswersAll first made told.lines) where
-  abbrev now_told : List LineTold
-  now_told = told_in (made ++ note text ∷ []) (with_note told (first + length made) text)
-
-  lines_are : now_told ≡ told_in made told
-      ++ record { meaning = note text; entry = note_entry (first + length made) text } ∷ []
-  lines_are = told_noted first made told.lines (note_entry (first + length made) text) text all
-
-  commands_same : (slot : ℕ) → commands_accepted slot now_told ≡ commands_accepted slot (told_in made told)
-  commands_same slot =
-      ap (commands_accepted slot) lines_are
-      ∙ none_more (accepted_command slot) (told_in made told)
-      (record { meaning = note text; entry = note_entry (first + length made) text }) refl
-
-  packets_same : (slot : ℕ) → packets_accepted slot now_told ≡ packets_accepted slot (told_in made told)
-  packets_same slot =
-      ap (packets_accepted slot) lines_are
-      ∙ none_more (accepted_packet slot) (told_in made told)
-      (record { meaning = note text; entry = note_entry (first + length made) text }) refl
-
-  pub events_noted : (slot : ℕ)
-      → events_now before (made ++ note text ∷ []) (with_note told (first + length made) text) slot
-      ≡ events_now before made told slot
-  events_noted slot =
-      ap₂ (merged (length (commands_of (before slot))) (length (packets_of (before slot))))
-      (commands_same slot) (packets_same slot)
-
-  entry_same : {Y : Type 0} (select : LineEntry → Option Y) → select (note_entry (first + length made) text) ≡ None
-      → filter_map select (told.lines ++ note_entry (first + length made) text ∷ []) ≡ filter_map select told.lines
-  entry_same select none = none_more select told.lines (note_entry (first + length made) text) none
-
-  note_driven : (rooms : Rooms) (bounds : ℕ → ℕ) (turns : List (List ℕ)) (slots : ℕ) → length turns ≡ length made
-      → IsDriven rooms bounds turns slots first before made told
-      → IsDriven rooms bounds turns slots first before (made ++ note text ∷ []) (with_note told (first + length made) text)
-  note_driven rooms bounds turns slots same is = record {
-    one_each = answers_noted first made told.lines text is.one_each;
-    command_numbers = λ slot. entry_same (command_number slot) refl ∙ is.command_numbers slot
-        ∙ ap (λ (cs : _). counted (length (commands_of (before slot))) (length cs)) (sym (commands_same slot));
-    packet_numbers = λ slot. entry_same (packet_number slot) refl ∙ is.packet_numbers slot
-        ∙ ap (λ (ps : _). counted (length (packets_of (before slot))) (length ps)) (sym (packets_same slot));
-    replies = λ slot. entry_same (reply_told slot) refl ∙ is.replies slot
-        ∙ ap (made_of.replies slot (before slot)) (sym (events_noted slot));
-    verdicts = λ slot. entry_same (verdict_told slot) refl ∙ is.verdicts slot
-        ∙ ap (made_of.verdicts slot (before slot)) (sym (events_noted slot));
-    effects = is.effects
-        ∙ λ i. by_slot slots (λ slot. made_of.effects slot (before slot) (sym (events_noted slot) i));
-    rows = is.rows
-        ∙ λ i. by_slot slots (λ slot. made_of.rows slot (before slot) (sym (events_noted slot) i));
-    outcomes_are = map-append outcome_told told.lines (note_entry (first + length made) text ∷ [])
-        ∙ ap (λ outs. outs ++ record { taken = true; parked = false } ∷ []) is.outcomes_are
-        ∙ sym (outcomes_noted rooms bounds start (driven made turns))
-        ∙ ap (outcomes rooms bounds start) (sym (driven_noted made turns text same));
-    counts = λ slot. entry_same (commands_told slot) refl ∙ is.counts slot
-        ∙ ap (map (λ (m : Met). count_before before slot + m.commands))
-        (sym (mets_noted rooms bounds turns made text slot same));
-    places = λ slot. entry_same (place_told slot) refl ∙ is.places slot
-        ∙ ap (map (λ (m : Met). Some m.place)) (sym (mets_noted rooms bounds turns made text slot same));
-  }
+note_driven : (first : ℕ) (before : Histories) (made : List Meaning) (told : EpochReport) (text : List ℕ)
+    (rooms : Rooms) (bounds : ℕ → ℕ) (turns : List (List ℕ)) (slots : ℕ) → length turns ≡ length made
+    → IsDriven rooms bounds turns slots first before made told
+    → IsDriven rooms bounds turns slots first before (made ++ note text ∷ []) (with_note told (first + length made) text)
+note_driven first before made told text rooms bounds turns slots same is =
+    let all = is.one_each in
+    let events = events_noted first before made told text all in
+    record {
+      one_each = answers_noted first made told.lines text all;
+      command_numbers = λ slot. entry_noted first before made told text all (command_number slot) refl
+          ∙ is.command_numbers slot
+          ∙ ap (λ (cs : _). counted (length (commands_of (before slot))) (length cs))
+          (sym (commands_noted first before made told text all slot));
+      packet_numbers = λ slot. entry_noted first before made told text all (packet_number slot) refl
+          ∙ is.packet_numbers slot
+          ∙ ap (λ (ps : _). counted (length (packets_of (before slot))) (length ps))
+          (sym (packets_noted first before made told text all slot));
+      replies = λ slot. entry_noted first before made told text all (reply_told slot) refl ∙ is.replies slot
+          ∙ ap (made_of.replies slot (before slot)) (sym (events slot));
+      verdicts = λ slot. entry_noted first before made told text all (verdict_told slot) refl ∙ is.verdicts slot
+          ∙ ap (made_of.verdicts slot (before slot)) (sym (events slot));
+      effects = is.effects
+          ∙ λ i. by_slot slots (λ slot. made_of.effects slot (before slot) (sym (events slot) i));
+      rows = is.rows
+          ∙ λ i. by_slot slots (λ slot. made_of.rows slot (before slot) (sym (events slot) i));
+      outcomes_are = map-append outcome_told told.lines (note_entry (first + length made) text ∷ [])
+          ∙ ap (λ outs. outs ++ record { taken = true; parked = false } ∷ []) is.outcomes_are
+          ∙ sym (outcomes_noted rooms bounds start (driven made turns))
+          ∙ ap (outcomes rooms bounds start) (sym (driven_noted made turns text same));
+      counts = λ slot. entry_noted first before made told text all (commands_told slot) refl ∙ is.counts slot
+          ∙ ap (map (λ (m : Met). count_before before slot + m.commands))
+          (sym (mets_noted rooms bounds turns made text slot same));
+      places = λ slot. entry_noted first before made told text all (place_told slot) refl ∙ is.places slot
+          ∙ ap (map (λ (m : Met). Some m.place)) (sym (mets_noted rooms bounds turns made text slot same));
+    }
 
 pub note_is_driven : NoteIsDriven
 note_is_driven = λ rooms bounds turns slots first before made told text same is.
-    note_driven first before made told text is.one_each rooms bounds turns slots same is
+    note_driven first before made told text rooms bounds turns slots same is

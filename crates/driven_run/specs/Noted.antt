@@ -1,15 +1,11 @@
 -- A note behind the lines of an epoch, with no turns behind it.
 use Rattle.std.specs.Prelude.{◌≡◌, ℕ, ◌+◌, List, [], ◌∷◌, ◌++◌, length}
 use Rattle.demux.specs.Trace.{Meaning, note}
-use Rattle.report_lines.specs.declared.entry.LineEntry.TheVariants as line
 use Rattle.lawful_run.specs.Merging.{Histories}
+use Rattle.lawful_run.specs.Noted.{with_note}
 use Rattle.lawful_run.specs.Report.{EpochReport}
 use Rattle.slice_schedule.specs.World.{Rooms}
 use Rattle.driven_run.specs.Driven.{IsDriven}
-
--- its entry is the last of the lines' entries
-abbrev pub with_note : EpochReport → (n : ℕ) → (text : List ℕ) → EpochReport
-with_note told n text = record told { lines = told.lines ++ line.N (record { line = n; note = text }) ∷ [] }
 
 -- It changes nothing else that is told: each line has its turns, and the note has none.
 abbrev pub NoteIsDriven : Type 0

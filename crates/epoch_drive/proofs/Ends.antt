@@ -23,7 +23,7 @@ use Rattle.subscriber.specs.Standing.{SubscriberState}
 use Rattle.at_rest.specs.Rest.{AreAtRest, HasEvents}
 use Rattle.slot_replay.specs.Replaying.{AreLate, latest_of, moment_of}
 use Rattle.slot_replay.specs.declared.placed.Placed.{Placed}
-use Rattle.epoch_drive.specs.Lines.{AreLater, latest_behind}
+use Rattle.at_rest.specs.Coming.{AreLater, latest_behind}
 use Rattle.epoch_drive.specs.Turned.{HaveMoments}
 use Rattle.epoch_drive.specs.Opened.{opened}
 use Rattle.epoch_drive.specs.Replays.{AllCanDo, HasDone, HaveDone, commands_at, commands_shared, events_shared, packets_at, packets_shared}

@@ -12,7 +12,8 @@ use Rattle.driven_run.specs.Driven.{IsDriven}
 use Rattle.subscriber.specs.Standing.{SubscriberState}
 use Rattle.at_rest.specs.Rest.{AreAtRest, IsBehind, RepresentsAll, Rest, bound_at}
 use Rattle.slot_replay.specs.Replaying.{effects_told}
-use Rattle.epoch_drive.specs.Lines.{AreLater, latest_behind, rooms_of}
+use Rattle.at_rest.specs.Coming.{AreLater, latest_behind}
+use Rattle.epoch_drive.specs.Lines.{rooms_of}
 use Rattle.at_rest.specs.Meant.{AreStanding}
 use Rattle.epoch_drive.specs.Steps.{DoesLines}
 use Rattle.slot_replay.specs.Replaying.{rows_told}

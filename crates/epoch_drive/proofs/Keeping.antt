@@ -15,7 +15,7 @@ use Rattle.driven_run.specs.Driven.{asks_of}
 use Rattle.subscriber.specs.Standing.{SubscriberState}
 use Rattle.at_rest.specs.Rest.{Rest}
 use Rattle.epoch_drive.specs.Kept.{Adds, AreBounds, AreKept, AreNone, IsPlaced, Keeps, KeepsLine, IsPlacedPacket, Places, meaning_in, meanings, packet_in}
-use Rattle.epoch_drive.specs.Lines.{latest_behind}
+use Rattle.at_rest.specs.Coming.{latest_behind}
 use Rattle.at_rest.specs.Meant.{IsWithin, Turned}
 use Rattle.epoch_drive.specs.Turned.{TurnedAll}
 use Rattle.epoch_drive.specs.Taken.{AreTaken, HasTaken, IsResting}

@@ -10,7 +10,7 @@ use Rattle.lawful_run.specs.Accepted as accepted
 use Rattle.slice_schedule.specs.Front.{Outcome}
 use Rattle.slot_replay.specs.Replaying.{AreLate, latest_of}
 use Rattle.slot_replay.specs.declared.placed.Placed.{Placed}
-use Rattle.epoch_drive.specs.Lines.{AreLater, latest_behind}
+use Rattle.at_rest.specs.Coming.{AreLater, latest_behind}
 use Rattle.at_rest.specs.Meant.{HasItsMoment}
 use Rattle.epoch_drive.specs.Turned.{HaveMoments}
 use Rattle.driven_run.specs.Opened.{open_entry}

@@ -11,7 +11,8 @@ use Rattle.driven_run.specs.Driven.{asks_of}
 use Rattle.gate_model.specs.Versions.{SessionsKeepTheirSlot}
 use Rattle.subscriber.specs.Standing.{SubscriberState}
 use Rattle.at_rest.specs.Rest.{AreAtRest, Rest}
-use Rattle.epoch_drive.specs.Lines.{latest_behind, rooms_of}
+use Rattle.at_rest.specs.Coming.{latest_behind}
+use Rattle.epoch_drive.specs.Lines.{rooms_of}
 use Rattle.epoch_drive.specs.Steps.{DoesLines, MayDo}
 use Rattle.epoch_drive.specs.Taken.{AreTaken, HasTaken, IsResting, MayCome, rest_of}
 use Rattle.epoch_drive.specs.declared.epoch.Epoch.{Epoch}

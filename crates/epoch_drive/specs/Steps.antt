@@ -10,7 +10,7 @@ use Rattle.driven_run.specs.Driven.{driven, mets_driven}
 use Rattle.subscriber.specs.Standing.{SubscriberState}
 use Rattle.at_rest.specs.Rest.{AreAtRest}
 use Rattle.epoch_drive.specs.Joins.{mets_at, replies_at}
-use Rattle.epoch_drive.specs.Lines.{AreLater}
+use Rattle.at_rest.specs.Coming.{AreLater}
 use Rattle.at_rest.specs.Meant.{bound_of}
 use Rattle.epoch_drive.specs.Turned.{TurnedAll}
 use Rattle.driven_run.specs.Opened.{open_entries}

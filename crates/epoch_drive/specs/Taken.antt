@@ -5,7 +5,7 @@ use Rattle.demux.specs.Trace.{Meaning}
 use Rattle.subscriber.specs.Standing.{SubscriberState}
 use Rattle.at_rest.specs.Rest.{AreAtRest, Rest}
 use Rattle.epoch_drive.specs.Kept.{AreBounds, AreKept}
-use Rattle.epoch_drive.specs.Lines.{AreLater, latest_behind}
+use Rattle.at_rest.specs.Coming.{AreLater, latest_behind}
 use Rattle.epoch_drive.specs.Turned.{TurnedAll}
 use Rattle.epoch_drive.specs.declared.gateway.Gateway.{Gateway}
 use Rattle.epoch_drive.specs.declared.kept.EpochLines.{EpochLines}

@@ -8,7 +8,8 @@ ghost use Rattle.at_rest.specs.Rest.{IsBehind, RepresentsAll, Rest, bound_at};
 ghost use Rattle.schedule_run.specs.TurnsTold.{AreWorkers, turns_told, turns_behind};
 ghost use Rattle.driven_run.specs.Driven.{IsDriven};
 ghost use Rattle.driven_run.specs.Runs.{bounds_behind};
-ghost use Rattle.epoch_drive.specs.Lines.{latest_behind, rooms_of};
+ghost use Rattle.at_rest.specs.Coming.{latest_behind};
+ghost use Rattle.epoch_drive.specs.Lines.{rooms_of};
 ghost use Rattle.epoch_drive.specs.Taken.{HasTaken, IsResting, MayCome, rest_of};
 ghost use Rattle.epoch_drive.specs.Telling.{AreShort, told_by};
 

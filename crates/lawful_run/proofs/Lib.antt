@@ -19,6 +19,8 @@ pub mod OpenCounters
 pub mod LedgerLaws
 pub mod CutEpochs
 pub mod CutLines
+pub mod MoreEpochs
+pub mod NotedEpoch
 pub mod AsTold
 pub mod WorkedRows
 pub mod ParkedRow

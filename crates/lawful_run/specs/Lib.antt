@@ -15,6 +15,7 @@ pub mod InSequence
 pub mod AnsweredRun
 pub mod Trace
 pub mod Cut
+pub mod Noted
 pub mod Ledger
 pub mod Placing
 pub mod Worked

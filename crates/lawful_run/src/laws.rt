@@ -10,6 +10,7 @@ ghost use Rattle.lawful_run.specs.InSequence.{AnswersInSequence};
 ghost use Rattle.lawful_run.specs.Setup.{Setup, solo};
 ghost use Rattle.lawful_run.specs.Ledger.{ReportsArePartitions, EachOctetCharged, EachPacketCharged};
 ghost use Rattle.lawful_run.specs.Merging.{Histories};
+ghost use Rattle.lawful_run.specs.Noted.{NoteIsLawful};
 ghost use Rattle.lawful_run.specs.Outcomes.{opens};
 ghost use Rattle.lawful_run.specs.Placing.{EventsStandAsTold};
 ghost use Rattle.lawful_run.specs.Report.{Report, report_text};
@@ -35,6 +36,11 @@ pub fn told_lines_are_in_range()
 
     // So it is whatever the octets of an input say.
     ensures octets { (slices : ℕ) (octets : List ℕ) → All (All IsInRange) (epochs_told slices (input_of octets)) }
+{}
+
+/// Where a line can't be read, its note stands behind the lines of its epoch. It changes nothing else that is told.
+pub fn a_note_is_lawful()
+    ensures { NoteIsLawful }
 {}
 
 /// No other lawful run is sequential, whatever the setup.

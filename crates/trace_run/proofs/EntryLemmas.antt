@@ -46,6 +46,13 @@ epochs_text-push places told now =
     (append-nil (epoch_entries now))
     ∙ ap (λ more. texts_of places (flat_map epoch_entries told) ++ more) (epoch_text places now)
 
+-- three texts, one behind the other
+pub behind_each : (front note effects rows one two three : List ℕ) → one ≡ front ++ note → two ≡ one ++ effects
+    → three ≡ two ++ rows → three ≡ front ++ (note ++ (effects ++ rows))
+behind_each front note effects rows one two three first second third =
+    third ∙ ap (λ text. text ++ rows) (second ∙ ap (λ text. text ++ effects) first)
+    ∙ append_assoc (front ++ note) effects rows ∙ append_assoc front note (effects ++ rows)
+
 -- charges of one more item
 pub charges_more : {X : Type 0} (places : Bool) (charges : X → List ChargeEntry) (front old new : List ℕ)
     (items : List X) (i : ℕ) (item : X) → i < length items → item ≡ get_or items i item

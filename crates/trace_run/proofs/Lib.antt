@@ -4,4 +4,5 @@ pub mod EndingLemmas
 pub mod TakeLemmas
 pub mod ReportingLemmas
 pub mod EntryLemmas
+pub mod NotedLemmas
 pub mod OpenLemmas

@@ -1,5 +1,5 @@
 -- The lines of a report: an entry's text and a newline.
-use Rattle.std.specs.Prelude.{◌==◌, ℕ, Bool, Option, None, Some, List, [], ◌∷◌, ◌++◌, find, map}
+use Rattle.std.specs.Prelude.{◌==◌, ℕ, Bool, Option, None, Some, List, [], ◌∷◌, ◌++◌, find, flat_map, map}
 use Rattle.charging_book.specs.Rows.{Counters}
 use Rattle.report_lines.specs.Records.{Effected}
 use Rattle.report_lines.specs.Text.{entry_text}
@@ -8,7 +8,7 @@ use Rattle.report_lines.specs.declared.entry.ChargeEntry.TheVariants.{O}
 use Rattle.report_lines.specs.declared.entry.Entry.{Entry}
 use Rattle.report_lines.specs.declared.entry.Entry.TheVariants as entry
 use Rattle.report_lines.specs.declared.entry.LineEntry.{LineEntry}
-use Rattle.lawful_run.specs.Report.{EpochReport, texts_of}
+use Rattle.lawful_run.specs.Report.{EpochReport, epoch_entries, texts_of}
 
 -- an entry as it stands, and a newline
 abbrev pub line_of : Entry → List ℕ
@@ -27,6 +27,10 @@ charges_text places told = texts_of places (map entry.Charge told)
 -- what an epoch has behind the entries of its lines
 abbrev pub closing_text : Bool → EpochReport → List ℕ
 closing_text places told = effects_text places told.effects ++ charges_text places told.rows
+
+-- what epochs have
+abbrev pub epochs_text : Bool → List EpochReport → List ℕ
+epochs_text places told = texts_of places (flat_map epoch_entries told)
 
 -- the counters of a life among these, as entries
 abbrev pub open_entry : ℕ → Option Counters → List ChargeEntry

@@ -4,5 +4,6 @@ pub mod Cut
 pub mod Status
 pub mod Report
 pub mod Lines
+pub mod Noted
 pub mod Takers
 pub mod Reporting

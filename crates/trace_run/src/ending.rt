@@ -3,6 +3,7 @@ ghost use Rattle.std.specs.Prelude.{◌≡◌, ◌≤◌, [], Err, OnOk, OnErr};
 ghost use Rattle.std.specs.Io.KnownBytes.{Appends};
 ghost use Rattle.pc_outside.specs.Faults.{Rises};
 ghost use Rattle.pc_outside.specs.Fronts.{AppendsFront};
+ghost use Rattle.trace_run.specs.Noted.{bad_at};
 ghost use Rattle.trace_run.specs.Status.{status_at, status_without};
 
 use crate::status::Status;
@@ -74,6 +75,16 @@ pub fn write_report<K: Sink>(sink: &mut K, report: &mut Text) -> Result<(), Unwr
     write_octets(sink, report.as_slice())?;
     report.clear();
     Ok(())
+}
+
+/// Why the next line can't be read, where lines end so.
+pub fn bad_at(ending: Ending) -> Option<LineBad>
+    ensures { result ≡ bad_at ending }
+{
+    match ending {
+        Ending::BadLine(why) => Some(why),
+        Ending::Ended | Ending::ReadFault | Ending::LineLong | Ending::TooLong => None,
+    }
 }
 
 /// The status of a run whose lines ended so.

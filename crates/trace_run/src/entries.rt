@@ -8,11 +8,12 @@ ghost use Rattle.report_lines.specs.declared.entry.LineEntry.TheVariants as line
 ghost use Rattle.report_lines.specs.Lent.{IsShort};
 ghost use Rattle.slot_replay.specs.Replaying.{effects_caused, effects_told, rows_closed, rows_told};
 ghost use Rattle.trace_lines.specs.Word.{word_of};
-ghost use Rattle.trace_run.specs.Entries.{charges_text, effects_text, line_of};
+ghost use Rattle.trace_run.specs.Entries.{charges_text, effects_text, line_of, lines_text};
+ghost use Rattle.trace_run.specs.Noted.{noted};
 
 use charging_book::ChargeRow;
 use packet_steps::LentVerdict;
-use pc_base::{Effect, Place, Reply, Slot};
+use pc_base::{Effect, Place, Reply, Slot, Verdict};
 use slot_replay::{Caused, Closed};
 use std::alloc::AllocError;
 use text_fields::Text;
@@ -32,6 +33,16 @@ pub fn push_note(report: &mut Text, line: u64, note: &[u8]) -> Result<(), AllocE
 {
     report_lines::push_note(report, line, note)?;
     end_line(report)
+}
+
+/// Appends the note of a line that can't be read, where there is one.
+pub fn push_noted(report: &mut Text, bad: Option<LineBad>, line: u64) -> Result<(), AllocError>
+    ensures { (places : Bool) → OnOk result (report.new ≡ report.old ++ lines_text places (noted bad line)) }
+{
+    match bad {
+        Some(why) => push_bad(report, line, why),
+        None => Ok(()),
+    }
 }
 
 /// Appends the note of a line that can't be read.
@@ -107,6 +118,54 @@ pub fn push_placed(
     })))) }
 {
     report_lines::push_placed(report, line, slot, number, commands, verdict, place, parked)?;
+    end_line(report)
+}
+
+/// Appends the line of a packet whose verdict owns its octets, without its place.
+pub fn push_judged(
+    report: &mut Text,
+    line: u64,
+    slot: Slot,
+    number: u64,
+    commands: u64,
+    verdict: &Verdict,
+) -> Result<(), AllocError>
+    ensures { OnOk result (report.new ≡ report.old ++ line_of (entry.Line (line_entry.P (record {
+      line = line;
+      slot = slot;
+      number = number;
+      commands = commands;
+      verdict = verdict.now;
+      place = None;
+      parked = false;
+    })))) }
+{
+    report_lines::push_judged(report, line, slot, number, commands, verdict)?;
+    end_line(report)
+}
+
+/// Appends the same line with the place where the packet was handled, and whether it was parked.
+pub fn push_judged_placed(
+    report: &mut Text,
+    line: u64,
+    slot: Slot,
+    number: u64,
+    commands: u64,
+    verdict: &Verdict,
+    place: Option<Place>,
+    parked: bool,
+) -> Result<(), AllocError>
+    ensures { OnOk result (report.new ≡ report.old ++ line_of (entry.Line (line_entry.P (record {
+      line = line;
+      slot = slot;
+      number = number;
+      commands = commands;
+      verdict = verdict.now;
+      place = place;
+      parked = parked;
+    })))) }
+{
+    report_lines::push_judged_placed(report, line, slot, number, commands, verdict, place, parked)?;
     end_line(report)
 }
 
@@ -188,4 +247,21 @@ pub fn push_records(report: &mut Text, records: &[Closed]) -> Result<(), AllocEr
         push_closed(report, closed)?;
     }
     Ok(())
+}
+
+/// Appends what an epoch has behind the entries of its lines: the note of a bad line of this number, if there is one,
+/// effects and charging records.
+pub fn push_closing(
+    report: &mut Text,
+    bad: Option<LineBad>,
+    line: u64,
+    effects: &[Caused],
+    records: &[Closed],
+) -> Result<(), AllocError>
+    ensures { (places : Bool) → OnOk result (report.new ≡ report.old ++ (lines_text places (noted bad line)
+        ++ (effects_text places (effects_told effects.now) ++ charges_text places (rows_told records.now)))) }
+{
+    push_noted(report, bad, line)?;
+    push_effects(report, effects)?;
+    push_records(report, records)
 }

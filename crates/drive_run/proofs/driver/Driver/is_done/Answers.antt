@@ -1,4 +1,4 @@
-use Rattle.drive_run.proofs.Reports.{both_none}
+use Rattle.trace_run.proofs.NotedLemmas.{both_none}
 use Rattle.drive_run.proofs.driver.Driver.is_done.Goals as goal
 
 pub returns-then-is_empty : goal.returns-then-is_empty

@@ -1,7 +1,8 @@
 use Rattle.std.proofs.Common.{◌+◌, ◌++◌, ap, subst}
 use Rattle.packet_steps.proofs.ResultLemmas.{on_ok}
 use Rattle.lawful_run.specs.Run.{behind_all, no_events}
-use Rattle.drive_run.specs.Standing.{DroveAll, bad_at, meant_all, schedule_of}
+use Rattle.trace_run.specs.Noted.{bad_at, meant_all}
+use Rattle.drive_run.specs.Standing.{DroveAll, schedule_of}
 use Rattle.drive_run.proofs.Reports.{due_so}
 use Rattle.drive_run.proofs.driver.DriverReporter.finish.Goals as goal
 
@@ -14,4 +15,4 @@ returns c = λ first done latest closed open_ sent so_far cut counted.
     on_ok c.push_counters.result
     (due_so first now done closed open_ c.args.ending sent c.drive_rest.new.text c.push_counters.new.text cut all)
     (c.push_counters.ensures first.places
-    (behind_all no_events (meant_all (schedule_of first) closed open_ (bad_at c.args.ending)) all.told) all.represents)
+    (behind_all no_events (meant_all (schedule_of first).slices closed open_ (bad_at c.args.ending)) all.told) all.represents)
