@@ -1,5 +1,5 @@
 -- What a bucket represents behind octets that pass.
-use Rattle.std.proofs.Common.{◌≡◌, ℕ, ◌≤◌, ◌==◌, ◌&&◌, Bool, true, false, not, cond, List, [], ◌∷◌, ◌++◌, filter, MatchBool, Some, None, sym, ◌∙◌, ap, subst, refl, eq-eqb, le_trans, arith}
+use Rattle.std.proofs.Common.{◌≡◌, ℕ, ◌≤◌, ◌==◌, ◌&&◌, Bool, true, false, not, cond, List, [], ◌∷◌, ◌++◌, filter, MatchBool, sym, ◌∙◌, ap, subst, refl, eq-eqb, le_trans, arith}
 use Rattle.std.specs.List.{Contains}
 use Rattle.std.proofs.lemmas.List.{map_push, append-nil}
 use Rattle.rate_policer.specs.declared.cost.Cost.{Cost}
@@ -93,48 +93,43 @@ tested_by past bearer up at octets old new answer known late asked =
     ∙ ap (λ rate. conforms rate (costs (history_for past.version bearer up past.forwarded))
     (cost_of octets at)) known.rate_is
 
-pub tries_yes : (past : Past) (bearer : ActiveBearer) (up : Bool) (at octets : ℕ) (old new : BucketState)
+pub tries_so : (past : Past) (bearer : ActiveBearer) (up : Bool) (at octets : ℕ) (old new : BucketState)
+    (answer : Bool)
     → Polices old (rate_for past.version bearer up) (history_for past.version bearer up past.forwarded) (moment_of past)
-    → moment_of past ≤ at → Asked old new at octets true → Tries (at_moment past at) bearer up octets (Some new)
-tries_yes past bearer up at octets old new known late asked = (
-  sym (tested_by past bearer up at octets old new true known late asked),
-  record {
-    rate_is = asked.rate ∙ known.rate_is;
-    stands = subst (buckets.StandsFor new)
-        (sym (ap costs (history_push (at_moment past at) bearer up octets)
-        ∙ map_push (λ (row : ForwardedRow). cost_of row.octets row.at)
-        (history_for past.version bearer up past.forwarded) (row_for (at_moment past at) bearer up octets)))
-        (asked.charged (costs (history_for past.version bearer up past.forwarded)) known.stands
-        (le_trans known.asked late));
-    asked = subst (λ moment. moment ≤ at) (sym (asked.asked (le_trans known.asked late))) (omega arith);
-  },
-)
-
-pub tries_no : (past : Past) (bearer : ActiveBearer) (up : Bool) (at octets : ℕ) (old new : BucketState)
-    → Polices old (rate_for past.version bearer up) (history_for past.version bearer up past.forwarded) (moment_of past)
-    → moment_of past ≤ at → Asked old new at octets false → Tries (at_moment past at) bearer up octets None
-tries_no past bearer up at octets old new known late asked = sym
-    (tested_by past bearer up at octets old new false known late asked)
+    → moment_of past ≤ at → Asked old new at octets answer
+    → Tries (at_moment past at) bearer up octets (answer, new)
+tries_so past bearer up at octets old new answer known late asked =
+    let passed = costs (history_for past.version bearer up past.forwarded) in
+    let charged = asked.charged passed known.stands (le_trans known.asked late) in
+    let now : last_of new ≤ at = subst (λ moment. moment ≤ at) (sym (asked.asked (le_trans known.asked late))) (omega arith) in
+    record {
+      answer = sym (tested_by past bearer up at octets old new answer known late asked);
+      behind = λ let_through. record {
+        rate_is = asked.rate ∙ known.rate_is;
+        stands = subst (buckets.StandsFor new)
+            (sym (ap costs (history_push (at_moment past at) bearer up octets)
+            ∙ map_push (λ (row : ForwardedRow). cost_of row.octets row.at)
+            (history_for past.version bearer up past.forwarded) (row_for (at_moment past at) bearer up octets)))
+            (subst (λ b. MatchBool b (buckets.StandsFor new (passed ++ cost_of octets at ∷ []))
+            (buckets.StandsFor new passed)) let_through charged);
+        asked = now;
+      };
+      still = λ kept_back. record {
+        rate_is = asked.rate ∙ known.rate_is;
+        stands = subst (λ b. MatchBool b (buckets.StandsFor new (passed ++ cost_of octets at ∷ []))
+            (buckets.StandsFor new passed)) kept_back charged;
+        asked = now;
+      };
+    }
 
 -- the same of the bucket in its place
-pub tried_yes : (meters : Meters) (past : Past) (bearer : ActiveBearer) (up : Bool) (at octets : ℕ)
-    (old new : BucketState) → old ≡ bucket_for meters bearer up
+pub tried_so : (meters : Meters) (past : Past) (bearer : ActiveBearer) (up : Bool) (at octets : ℕ)
+    (old new : BucketState) (answer : Bool) → old ≡ bucket_for meters bearer up
     → MetersStand meters past → Contains past.version.bearers bearer → moment_of past ≤ at
-    → Asked old new at octets true
-    → Tries (at_moment past at) bearer up octets (Some new)
-tried_yes meters past bearer up at octets old new is stands there late asked =
-    tries_yes past bearer up at octets old new
-    (subst (λ b. Polices b (rate_for past.version bearer up) (history_for past.version bearer up past.forwarded)
-    (moment_of past)) (sym is)
-    (polices meters past bearer up stands there)) late asked
-
-pub tried_no : (meters : Meters) (past : Past) (bearer : ActiveBearer) (up : Bool) (at octets : ℕ)
-    (old new : BucketState) → old ≡ bucket_for meters bearer up
-    → MetersStand meters past → Contains past.version.bearers bearer → moment_of past ≤ at
-    → Asked old new at octets false
-    → Tries (at_moment past at) bearer up octets None
-tried_no meters past bearer up at octets old new is stands there late asked =
-    tries_no past bearer up at octets old new
+    → Asked old new at octets answer
+    → Tries (at_moment past at) bearer up octets (answer, new)
+tried_so meters past bearer up at octets old new answer is stands there late asked =
+    tries_so past bearer up at octets old new answer
     (subst (λ b. Polices b (rate_for past.version bearer up) (history_for past.version bearer up past.forwarded)
     (moment_of past)) (sym is)
     (polices meters past bearer up stands there)) late asked

@@ -15,7 +15,7 @@ use Rattle.packet_steps.specs.Past.{Past, moment_of, row_for, with_row}
 use Rattle.packet_steps.specs.Policing.{mbr, ambr, same_way, is_of_life, is_of_rates}
 use Rattle.packet_steps.specs.Verdicts.{at_moment}
 use Rattle.packet_steps.specs.Meters.{bucket_of, with_bucket, new_meter, own_meter, put_bucket, Polices, MetersStand}
-use Rattle.packet_steps.specs.Plans.{PolicesBehind}
+use Rattle.packet_steps.specs.Plans.{PolicesBehind, PolicesStill}
 use Rattle.packet_steps.proofs.HistoryLemmas.{filter_without}
 use Rattle.packet_steps.proofs.BearerLemmas.{same_by_index, same_by_life, index_in_range}
 
@@ -174,3 +174,84 @@ pub put_stands : (meters : Meters) (past : Past) (bearer : ActiveBearer) (up : B
     → MetersStand (put_bucket meters bearer up b) (with_row past (row_for past bearer up octets))
 put_stands meters past bearer up octets b stands ranges there behind =
     put_by meters past bearer up octets b (is_guaranteed bearer.qos.qci) refl stands ranges there behind
+
+-- ---- octets that don't pass
+
+guaranteed_still : (meters : Meters) (past : Past) (bearer : ActiveBearer) (up : Bool) (b : BucketState)
+    → MetersStand meters past → IsVersion past.version → Contains past.version.bearers bearer
+    → is_guaranteed bearer.qos.qci ≡ true
+    → Polices b (mbr up bearer.qos) (filter (is_of_life bearer.life up) past.forwarded) (moment_of past)
+    → MetersStand (record meters { own = set_own meters bearer up b }) past
+guaranteed_still meters past bearer up b stands ranges there guaranteed still = record {
+  sized = length-set meters.own bearer.index (with_bucket up b (own_meter meters bearer.index)) ∙ stands.sized;
+  shared = stands.shared;
+  own = λ other way there_other guaranteed_other.
+      elim (cases_eq other.index bearer.index) [
+        | inl same ↦
+            let equal : bearer ≡ other = sym (same_by_index past.version other bearer ranges there_other there same) in
+            subst (λ (x : ActiveBearer). Polices (bucket_of way (own_meter put x.index)) (mbr way x.qos)
+            (filter (is_of_life x.life way) past.forwarded) (moment_of past)) equal
+            (subst (λ (m : Meter). Polices (bucket_of way m) (mbr way bearer.qos)
+            (filter (is_of_life bearer.life way) past.forwarded) (moment_of past))
+            (sym (get_or-set_same meters.own bearer.index (with_bucket up b (own_meter meters bearer.index))
+            (new_meter 0 0) within))
+            (elim (ways up way) [
+              | inl one ↦ subst (λ w. Polices (bucket_of w (with_bucket up b (own_meter meters bearer.index))) (mbr w bearer.qos) (filter (is_of_life bearer.life w) past.forwarded) (moment_of past)) one
+                  (subst (λ (c : BucketState). Polices c (mbr up bearer.qos)
+                  (filter (is_of_life bearer.life up) past.forwarded) (moment_of past))
+                  (sym (same_bucket up b (own_meter meters bearer.index))) still)
+              | inr two ↦ subst (λ (c : BucketState). Polices c (mbr way bearer.qos) (filter (is_of_life bearer.life way) past.forwarded) (moment_of past))
+                  (sym (other_bucket up way b (own_meter meters bearer.index) two))
+                  (stands.own bearer way there guaranteed)
+            ]))
+        | inr apart ↦
+            subst (λ (m : Meter). Polices (bucket_of way m) (mbr way other.qos)
+            (filter (is_of_life other.life way) past.forwarded) (moment_of past))
+            (sym (get_or-set_other meters.own bearer.index other.index
+            (with_bucket up b (own_meter meters bearer.index)) (new_meter 0 0) apart))
+            (stands.own other way there_other guaranteed_other)
+      ];
+}
+  where
+    put : Meters
+    put = record meters { own = set_own meters bearer up b }
+
+    within : bearer.index < length meters.own
+    within = subst (λ n. bearer.index < n) (sym stands.sized) (index_in_range past.version bearer ranges there)
+
+shared_still : (meters : Meters) (past : Past) (up : Bool) (b : BucketState) → MetersStand meters past
+    → Polices b (ambr up past.version) (filter (is_of_rates past.version.rates up) past.forwarded) (moment_of past)
+    → MetersStand (record meters { shared = with_bucket up b meters.shared }) past
+shared_still meters past up b stands still = record {
+  sized = stands.sized;
+  shared = λ way.
+      elim (ways up way) [
+        | inl one ↦ subst (λ w. Polices (bucket_of w (with_bucket up b meters.shared)) (ambr w past.version) (filter (is_of_rates past.version.rates w) past.forwarded) (moment_of past)) one
+            (subst (λ (c : BucketState). Polices c (ambr up past.version)
+            (filter (is_of_rates past.version.rates up) past.forwarded) (moment_of past))
+            (sym (same_bucket up b meters.shared)) still)
+        | inr two ↦ subst (λ (c : BucketState). Polices c (ambr way past.version) (filter (is_of_rates past.version.rates way) past.forwarded) (moment_of past))
+            (sym (other_bucket up way b meters.shared two)) (stands.shared way)
+      ];
+  own = stands.own;
+}
+
+still_by : (meters : Meters) (past : Past) (bearer : ActiveBearer) (up : Bool) (b : BucketState) (guaranteed : Bool)
+    → is_guaranteed bearer.qos.qci ≡ guaranteed → MetersStand meters past → IsVersion past.version
+    → Contains past.version.bearers bearer
+    → Polices b (cond guaranteed (mbr up bearer.qos) (ambr up past.version))
+    (filter (λ row. cond guaranteed (is_of_life bearer.life up row) (is_of_rates past.version.rates up row))
+    past.forwarded) (moment_of past)
+    → MetersStand (cond guaranteed (record meters { own = set_own meters bearer up b })
+    (record meters { shared = with_bucket up b meters.shared })) past
+still_by meters past bearer up b true is stands ranges there still =
+    guaranteed_still meters past bearer up b stands ranges there is still
+still_by meters past bearer up b false is stands ranges there still = shared_still meters past up b stands still
+
+-- the meters with a bucket put back that let nothing through
+pub put_still : (meters : Meters) (past : Past) (bearer : ActiveBearer) (up : Bool) (b : BucketState)
+    → MetersStand meters past → IsVersion past.version → Contains past.version.bearers bearer
+    → PolicesStill past bearer up b
+    → MetersStand (put_bucket meters bearer up b) past
+put_still meters past bearer up b stands ranges there still =
+    still_by meters past bearer up b (is_guaranteed bearer.qos.qci) refl stands ranges there still

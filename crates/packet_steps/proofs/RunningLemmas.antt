@@ -1,5 +1,5 @@
 -- What packets and new versions make of running counters, step by step.
-use Rattle.std.proofs.Common.{◌≡◌, ℕ, ◌<◌, ◌≤◌, ◌&&◌, Bool, true, false, cond, List, [], ◌∷◌, ◌++◌, map, length, Some, None, Ok, Err, OnOk, refl, sym, ◌∙◌, ap, subst, arith}
+use Rattle.std.proofs.Common.{◌≡◌, ℕ, ◌<◌, ◌≤◌, ◌&&◌, Bool, true, false, cond, List, [], ◌∷◌, ◌++◌, map, length, Some, Ok, Err, OnOk, refl, sym, ◌∙◌, ap, subst, arith}
 use Rattle.std.specs.Prelude.{Result}
 use Rattle.std.proofs.lemmas.List.{append-nil, map_push}
 use Rattle.pc_base.specs.declared.packet.Packet.{Packet}
@@ -29,7 +29,7 @@ use Rattle.packet_steps.specs.Messages.{gpdu}
 use Rattle.packet_steps.specs.Verdicts.{bearer_for, is_packet}
 use Rattle.packet_steps.specs.Meters.{bucket_for, put_bucket}
 use Rattle.packet_steps.specs.Standing.{CountersState}
-use Rattle.packet_steps.specs.Running.{cost_in, left_of, left_for, planned_up, planned_down, planned_by_way, planned, meters_behind, held_behind, charged_by, GoesOn, Brought, brought_by, with_fate, brought_through, brought_to}
+use Rattle.packet_steps.specs.Running.{cost_in, left_of, left_for, planned_up, planned_down, planned_by_way, planned, meters_behind, held_behind, charged_by, GoesOn, Brought, brought_by, with_fate, with_put, with_charge, brought_through, brought_to}
 use Rattle.packet_steps.proofs.PacketLemmas.{packet_passes}
 
 -- a bucket is asked at the later one of two moments
@@ -39,21 +39,16 @@ at_last b octets at early = ap (cost_of octets) (omega arith)
 pub at_now : (b : BucketState) (octets at : ℕ) → b.last ≤ at → cost_of octets at ≡ cost_in b octets at
 at_now b octets at late = ap (cost_of octets) (omega arith)
 
--- the bucket that is left
-pub left_yes : (meters : Meters) (bearer : ActiveBearer) (up : Bool) (octets at : ℕ) (old new : BucketState)
-    → old ≡ bucket_for meters bearer up → true ≡ lets_through old (cost_in old octets at)
-    → new ≡ asked old (cost_in old octets at)
-    → Some new ≡ left_for meters bearer up octets at
-left_yes meters bearer up octets at old new is within parts =
-    ap (λ (b : BucketState). Some b) parts
-    ∙ ap (λ t. cond t (Some (asked old (cost_in old octets at))) None) within
-    ∙ ap (λ b. left_of b octets at) is
-
-pub left_no : (meters : Meters) (bearer : ActiveBearer) (up : Bool) (octets at : ℕ) (old : BucketState)
-    → old ≡ bucket_for meters bearer up → false ≡ lets_through old (cost_in old octets at)
-    → None ≡ left_for meters bearer up octets at
-left_no meters bearer up octets at old is fails =
-    ap (λ t. cond t (Some (asked old (cost_in old octets at))) None) fails ∙ ap (λ b. left_of b octets at) is
+-- whether octets pass, and the bucket that is left
+pub left_is : (meters : Meters) (bearer : ActiveBearer) (up : Bool) (octets at : ℕ) (old : BucketState)
+    (tried : Bool × BucketState) → old ≡ bucket_for meters bearer up
+    → tried.0 ≡ lets_through old (cost_in old octets at) → tried.1 ≡ asked old (cost_in old octets at)
+    → tried ≡ left_for meters bearer up octets at
+left_is meters bearer up octets at old tried is within parts =
+    same_tried tried (left_of old octets at) within parts ∙ ap (λ b. left_of b octets at) is
+  where
+    same_tried : (x y : Bool × BucketState) → x.0 ≡ y.0 → x.1 ≡ y.1 → x ≡ y
+    same_tried x y first second = λ i. (first i, second i)
 
 -- while attached, what is to become of a packet is planned by its way
 by_way : (version : VersionState) (counters : CountersState) (packet : Packet) → version.live ≡ true
@@ -141,31 +136,44 @@ pub brought_fate : (old new : Release) (row : HeldRow) (fate_ : Fate) → new.me
 brought_fate old new row fate_ meters postings effects =
     same_brought (brought_by new) (with_fate (brought_by old) row fate_) meters (ap (map happening_of) postings) effects
 
-pub brought_no : (old new : Release) (row : HeldRow) (bearer : ActiveBearer) (peer : Peer) (at : ℕ) (octets : List ℕ)
-    → octets ≡ row.packet.octets → None ≡ left_for old.meters bearer false (length octets) at
-    → new.meters ≡ old.meters → new.postings.items ≡ old.postings.items
+-- a held packet that is refused: its bucket is put back all the same
+pub brought_no : (old new : Release) (row : HeldRow) (bearer : ActiveBearer) (peer : Peer) (tried : Bool × BucketState)
+    (at : ℕ) (octets : List ℕ)
+    → octets ≡ row.packet.octets → tried ≡ left_for old.meters bearer false (length octets) at → tried.0 ≡ false
+    → new.meters ≡ put_bucket old.meters bearer false tried.1 → new.postings.items ≡ old.postings.items
     → new.effects.items ≡ old.effects.items ++ effect.Fate row.packet.number (fate.Policed row.life) ∷ []
     → brought_by new ≡ brought_to (brought_by old) row bearer at (Some peer)
-brought_no old new row bearer peer at octets is left meters postings effects =
-    brought_fate old new row (fate.Policed row.life) meters postings effects
-    ∙ ap (brought_through (brought_by old) row bearer peer at)
+brought_no old new row bearer peer tried at octets is left kept_back meters postings effects =
+    let so_far = brought_by old in
+    let put = with_put so_far bearer tried.1 in
+    let down = fate.Down row.life peer.addr (gpdu peer row.packet.octets) in
+    same_brought (brought_by new) (with_fate put row (fate.Policed row.life)) meters (ap (map happening_of) postings)
+    effects
+    ∙ sym (ap (λ b. cond b (with_fate (with_charge put row bearer at) row down)
+    (with_fate put row (fate.Policed row.life))) kept_back)
+    ∙ ap (brought_through so_far row bearer peer at)
     (left ∙ ap (λ (text : List ℕ). left_for old.meters bearer false (length text) at) is)
 
-pub brought_yes : (old new : Release) (row : HeldRow) (bearer : ActiveBearer) (peer : Peer) (bucket : BucketState)
-    (at : ℕ) (octets : List ℕ)
-    → octets ≡ row.packet.octets → Some bucket ≡ left_for old.meters bearer false (length octets) at
-    → new.meters ≡ put_bucket old.meters bearer false bucket
+pub brought_yes : (old new : Release) (row : HeldRow) (bearer : ActiveBearer) (peer : Peer)
+    (tried : Bool × BucketState) (at : ℕ) (octets : List ℕ)
+    → octets ≡ row.packet.octets → tried ≡ left_for old.meters bearer false (length octets) at → tried.0 ≡ true
+    → new.meters ≡ put_bucket old.meters bearer false tried.1
     → new.postings.items ≡ old.postings.items ++ posting.Packet bearer.life false (length octets) at ∷ []
     → new.effects.items ≡ old.effects.items
     ++ effect.Fate row.packet.number (fate.Down row.life peer.addr (gpdu peer octets)) ∷ []
     → brought_by new ≡ brought_to (brought_by old) row bearer at (Some peer)
-brought_yes old new row bearer peer bucket at octets is left meters postings effects =
-    same_brought (brought_by new) (brought_through (brought_by old) row bearer peer at (Some bucket)) meters
+brought_yes old new row bearer peer tried at octets is left let_through meters postings effects =
+    let so_far = brought_by old in
+    let put = with_put so_far bearer tried.1 in
+    let down = fate.Down row.life peer.addr (gpdu peer row.packet.octets) in
+    same_brought (brought_by new) (with_fate (with_charge put row bearer at) row down) meters
     (ap (map happening_of) postings
     ∙ map_push happening_of old.postings.items (posting.Packet bearer.life false (length octets) at)
     ∙ ap (λ (text : List ℕ). map happening_of old.postings.items
     ++ forwarded bearer.life (record { up = false; octets = length text; at = at }) ∷ []) is)
     (effects ∙ ap (λ (text : List ℕ). old.effects.items
     ++ effect.Fate row.packet.number (fate.Down row.life peer.addr (gpdu peer text)) ∷ []) is)
-    ∙ ap (brought_through (brought_by old) row bearer peer at)
+    ∙ sym (ap (λ b. cond b (with_fate (with_charge put row bearer at) row down)
+    (with_fate put row (fate.Policed row.life))) let_through)
+    ∙ ap (brought_through so_far row bearer peer at)
     (left ∙ ap (λ (text : List ℕ). left_for old.meters bearer false (length text) at) is)

@@ -14,9 +14,9 @@ use Rattle.packet_steps.specs.Verdicts.{at_moment}
 use Rattle.packet_steps.specs.Change.{has_life}
 use Rattle.packet_steps.specs.Meters.{put_bucket, MetersStand}
 use Rattle.packet_steps.specs.Standing.{StandsFor, CountersState, AreFew, last_of}
-use Rattle.packet_steps.specs.Plans.{PolicesBehind}
+use Rattle.packet_steps.specs.Plans.{PolicesBehind, PolicesStill}
 use Rattle.packet_steps.proofs.BearerLemmas.{none_in_nil, of_cons}
-use Rattle.packet_steps.proofs.MeterLemmas.{meters_later, put_stands}
+use Rattle.packet_steps.proofs.MeterLemmas.{meters_later, put_stands, put_still}
 
 -- the moment isn't earlier than that of the last packet
 pub late_by : (counters : CountersState) (past : Past) (taken at : ℕ) → StandsFor counters past taken
@@ -50,6 +50,24 @@ pub stays_stand : (counters new : CountersState) (past : Past) (taken at : ℕ) 
 stays_stand counters new past taken at stands late is =
     subst (λ (c : CountersState). StandsFor c (at_moment past at) taken) (sym is) (record {
       meters = meters_later counters.meters past at stands.meters late;
+      charges = stands.charges;
+      held = stands.held;
+      last = refl;
+      open_lives = stands.open_lives;
+      rates = stands.rates;
+      ranges = stands.ranges;
+    })
+
+-- a packet was refused: its bucket was asked
+pub refuses_stand : (counters new : CountersState) (past : Past) (taken at : ℕ) (bearer : ActiveBearer) (up : Bool)
+    (bucket : BucketState) → StandsFor counters past taken → moment_of past ≤ at → Contains past.version.bearers bearer
+    → PolicesStill (at_moment past at) bearer up bucket
+    → new ≡ record counters { meters = put_bucket counters.meters bearer up bucket; last = Some at }
+    → StandsFor new (at_moment past at) taken
+refuses_stand counters new past taken at bearer up bucket stands late there still is =
+    subst (λ (c : CountersState). StandsFor c (at_moment past at) taken) (sym is) (record {
+      meters = put_still counters.meters (at_moment past at) bearer up bucket
+          (meters_later counters.meters past at stands.meters late) stands.ranges there still;
       charges = stands.charges;
       held = stands.held;
       last = refl;

@@ -1,5 +1,5 @@
 -- What is decided of a packet before it is done.
-use Rattle.std.specs.Prelude.{◌≡◌, ℕ, Bool, true, false, List, [], ◌∷◌, ◌++◌, Option, Some, None}
+use Rattle.std.specs.Prelude.{◌≡◌, ℕ, Bool, true, false, List, [], ◌∷◌, ◌++◌}
 use Rattle.std.specs.List.{Contains}
 use Rattle.pc_base.specs.declared.packet.Packet.{Packet}
 use Rattle.pc_base.specs.declared.packet.Verdict.{Verdict}
@@ -19,11 +19,18 @@ PolicesBehind past bearer up octets bucket =
     Polices bucket (rate_for past.version bearer up)
     (history_for past.version bearer up (past.forwarded ++ row_for past bearer up octets ∷ [])) (moment_of past)
 
--- octets of a bearer were tried: the bucket that is left where they pass
-abbrev pub Tries : Past → ActiveBearer → Bool → ℕ → Option BucketState → Type 0
-Tries past bearer up octets None = passes past bearer up octets ≡ false
-Tries past bearer up octets (Some bucket) =
-    (passes past bearer up octets ≡ true) × PolicesBehind past bearer up octets bucket
+-- a bucket that polices what a bearer's did before octets that don't pass
+abbrev pub PolicesStill : Past → ActiveBearer → Bool → BucketState → Type 0
+PolicesStill past bearer up bucket =
+    Polices bucket (rate_for past.version bearer up) (history_for past.version bearer up past.forwarded)
+    (moment_of past)
+
+-- octets of a bearer were tried: whether they pass, and the bucket that is left
+pub record Tries (past : Past) (bearer : ActiveBearer) (up : Bool) (octets : ℕ) (tried : Bool × BucketState) :
+    Type 0 where
+  pub answer : passes past bearer up octets ≡ tried.0
+  pub behind : tried.0 ≡ true → PolicesBehind past bearer up octets tried.1
+  pub still : tried.0 ≡ false → PolicesStill past bearer up tried.1
 
 -- octets pass, and this is the past behind them
 pub record Passes (past : Past) (bearer : ActiveBearer) (up : Bool) (octets : ℕ) (bucket : BucketState)
@@ -32,13 +39,19 @@ pub record Passes (past : Past) (bearer : ActiveBearer) (up : Bool) (octets : �
   pub there : Contains past.version.bearers bearer
   pub behind : PolicesBehind past bearer up octets bucket
 
+-- octets don't pass, and the past stays
+pub record Refuses (past : Past) (bearer : ActiveBearer) (up : Bool) (bucket : BucketState) (next : Past) : Type 0 where
+  pub next_is : next ≡ past
+  pub there : Contains past.version.bearers bearer
+  pub still : PolicesStill past bearer up bucket
+
 -- the verdict of a plan on these octets
 abbrev pub verdict_by : Plan → List ℕ → Verdict
 verdict_by plan.NoBearer octets = verdict.NoBearer
 verdict_by plan.Spoof octets = verdict.Spoof
 verdict_by (plan.Idle life) octets = verdict.Idle life
 verdict_by (plan.Hold life message) octets = verdict.Held life message
-verdict_by (plan.Policed life) octets = verdict.Policed life
+verdict_by (plan.Policed bearer up bucket) octets = verdict.Policed bearer.life
 verdict_by (plan.Up bearer bucket len) octets = verdict.Up bearer.life octets
 verdict_by (plan.Down bearer peer bucket len) octets = verdict.Down bearer.life peer.addr (gpdu peer octets)
 
@@ -48,7 +61,7 @@ Does plan.NoBearer past packet next = next ≡ past
 Does plan.Spoof past packet next = next ≡ past
 Does (plan.Idle life) past packet next = next ≡ past
 Does (plan.Hold life message) past packet next = next ≡ with_held past (record { packet = packet; life = life })
-Does (plan.Policed life) past packet next = next ≡ past
+Does (plan.Policed bearer up bucket) past packet next = Refuses past bearer up bucket next
 Does (plan.Up bearer bucket len) past packet next = Passes past bearer true len bucket next
 Does (plan.Down bearer peer bucket len) past packet next = Passes past bearer false len bucket next
 

@@ -36,18 +36,18 @@ use Rattle.packet_steps.specs.Standing.{CountersState}
 abbrev pub cost_in : BucketState → ℕ → ℕ → Cost
 cost_in bucket octets at = cost_of octets (max at bucket.last)
 
--- they pass where their cost is within the level, and are taken off it: the bucket that is left
-abbrev pub left_of : BucketState → ℕ → ℕ → Option BucketState
+-- they pass where their cost is within the level, and are taken off it: whether they do, and the bucket that is left
+abbrev pub left_of : BucketState → ℕ → ℕ → Bool × BucketState
 left_of bucket octets at =
-    if lets_through bucket (cost_in bucket octets at) then Some (asked bucket (cost_in bucket octets at)) else None
+    (lets_through bucket (cost_in bucket octets at), asked bucket (cost_in bucket octets at))
 
-abbrev pub left_for : Meters → ActiveBearer → Bool → ℕ → ℕ → Option BucketState
+abbrev pub left_for : Meters → ActiveBearer → Bool → ℕ → ℕ → Bool × BucketState
 left_for meters bearer up octets at = left_of (bucket_for meters bearer up) octets at
 
--- what is to become of a packet: the bucket that is left decides where it is tried
-abbrev pub planned_through : ActiveBearer → ℕ → Option BucketState → Plan
-planned_through bearer len None = plan.Policed bearer.life
-planned_through bearer len (Some bucket) = plan.Up bearer bucket len
+-- what is to become of a packet, by what trying it came to
+abbrev pub planned_through : ActiveBearer → ℕ → Bool × BucketState → Plan
+planned_through bearer len tried =
+    if tried.0 then plan.Up bearer tried.1 len else plan.Policed bearer true tried.1
 
 abbrev pub planned_up : VersionState → Meters → ℕ → List ℕ → Option ActiveBearer → Plan
 planned_up version meters at octets None = plan.NoBearer
@@ -56,9 +56,9 @@ planned_up version meters at octets (Some bearer) =
     then planned_through bearer (length octets) (left_for meters bearer true (length octets) at)
     else plan.Spoof
 
-abbrev pub planned_into : ActiveBearer → Peer → ℕ → Option BucketState → Plan
-planned_into bearer peer len None = plan.Policed bearer.life
-planned_into bearer peer len (Some bucket) = plan.Down bearer peer bucket len
+abbrev pub planned_into : ActiveBearer → Peer → ℕ → Bool × BucketState → Plan
+planned_into bearer peer len tried =
+    if tried.0 then plan.Down bearer peer tried.1 len else plan.Policed bearer false tried.1
 
 abbrev pub planned_waiting : VersionState → List HeldRow → ℕ → ActiveBearer → Plan
 planned_waiting version held number bearer =
@@ -92,7 +92,7 @@ meters_behind plan.NoBearer meters = meters
 meters_behind plan.Spoof meters = meters
 meters_behind (plan.Idle life) meters = meters
 meters_behind (plan.Hold life message) meters = meters
-meters_behind (plan.Policed life) meters = meters
+meters_behind (plan.Policed bearer up bucket) meters = put_bucket meters bearer up bucket
 meters_behind (plan.Up bearer bucket len) meters = put_bucket meters bearer true bucket
 meters_behind (plan.Down bearer peer bucket len) meters = put_bucket meters bearer false bucket
 
@@ -101,7 +101,7 @@ held_behind plan.NoBearer packet held = held
 held_behind plan.Spoof packet held = held
 held_behind (plan.Idle life) packet held = held
 held_behind (plan.Hold life message) packet held = held ++ record { packet = packet; life = life } ∷ []
-held_behind (plan.Policed life) packet held = held
+held_behind (plan.Policed bearer up bucket) packet held = held
 held_behind (plan.Up bearer bucket len) packet held = held
 held_behind (plan.Down bearer peer bucket len) packet held = held
 
@@ -113,7 +113,7 @@ charged_by plan.NoBearer at = []
 charged_by plan.Spoof at = []
 charged_by (plan.Idle life) at = []
 charged_by (plan.Hold life message) at = []
-charged_by (plan.Policed life) at = []
+charged_by (plan.Policed bearer up bucket) at = []
 charged_by (plan.Up bearer bucket len) at = charge_of bearer true len at ∷ []
 charged_by (plan.Down bearer peer bucket len) at = charge_of bearer false len at ∷ []
 
@@ -144,15 +144,21 @@ with_fate so_far row fate_ = record {
   effects = so_far.effects ++ effect.Fate row.packet.number fate_ ∷ [];
 }
 
--- a held packet is tried for its bearer's eNodeB at a moment
-abbrev pub brought_through : Brought → HeldRow → ActiveBearer → Peer → ℕ → Option BucketState → Brought
-brought_through so_far row bearer peer at None = with_fate so_far row (fate.Policed row.life)
-brought_through so_far row bearer peer at (Some bucket) = record {
-  meters = put_bucket so_far.meters bearer false bucket;
+-- a held packet is tried for its bearer's eNodeB at a moment: its bucket is put back, also where it doesn't pass
+abbrev pub with_put : Brought → ActiveBearer → BucketState → Brought
+with_put so_far bearer bucket = record so_far { meters = put_bucket so_far.meters bearer false bucket }
+
+abbrev pub with_charge : Brought → HeldRow → ActiveBearer → ℕ → Brought
+with_charge so_far row bearer at = record so_far {
   charged = so_far.charged ++ charge_of bearer false (length row.packet.octets) at ∷ [];
-  effects = so_far.effects
-      ++ effect.Fate row.packet.number (fate.Down row.life peer.addr (gpdu peer row.packet.octets)) ∷ [];
 }
+
+abbrev pub brought_through : Brought → HeldRow → ActiveBearer → Peer → ℕ → Bool × BucketState → Brought
+brought_through so_far row bearer peer at tried =
+    let put = with_put so_far bearer tried.1 in
+    if tried.0
+    then with_fate (with_charge put row bearer at) row (fate.Down row.life peer.addr (gpdu peer row.packet.octets))
+    else with_fate put row (fate.Policed row.life)
 
 abbrev pub brought_to : Brought → HeldRow → ActiveBearer → ℕ → Option Peer → Brought
 brought_to so_far row bearer at None = so_far

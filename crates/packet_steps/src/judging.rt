@@ -76,13 +76,19 @@ impl Counters {
             return Plan::Spoof;
         }
         let len = u32::from(ip.total_len());
-        match self.meters.tried(bearer, true, moment, len) {
-            Some(bucket) => Plan::Up {
+        let (passes, bucket) = self.meters.tried(bearer, true, moment, len);
+        if passes {
+            Plan::Up {
                 bearer: *bearer,
                 bucket,
                 len,
-            },
-            None => Plan::Policed { life: bearer.life },
+            }
+        } else {
+            Plan::Policed {
+                bearer: *bearer,
+                up: true,
+                bucket,
+            }
         }
     }
 
@@ -112,14 +118,20 @@ impl Counters {
             return self.plan_waiting(version, number, bearer);
         };
         let len = u32::from(ip.total_len());
-        match self.meters.tried(bearer, false, moment, len) {
-            Some(bucket) => Ok(Plan::Down {
+        let (passes, bucket) = self.meters.tried(bearer, false, moment, len);
+        if passes {
+            Ok(Plan::Down {
                 bearer: *bearer,
                 peer,
                 bucket,
                 len,
-            }),
-            None => Ok(Plan::Policed { life: bearer.life }),
+            })
+        } else {
+            Ok(Plan::Policed {
+                bearer: *bearer,
+                up: false,
+                bucket,
+            })
         }
     }
 

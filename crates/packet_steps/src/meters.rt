@@ -123,7 +123,7 @@ impl Meters {
         }
     }
 
-    /// Whether octets of a bearer pass at a moment: the bucket that is left, if so.
+    /// Whether octets of a bearer pass at a moment, and the bucket that is left.
     #[inline(always)]
     pub(crate) fn tried(
         &self,
@@ -131,7 +131,7 @@ impl Meters {
         up: bool,
         at: Moment,
         octets: u32,
-    ) -> Option<Bucket>
+    ) -> (bool, Bucket)
         requires { bearer.now.index < 11 }
         ensures tries { (past : Past) → MetersStand self.now past → Contains past.version.bearers bearer.now
             → moment_of past ≤ at
@@ -139,11 +139,8 @@ impl Meters {
         ensures left { result ≡ left_for self.now bearer.now up octets at }
     {
         let mut bucket = self.bucket(bearer, up);
-        if ask(&mut bucket, at, octets) {
-            Some(bucket)
-        } else {
-            None
-        }
+        let passes = ask(&mut bucket, at, octets);
+        (passes, bucket)
     }
 }
 

@@ -10,8 +10,8 @@ use pc_base::{Octets, Peer, Verdict};
 use rate_policer::Bucket;
 use std::alloc::Global;
 
-/// What is to become of a packet. What passes comes with the bucket that is left, and
-/// with how many octets the packet has.
+/// What is to become of a packet. What was tried comes with the bucket that is left, and what passes with how many
+/// octets the packet has.
 #[derive(Debug, Drop)]
 pub enum Plan {
     NoBearer,
@@ -24,7 +24,9 @@ pub enum Plan {
         message: Option<Octets>,
     },
     Policed {
-        life: u64,
+        bearer: ActiveBearer,
+        up: bool,
+        bucket: Bucket,
     },
     Up {
         bearer: ActiveBearer,
@@ -50,7 +52,7 @@ impl Plan {
             Plan::Spoof => LentVerdict::Spoof,
             Plan::Idle { life } => LentVerdict::Idle { life },
             Plan::Hold { life, message } => LentVerdict::Held { life, message },
-            Plan::Policed { life } => LentVerdict::Policed { life },
+            Plan::Policed { bearer, .. } => LentVerdict::Policed { life: bearer.life },
             Plan::Up { bearer, .. } => LentVerdict::Up {
                 life: bearer.life,
                 octets,
@@ -77,7 +79,7 @@ impl Plan {
                 life: *life,
                 message: copy_of(message)?,
             }),
-            Plan::Policed { life } => Ok(Verdict::Policed { life: *life }),
+            Plan::Policed { bearer, .. } => Ok(Verdict::Policed { life: bearer.life }),
             Plan::Up { bearer, .. } => Ok(Verdict::Up {
                 life: bearer.life,
                 octets: Octets::of(Vec::from_slice(alloc, octets)?),

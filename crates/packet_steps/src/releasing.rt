@@ -71,16 +71,17 @@ impl Release {
     {
         let octets = held.packet.octets.as_slice();
         let len = octets.len() as u32;
-        let Some(bucket) = self.meters.tried(bearer, false, at, len) else {
+        let (passes, bucket) = self.meters.tried(bearer, false, at, len);
+        self.meters.put(bearer, false, bucket);
+        if !passes {
             return self.tell(held, Fate::Policed { life: held.life });
-        };
+        }
         self.postings.push(Posting::Packet {
             life: bearer.life,
             up: false,
             octets: len,
             at,
         })?;
-        self.meters.put(bearer, false, bucket);
         self.tell(
             held,
             Fate::Down {

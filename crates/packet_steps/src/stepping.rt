@@ -7,7 +7,7 @@ ghost use Rattle.ipv4_packet.specs.Packet.{IsPacket};
 ghost use Rattle.packet_steps.specs.Past.{Past, moment_of, row_for, with_row, with_held};
 ghost use Rattle.packet_steps.specs.Verdicts.{at_moment};
 ghost use Rattle.packet_steps.specs.Standing.{StandsFor, AreFew, last_of};
-ghost use Rattle.packet_steps.specs.Plans.{Does, PolicesBehind};
+ghost use Rattle.packet_steps.specs.Plans.{Does, PolicesBehind, PolicesStill};
 
 use crate::counters::Counters;
 use crate::plan::Plan;
@@ -58,7 +58,11 @@ impl Counters {
                 ..
             } => self.pass(bearer, false, *bucket, moment, *len),
             Plan::Hold { life, .. } => self.hold(*life, number, moment, way, octets),
-            Plan::NoBearer | Plan::Spoof | Plan::Idle { .. } | Plan::Policed { .. } => {
+            Plan::Policed { bearer, up, bucket } => {
+                self.refuse(bearer, *up, *bucket, moment);
+                Ok(())
+            }
+            Plan::NoBearer | Plan::Spoof | Plan::Idle { .. } => {
                 self.stay(moment);
                 Ok(())
             }
@@ -73,6 +77,23 @@ impl Counters {
         ensures same { self.new ≡ record self.old { last = Some moment } }
         ensures moment { last_of self.new ≡ Some moment }
     {
+        self.last = Some(moment);
+    }
+
+    // A packet came that its bearer's bucket doesn't let through.
+    fn refuse(&mut self, bearer: &ActiveBearer, up: bool, bucket: Bucket, moment: Moment)
+        requires { IfSome (last_of self.old) (λ last. last ≤ moment) }
+        ensures stands { (past : Past) (taken : ℕ) → StandsFor self.old past taken → moment_of past ≤ moment
+            → Contains past.version.bearers bearer.now
+            → PolicesStill (at_moment past moment) bearer.now up bucket
+            → StandsFor self.new (at_moment past moment) taken }
+        ensures same { self.new ≡ record self.old {
+          meters = put_bucket self.old.meters bearer.now up bucket;
+          last = Some moment;
+        } }
+        ensures moment { last_of self.new ≡ Some moment }
+    {
+        self.meters.put(bearer, up, bucket);
         self.last = Some(moment);
     }
 

@@ -1,5 +1,5 @@
 -- A new version brings the same to counters that are alike, and leaves them alike.
-use Rattle.std.proofs.Common.{◌≡◌, ℕ, ◌==◌, false, List, [], ◌∷◌, ◌++◌, length, fold, filter, unwrap_or, Option, Some, None, refl, sym, ap, ◌∙◌, subst}
+use Rattle.std.proofs.Common.{◌≡◌, ℕ, ◌==◌, Bool, true, false, List, [], ◌∷◌, ◌++◌, length, fold, filter, unwrap_or, Option, Some, None, refl, sym, ap, ◌∙◌, subst}
 use Rattle.std.specs.List.{Contains}
 use Rattle.pc_base.specs.declared.effect.Effect.{Effect}
 use Rattle.pc_base.specs.declared.effect.Effect.TheVariants as effect
@@ -38,11 +38,14 @@ fate_alike after x y row fate_ alike = record {
 }
 
 through_alike : (after : VersionState) (x y : Brought) (row : HeldRow) (b : ActiveBearer) (peer : Peer) (at : ℕ)
-    (left : Option BucketState) → IsVersion after → Contains after.bearers b → BringAlike after x y
+    (left : Bool × BucketState) → IsVersion after → Contains after.bearers b → BringAlike after x y
     → BringAlike after (brought_through x row b peer at left) (brought_through y row b peer at left)
-through_alike after x y row b peer at None ranges there alike =
-    fate_alike after x y row (fate.Policed row.life) alike
-through_alike after x y row b peer at (Some bucket) ranges there alike = record {
+through_alike after x y row b peer at (false, bucket) ranges there alike = record {
+  meters = put_alike after x.meters y.meters b false bucket ranges alike.meters there;
+  charged = alike.charged;
+  effects = ap (λ (es : List Effect). es ++ effect.Fate row.packet.number (fate.Policed row.life) ∷ []) alike.effects;
+}
+through_alike after x y row b peer at (true, bucket) ranges there alike = record {
   meters = put_alike after x.meters y.meters b false bucket ranges alike.meters there;
   charged = ap (λ (hs : List Happening). hs ++ charge_of b false (length row.packet.octets) at ∷ []) alike.charged;
   effects = ap (λ (es : List Effect). es

@@ -264,7 +264,7 @@ going_plan version pieces plan.NoBearer at are of = going_none version pieces ar
 going_plan version pieces plan.Spoof at are of = going_none version pieces are
 going_plan version pieces (plan.Idle life) at are of = going_none version pieces are
 going_plan version pieces (plan.Hold life message) at are of = going_none version pieces are
-going_plan version pieces (plan.Policed life) at are of = going_none version pieces are
+going_plan version pieces (plan.Policed b up bucket) at are of = going_none version pieces are
 going_plan version pieces (plan.Up b bucket len) at are of =
     going_more (begins pieces) [] version.bearers b true len at of (going_none version pieces are)
 going_plan version pieces (plan.Down b peer bucket len) at are of =
@@ -275,7 +275,7 @@ one_at_most plan.NoBearer at = omega arith
 one_at_most plan.Spoof at = omega arith
 one_at_most (plan.Idle life) at = omega arith
 one_at_most (plan.Hold life message) at = omega arith
-one_at_most (plan.Policed life) at = omega arith
+one_at_most (plan.Policed b up bucket) at = omega arith
 one_at_most (plan.Up b bucket len) at = omega arith
 one_at_most (plan.Down b peer bucket len) at = omega arith
 
@@ -288,11 +288,11 @@ packets_charged version counters pieces most packet are within few =
 
 -- what a version brings
 going_through : (before : List Happening) (bearers : List ActiveBearer) (so_far : Brought) (row : HeldRow)
-    (b : ActiveBearer) (peer : Peer) (at : ℕ) (left : Option BucketState) → Contains bearers b
+    (b : ActiveBearer) (peer : Peer) (at : ℕ) (left : Bool × BucketState) → Contains bearers b
     → Going before so_far.charged (has_life bearers)
     → Going before (brought_through so_far row b peer at left).charged (has_life bearers)
-going_through before bearers so_far row b peer at None there going = going
-going_through before bearers so_far row b peer at (Some bucket) there going =
+going_through before bearers so_far row b peer at (false, bucket) there going = going
+going_through before bearers so_far row b peer at (true, bucket) there going =
     going_more before so_far.charged bearers b false (length row.packet.octets) at there going
 
 going_to : (before : List Happening) (bearers : List ActiveBearer) (so_far : Brought) (row : HeldRow)

@@ -1,5 +1,5 @@
 -- Counters that are alike plan alike for a packet, and stay alike behind it.
-use Rattle.std.proofs.Common.{◌≡◌, ℕ, ◌==◌, ◌&&◌, nat_le, true, false, cond, List, ◌++◌, length, Option, Some, None, refl, sym, ap, ◌∙◌, subst}
+use Rattle.std.proofs.Common.{◌≡◌, ℕ, ◌==◌, ◌&&◌, nat_le, Bool, true, false, cond, List, ◌++◌, length, Option, Some, None, refl, sym, ap, ◌∙◌, subst}
 use Rattle.std.specs.List.{Contains}
 use Rattle.pc_base.specs.Addresses.{addr_of}
 use Rattle.pc_base.specs.declared.packet.Packet.{Packet}
@@ -69,20 +69,20 @@ plans_alike version old other pieces others packet alike =
     ap (λ p. cond (version.live && is_packet packet.octets) p plan.NoBearer)
     (way_alike version old other packet packet.way alike.meters alike.held)
 
--- what is planned to pass is of an active bearer
+-- what is planned behind an ask is of an active bearer
 abbrev pub IsOfBearer : VersionState → Plan → Type 0
 IsOfBearer version plan.NoBearer = Unit {0}
 IsOfBearer version plan.Spoof = Unit {0}
 IsOfBearer version (plan.Idle life) = Unit {0}
 IsOfBearer version (plan.Hold life message) = Unit {0}
-IsOfBearer version (plan.Policed life) = Unit {0}
+IsOfBearer version (plan.Policed b up bucket) = Contains version.bearers b
 IsOfBearer version (plan.Up b bucket len) = Contains version.bearers b
 IsOfBearer version (plan.Down b peer bucket len) = Contains version.bearers b
 
-through_of : (version : VersionState) (b : ActiveBearer) (len : ℕ) (left : Option BucketState)
+through_of : (version : VersionState) (b : ActiveBearer) (len : ℕ) (left : Bool × BucketState)
     → Contains version.bearers b → IsOfBearer version (planned_through b len left)
-through_of version b len None there = tt
-through_of version b len (Some bucket) there = there
+through_of version b len (false, bucket) there = there
+through_of version b len (true, bucket) there = there
 
 up_of : (version : VersionState) (m : Meters) (at : ℕ) (octets : List ℕ) (found : Option ActiveBearer)
     → ((b : ActiveBearer) → found ≡ Some b → In b version.bearers)
@@ -97,10 +97,10 @@ up_of version m at octets (Some b) among =
       | false ↦ tt
     ]
 
-into_of : (version : VersionState) (b : ActiveBearer) (peer : Peer) (len : ℕ) (left : Option BucketState)
+into_of : (version : VersionState) (b : ActiveBearer) (peer : Peer) (len : ℕ) (left : Bool × BucketState)
     → Contains version.bearers b → IsOfBearer version (planned_into b peer len left)
-into_of version b peer len None there = tt
-into_of version b peer len (Some bucket) there = there
+into_of version b peer len (false, bucket) there = there
+into_of version b peer len (true, bucket) there = there
 
 to_of : (version : VersionState) (old : CountersState) (packet : Packet) (b : ActiveBearer) (enb : Option Peer)
     → Contains version.bearers b → IsOfBearer version (planned_to version old packet b enb)
@@ -146,7 +146,7 @@ behind_alike version m n plan.NoBearer ranges of alike = alike
 behind_alike version m n plan.Spoof ranges of alike = alike
 behind_alike version m n (plan.Idle life) ranges of alike = alike
 behind_alike version m n (plan.Hold life message) ranges of alike = alike
-behind_alike version m n (plan.Policed life) ranges of alike = alike
+behind_alike version m n (plan.Policed b up bucket) ranges of alike = put_alike version m n b up bucket ranges alike of
 behind_alike version m n (plan.Up b bucket len) ranges of alike = put_alike version m n b true bucket ranges alike of
 behind_alike version m n (plan.Down b peer bucket len) ranges of alike =
     put_alike version m n b false bucket ranges alike of
