@@ -36,6 +36,16 @@ impl Floors {
         self.free as usize + self.others.len()
     }
 
+    /// Makes room for so many packets more, but for few.
+    pub fn make_room(&mut self, packets: usize) -> Result<(), AllocError>
+        ensures { OnOk result (self.new ≡ self.old) }
+    {
+        if packets > 4 {
+            return self.others.reserve_exact(packets);
+        }
+        Ok(())
+    }
+
     /// One more packet, which waits for so many commands.
     pub fn push(&mut self, floor: usize) -> Result<(), AllocError>
         ensures { OnOk result (self.new ≡ self.old ++ floor ∷ []) }

@@ -47,11 +47,13 @@ fn is_same(one: &Met, other: &Met) -> bool
     one.commands == other.commands && one.place == other.place
 }
 
-/// What the packets of a slot meet, in their order. Those at the front that meet the same are counted alone.
+/// What the packets of a slot meet, in their order. Those at the front that meet the same are counted alone, but for
+/// many packets, which are listed at once.
 #[derive(Drop)]
 pub struct SlotMets {
     first: Met,
     same: u32,
+    listed: bool,
     others: Vec<Met>,
 }
 
@@ -74,6 +76,7 @@ impl SlotMets {
                 place: Place::Closing,
             },
             same: 0,
+            listed: false,
             others: Vec::new(alloc),
         }
     }
@@ -102,6 +105,7 @@ impl SlotMets {
         ensures { OnOk result (self.new ≡ self.old) }
     {
         if packets > 4 {
+            self.listed = true;
             return self.others.reserve_exact(packets);
         }
         Ok(())
@@ -110,6 +114,17 @@ impl SlotMets {
     /// One more packet.
     #[inline(always)]
     pub fn push(&mut self, met: Met) -> Result<(), AllocError>
+        ensures { OnOk result (self.new ≡ self.old ++ met ∷ []) }
+    {
+        if self.listed {
+            self.others.push(met)?;
+            return Ok(());
+        }
+        self.push_counted(met)
+    }
+
+    /// The same, counted where it meets what those before it met.
+    fn push_counted(&mut self, met: Met) -> Result<(), AllocError>
         ensures { OnOk result (self.new ≡ self.old ++ met ∷ []) }
     {
         if self.others.is_empty() && self.same < u32::MAX {

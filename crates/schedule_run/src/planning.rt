@@ -244,7 +244,7 @@ pub fn schedule(
     let setup = Setup::new(rooms, slices, bounds, packets.as_slice());
     let mut numbers = Numbers {
         alloc,
-        slots: Vec::new(alloc),
+        slots: Vec::with_capacity(alloc, packets.len())?,
         controls: Vec::new(alloc),
         flows: Vec::new(alloc),
     };

@@ -323,10 +323,24 @@ pub fn reach(index: &mut Vec<usize>, slot: usize) -> Result<(), AllocError>
     ensures more { length index.old.items ≤ length index.new.items }
     ensures within { OnOk result (slot < length index.new.items) }
 {
-    while index.len() <= slot {
-        index.push(0)?;
+    if slot < index.len() {
+        return Ok(());
     }
-    Ok(())
+    grow_index(index, slot)
+}
+
+/// The same of one that is too short.
+#[inline(never)]
+fn grow_index(index: &mut Vec<usize>, slot: usize) -> Result<(), AllocError>
+    requires { length index.old.items ≤ slot }
+    ensures same { (s : ℕ) → get_or index.new.items s 0 ≡ get_or index.old.items s 0 }
+    ensures more { length index.old.items ≤ length index.new.items }
+    ensures within { OnOk result (slot < length index.new.items) }
+{
+    if slot == usize::MAX {
+        return Err(AllocError);
+    }
+    index.resize(slot + 1, 0)
 }
 
 /// Marks the half at an index, if it is of a slot.
@@ -598,6 +612,17 @@ impl Roster {
         let (slot, next) = round_from(self.halves.as_slice(), self.next);
         self.next = next;
         slot
+    }
+
+    /// Makes room for the halves of so many slots, before the first one comes: for a part of them, and an index of all.
+    pub fn make_room(&mut self, slots: usize) -> Result<(), AllocError>
+        ensures { OnOk result (self.new ≡ self.old) }
+    {
+        if self.halves.is_empty() {
+            self.halves.reserve_exact(slots / 4)?;
+            return self.index.reserve_exact(slots);
+        }
+        Ok(())
     }
 
     /// A half comes.

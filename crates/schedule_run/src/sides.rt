@@ -240,8 +240,9 @@ pub fn hold_control(numbers: &mut Numbers, slice: usize, slot: usize) -> Result<
         (λ worker. control.behind_order worker (world.come slot))) }
 {
     reach_control(&mut numbers.controls, numbers.alloc, slice)?;
+    let room = numbers.slots.capacity();
     let worker = &mut numbers.controls[slice];
-    worker.hold(numbers.alloc, slot)
+    worker.hold(numbers.alloc, room, slot)
 }
 
 /// A control half is marked.
@@ -367,8 +368,9 @@ pub fn hold_flow(numbers: &mut Numbers, slice: usize, slot: usize) -> Result<(),
         (λ worker. record worker { held = worker.held ++ slot ∷ [] })) }
 {
     reach_flow(&mut numbers.flows, numbers.alloc, slice)?;
+    let room = numbers.slots.capacity();
     let worker = &mut numbers.flows[slice];
-    worker.hold(numbers.alloc, slot)
+    worker.hold(numbers.alloc, room, slot)
 }
 
 /// A counter half leaves, and waits.

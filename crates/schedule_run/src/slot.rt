@@ -250,10 +250,11 @@ impl SlotNumbers {
         self.applied
     }
 
-    /// Makes room for what so many packets meet.
+    /// Makes room for so many packets, and for what they meet.
     pub fn make_room(&mut self, packets: usize) -> Result<(), AllocError>
         ensures { OnOk result (self.new ≡ self.old) }
     {
+        self.packets.make_room(packets)?;
         self.met.make_room(packets)
     }
 

@@ -108,11 +108,12 @@ impl ControlNumbers {
         self.roster.set_behind(slot);
     }
 
-    /// A half comes.
-    pub fn hold(&mut self, alloc: Global, slot: usize) -> Result<(), AllocError>
+    /// A half comes, of one of so many slots.
+    pub fn hold(&mut self, alloc: Global, slots: usize, slot: usize) -> Result<(), AllocError>
         ensures { OnOk result (self.new ≡ control.behind_order self.old (world.come slot)) }
     {
         self.roster.tidy(alloc)?;
+        self.roster.make_room(slots)?;
         self.roster.push(HeldControl { slot, until: None })
     }
 
@@ -276,12 +277,13 @@ impl FlowNumbers {
         self.kept = Some(slot);
     }
 
-    /// A half arrives.
+    /// A half arrives, of one of so many slots.
     #[tactic(auto, using(crate::proofs::Order::slots_pushed))]
-    pub fn hold(&mut self, alloc: Global, slot: usize) -> Result<(), AllocError>
+    pub fn hold(&mut self, alloc: Global, slots: usize, slot: usize) -> Result<(), AllocError>
         ensures { OnOk result (self.new ≡ record self.old { held = self.old.held ++ slot ∷ [] }) }
     {
         self.roster.tidy(alloc)?;
+        self.roster.make_room(slots)?;
         self.roster.push(HeldControl { slot, until: None })
     }
 

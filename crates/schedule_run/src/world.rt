@@ -193,7 +193,7 @@ pub fn tell_moves(numbers: &mut Numbers, slot: usize) -> Result<(), AllocError>
     Ok(())
 }
 
-/// Makes room for what the packets of a slot meet.
+/// Makes room for the packets of a slot.
 pub fn make_room(numbers: &mut Numbers, setup: &Setup<'_>, slot: usize) -> Result<(), AllocError>
     ensures { OnOk result (world_of numbers.new ≡ world_of numbers.old) }
 {
