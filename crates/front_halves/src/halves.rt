@@ -110,7 +110,8 @@ impl Halves {
         patience: u32,
     ) -> Given
         requires { MayGive slot self.old }
-        ensures { GivesCommand slot line command (patience + 1) result self.old self.new }
+        ensures gives { GivesCommand slot line command (patience + 1) result self.old self.new }
+        ensures rises { self.old.fulls ≤ self.new.fulls }
     {
         let mut command = command;
         for _ in 0..patience {
@@ -138,6 +139,7 @@ impl Halves {
         ensures full { IfErr result (λ full. (full.0 ≡ command) × Settles self.old self.new
             × CommandsFull slot self.new × RisesBy 1 self.old.fulls self.new.fulls
             × RisesBy 1 (lane_fulls slot self.old) (lane_fulls slot self.new)) }
+        ensures rises { self.old.fulls ≤ self.new.fulls }
     {
         match lot::send(rt, &mut self.lots[slot.0 as usize], line, command) {
             Ok(()) => Ok(()),
@@ -159,7 +161,8 @@ impl Halves {
         patience: u32,
     ) -> Result<Given, NoMemory>
         requires { MayGive slot self.old }
-        ensures { IfOk result (λ given. GivesPacket slot line packet (patience + 1) given self.old self.new) }
+        ensures gives { IfOk result (λ given. GivesPacket slot line packet (patience + 1) given self.old self.new) }
+        ensures rises { self.old.fulls ≤ self.new.fulls }
     {
         let mut packet = packet;
         for _ in 0..patience {
@@ -180,7 +183,8 @@ impl Halves {
 
     fn try_packet<R: Wait>(&mut self, rt: &R, slot: Slot, line: u64, packet: Packet) -> Tried
         requires { MayGive slot self.old }
-        ensures { TriesPacket slot line packet result self.old self.new }
+        ensures tries { TriesPacket slot line packet result self.old self.new }
+        ensures rises { self.old.fulls ≤ self.new.fulls }
     {
         let place = slot.0 as usize;
         let parked = self.sides.parks(slot);
