@@ -109,6 +109,7 @@ impl Front {
                 sides: BothSides {
                     controls: Side::new(alloc, controls.desks),
                     flows: FlowSide::new(alloc, flows.desks, room),
+                    moving: Vec::new(alloc),
                 },
                 fulls,
             },

@@ -1,5 +1,5 @@
 //! The split subscribers: their front ends, and the two sides that their halves are admitted to.
-ghost use Rattle.std.specs.Prelude.{◌≡◌, ◌<◌, ◌≤◌, ◌+◌, ℕ, length, is_some, OnOk, IfOk, IfErr};
+ghost use Rattle.std.specs.Prelude.{◌≡◌, ◌<◌, ◌≤◌, ◌+◌, ℕ, None, length, is_some, OnOk, IfOk, IfErr};
 
 use crate::NoMemory;
 use crate::lot::{self, Lot};
@@ -56,7 +56,7 @@ impl Halves {
         let Some(until) = lot::move_on(&mut self.lots[slot.0 as usize]) else {
             return Ok(());
         };
-        self.sides.go(rt, slot, slice, until);
+        self.sides.go(rt, slot, slice, until)?;
         Ok(())
     }
 
@@ -77,6 +77,24 @@ impl Halves {
         if self.is_split(slot) {
             return Ok(());
         }
+        self.split_at(rt, slot, subscriber)
+    }
+
+    // The same for one that isn't split.
+    #[inline(never)]
+    fn split_at<R: Wait>(
+        &mut self,
+        rt: &R,
+        slot: Slot,
+        subscriber: &mut Subscriber,
+    ) -> Result<(), NoMemory>
+        requires may { MayAdmit slot subscriber.old self.old }
+        requires unsplit { end_of (lot_of self.old.lots.items slot) ≡ None }
+        ensures ready { OnOk result (IsReady slot subscriber.old subscriber.new self.old self.new) }
+        ensures lots { (most : ℕ) → slot < most → length self.old.lots.items ≤ most
+            → length self.new.lots.items ≤ most }
+        ensures fulls { self.new.fulls ≡ self.old.fulls }
+    {
         grow(&mut self.lots, slot.0 as usize + 1)?;
         let moved = lot::has_moved(&self.lots[slot.0 as usize]);
         let slice = subscriber.destination();
