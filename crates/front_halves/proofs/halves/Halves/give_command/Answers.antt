@@ -24,13 +24,13 @@ loop-preserved g c =
 
 pub returns-in-Ok-clause-rises : goal.returns-in-Ok-clause-rises
 returns-in-Ok-clause-rises g c =
-    command_later c.args.slot c.args.command c.loop.command c.loop.counter c.args.self.now c.loop.self c.loop.invariant _
-    c.try_command.ensures.rises
+    command_later c.args.slot c.args.command c.loop.command c.loop.counter c.args.self.now c.loop.self c.loop.invariant
+    c.try_command.new.self c.try_command.ensures.rises
 
 pub returns-clause-rises : goal.returns-clause-rises
 returns-clause-rises g c =
-    command_later c.args.slot c.args.command c.loop.command c.loop.counter c.args.self.now c.loop.self c.loop.invariant _
-    c.try_command-2.ensures.rises
+    command_later c.args.slot c.args.command c.loop.command c.loop.counter c.args.self.now c.loop.self c.loop.invariant
+    c.try_command-2.new.self c.try_command-2.ensures.rises
 
 pub returns-clause-gives : goal.returns-clause-gives
 returns-clause-gives g c =

@@ -23,18 +23,18 @@ returns-in-Accepted-clause-gives g c =
 
 pub returns-in-Accepted-clause-rises : goal.returns-in-Accepted-clause-rises
 returns-in-Accepted-clause-rises g c =
-    packet_later c.args.slot c.args.packet c.loop.packet c.loop.counter c.args.self.now c.loop.self c.loop.invariant _
-    c.try_packet.ensures.rises
+    packet_later c.args.slot c.args.packet c.loop.packet c.loop.counter c.args.self.now c.loop.self c.loop.invariant
+    c.try_packet.new.self c.try_packet.ensures.rises
 
 pub returns-in-NoMemory-clause-rises : goal.returns-in-NoMemory-clause-rises
 returns-in-NoMemory-clause-rises g c =
-    packet_later c.args.slot c.args.packet c.loop.packet c.loop.counter c.args.self.now c.loop.self c.loop.invariant _
-    c.try_packet.ensures.rises
+    packet_later c.args.slot c.args.packet c.loop.packet c.loop.counter c.args.self.now c.loop.self c.loop.invariant
+    c.try_packet.new.self c.try_packet.ensures.rises
 
 pub returns-clause-rises : goal.returns-clause-rises
 returns-clause-rises g c =
-    packet_later c.args.slot c.args.packet c.loop.packet c.loop.counter c.args.self.now c.loop.self c.loop.invariant _
-    c.try_packet-2.ensures.rises
+    packet_later c.args.slot c.args.packet c.loop.packet c.loop.counter c.args.self.now c.loop.self c.loop.invariant
+    c.try_packet-2.new.self c.try_packet-2.ensures.rises
 
 pub returns-clause-gives : goal.returns-clause-gives
 returns-clause-gives g c =
