@@ -68,6 +68,7 @@ pub fn close<R: Wait>(
     let BothSides {
         controls: control_side,
         flows: flow_side,
+        ..
     } = sides;
     let halves = controls_home(rt, alloc, control_side.into_end(), controls)?;
     let homes = flows_home(rt, alloc, flow_side.into_end(), flows)?;

@@ -109,6 +109,7 @@ impl Front {
                 sides: BothSides {
                     controls: Side::new(alloc, controls.desks),
                     flows: FlowSide::new(alloc, flows.desks, room),
+                    moving: Vec::new(alloc),
                 },
                 fulls,
             },
@@ -164,6 +165,7 @@ impl Front {
         // A refusal is the last of so many tries and one.
         ensures full { IfOk result (λ took. took ≡ Full
             → RisesBy (patience + 1) (fulls_in self.old) (fulls_in self.new)) }
+        ensures rises { fulls_in self.old ≤ fulls_in self.new }
 
         // Out of memory nothing is accepted.
         ensures none { OnErr result (entries_in self.new ≡ entries_in self.old) }

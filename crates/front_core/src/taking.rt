@@ -1,5 +1,5 @@
 //! What is done with a line, by what it means.
-ghost use Rattle.std.specs.Prelude.{◌≡◌, ◌+◌, IfOk};
+ghost use Rattle.std.specs.Prelude.{◌≡◌, ◌≤◌, ◌+◌, IfOk};
 ghost use Rattle.demux.specs.Trace.{command, packet};
 ghost use Rattle.demux.specs.Meant.{meaning_of};
 ghost use Rattle.front_halves.specs.Steps.{MayMove, SlotMoves};
@@ -28,8 +28,9 @@ pub(crate) fn take<R: Wait>(
     patience: u32,
 ) -> Result<Open, NoMemory>
     requires { MayTake (meaning_of meant) subscribers.old halves.old }
-    ensures { IfOk result (λ open_. Takes line (patience + 1) (meaning_of meant.entry) open_ subscribers.old
+    ensures takes { IfOk result (λ open_. Takes line (patience + 1) (meaning_of meant.entry) open_ subscribers.old
         subscribers.new halves.old halves.new) }
+    ensures rises { halves.old.fulls ≤ halves.new.fulls }
 {
     match meant {
         Meant::Note(text) => Ok(Open::Note(text)),
@@ -62,6 +63,7 @@ fn take_move<R: Wait>(
     requires may { MayMove slot slice halves.old }
     ensures takes { IfOk result (λ open_. (open_ ≡ Note text) × SlotMoves slot halves.old halves.new) }
     ensures lots { GrowsTo slot halves.old halves.new }
+    ensures rises { halves.old.fulls ≤ halves.new.fulls }
 {
     halves.go(rt, slot, slice)?;
     Ok(Open::Note(text))
@@ -77,8 +79,9 @@ fn take_command<R: Wait>(
     patience: u32,
 ) -> Result<Open, NoMemory>
     requires { MayTake (command slot asks) subscribers.old halves.old }
-    ensures { IfOk result (λ open_. TakesCommand slot line (patience + 1) asks open_ subscribers.old subscribers.new
-        halves.old halves.new) }
+    ensures takes { IfOk result (λ open_. TakesCommand slot line (patience + 1) asks open_ subscribers.old
+        subscribers.new halves.old halves.new) }
+    ensures rises { halves.old.fulls ≤ halves.new.fulls }
 {
     rest_leaves_room();
     halves.admit(rt, slot, &mut subscribers[slot.0 as usize])?;
@@ -102,8 +105,9 @@ fn take_packet<R: Wait>(
     patience: u32,
 ) -> Result<Open, NoMemory>
     requires { MayTake (packet slot lent.now) subscribers.old halves.old }
-    ensures { IfOk result (λ open_. TakesPacket slot line (patience + 1) lent.now open_ subscribers.old
+    ensures takes { IfOk result (λ open_. TakesPacket slot line (patience + 1) lent.now open_ subscribers.old
         subscribers.new halves.old halves.new) }
+    ensures rises { halves.old.fulls ≤ halves.new.fulls }
 {
     let numbered = lent.numbered(alloc, 0)?;
     rest_leaves_room();

@@ -1,5 +1,5 @@
 -- Tries one behind the other.
-use Rattle.std.proofs.Common.{◌≡◌, ℕ, ◌+◌, inl, inr, Bool, true, false, true≢false, is_some, List, length, map, replicate, refl, sym, ap, subst, ◌∙◌, arith}
+use Rattle.std.proofs.Common.{◌≡◌, ℕ, ◌+◌, ◌≤◌, inl, inr, Bool, true, false, true≢false, is_some, List, length, map, replicate, refl, sym, ap, subst, ◌∙◌, arith}
 use Rattle.std.specs.Prelude.{Option, Some}
 use Rattle.control_steps.specs.declared.command.CommandKind.{CommandKind}
 use Rattle.pc_base.specs.declared.packet.Packet.{Packet}
@@ -125,6 +125,7 @@ pub record CommandTried (slot : ℕ) (c now : CommandKind) (n : ℕ) (start halv
   pub settles : Settles start halves
   pub same : now ≡ c
   pub may : MayGive slot halves
+  pub later : start.fulls ≤ halves.fulls
   pub rises : RisesBy n start.fulls halves.fulls
   pub met : RisesBy n (lane_fulls slot start) (lane_fulls slot halves)
 
@@ -133,18 +134,23 @@ none_tried slot c start may = record {
   settles = settles_none start;
   same = refl;
   may = may;
+  later = omega arith;
   rises = inl (omega arith);
   met = inl (omega arith);
 }
 
 module _ (slot : ℕ) (c now : CommandKind) (n : ℕ) (start mid : Halves) (tried : CommandTried slot c now n start mid) where
+  pub command_later : (new : Halves) → mid.fulls ≤ new.fulls → start.fulls ≤ new.fulls
+  command_later new later = let before = tried.later in omega (arith, before, later)
+
   pub command_tried : (back : CommandKind) (new : Halves) → back ≡ now → Settles mid new
-      → RisesBy 1 mid.fulls new.fulls → RisesBy 1 (lane_fulls slot mid) (lane_fulls slot new)
+      → mid.fulls ≤ new.fulls → RisesBy 1 mid.fulls new.fulls → RisesBy 1 (lane_fulls slot mid) (lane_fulls slot new)
       → CommandTried slot c back (n + 1) start new
-  command_tried back new same settles rises met = record {
+  command_tried back new same settles later rises met = record {
     settles = settles_then start mid new tried.settles settles;
     same = same ∙ tried.same;
     may = give_then mid new slot settles tried.may;
+    later = command_later new later;
     rises = rises_then n 1 start.fulls mid.fulls new.fulls tried.rises rises;
     met = rises_then n 1 (lane_fulls slot start) (lane_fulls slot mid) (lane_fulls slot new) tried.met met;
   }
@@ -175,6 +181,7 @@ pub record PacketTried (slot : ℕ) (packet now : Packet) (n : ℕ) (start halve
   pub settles : Settles start halves
   pub same : IsSamePacket now packet
   pub may : MayGive slot halves
+  pub later : start.fulls ≤ halves.fulls
   pub rises : RisesBy n start.fulls halves.fulls
   pub met : RisesBy n (packets_refused start) (packets_refused halves)
 
@@ -184,22 +191,27 @@ no_packet_tried slot packet start may = record {
   settles = settles_none start;
   same = refl;
   may = may;
+  later = omega arith;
   rises = inl (omega arith);
   met = inl (omega arith);
 }
 
 module _ (slot : ℕ) (packet now : Packet) (n : ℕ) (start mid : Halves)
     (was : PacketTried slot packet now n start mid) where
+  pub packet_later : (new : Halves) → mid.fulls ≤ new.fulls → start.fulls ≤ new.fulls
+  packet_later new later = let before = was.later in omega (arith, before, later)
+
   -- and both sides were pumped
   pub packet_tried : (line : ℕ) (back : Packet) (next new : Halves)
-      → TriesPacket slot line now (tried.Full back) mid next → Settles next new → new.fulls ≡ next.fulls
+      → TriesPacket slot line now (tried.Full back) mid next → mid.fulls ≤ next.fulls → Settles next new → new.fulls ≡ next.fulls
       → packets_refused new ≡ packets_refused next → PacketTried slot packet back (n + 1) start new
-  packet_tried line back next new tries pump fulls refused =
+  packet_tried line back next new tries later pump fulls refused =
       let settles = settles_then mid next new tries.0 pump in
       record {
         settles = settles_then start mid new was.settles settles;
         same = tries.1 ∙ was.same;
         may = give_then mid new slot settles was.may;
+        later = subst (λ (n : ℕ). start.fulls ≤ n) (sym fulls) (packet_later next later);
         rises = subst (RisesBy (n + 1) start.fulls) (sym fulls)
             (rises_then n 1 start.fulls mid.fulls next.fulls was.rises tries.3);
         met = subst (RisesBy (n + 1) (packets_refused start)) (sym refused)

@@ -1,5 +1,5 @@
 //! The split subscribers: their front ends, and the two sides that their halves are admitted to.
-ghost use Rattle.std.specs.Prelude.{◌≡◌, ◌<◌, ◌≤◌, ◌+◌, ℕ, length, is_some, OnOk, IfOk, IfErr};
+ghost use Rattle.std.specs.Prelude.{◌≡◌, ◌<◌, ◌≤◌, ◌+◌, ℕ, None, length, is_some, OnOk, IfOk, IfErr};
 
 use crate::NoMemory;
 use crate::lot::{self, Lot};
@@ -56,7 +56,7 @@ impl Halves {
         let Some(until) = lot::move_on(&mut self.lots[slot.0 as usize]) else {
             return Ok(());
         };
-        self.sides.go(rt, slot, slice, until);
+        self.sides.go(rt, slot, slice, until)?;
         Ok(())
     }
 
@@ -77,6 +77,24 @@ impl Halves {
         if self.is_split(slot) {
             return Ok(());
         }
+        self.split_at(rt, slot, subscriber)
+    }
+
+    // The same for one that isn't split.
+    #[inline(never)]
+    fn split_at<R: Wait>(
+        &mut self,
+        rt: &R,
+        slot: Slot,
+        subscriber: &mut Subscriber,
+    ) -> Result<(), NoMemory>
+        requires may { MayAdmit slot subscriber.old self.old }
+        requires unsplit { end_of (lot_of self.old.lots.items slot) ≡ None }
+        ensures ready { OnOk result (IsReady slot subscriber.old subscriber.new self.old self.new) }
+        ensures lots { (most : ℕ) → slot < most → length self.old.lots.items ≤ most
+            → length self.new.lots.items ≤ most }
+        ensures fulls { self.new.fulls ≡ self.old.fulls }
+    {
         grow(&mut self.lots, slot.0 as usize + 1)?;
         let moved = lot::has_moved(&self.lots[slot.0 as usize]);
         let slice = subscriber.destination();
@@ -110,7 +128,8 @@ impl Halves {
         patience: u32,
     ) -> Given
         requires { MayGive slot self.old }
-        ensures { GivesCommand slot line command (patience + 1) result self.old self.new }
+        ensures gives { GivesCommand slot line command (patience + 1) result self.old self.new }
+        ensures rises { self.old.fulls ≤ self.new.fulls }
     {
         let mut command = command;
         for _ in 0..patience {
@@ -138,6 +157,7 @@ impl Halves {
         ensures full { IfErr result (λ full. (full.0 ≡ command) × Settles self.old self.new
             × CommandsFull slot self.new × RisesBy 1 self.old.fulls self.new.fulls
             × RisesBy 1 (lane_fulls slot self.old) (lane_fulls slot self.new)) }
+        ensures rises { self.old.fulls ≤ self.new.fulls }
     {
         match lot::send(rt, &mut self.lots[slot.0 as usize], line, command) {
             Ok(()) => Ok(()),
@@ -159,7 +179,8 @@ impl Halves {
         patience: u32,
     ) -> Result<Given, NoMemory>
         requires { MayGive slot self.old }
-        ensures { IfOk result (λ given. GivesPacket slot line packet (patience + 1) given self.old self.new) }
+        ensures gives { IfOk result (λ given. GivesPacket slot line packet (patience + 1) given self.old self.new) }
+        ensures rises { self.old.fulls ≤ self.new.fulls }
     {
         let mut packet = packet;
         for _ in 0..patience {
@@ -180,7 +201,8 @@ impl Halves {
 
     fn try_packet<R: Wait>(&mut self, rt: &R, slot: Slot, line: u64, packet: Packet) -> Tried
         requires { MayGive slot self.old }
-        ensures { TriesPacket slot line packet result self.old self.new }
+        ensures tries { TriesPacket slot line packet result self.old self.new }
+        ensures rises { self.old.fulls ≤ self.new.fulls }
     {
         let place = slot.0 as usize;
         let parked = self.sides.parks(slot);

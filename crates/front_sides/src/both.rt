@@ -1,5 +1,6 @@
 //! Both sides of a front.
 ghost use Rattle.std.specs.Prelude.{◌≡◌, ℕ, [], true, OnOk, IfErr};
+ghost use Rattle.migration.specs.Words.{roll_of};
 
 use crate::NoMemory;
 use flow_core::Flow;
@@ -14,6 +15,9 @@ use worker_core::Traveller;
 pub struct BothSides<H: Traveller, F: Flow> {
     pub controls: Side<H>,
     pub flows: FlowSide<F>,
+    /// Slots whose control half may be on its way, the latest last. All others' were sent, and nothing is asked
+    /// of them.
+    pub moving: Vec<Slot>,
 }
 
 impl<H: Traveller, F: Flow> BothSides<H, F> {
@@ -23,24 +27,33 @@ impl<H: Traveller, F: Flow> BothSides<H, F> {
     ghost use Rattle.front_sides.specs.Steps.{Settles, MayMove, SlotMoves, MayAdmit, SlotAdmits, MayGive, Received};
     ghost use Rattle.front_sides.specs.Steps.{AreLanes, WasFull};
 
-    /// Pumps both, the control halves' side first.
+    /// Pumps both, the control halves' side first; this one only while a control half may be on its way.
     pub fn pump<R: Wait>(&mut self, rt: &R)
         ensures settles { Settles H.name F.name (both_of self.old.controls self.old.flows)
             (both_of self.new.controls self.new.flows) }
         ensures count { refused_of self.new.flows ≡ refused_of self.old.flows }
     {
-        self.controls.pump(rt);
+        pump_controls(rt, &mut self.controls, &mut self.moving);
         self.flows.pump(rt);
     }
 
-    /// Moves an admitted slot to a slice. A control half that is at another one leaves it at this count.
-    pub fn go<R: Wait>(&mut self, rt: &R, slot: Slot, slice: SliceNo, until: u64)
+    /// Moves an admitted slot to a slice. A control half that is at another one leaves it at this count. Out of
+    /// memory the sides may only be dropped.
+    pub fn go<R: Wait>(
+        &mut self,
+        rt: &R,
+        slot: Slot,
+        slice: SliceNo,
+        until: u64,
+    ) -> Result<(), NoMemory>
         requires { MayMove H.name F.name slot slice (both_of self.old.controls self.old.flows) }
-        ensures { SlotMoves H.name F.name slot (both_of self.old.controls self.old.flows)
-            (both_of self.new.controls self.new.flows) }
+        ensures { OnOk result (SlotMoves H.name F.name slot (both_of self.old.controls self.old.flows)
+            (both_of self.new.controls self.new.flows)) }
     {
+        self.moving.push(slot)?;
         self.controls.go(rt, slot, slice, until);
         self.flows.go(rt, slot, slice);
+        Ok(())
     }
 
     /// Admits the two halves of a slot, the control half first, which are bound for a slice. Out of memory,
@@ -60,12 +73,14 @@ impl<H: Traveller, F: Flow> BothSides<H, F> {
         ensures { OnOk result (SlotAdmits H.name F.name (F.slot_at (F.name flow)) moved (H.name control) (F.name flow)
             (both_of self.old.controls self.old.flows) (both_of self.new.controls self.new.flows)) }
     {
+        self.moving.push(control.slot())?;
         let Ok(()) = self.controls.admit(rt, control, slice, 0) else {
             return Err(NoMemory);
         };
         let Ok(()) = self.flows.admit(rt, flow, slice, moved) else {
             return Err(NoMemory);
         };
+        settle(&self.controls, &mut self.moving);
         Ok(())
     }
 
@@ -93,5 +108,27 @@ impl<H: Traveller, F: Flow> BothSides<H, F> {
         ensures count { refused_of self.new.flows ≡ refused_after result (refused_of self.old.flows) }
     {
         self.flows.give(rt, item)
+    }
+}
+
+// Pumps the side of control halves, if one of them may be on its way.
+fn pump_controls<H: Traveller, R: Wait>(rt: &R, controls: &mut Side<H>, moving: &mut Vec<Slot>)
+    ensures { roll_of H.name controls.new ≡ roll_of H.name controls.old }
+{
+    if moving.is_empty() {
+        return;
+    }
+    controls.pump(rt);
+    settle(controls, moving);
+}
+
+// Forgets the latest of those that moved, as far as their halves were sent.
+fn settle<H: Traveller>(controls: &Side<H>, moving: &mut Vec<Slot>) {
+    for _ in 0..moving.len() {
+        match moving.last() {
+            Some(slot) if controls.settled(*slot) => {}
+            _ => return,
+        }
+        let _settled = moving.pop();
     }
 }

@@ -19,8 +19,8 @@ give_command-requires g c =
     c.index-subscribers-slot.is c.in_ok-admit.ensures.ready c.admit.ensures.lots c.admit.ensures.fulls in
     takes_give now c.args.subscribers.now c.args.halves.now c.requires c.args.slot after c.admit.new.self ready
 
-pub returns-in-Accepted : goal.returns-in-Accepted
-returns-in-Accepted g c =
+pub returns-in-Accepted-clause-takes : goal.returns-in-Accepted-clause-takes
+returns-in-Accepted-clause-takes g c =
     let at : c.slot.inside.0 ≡ c.args.slot = c.slot.view_is in
     let now = command c.args.slot c.args.asks in
     let after = slice_set c.args.subscribers.now c.slot.inside.0 c.admit.new.subscriber in
@@ -28,10 +28,10 @@ returns-in-Accepted g c =
     c.index-subscribers-slot.result c.admit.new.subscriber c.admit.new.self at c.requires.is_to
     c.index-subscribers-slot.is c.in_ok-admit.ensures.ready c.admit.ensures.lots c.admit.ensures.fulls in
     command_came c.args.slot c.args.line (c.args.patience + 1) c.args.subscribers.now after c.args.halves.now
-    c.admit.new.self c.give_command.new.self ready c.args.asks c.in-Accepted.parked c.in-Accepted.ensures
+    c.admit.new.self c.give_command.new.self ready c.args.asks c.in-Accepted.parked c.in-Accepted.ensures.gives
 
-pub returns-in-Full : goal.returns-in-Full
-returns-in-Full g c =
+pub returns-in-Full-clause-takes : goal.returns-in-Full-clause-takes
+returns-in-Full-clause-takes g c =
     let at : c.slot.inside.0 ≡ c.args.slot = c.slot.view_is in
     let now = command c.args.slot c.args.asks in
     let after = slice_set c.args.subscribers.now c.slot.inside.0 c.admit.new.subscriber in
@@ -39,4 +39,4 @@ returns-in-Full g c =
     c.index-subscribers-slot.result c.admit.new.subscriber c.admit.new.self at c.requires.is_to
     c.index-subscribers-slot.is c.in_ok-admit.ensures.ready c.admit.ensures.lots c.admit.ensures.fulls in
     command_refused c.args.slot c.args.line (c.args.patience + 1) c.args.subscribers.now after c.args.halves.now
-    c.admit.new.self c.give_command.new.self ready c.args.asks c.in-Full.ensures
+    c.admit.new.self c.give_command.new.self ready c.args.asks c.in-Full.ensures.gives

@@ -21,8 +21,8 @@ give_packet-requires g c =
     c.index-subscribers-slot.is c.in_ok-admit.ensures.ready c.admit.ensures.lots c.admit.ensures.fulls in
     takes_give now c.args.subscribers.now c.args.halves.now c.requires c.args.slot after c.admit.new.self ready
 
-pub returns-in-Accepted : goal.returns-in-Accepted
-returns-in-Accepted g c =
+pub returns-in-Accepted-clause-takes : goal.returns-in-Accepted-clause-takes
+returns-in-Accepted-clause-takes g c =
     let at : c.slot.inside.0 ≡ c.args.slot = c.slot.view_is in
     let now = packet c.args.slot c.args.lent.now in
     let after = slice_set c.args.subscribers.now c.slot.inside.0 c.admit.new.subscriber in
@@ -33,10 +33,10 @@ returns-in-Accepted g c =
     c.admit.new.self c.give_packet.new.self ready c.args.lent.now c.in_ok-numbered.numbered c.in-Accepted.parked
     c.in_ok-numbered.ensures
     (subst (λ (given : Given). GivesPacket c.args.slot c.args.line c.in_ok-numbered.numbered (c.args.patience + 1) given
-    c.admit.new.self c.give_packet.new.self) c.in-Accepted.is c.in_ok-parked.ensures)
+    c.admit.new.self c.give_packet.new.self) c.in-Accepted.is c.in_ok-parked.ensures.gives)
 
-pub returns-in-Full : goal.returns-in-Full
-returns-in-Full g c =
+pub returns-in-Full-clause-takes : goal.returns-in-Full-clause-takes
+returns-in-Full-clause-takes g c =
     let at : c.slot.inside.0 ≡ c.args.slot = c.slot.view_is in
     let now = packet c.args.slot c.args.lent.now in
     let after = slice_set c.args.subscribers.now c.slot.inside.0 c.admit.new.subscriber in
@@ -46,4 +46,4 @@ returns-in-Full g c =
     packet_refused c.args.slot c.args.line (c.args.patience + 1) c.args.subscribers.now after c.args.halves.now
     c.admit.new.self c.give_packet.new.self ready c.args.lent.now c.in_ok-numbered.numbered
     (subst (λ (given : Given). GivesPacket c.args.slot c.args.line c.in_ok-numbered.numbered (c.args.patience + 1) given
-    c.admit.new.self c.give_packet.new.self) c.in-Full.is c.in_ok-parked.ensures)
+    c.admit.new.self c.give_packet.new.self) c.in-Full.is c.in_ok-parked.ensures.gives)

@@ -38,7 +38,7 @@ returns-clause-whole g c =
     (omega (arith, c.take.auto.subscribers, c.as_mut_slice.ensures.len)) in
     let takes : Takes (old.lines + 1) (c.args.patience + 1) (meaning_of it) open_ turned now c.pump.new.self new =
     takes_as (old.lines + 1) (c.args.patience + 1) it open_ turned c.as_mut_slice.result.now c.take.new.subscribers now
-    c.pump.new.self new c.as_mut_slice.ensures.value now_is c.in_ok-open.ensures in
+    c.pump.new.self new c.as_mut_slice.ensures.value now_is c.in_ok-open.ensures.takes in
     let taken : Taken = record { line = c.of.result; «open» = open_ } in
     let moment : c.line-inside.inside.0.1.0.0 ≡ c.args.line.now.moment = search rules in
     line_done old.opened.value old.slices old.lane old.lines old.latest (c.args.patience + 1) old.book
@@ -70,7 +70,7 @@ returns-clause-lanes g c =
     (omega (arith, c.take.auto.subscribers, c.as_mut_slice.ensures.len)) in
     let takes : Takes (old.lines + 1) (c.args.patience + 1) (meaning_of it) open_ turned now c.pump.new.self new =
     takes_as (old.lines + 1) (c.args.patience + 1) it open_ turned c.as_mut_slice.result.now c.take.new.subscribers now
-    c.pump.new.self new c.as_mut_slice.ensures.value now_is c.in_ok-open.ensures in
+    c.pump.new.self new c.as_mut_slice.ensures.value now_is c.in_ok-open.ensures.takes in
     let sides = sides_then old.halves c.pump.new.self new c.pump.ensures.settles.sides
     (takes_sides (old.lines + 1) (c.args.patience + 1) (meaning_of it) open_ turned now c.pump.new.self new takes) in
     (sides.control_lanes, sides.flow_lanes)
@@ -88,7 +88,7 @@ returns-clause-takes g c =
     (omega (arith, c.take.auto.subscribers, c.as_mut_slice.ensures.len)) in
     let takes : Takes (old.lines + 1) (c.args.patience + 1) (meaning_of it) open_ turned now c.pump.new.self new =
     takes_as (old.lines + 1) (c.args.patience + 1) it open_ turned c.as_mut_slice.result.now c.take.new.subscribers now
-    c.pump.new.self new c.as_mut_slice.ensures.value now_is c.in_ok-open.ensures in
+    c.pump.new.self new c.as_mut_slice.ensures.value now_is c.in_ok-open.ensures.takes in
     let one : Taken = record { line = c.of.result; «open» = open_ } in
     record {
       taken = one;
@@ -116,7 +116,7 @@ returns-clause-means g c = λ prior behind.
     (omega (arith, c.take.auto.subscribers, c.as_mut_slice.ensures.len)) in
     let takes : Takes (old.lines + 1) (c.args.patience + 1) (meaning_of it) open_ turned now c.pump.new.self new =
     takes_as (old.lines + 1) (c.args.patience + 1) it open_ turned c.as_mut_slice.result.now c.take.new.subscribers now
-    c.pump.new.self new c.as_mut_slice.ensures.value now_is c.in_ok-open.ensures in
+    c.pump.new.self new c.as_mut_slice.ensures.value now_is c.in_ok-open.ensures.takes in
     subst (λ (took : Took). MayBecome (meant_next old.opened.value.slices (prior ++ lines_of old.entries.items)
     c.args.line.now) took) (sym c.took-took.ensures)
     (becomes old.opened.value old.slices old.lane old.lines old.latest (old.lines + 1) (c.args.patience + 1) old.book
@@ -136,7 +136,7 @@ returns-clause-full g c = λ full.
     (omega (arith, c.take.auto.subscribers, c.as_mut_slice.ensures.len)) in
     let takes : Takes (old.lines + 1) (c.args.patience + 1) (meaning_of it) open_ turned now c.pump.new.self new =
     takes_as (old.lines + 1) (c.args.patience + 1) it open_ turned c.as_mut_slice.result.now c.take.new.subscribers now
-    c.pump.new.self new c.as_mut_slice.ensures.value now_is c.in_ok-open.ensures in
+    c.pump.new.self new c.as_mut_slice.ensures.value now_is c.in_ok-open.ensures.takes in
     subst (λ (k : ℕ). RisesBy (c.args.patience + 1) k new.fulls) c.pump.ensures.fulls
     (refused_so (old.lines + 1) (c.args.patience + 1) (meaning_of it) open_ turned now c.pump.new.self new takes
     (sym c.took-took.ensures ∙ full))

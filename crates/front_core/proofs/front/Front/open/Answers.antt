@@ -23,11 +23,11 @@ returns-clause-whole c =
       alloc = c.args.alloc;
       room = inside.room;
       lots = c.new.result;
-      sides = record { controls = c.new-2.result; flows = c.new-3.result };
+      sides = record { controls = c.new-2.result; flows = c.new-3.result; moving = c.new-4.result };
       fulls = inside.fulls;
     } in
-    opened_so c.args.rest rest c.of-opened.result.value halves c.new-4.result.items c.requires.behind.0
-    c.requires.represents.0 c.rest.view_is c.of-opened.ensures c.new-4.ensures.items c.requires.behind.1
+    opened_so c.args.rest rest c.of-opened.result.value halves c.new-5.result.items c.requires.behind.0
+    c.requires.represents.0 c.rest.view_is c.of-opened.ensures c.new-5.ensures.items c.requires.behind.1
     c.requires.represents.1 inside.slices_few inside.roomy inside.lane_roomy
     (omega (arith, inside.as_many, inside.subscribers.ok.0)) inside.few inside.each c.new.ensures.items
     c.new-2.ensures.none c.new-3.ensures.none (ap length c.new-2.ensures.desks ∙ c.in_ok-controls.ensures.count)

@@ -1,7 +1,7 @@
 use Rattle.std.proofs.Common.{◌≡◌, ◌+◌, sym, subst, arith}
 use Rattle.front_halves.specs.declared.tried.Given.{Given}
 use Rattle.front_halves.specs.Tries.{GivesCommand}
-use Rattle.front_halves.proofs.Trying.{command_full, command_given, command_tried, none_tried}
+use Rattle.front_halves.proofs.Trying.{command_full, command_given, command_later, command_tried, none_tried}
 use Rattle.front_halves.proofs.halves.Halves.give_command.Goals as goal
 use Rattle.front_halves.proofs.halves.Halves.give_command.Goals.{in-Ok-try_command, in-Err-try_command}
 
@@ -11,8 +11,8 @@ loop-init g c = none_tried c.args.slot c.args.command c.args.self.now c.requires
 pub try_command-requires : goal.try_command-requires
 try_command-requires g c = c.loop.invariant.may
 
-pub returns-in-Ok : goal.returns-in-Ok
-returns-in-Ok g c =
+pub returns-in-Ok-clause-gives : goal.returns-in-Ok-clause-gives
+returns-in-Ok-clause-gives g c =
     command_given c.args.slot c.args.command c.loop.command c.loop.counter c.args.self.now c.loop.self c.loop.invariant
     c.args.line (c.args.patience + 1) _ c.in-Ok.ensures.sent
 
@@ -20,10 +20,20 @@ pub loop-preserved : goal.loop-preserved
 loop-preserved g c =
     let full = c.in-Err.ensures.full in
     command_tried c.args.slot c.args.command c.loop.command c.loop.counter c.args.self.now c.loop.self c.loop.invariant
-    _ _ full.0 full.1 full.3 full.4
+    _ _ full.0 full.1 c.try_command.ensures.rises full.3 full.4
 
-pub returns : goal.returns
-returns g c =
+pub returns-in-Ok-clause-rises : goal.returns-in-Ok-clause-rises
+returns-in-Ok-clause-rises g c =
+    command_later c.args.slot c.args.command c.loop.command c.loop.counter c.args.self.now c.loop.self c.loop.invariant
+    c.try_command.new.self c.try_command.ensures.rises
+
+pub returns-clause-rises : goal.returns-clause-rises
+returns-clause-rises g c =
+    command_later c.args.slot c.args.command c.loop.command c.loop.counter c.args.self.now c.loop.self c.loop.invariant
+    c.try_command-2.new.self c.try_command-2.ensures.rises
+
+pub returns-clause-gives : goal.returns-clause-gives
+returns-clause-gives g c =
     let gives = λ (given : Given). GivesCommand c.args.slot c.args.line c.args.command (c.args.patience + 1) given
     c.args.self.now c.try_command-2.new.self in
     elim c.match-try_command-2.branch [

@@ -16,7 +16,7 @@ returns-clause-moves g c =
     omega (arith, c.in_ok-grow.ensures.enough, c.grow.new.places.ok, c.slot.view_is) in
     moved_split c.args.self.now _ c.grow.new.places.items c.slot.inside.0 c.args.slot c.index_mut.result.now
     c.move_on.new.lot c.grow.ensures.grown c.slot.view_is low c.index_mut.ensures.value refl refl
-    c.move_on.ensures.moves c.in-Some.ensures.split c.go.ensures
+    c.move_on.ensures.moves c.in-Some.ensures.split c.in_ok-go.ensures
 
 pub returns-in_default-clause-moves : goal.returns-in_default-clause-moves
 returns-in_default-clause-moves g c =

@@ -12,15 +12,15 @@ accept-requires g c =
     may_accept c.args.self.now c.slot.inside.0 c.args.slot c.slot.view_is c.requires c.index_mut.result.now
     c.index_mut.ensures.value
 
-pub returns-in-Ok : goal.returns-in-Ok
-returns-in-Ok g c =
+pub returns-in-Ok-clause-tries : goal.returns-in-Ok-clause-tries
+returns-in-Ok-clause-tries g c =
     received c.args.self.now c.slot.inside.0 c.args.slot c.slot.view_is c.requires c.args.line c.args.packet
     c.parks-parked.result c.item_of-item.result c.index.result.now c.index.ensures c.item_of-item.ensures _
     c.index_mut.result.now c.accept.new.lot c.index_mut.ensures.value c.parks-parked.ensures refl refl c.accept.ensures
     c.in-Ok.ensures.given
 
-pub returns-in-Err-Full : goal.returns-in-Err-Full
-returns-in-Err-Full g c =
+pub returns-in-Err-Full-clause-tries : goal.returns-in-Err-Full-clause-tries
+returns-in-Err-Full-clause-tries g c =
     let is = c.in-Err-Full.field-0-is in
     comes_back c.args.self.now c.slot.inside.0 c.args.slot c.slot.view_is c.requires c.args.line c.args.packet
     c.parks-parked.result c.item_of-item.result c.index.result.now c.index.ensures c.item_of-item.ensures _

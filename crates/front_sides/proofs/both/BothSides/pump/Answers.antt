@@ -8,14 +8,14 @@ use Rattle.front_sides.proofs.both.BothSides.pump.Goals as goal
 pub returns-clause-settles : goal.returns-clause-settles
 returns-clause-settles g c =
     pumped g.H.Traveller.name g.F.Flow.name (both_of c.args.self.now.controls c.args.self.now.flows)
-    (both_of c.pump.new.self c.pump-2.new.self) (ap (λ (r : controls.Roll _). r.names) c.pump.ensures.roll)
-    (ap (λ (r : controls.Roll _). r.lanes) c.pump.ensures.roll)
-    (ap (λ (r : controls.Roll _). r.asked) c.pump.ensures.roll)
-    (ap (λ (r : flows.Roll _ _). r.names) c.pump-2.ensures.roll)
-    (ap (λ (r : flows.Roll _ _). r.accepted) c.pump-2.ensures.roll)
-    (ap (λ (r : flows.Roll _ _). r.moved) c.pump-2.ensures.roll)
-    (ap (λ (r : flows.Roll _ _). r.lanes) c.pump-2.ensures.roll)
-    (ap (λ (r : flows.Roll _ _). r.asked) c.pump-2.ensures.roll) c.pump-2.ensures.room c.pump-2.ensures.rests
+    (both_of c.pump_controls.new.controls c.pump.new.self) (ap (λ (r : controls.Roll _). r.names) c.pump_controls.ensures)
+    (ap (λ (r : controls.Roll _). r.lanes) c.pump_controls.ensures)
+    (ap (λ (r : controls.Roll _). r.asked) c.pump_controls.ensures)
+    (ap (λ (r : flows.Roll _ _). r.names) c.pump.ensures.roll)
+    (ap (λ (r : flows.Roll _ _). r.accepted) c.pump.ensures.roll)
+    (ap (λ (r : flows.Roll _ _). r.moved) c.pump.ensures.roll)
+    (ap (λ (r : flows.Roll _ _). r.lanes) c.pump.ensures.roll)
+    (ap (λ (r : flows.Roll _ _). r.asked) c.pump.ensures.roll) c.pump.ensures.room c.pump.ensures.rests
 
 pub returns-clause-count : goal.returns-clause-count
-returns-clause-count g c = ap (λ (r : flows.Roll _ _). r.refused) c.pump-2.ensures.roll
+returns-clause-count g c = ap (λ (r : flows.Roll _ _). r.refused) c.pump.ensures.roll
