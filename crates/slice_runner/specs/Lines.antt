@@ -1,8 +1,7 @@
 -- What a front did with the lines of an epoch.
-use Rattle.std.specs.Prelude.{◌≡◌, ℕ, ◌+◌, ◌*◌, Option, Some, Bool, true, false, List, ◌++◌, length, map, count_by}
-use Rattle.std.specs.List.{last_or}
+use Rattle.std.specs.Prelude.{◌≡◌, ℕ, ◌+◌, ◌*◌, Bool, true, false, List, ◌++◌, length, count_by}
 use Rattle.trace_lines.specs.Line.{Line}
-use Rattle.lawful_run.specs.Bounds.{Rises}
+use Rattle.at_rest.specs.Coming.{latest_behind}
 use Rattle.front_halves.specs.Tries.{RisesBy}
 use Rattle.front_core.specs.declared.front.Front.{Front}
 use Rattle.front_core.specs.declared.taken.Taken.{Taken}
@@ -10,17 +9,6 @@ use Rattle.front_core.specs.declared.taken.Open.TheVariants as entry
 use Rattle.front_core.specs.declared.taken.Open.{Open}
 use Rattle.front_core.specs.Words.{IsWhole, opened_of, entries_in, taken_by, lines_in, latest_in, fulls_in}
 use Rattle.front_core.specs.Words.{control_lanes, flow_lanes}
-
-abbrev pub moments_of : List Line → List ℕ
-moments_of lines = map (λ (line : Line). line.moment) lines
-
--- moments don't fall, from this one on
-abbrev pub AreInOrder : ℕ → List Line → Type 0
-AreInOrder latest lines = Rises latest (moments_of lines)
-
--- the moment of the last line, or else this one
-abbrev pub last_moment : ℕ → List Line → Option ℕ
-last_moment latest lines = last_or (Some latest) (moments_of lines)
 
 -- whether each try of a line was answered Full
 abbrev pub is_full : Open → Bool
@@ -38,7 +26,7 @@ pub record TakesAll (tries : ℕ) (lines : List Line) (old new : Front) : Type 0
   pub opened : opened_of new ≡ opened_of old
   pub taken : taken_by new ≡ taken_by old ++ lines
   pub count : lines_in new ≡ lines_in old + length lines
-  pub latest : last_moment (latest_in old) lines ≡ Some (latest_in new)
+  pub latest : latest_in new ≡ latest_behind (latest_in old) lines
   pub control : control_lanes new ≡ control_lanes old
   pub flow : flow_lanes new ≡ flow_lanes old
   pub entries : List Taken

@@ -1,5 +1,6 @@
 -- What the threads of an epoch need, and what they leave.
 use Rattle.std.specs.Prelude.{◌≡◌, ℕ, ◌+◌, ◌≤◌, ◌^◌, List, [], length, map, vec_len, vec_capacity, IfOk}
+use Rattle.at_rest.specs.Coming.{AreLater}
 use Rattle.worker_core.specs.Workers as worker
 use Rattle.flow_core.specs.Workers as flow_worker
 use Rattle.front_core.specs.declared.opening.Opened.{Opened}
@@ -8,7 +9,7 @@ use Rattle.slice_runner.specs.declared.served.Places.{Places}
 use Rattle.slice_runner.specs.declared.served.Stops.{Stops}
 use Rattle.slice_runner.specs.declared.served.Served.{Served}
 use Rattle.slice_runner.specs.declared.served.Asked.{Asked}
-use Rattle.slice_runner.specs.Lines.{AreInOrder, TakesAll}
+use Rattle.slice_runner.specs.Lines.{TakesAll}
 
 -- memory for the threads of so many workers of each kind, and for their ends
 pub record HasRoomFor (controls flows : ℕ) (places : Places) : Type 0 where
@@ -25,7 +26,7 @@ pub record AreServed (opened : Opened) (places : Places) (stops : Stops) (asked 
   pub controls : control_lanes opened.front ≡ map worker.worker_lanes opened.controls.items
   pub flows : flow_lanes opened.front ≡ map flow_worker.worker_lanes opened.flows.items
   pub few : lines_in opened.front + length asked.lines ≤ 2 ^ 39
-  pub late : AreInOrder (latest_in opened.front) asked.lines
+  pub later : AreLater (latest_in opened.front) asked.lines
   pub places_ : HasRoomFor (vec_len opened.controls) (vec_len opened.flows) places
   pub control_stops : vec_len stops.controls ≡ vec_len opened.controls
   pub flow_stops : vec_len stops.flows ≡ vec_len opened.flows

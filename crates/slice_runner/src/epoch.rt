@@ -1,13 +1,13 @@
 //! An epoch is run.
-ghost use Rattle.std.specs.Prelude.{◌≡◌, ◌+◌, ◌*◌, ◌≤◌, ◌^◌, List, Some, length, count_by, IfOk};
+ghost use Rattle.std.specs.Prelude.{◌≡◌, ◌+◌, ◌*◌, ◌≤◌, ◌^◌, List, length, count_by, IfOk};
 ghost use Rattle.trace_lines.specs.Line.{Line};
 ghost use Rattle.lawful_run.specs.Accepted.{is_refused};
 ghost use Rattle.lawful_run.specs.Merging.{Histories};
+ghost use Rattle.at_rest.specs.Coming.{AreLater, latest_behind};
 ghost use Rattle.at_rest.specs.Rest.{IsBehind, RepresentsAll};
 ghost use Rattle.front_halves.specs.Tries.{RisesBy};
 ghost use Rattle.front_close.specs.Closing.{Closes};
 ghost use Rattle.front_close.specs.Filled.{told_by};
-ghost use Rattle.slice_runner.specs.Lines.{AreInOrder, last_moment};
 ghost use Rattle.slice_runner.specs.Serving.{AreServed, Serves};
 
 use crate::NoMemory;
@@ -38,13 +38,13 @@ pub fn run_epoch<G: Gate, R: Threads + Wait + Sync>(
     requires behind { (prior : List Line) × IsBehind rest prior }
     requires represents { (before : Histories) × RepresentsAll rest before }
     requires few { rest.lines + length lines.now ≤ 2 ^ 39 }
-    requires late { AreInOrder rest.latest lines.now }
+    requires later { AreLater rest.latest lines.now }
 
     // Whatever the threads' schedule was, the report is a lawful epoch's, and the gateway at rest represents the
     // events behind it.
     ensures closes { IfOk result (λ ended. Closes rest lines.now ended.rest (told_by ended.epoch)) }
     ensures count { IfOk result (λ ended. ended.rest.lines ≡ rest.lines + length lines.now) }
-    ensures latest { IfOk result (λ ended. last_moment rest.latest lines.now ≡ Some ended.rest.latest) }
+    ensures latest { IfOk result (λ ended. ended.rest.latest ≡ latest_behind rest.latest lines.now) }
 
     // Each refusal is as many tries that were answered Full as `patience` says, and one.
     ensures refusals { IfOk result (λ ended. RisesBy ((patience + 1) * count_by is_refused (told_by ended.epoch).lines)

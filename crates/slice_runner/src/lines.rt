@@ -1,7 +1,8 @@
 //! The front's own thread: it takes the lines of an epoch.
 ghost use Rattle.std.specs.Prelude.{◌+◌, ◌≤◌, ◌^◌, length, IfOk};
 ghost use Rattle.front_core.specs.Words.{IsWhole, latest_in, lines_in};
-ghost use Rattle.slice_runner.specs.Lines.{AreInOrder, TakesAll, Pumps};
+ghost use Rattle.at_rest.specs.Coming.{AreLater};
+ghost use Rattle.slice_runner.specs.Lines.{TakesAll, Pumps};
 
 use crate::NoMemory;
 use front_core::{Front, Took};
@@ -18,7 +19,7 @@ pub(crate) fn take_lines<R: Wait>(
 ) -> Result<Front, NoMemory>
     requires whole { IsWhole front }
     requires few { lines_in front + length lines.now ≤ 2 ^ 39 }
-    requires late { AreInOrder (latest_in front) lines.now }
+    requires later { AreLater (latest_in front) lines.now }
 
     ensures { IfOk result (λ now. TakesAll (patience + 1) lines.now front now) }
 {

@@ -1,7 +1,8 @@
 //! The threads of an epoch.
 ghost use Rattle.std.specs.Prelude.{◌≡◌, ◌+◌, ◌≤◌, ◌^◌, length, vec_len, IfOk};
 ghost use Rattle.front_core.specs.Words.{IsWhole, latest_in, lines_in};
-ghost use Rattle.slice_runner.specs.Lines.{AreInOrder, TakesAll};
+ghost use Rattle.at_rest.specs.Coming.{AreLater};
+ghost use Rattle.slice_runner.specs.Lines.{TakesAll};
 ghost use Rattle.slice_runner.specs.Serving.{AreServed, HasRoomFor, Serves};
 
 use crate::NoMemory;
@@ -109,7 +110,7 @@ pub(crate) fn serve<'s, E, G: Gate, R: Threads + Wait + Sync>(
 fn front_work<R: Wait>(rt: &R, front: Front, asked: Asked<'_>) -> Result<Front, NoMemory>
     requires whole { IsWhole front }
     requires few { lines_in front + length asked.lines.now ≤ 2 ^ 39 }
-    requires late { AreInOrder (latest_in front) asked.lines.now }
+    requires later { AreLater (latest_in front) asked.lines.now }
     ensures { IfOk result (λ now. TakesAll (asked.patience + 1) asked.lines.now front now) }
 {
     let mut front = take_lines(rt, front, asked.lines, asked.patience)?;
