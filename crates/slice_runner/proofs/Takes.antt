@@ -1,6 +1,9 @@
 -- Lines that were taken, and one more.
-use Rattle.std.proofs.Common.{◌≡◌, ℕ, ◌+◌, ◌*◌, ◌≤◌, List, [], ◌∷◌, ◌++◌, length, length_push, refl, sym, ap, subst, ◌∙◌, inl, arith, append_assoc, append-nil}
+use Rattle.std.proofs.Common.{◌≡◌, ℕ, ◌+◌, ◌*◌, ◌≤◌, List, [], ◌∷◌, ◌++◌}
+use Rattle.std.proofs.lemmas.List.{length_push}
+use Rattle.std.proofs.Common.{refl, sym, ap, subst, ◌∙◌, inl, arith, append_assoc, append-nil}
 use Rattle.trace_lines.specs.Line.{Line}
+use Rattle.at_rest.proofs.Coming.{latest-push}
 use Rattle.front_halves.specs.Tries.{RisesBy}
 use Rattle.front_core.specs.declared.front.Front.{Front}
 use Rattle.front_core.specs.declared.taken.Taken.{Taken}
@@ -9,7 +12,7 @@ use Rattle.front_core.specs.declared.took.Took.TheVariants as answer
 use Rattle.front_core.specs.Entries.{lines_of}
 use Rattle.front_core.specs.Words.{IsWhole, opened_of, entries_in, taken_by, lines_in, latest_in, fulls_in}
 use Rattle.front_core.specs.Words.{control_lanes, flow_lanes, TakesLine}
-use Rattle.slice_runner.specs.Lines.{Pumps, TakesAll, fulls_among, latest_behind}
+use Rattle.slice_runner.specs.Lines.{Pumps, TakesAll, fulls_among}
 use Rattle.slice_runner.proofs.Rising.{fulls_rise}
 
 -- none yet
@@ -27,10 +30,6 @@ takes_none tries front whole = record {
   fulls = inl (omega arith);
 }
 
-latest_more : (latest : ℕ) (xs : List Line) (line : Line) → latest_behind latest (xs ++ line ∷ []) ≡ line.moment
-latest_more latest [] line = refl
-latest_more latest (x ∷ xs) line = latest_more x.moment xs line
-
 pub takes_more : (tries : ℕ) (xs : List Line) (line : Line) (old mid new : Front) (took : Took)
     → TakesAll tries xs old mid → IsWhole new → opened_of new ≡ opened_of mid
     → taken_by new ≡ taken_by mid ++ line ∷ [] → (lines_in new ≡ lines_in mid + 1) × (latest_in new ≡ line.moment)
@@ -43,7 +42,7 @@ takes_more tries xs line old mid new took before whole opened taken counts lanes
   taken = taken ∙ (ap (λ (ts : List Line). ts ++ line ∷ []) before.taken
       ∙ append_assoc (taken_by old) xs (line ∷ []));
   count = omega (arith, counts.0, before.count, length_push xs line);
-  latest = counts.1 ∙ sym (latest_more (latest_in old) xs line);
+  latest = counts.1 ∙ sym (latest-push (latest_in old) xs line);
   control = lanes.0 ∙ before.control;
   flow = lanes.1 ∙ before.flow;
   entries = before.entries ++ takes.taken ∷ [];

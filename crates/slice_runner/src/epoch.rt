@@ -11,7 +11,7 @@ ghost use Rattle.front_close.specs.Filled.{told_by};
 ghost use Rattle.slice_runner.specs.Serving.{AreServed, Serves};
 
 use crate::NoMemory;
-use crate::served::{Asked, Places, Served, Stops, serve};
+use crate::served::{Pace, Places, Served, Stops, serve};
 use at_rest::AtRest;
 use front_close::{Ended, close};
 use front_core::Front;
@@ -54,19 +54,15 @@ pub fn run_epoch<G: Gate, R: Threads + Wait + Sync>(
     let (controls, flows) = (opened.controls.len(), opened.flows.len());
     let places = Places::new(alloc, controls, flows)?;
     let stops = Stops::new(alloc, controls, flows)?;
-    let asked = Asked {
-        lines,
-        patience,
-        linger,
-    };
+    let pace = Pace { patience, linger };
     let flags = &stops;
     let served = thread::scope(
         thread::scope_env(),
         rt,
         |scope| -> Served
-            requires { AreServed opened places flags.now asked }
-            ensures { Serves opened asked result }
-        { serve(scope, rt, opened, places, flags, asked, gate) },
+            requires { AreServed opened places flags.now lines.now }
+            ensures { Serves opened (pace.patience + 1) lines.entry.now result }
+        { serve(scope, rt, opened, places, flags, lines, pace, gate) },
     );
     close(rt, served.front?, served.controls, served.flows)
 }

@@ -45,11 +45,9 @@ pub(crate) struct Served {
     pub(crate) flows: Vec<FlowEnd<FlowHalf>>,
 }
 
-/// What is asked of an epoch: its lines; how often a line that was refused is tried again; and how often the front
-/// pumps behind the last of them.
+/// How often a line that was refused is tried again, and how often the front pumps behind the last line.
 #[derive(Clone, Copy)]
-pub(crate) struct Asked<'a> {
-    pub(crate) lines: &'a [TraceLine],
+pub(crate) struct Pace {
     pub(crate) patience: u32,
     pub(crate) linger: u32,
 }
@@ -86,17 +84,18 @@ pub(crate) fn serve<'s, E, G: Gate, R: Threads + Wait + Sync>(
     opened: Opened,
     places: Places,
     stops: &'s Stops,
-    asked: Asked<'_>,
+    lines: &[TraceLine],
+    pace: Pace,
     gate: &'s G,
 ) -> Served
-    requires { AreServed opened places stops.now asked }
-    ensures { Serves opened asked result }
+    requires { AreServed opened places stops.now lines.now }
+    ensures { Serves opened (pace.patience + 1) lines.now result }
 {
     let control_stops = stops.controls.as_slice();
     let flow_stops = stops.flows.as_slice();
     let controls = start_controls(scope, rt, opened.controls, control_stops, places.controls);
     let flows = start_flows(scope, rt, opened.flows, flow_stops, gate, places.flows);
-    let front = front_work(rt, opened.front, asked);
+    let front = front_work(rt, opened.front, lines, pace);
     set_all(control_stops);
     set_all(flow_stops);
     Served {
@@ -107,13 +106,18 @@ pub(crate) fn serve<'s, E, G: Gate, R: Threads + Wait + Sync>(
 }
 
 // What the front does meanwhile.
-fn front_work<R: Wait>(rt: &R, front: Front, asked: Asked<'_>) -> Result<Front, NoMemory>
+fn front_work<R: Wait>(
+    rt: &R,
+    front: Front,
+    lines: &[TraceLine],
+    pace: Pace,
+) -> Result<Front, NoMemory>
     requires whole { IsWhole front }
-    requires few { lines_in front + length asked.lines.now ≤ 2 ^ 39 }
-    requires later { AreLater (latest_in front) asked.lines.now }
-    ensures { IfOk result (λ now. TakesAll (asked.patience + 1) asked.lines.now front now) }
+    requires few { lines_in front + length lines.now ≤ 2 ^ 39 }
+    requires later { AreLater (latest_in front) lines.now }
+    ensures { IfOk result (λ now. TakesAll (pace.patience + 1) lines.now front now) }
 {
-    let mut front = take_lines(rt, front, asked.lines, asked.patience)?;
-    linger_on(rt, &mut front, asked.linger);
+    let mut front = take_lines(rt, front, lines, pace.patience)?;
+    linger_on(rt, &mut front, pace.linger);
     Ok(front)
 }
