@@ -1,8 +1,9 @@
 //! The next line of a trace.
-ghost use Rattle.std.specs.Prelude.{◌≡◌, ◌≤◌};
+ghost use Rattle.std.specs.Prelude.{◌≡◌, ◌≤◌, ◌++◌, ℕ, List};
 ghost use Rattle.std.specs.Io.KnownBytes.{prepend_known};
 ghost use Rattle.pc_outside.specs.Faults.{Rises};
-ghost use Rattle.pc_outside.specs.Held.{IsUnfinished};
+ghost use Rattle.pc_outside.specs.Held.{Held, IsUnfinished};
+ghost use Rattle.pc_outside.specs.LineReads.{Answers, Reads};
 ghost use Rattle.trace_run.specs.Next.{Gives, Tells, TakesRoom, given_as, refused_as};
 
 use pc_base::Moment;
@@ -10,6 +11,7 @@ use pc_outside::{LineBuf, LineRead, Source, read_line};
 use trace_lines::{LineBad, TraceLine, read_line_in};
 
 /// What comes next in a trace.
+#[derive(Drop)]
 pub enum Next {
     /// A line that a newline ends, and the length of its text.
     Line { line: TraceLine, len: usize },
@@ -23,41 +25,128 @@ pub enum Next {
     NoMemory,
 }
 
+/// Octets of a source that are held, and the line that was read of them last, as `LineBuf` has them.
+pub trait LineBuffer {
+    ghost holds: { Self → Held };
+
+    /// Reads the next line, and takes no memory.
+    fn read_next<S: Source>(&mut self, source: &mut S) -> LineRead
+        // The octets that the source tells, behind those held, give the answer.
+        ensures octets { Reads result (holds self.old).room (holds self.new).room
+            (prepend_known (holds self.old).front (S.left source.old))
+            (prepend_known (holds self.new).front (S.left source.new)) (holds self.new).line (holds self.new).last }
+
+        // Whatever it tells, those held and some that it gave do.
+        ensures held { (given : List ℕ) × Answers result (holds self.old).room (holds self.new).room
+            ((holds self.old).front ++ given) (holds self.new).front (holds self.new).line (holds self.new).last }
+
+        // A fault is the source's, and comes only where more octets are needed.
+        ensures later { S.faults source.old ≤ S.faults source.new }
+        ensures fault { result ≡ LineRead.ReadFault → Rises (S.faults source.old) (S.faults source.new) }
+        ensures unfinished { result ≡ LineRead.ReadFault → IsUnfinished (holds self.new) };
+
+    /// The line that was read last, without its newline.
+    fn last_read(&self) -> &[u8]
+        ensures { result.now ≡ (holds self.now).line };
+
+    /// Whether the input ended with it.
+    fn ends(&self) -> bool
+        ensures { result ≡ (holds self.now).last };
+}
+
+impl LineBuffer for LineBuf {
+    ghost holds = { λ buf. buf };
+
+    #[inline(always)]
+    fn read_next<S: Source>(&mut self, source: &mut S) -> LineRead {
+        read_line(source, self)
+    }
+
+    #[inline(always)]
+    fn last_read(&self) -> &[u8] {
+        self.line()
+    }
+
+    #[inline(always)]
+    fn ends(&self) -> bool {
+        self.is_last()
+    }
+}
+
+/// What gives the lines of a source, one behind another. It may hold octets that it read and hasn't given.
+pub trait LineReader {
+    ghost holds: { Self → Held };
+
+    /// Gives the line of this number, which may have no moment below the least; its octets may take the room.
+    fn next<S: Source>(
+        &mut self,
+        source: &mut S,
+        room: &mut Vec<u8>,
+        number: u64,
+        least: Moment,
+    ) -> Next
+        ensures tells { Tells result number least (holds self.old).room (holds self.new).room
+            (prepend_known (holds self.old).front (S.left source.old))
+            (prepend_known (holds self.new).front (S.left source.new)) }
+        ensures room { TakesRoom result (holds self.old).room (holds self.new).room }
+        ensures given { Gives result number least }
+
+        // A fault is the source's, and comes only where more octets of a line are needed.
+        ensures later { S.faults source.old ≤ S.faults source.new }
+        ensures fault { result ≡ Next.ReadFault → Rises (S.faults source.old) (S.faults source.new) }
+        ensures unfinished { result ≡ Next.ReadFault → IsUnfinished (holds self.new) };
+}
+
+impl LineReader for LineBuf {
+    ghost holds = { λ buf. buf };
+
+    #[inline(always)]
+    fn next<S: Source>(
+        &mut self,
+        source: &mut S,
+        room: &mut Vec<u8>,
+        number: u64,
+        least: Moment,
+    ) -> Next {
+        next_line(room, source, self, number, least)
+    }
+}
+
 /// Reads the line of this number, which may have no moment below the least; its octets take the room.
-pub fn next_line<S: Source>(
+pub fn next_line<S: Source, B: LineBuffer>(
     room: &mut Vec<u8>,
     source: &mut S,
-    buf: &mut LineBuf,
+    buf: &mut B,
     number: u64,
     least: Moment,
 ) -> Next
-    ensures tells { Tells result number least buf.old.room buf.new.room
-        (prepend_known buf.old.front (S.left source.old))
-        (prepend_known buf.new.front (S.left source.new)) }
-    ensures room { TakesRoom result buf.old.room buf.new.room }
+    ensures tells { Tells result number least (B.holds buf.old).room (B.holds buf.new).room
+        (prepend_known (B.holds buf.old).front (S.left source.old))
+        (prepend_known (B.holds buf.new).front (S.left source.new)) }
+    ensures room { TakesRoom result (B.holds buf.old).room (B.holds buf.new).room }
     ensures given { Gives result number least }
 
     // A fault is the source's, and comes only where more octets of a line are needed.
     ensures later { S.faults source.old ≤ S.faults source.new }
     ensures fault { result ≡ Next.ReadFault → Rises (S.faults source.old) (S.faults source.new) }
-    ensures unfinished { result ≡ Next.ReadFault → IsUnfinished buf.new }
+    ensures unfinished { result ≡ Next.ReadFault → IsUnfinished (B.holds buf.new) }
 {
-    match read_line(source, buf) {
+    match buf.read_next(source) {
         LineRead::Line => {}
         LineRead::End => return Next::End,
         LineRead::LineLong => return Next::LineLong,
         LineRead::TooLong => return Next::TooLong,
         LineRead::ReadFault => return Next::ReadFault,
     }
-    let text = buf.line();
+    let text = buf.last_read();
     match read_line_in(room, text, number, least) {
-        Ok(line) => given(line, text.len(), buf.is_last()),
+        Ok(line) => given(line, text.len(), buf.ends()),
         Err(why) => refused(why),
     }
 }
 
-// A line that was read, and whether it is the last one.
-fn given(line: TraceLine, len: usize, last: bool) -> Next
+/// What comes next where a line was read, whose text has this length, and whether it is the last one.
+pub fn given(line: TraceLine, len: usize, last: bool) -> Next
     ensures { result ≡ given_as line len last }
 {
     if last {
@@ -67,8 +156,8 @@ fn given(line: TraceLine, len: usize, last: bool) -> Next
     }
 }
 
-// A line that can't be read is bad, unless memory ran out.
-fn refused(why: LineBad) -> Next
+/// What comes next where a line can't be read: it is bad, unless memory ran out.
+pub fn refused(why: LineBad) -> Next
     ensures { result ≡ refused_as why }
 {
     match why {

@@ -1,7 +1,7 @@
 //! The report of a trace, told epoch by epoch.
 ghost use Rattle.std.specs.Prelude.{◌≡◌, ◌≤◌, ◌+◌, ◌^◌, ◌∷◌, ◌++◌, [], ℕ, Bool, List, Option, length, Ok, OnOk, IfOk};
 ghost use Rattle.pc_outside.specs.Faults.{Rises};
-ghost use Rattle.pc_outside.specs.Limits.{line_max};
+ghost use Rattle.pc_outside.specs.Limits.{input_max, line_max};
 ghost use Rattle.trace_lines.specs.Input.{Input};
 ghost use Rattle.trace_lines.specs.Line.{Line};
 ghost use Rattle.trace_lines.specs.Text.{line_text};
@@ -13,9 +13,10 @@ ghost use Rattle.trace_run.specs.Takers.{IsNextOf};
 
 use crate::ending::{Ending, Unwritten, status_at, status_without, write_report};
 use crate::epoch::Size;
+use crate::reading::LineReader;
 use crate::status::Status;
-use crate::taking::{LineTaker, run_lines};
-use pc_outside::{Sink, Source};
+use crate::taking::{LineTaker, run_lines_by};
+use pc_outside::{LineBuf, Sink, Source};
 use std::alloc::{AllocError, Global};
 use text_fields::Text;
 use trace_lines::TraceLine;
@@ -200,8 +201,38 @@ pub fn run_report<S: Source, K: Sink, R: Reporter>(
     ensures write_fault { result ≡ Status.WriteFault
         → Rises (K.faults sink.old) (K.faults sink.new) }
 {
+    match LineBuf::new(alloc) {
+        Ok(mut buf) => run_report_by(&mut buf, alloc, source, sink, reporter),
+        Err(AllocError) => Status::NoMemory,
+    }
+}
+
+/// The same by a reader that nothing was read into.
+pub fn run_report_by<L: LineReader, S: Source, K: Sink, R: Reporter>(
+    reader: &mut L,
+    alloc: Global,
+    source: &mut S,
+    sink: &mut K,
+    reporter: R,
+) -> Status
+    requires reader { ((L.holds reader.old).front ≡ []) × ((L.holds reader.old).room ≡ input_max) }
+    requires first { R.represents reporter reporter [] 0 [] [] [] [] }
+    requires nothing { SaysEpochs (R.may_have reporter) (R.places reporter) [] [] }
+
+    ensures runs { Runs (R.may_have reporter) (R.places reporter) result
+        (Rises (S.faults source.old) (S.faults source.new)) (S.left source.old) (S.left source.new)
+        (K.written sink.old) (K.written sink.new) }
+    ensures no_usage { result ≡ Status.Usage → ⊥ }
+
+    ensures source_later { S.faults source.old ≤ S.faults source.new }
+    ensures sink_later { K.faults sink.old ≤ K.faults sink.new }
+    ensures read_fault { result ≡ Status.ReadFault
+        → Rises (S.faults source.old) (S.faults source.new) }
+    ensures write_fault { result ≡ Status.WriteFault
+        → Rises (K.faults sink.old) (K.faults sink.new) }
+{
     let mut epochs = Epochs::new(alloc, reporter);
-    let (ending, lines) = match run_lines(alloc, source, sink, &mut epochs) {
+    let (ending, lines) = match run_lines_by(reader, alloc, source, sink, &mut epochs) {
         Ok(end) => end,
         Err(why) => return status_without(why),
     };

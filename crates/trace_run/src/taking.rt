@@ -1,13 +1,13 @@
 //! The lines of a trace, one behind another, and what takes them.
 ghost use Rattle.std.specs.Prelude.{◌≡◌, ◌≤◌, ◌∷◌, ◌++◌, [], ℕ, List, Option, length, Err, OnOk, IfOk, IfErr};
 ghost use Rattle.pc_outside.specs.Faults.{Rises};
-ghost use Rattle.pc_outside.specs.Limits.{line_max};
+ghost use Rattle.pc_outside.specs.Limits.{input_max, line_max};
 ghost use Rattle.trace_lines.specs.Line.{Line};
 ghost use Rattle.trace_lines.specs.Text.{line_text};
 ghost use Rattle.trace_run.specs.Takers.{IsNextOf, LinesCut, LinesEnd};
 
 use crate::ending::{Ending, Unwritten};
-use crate::reading::{Next, next_line};
+use crate::reading::{LineReader, Next};
 use pc_base::Moment;
 use pc_outside::{LineBuf, Sink, Source};
 use std::alloc::Global;
@@ -69,11 +69,36 @@ pub fn run_lines<S: Source, K: Sink, T: LineTaker>(
     ensures write_fault { result ≡ Err Unwritten.WriteFault → Rises (K.faults sink.old) (K.faults sink.new) }
 {
     let mut buf = LineBuf::new(alloc)?;
+    run_lines_by(&mut buf, alloc, source, sink, taker)
+}
+
+/// The same by a reader that nothing was read into.
+pub fn run_lines_by<L: LineReader, S: Source, K: Sink, T: LineTaker>(
+    reader: &mut L,
+    alloc: Global,
+    source: &mut S,
+    sink: &mut K,
+    taker: &mut T,
+) -> Result<(Ending, u64), Unwritten>
+    requires reader { ((L.holds reader.old).front ≡ []) × ((L.holds reader.old).room ≡ input_max) }
+    requires taker { T.represents taker.old taker.old [] 0 (K.written sink.old) (K.written sink.old) }
+
+    ensures ended { IfOk result (λ end. LinesEnd (T.represents taker.old taker.new) end.0 end.1
+        (S.left source.old) (S.left source.new) (K.written sink.old) (K.written sink.new)) }
+    ensures cut { IfErr result (λ why. LinesCut (T.represents taker.old) (T.breaks taker.old) why (S.left source.old)
+        (S.left source.new) (K.written sink.old) (K.written sink.new)) }
+
+    ensures source_later { S.faults source.old ≤ S.faults source.new }
+    ensures sink_later { K.faults sink.old ≤ K.faults sink.new }
+    ensures read_fault { IfOk result (λ end. end.0 ≡ Ending.ReadFault
+        → Rises (S.faults source.old) (S.faults source.new)) }
+    ensures write_fault { result ≡ Err Unwritten.WriteFault → Rises (K.faults sink.old) (K.faults sink.new) }
+{
     let mut room = Vec::new(alloc);
     let mut lines = 0;
     let mut least = Moment(0);
     loop {
-        match next_line(&mut room, source, &mut buf, lines + 1, least) {
+        match reader.next(source, &mut room, lines + 1, least) {
             Next::Line { line, len } => {
                 least = line.moment;
                 lines += 1;

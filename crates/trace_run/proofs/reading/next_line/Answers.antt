@@ -17,32 +17,32 @@ returns-in-ReadFault-clause-tells g c = tells_fault c.args.number c.args.least _
 
 pub returns-in-Ok-clause-tells : goal.returns-in-Ok-clause-tells
 returns-in-Ok-clause-tells g c =
-    rw (c.given.ensures, c.is_last.ensures)
-    (tells_given c.args.number c.args.least _ _ _ _ c.line-text.result.now _ c.in-Ok.line _
-    (rw (sym c.line-text.ensures) at c.in-Line.ensures.octets)
+    rw (c.given.ensures, c.ends.ensures)
+    (tells_given c.args.number c.args.least _ _ _ _ c.last_read-text.result.now _ c.in-Ok.line _
+    (rw (sym c.last_read-text.ensures) at c.in-Line.ensures.octets)
     c.in-Ok.ensures.line)
 
 pub returns-in-Ok-clause-room : goal.returns-in-Ok-clause-room
 returns-in-Ok-clause-room g c =
-    rw (c.given.ensures, c.is_last.ensures) (takes_given _ _ _ _ _ _ c.in-Ok.line _ c.in-Line.ensures.held.1
-    (c.in-Ok.ensures.as_long ∙ ap length c.line-text.ensures))
+    rw (c.given.ensures, c.ends.ensures) (takes_given _ _ _ _ _ _ c.in-Ok.line _ c.in-Line.ensures.held.1
+    (c.in-Ok.ensures.as_long ∙ ap length c.last_read-text.ensures))
 
 pub returns-in-Ok-clause-given : goal.returns-in-Ok-clause-given
 returns-in-Ok-clause-given g c =
-    rw c.given.ensures (gives_given c.in-Ok.line _ c.args.number c.args.least c.is_last.result (record {
-      numbered = (meaning_given c.args.least c.args.number c.line-text.result.now c.in-Ok.line c.in-Ok.ensures.line).1;
+    rw c.given.ensures (gives_given c.in-Ok.line _ c.args.number c.args.least c.ends.result (record {
+      numbered = (meaning_given c.args.least c.args.number c.last_read-text.result.now c.in-Ok.line c.in-Ok.ensures.line).1;
       long = sym c.in-Ok.ensures.as_long;
-      short = omega (arith, c.in-Line.ensures.held.1.short, ap length c.line-text.ensures);
+      short = omega (arith, c.in-Line.ensures.held.1.short, ap length c.last_read-text.ensures);
       late = c.in-Ok.ensures.in_order;
     }))
 
 pub returns-in-Ok-clause-fault : goal.returns-in-Ok-clause-fault
 returns-in-Ok-clause-fault g c =
-    λ is. absurd (given-no_fault c.is_last.result c.in-Ok.line _ (sym c.given.ensures ∙ is))
+    λ is. absurd (given-no_fault c.ends.result c.in-Ok.line _ (sym c.given.ensures ∙ is))
 
 pub returns-in-Ok-clause-unfinished : goal.returns-in-Ok-clause-unfinished
 returns-in-Ok-clause-unfinished g c =
-    λ is. absurd (given-no_fault c.is_last.result c.in-Ok.line _ (sym c.given.ensures ∙ is))
+    λ is. absurd (given-no_fault c.ends.result c.in-Ok.line _ (sym c.given.ensures ∙ is))
 
 pub returns-in-Err-clause-given : goal.returns-in-Err-clause-given
 returns-in-Err-clause-given g c = rw c.refused.ensures (gives_refused c.in-Err.why c.args.number c.args.least)
@@ -50,5 +50,5 @@ returns-in-Err-clause-given g c = rw c.refused.ensures (gives_refused c.in-Err.w
 pub returns-in-Err-clause-tells : goal.returns-in-Err-clause-tells
 returns-in-Err-clause-tells g c =
     rw c.refused.ensures
-    (tells_refused c.args.number c.args.least _ _ _ _ c.line-text.result.now _ c.in-Err.why
-    (rw (sym c.line-text.ensures) at c.in-Line.ensures.octets) c.in-Err.ensures.refusal)
+    (tells_refused c.args.number c.args.least _ _ _ _ c.last_read-text.result.now _ c.in-Err.why
+    (rw (sym c.last_read-text.ensures) at c.in-Line.ensures.octets) c.in-Err.ensures.refusal)

@@ -2,16 +2,16 @@ use Rattle.std.proofs.Common.{◌≤◌, List}
 use Rattle.std.specs.Io.KnownBytes.{prepend_known}
 use Rattle.trace_lines.specs.Line.{Line}
 use Rattle.trace_run.specs.Takers.{TakenSoFar}
-use Rattle.trace_run.proofs.taking.run_lines.Given as goal
+use Rattle.trace_run.proofs.taking.run_lines_by.Given as goal
 
 abbrev pub invariant-loop-line : goal.invariant-loop-line
 invariant-loop-line g l = record {
   taken : (done : List Line) × TakenSoFar (g.T.LineTaker.represents l.fn.taker l.taker) (g.S.Source.left l.fn.source)
-      (prepend_known l.buf.front (g.S.Source.left l.source)) (g.K.Sink.written l.fn.sink) (g.K.Sink.written l.sink)
-      l.lines l.least l.buf.room done;
+      (prepend_known (g.L.LineReader.holds l.reader).front (g.S.Source.left l.source)) (g.K.Sink.written l.fn.sink)
+      (g.K.Sink.written l.sink) l.lines l.least (g.L.LineReader.holds l.reader).room done;
   source_later : g.S.Source.faults l.fn.source ≤ g.S.Source.faults l.source;
   sink_later : g.K.Sink.faults l.fn.sink ≤ g.K.Sink.faults l.sink;
 }
 
 abbrev pub decreases-loop-line : goal.decreases-loop-line
-decreases-loop-line g l = l.buf.room
+decreases-loop-line g l = (g.L.LineReader.holds l.reader).room
