@@ -12,6 +12,7 @@ use crate::replays::{Replays, replay_all};
 use crate::sharing::shares_of;
 use crate::{Epoch, EpochLines};
 use address_book::AddressBook;
+use bumpalo::Bump;
 use schedule_run::{Rooms, Turns, schedule};
 use std::alloc::AllocError;
 use subscriber::Subscriber;
@@ -45,8 +46,10 @@ pub fn do_lines<'a>(
     let kept = lines.lines.as_slice();
     let octets = lines.octets.as_slice();
     let slots = book.len();
+    let room = Bump::new(alloc);
     let shares = shares_of(
         alloc,
+        &room,
         slots,
         subscribers.as_slice(),
         &scheduled,

@@ -132,7 +132,8 @@ pub fn keep(alloc: Global, lines: &mut EpochLines, meant: Meant<'_>) -> Result<(
     }
 }
 
-/// A packet of a slot is kept.
+/// A packet of a slot is kept, its parts straight from where they are lent.
+#[inline(always)]
 pub fn keep_packet(
     lines: &mut EpochLines,
     slot: Slot,

@@ -32,7 +32,7 @@ pub fn replay_all<'a>(
     alloc: Global,
     slots: u32,
     subscribers: &mut Vec<Subscriber>,
-    shares: &[Share<'a>],
+    shares: &[Share<'a, '_>],
 ) -> Result<Replays<'a>, AllocError>
     requires slots { slots ≡ vec_len subscribers.old }
     requires few { slots ≤ 65533 }
@@ -59,7 +59,7 @@ pub fn replay_all<'a>(
 fn replay_share<'a>(
     alloc: Global,
     subscriber: &mut Subscriber,
-    share: &Share<'a>,
+    share: &Share<'a, '_>,
 ) -> Result<Replayed<'a>, AllocError>
     requires { CanDo subscriber.old share.now }
     ensures { IfOk result (DoesShare subscriber.old subscriber.new share.now) }

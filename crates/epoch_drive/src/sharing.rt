@@ -16,6 +16,7 @@ ghost use Rattle.epoch_drive.specs.Shares.{
 };
 
 use crate::kept::{Kept, packet_at};
+use bumpalo::Bump;
 use control_steps::Command;
 use demux::LentPacket;
 use pc_base::Slot;
@@ -24,22 +25,23 @@ use slot_replay::Placed;
 use std::alloc::{AllocError, Global};
 use subscriber::Subscriber;
 
-/// The commands and packets of a slot, in line order.
+/// The commands and packets of a slot, in line order: many short lists, which are given up together.
 #[derive(Drop)]
-pub struct Share<'a> {
-    pub commands: Vec<&'a Command>,
-    pub packets: Vec<Placed<'a>>,
+pub struct Share<'a, 'b> {
+    pub commands: Vec<&'a Command, &'b Bump>,
+    pub packets: Vec<Placed<'a>, &'b Bump>,
 }
 
 /// What was taken of the lines, whose packets have these octets, for each of so many subscribers.
-pub fn shares_of<'a>(
+pub fn shares_of<'a, 'b>(
     alloc: Global,
+    room: &'b Bump,
     slots: u32,
     subscribers: &[Subscriber],
     scheduled: &Scheduled,
     kept: &'a [Kept],
     octets: &'a [u8],
-) -> Result<Vec<Share<'a>>, AllocError>
+) -> Result<Vec<Share<'a, 'b>>, AllocError>
     requires slots { slots ≡ length subscribers.now }
     requires within { All (IsWithin (length subscribers.now)) (map (meaning_in octets.now) kept.now) }
     requires placed { All (IsPlaced octets.now) kept.now }
@@ -51,7 +53,7 @@ pub fn shares_of<'a>(
     ensures shares { (first : ℕ) → IfOk result (λ shares. AreShares shares.items subscribers.now scheduled.now
         (opened first (map (meaning_in octets.now) kept.now) scheduled.now.outcomes)) }
 {
-    let mut shares = empty_shares(alloc, slots, scheduled)?;
+    let mut shares = empty_shares(alloc, room, slots, scheduled)?;
     let outcomes = scheduled.outcomes();
     for (i, now) in kept.iter().enumerate() {
         share_line(
@@ -67,19 +69,20 @@ pub fn shares_of<'a>(
 }
 
 // As many packets as meet something will come, so there is room for them.
-fn empty_shares<'a>(
+fn empty_shares<'a, 'b>(
     alloc: Global,
+    room: &'b Bump,
     slots: u32,
     scheduled: &Scheduled,
-) -> Result<Vec<Share<'a>>, AllocError>
+) -> Result<Vec<Share<'a, 'b>>, AllocError>
     ensures many { IfOk result (λ shares. vec_len shares ≡ slots) }
     ensures empty { IfOk result (λ shares. All IsEmpty shares.items) }
 {
-    let mut shares: Vec<Share<'a>> = Vec::with_capacity(alloc, slots as usize)?;
+    let mut shares: Vec<Share<'a, 'b>> = Vec::with_capacity(alloc, slots as usize)?;
     for i in 0..slots {
-        let share: Share<'a> = Share {
-            commands: Vec::new(alloc),
-            packets: Vec::with_capacity(alloc, scheduled.met_count(i))?,
+        let share: Share<'a, 'b> = Share {
+            commands: Vec::new(room),
+            packets: Vec::with_capacity(room, scheduled.met_count(i))?,
         };
         shares.push(share)?;
     }
@@ -87,8 +90,8 @@ fn empty_shares<'a>(
 }
 
 // A line, if it was taken.
-fn share_line<'a>(
-    shares: &mut Vec<Share<'a>>,
+fn share_line<'a, 'b>(
+    shares: &mut Vec<Share<'a, 'b>>,
     subscribers: &[Subscriber],
     scheduled: &Scheduled,
     octets: &'a [u8],
@@ -127,8 +130,8 @@ fn share_line<'a>(
     }
 }
 
-fn give_command<'a>(
-    shares: &mut Vec<Share<'a>>,
+fn give_command<'a, 'b>(
+    shares: &mut Vec<Share<'a, 'b>>,
     slot: Slot,
     command: &'a Command,
 ) -> Result<(), AllocError>
@@ -141,8 +144,8 @@ fn give_command<'a>(
 }
 
 // A packet meets the next of its slot's counts, behind the commands before the epoch.
-fn give_packet<'a>(
-    shares: &mut Vec<Share<'a>>,
+fn give_packet<'a, 'b>(
+    shares: &mut Vec<Share<'a, 'b>>,
     subscribers: &[Subscriber],
     scheduled: &Scheduled,
     slot: Slot,

@@ -1,0 +1,16 @@
+use Rattle.std.proofs.Common.{[], sym, ap, subst, arith}
+use Rattle.lawful_run.specs.Run.{no_events}
+use Rattle.at_rest.specs.Coming.{AreLater}
+use Rattle.at_rest.specs.Rest.{Rest}
+use Rattle.check_epochs.proofs.playing.play.Goals as goal
+
+pub run_epoch-requires-clause-behind : goal.run_epoch-requires-clause-behind
+run_epoch-requires-clause-behind g c = ([], c.new-rest.ensures.behind)
+
+pub run_epoch-requires-clause-represents : goal.run_epoch-requires-clause-represents
+run_epoch-requires-clause-represents g c = (no_events, c.new-rest.ensures.represents)
+
+pub run_epoch-requires-clause-later : goal.run_epoch-requires-clause-later
+run_epoch-requires-clause-later g c =
+    subst (λ n. AreLater n c.in_ok-lines.lines.items) (sym (ap (λ (r : Rest). r.latest) c.new-rest.ensures.new))
+    c.in_ok-lines.ensures.later

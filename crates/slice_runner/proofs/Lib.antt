@@ -1,0 +1,4 @@
+mod Refused
+mod Rising
+mod Seats
+mod Takes

@@ -1,0 +1,45 @@
+-- What a front did with the lines of an epoch.
+use Rattle.std.specs.Prelude.{◌≡◌, ℕ, ◌+◌, ◌*◌, Bool, true, false, List, ◌++◌, length, count_by}
+use Rattle.trace_lines.specs.Line.{Line}
+use Rattle.at_rest.specs.Coming.{latest_behind}
+use Rattle.front_halves.specs.Tries.{RisesBy}
+use Rattle.front_core.specs.declared.front.Front.{Front}
+use Rattle.front_core.specs.declared.taken.Taken.{Taken}
+use Rattle.front_core.specs.declared.taken.Open.TheVariants as entry
+use Rattle.front_core.specs.declared.taken.Open.{Open}
+use Rattle.front_core.specs.Words.{IsWhole, opened_of, entries_in, taken_by, lines_in, latest_in, fulls_in}
+use Rattle.front_core.specs.Words.{control_lanes, flow_lanes}
+
+-- whether each try of a line was answered Full
+abbrev pub is_full : Open → Bool
+is_full (entry.Note text) = false
+is_full (entry.Command slot) = false
+is_full (entry.Packet slot parked) = false
+is_full (entry.Full slot packet) = true
+
+abbrev pub fulls_among : List Taken → ℕ
+fulls_among entries = count_by (λ (taken : Taken). is_full taken.open) entries
+
+-- All lines were taken, each with so many tries, since the front was the old one.
+pub record TakesAll (tries : ℕ) (lines : List Line) (old new : Front) : Type 0 where
+  pub whole : IsWhole new
+  pub opened : opened_of new ≡ opened_of old
+  pub taken : taken_by new ≡ taken_by old ++ lines
+  pub count : lines_in new ≡ lines_in old + length lines
+  pub latest : latest_in new ≡ latest_behind (latest_in old) lines
+  pub control : control_lanes new ≡ control_lanes old
+  pub flow : flow_lanes new ≡ flow_lanes old
+  pub entries : List Taken
+  pub entries_are : entries_in new ≡ entries_in old ++ entries
+  pub fulls : RisesBy (tries * fulls_among entries) (fulls_in old) (fulls_in new)
+
+-- It was pumped.
+pub record Pumps (old new : Front) : Type 0 where
+  pub whole : IsWhole old → IsWhole new
+  pub opened : opened_of new ≡ opened_of old
+  pub entries : entries_in new ≡ entries_in old
+  pub count : lines_in new ≡ lines_in old
+  pub latest : latest_in new ≡ latest_in old
+  pub fulls : fulls_in new ≡ fulls_in old
+  pub control : control_lanes new ≡ control_lanes old
+  pub flow : flow_lanes new ≡ flow_lanes old

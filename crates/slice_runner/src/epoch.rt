@@ -1,0 +1,68 @@
+//! An epoch is run.
+ghost use Rattle.std.specs.Prelude.{◌≡◌, ◌+◌, ◌*◌, ◌≤◌, ◌^◌, List, length, count_by, IfOk};
+ghost use Rattle.trace_lines.specs.Line.{Line};
+ghost use Rattle.lawful_run.specs.Accepted.{is_refused};
+ghost use Rattle.lawful_run.specs.Merging.{Histories};
+ghost use Rattle.at_rest.specs.Coming.{AreLater, latest_behind};
+ghost use Rattle.at_rest.specs.Rest.{IsBehind, RepresentsAll};
+ghost use Rattle.front_halves.specs.Tries.{RisesBy};
+ghost use Rattle.front_close.specs.Closing.{Closes};
+ghost use Rattle.front_close.specs.Filled.{told_by};
+ghost use Rattle.slice_runner.specs.Serving.{AreServed, Serves};
+
+use crate::NoMemory;
+use crate::served::{Pace, Places, Served, Stops, serve};
+use at_rest::AtRest;
+use front_close::{Ended, close};
+use front_core::Front;
+use slice_core::Gate;
+use std::alloc::Global;
+use std::sync::Wait;
+use std::thread::{self, Threads};
+use trace_lines::TraceLine;
+
+/// Runs an epoch of these lines over the gateway's slices, each with two threads of its own. A command or packet that
+/// finds its queue or lane full is tried again as often as `patience` says. Behind the last line the front pumps as
+/// often as `linger` says, so that workers get on before they are stopped. A worker whose thread can't be started, or
+/// runs out of memory, stops early, and what it left is done when the epoch is closed. Out of memory at the front the
+/// gateway is given up.
+pub fn run_epoch<G: Gate, R: Threads + Wait + Sync>(
+    rt: &R,
+    alloc: Global,
+    rest: AtRest,
+    lines: &[TraceLine],
+    patience: u32,
+    linger: u32,
+    gate: &G,
+) -> Result<Ended, NoMemory>
+    requires behind { (prior : List Line) × IsBehind rest prior }
+    requires represents { (before : Histories) × RepresentsAll rest before }
+    requires few { rest.lines + length lines.now ≤ 2 ^ 39 }
+    requires later { AreLater rest.latest lines.now }
+
+    // Whatever the threads' schedule was, the report is a lawful epoch's, and the gateway at rest represents the
+    // events behind it.
+    ensures closes { IfOk result (λ ended. Closes rest lines.now ended.rest (told_by ended.epoch)) }
+    ensures count { IfOk result (λ ended. ended.rest.lines ≡ rest.lines + length lines.now) }
+    ensures latest { IfOk result (λ ended. ended.rest.latest ≡ latest_behind rest.latest lines.now) }
+
+    // Each refusal is as many tries that were answered Full as `patience` says, and one.
+    ensures refusals { IfOk result (λ ended. RisesBy ((patience + 1) * count_by is_refused (told_by ended.epoch).lines)
+        rest.fulls ended.rest.fulls) }
+{
+    let opened = Front::open(alloc, rest)?;
+    let (controls, flows) = (opened.controls.len(), opened.flows.len());
+    let places = Places::new(alloc, controls, flows)?;
+    let stops = Stops::new(alloc, controls, flows)?;
+    let pace = Pace { patience, linger };
+    let flags = &stops;
+    let served = thread::scope(
+        thread::scope_env(),
+        rt,
+        |scope| -> Served
+            requires { AreServed opened places flags.now lines.now }
+            ensures { Serves opened (pace.patience + 1) lines.entry.now result }
+        { serve(scope, rt, opened, places, flags, lines, pace, gate) },
+    );
+    close(rt, served.front?, served.controls, served.flows)
+}
