@@ -1,7 +1,7 @@
 //! The text of what is told of the lines of an epoch over slices.
 ghost use Rattle.std.specs.Prelude.{◌≡◌, ◌++◌, map, OnOk};
 ghost use Rattle.front_close.specs.Filled.{entry_told};
-ghost use Rattle.report_lines.specs.declared.entry.Entry.TheVariants as entry;
+ghost use Rattle.report_lines.specs.declared.entry.Entry.TheVariants as report_entry;
 ghost use Rattle.report_lines.specs.Text.{shown};
 ghost use Rattle.trace_run.specs.Entries.{line_of, lines_text};
 
@@ -13,7 +13,7 @@ use trace_run::end_line;
 
 // An entry of a report.
 fn told(entry: Entry) -> report_lines::Entry
-    ensures { result ≡ entry.Line (entry_told entry) }
+    ensures { result ≡ report_entry.Line (entry_told entry) }
 {
     report_lines::Entry::Line(match entry {
         Entry::Note { line, text } => LineEntry::N(Note { line, note: text }),
@@ -50,7 +50,7 @@ fn told(entry: Entry) -> report_lines::Entry
 }
 
 fn push_entry(report: &mut Text, entry: Entry, places: bool) -> Result<(), AllocError>
-    ensures { OnOk result (report.new ≡ report.old ++ line_of (shown places (entry.Line (entry_told entry)))) }
+    ensures { OnOk result (report.new ≡ report.old ++ line_of (shown places (report_entry.Line (entry_told entry)))) }
 {
     push_text(report, &told(entry), places)?;
     end_line(report)
