@@ -3,7 +3,7 @@ use Rattle.std.proofs.Common.{◌≡◌, ℕ, ◌+◌, ◌≤◌, List, [], ◌�
 use Rattle.trace_lines.specs.Line.{Line}
 use Rattle.demux.specs.Trace.{Meaning, book_of}
 use Rattle.lawful_run.specs.Cut.{lines_in}
-use Rattle.lawful_run.specs.Merging.{Histories, behind}
+use Rattle.lawful_run.specs.Merging.{behind}
 use Rattle.lawful_run.specs.Report.{EpochReport}
 use Rattle.lawful_run.specs.Run.{AreEpochRuns, IsEpochRun, behind_all, no_events, told_in}
 use Rattle.lawful_run.specs.Setup.{Setup, sliced, slices_of}
