@@ -1,4 +1,6 @@
 //! A trace is played, and its report audited.
+ghost use Rattle.std.specs.Prelude.{◌≤◌, length};
+
 use crate::Stop;
 use crate::lines::{entries_of, lines_of};
 use crate::meeting::Meeting;
@@ -19,12 +21,11 @@ use trace_run::{
 };
 
 // A slice's lane has one place, and a slot's queues four, so that a worker has to get on before the front can.
-const SETUP: Setup = Setup {
-    solo: false,
-    slices: 2,
-    room: 4,
-    lane: 1,
-};
+const SLICES: u8 = 2;
+
+const ROOM: u32 = 4;
+
+const LANE: u32 = 1;
 
 const PATIENCE: u32 = 1_000_000;
 
@@ -93,7 +94,13 @@ fn is_lawful(alloc: Global, lines: &[TraceLine], ended: Ended) -> Result<bool, S
     push_records(&mut report, ended.epoch.rows.as_slice())?;
     push_opens(&mut report, ended.rest.subscribers.as_slice())?;
     let entries = entries_of(alloc, report.as_slice())?;
-    let found = finding_of(alloc, &SETUP, lines, None, entries.as_slice())?;
+    let setup = Setup {
+        solo: false,
+        slices: SLICES,
+        room: ROOM,
+        lane: LANE,
+    };
+    let found = finding_of(alloc, &setup, lines, None, entries.as_slice())?;
     Ok(matches!(found, Finding::Yes))
 }
 
@@ -104,13 +111,15 @@ pub fn play<R: Threads + Wait + Sync>(
     octets: &[u8],
 ) -> Result<Played, Stop> {
     let lines = lines_of(alloc, octets)?;
-    let rest = AtRest::new(alloc, SETUP.slices, SETUP.room, SETUP.lane);
+    let taken = lines.as_slice();
+    let rest = AtRest::new(alloc, SLICES, ROOM, LANE);
     let gate = Meeting::new();
-    let ended = run_epoch(rt, alloc, rest, lines.as_slice(), PATIENCE, LINGER, &gate)?;
+    let ended = run_epoch(rt, alloc, rest, taken, PATIENCE, LINGER, &gate)?;
     let at_first = handled_at(ended.epoch.lines.as_slice(), SliceNo(0));
     let at_second = handled_at(ended.epoch.lines.as_slice(), SliceNo(1));
+    let lawful = is_lawful(alloc, taken, ended)?;
     Ok(Played {
-        lawful: is_lawful(alloc, lines.as_slice(), ended)?,
+        lawful,
         met: gate.met(),
         at_first,
         at_second,

@@ -1,5 +1,6 @@
 -- What holds of an epoch that was closed.
-use Rattle.std.proofs.Common.{◌≡◌, ℕ, ◌*◌, List, [], ◌++◌, map, Result, Ok, Err, IfOk, sym, ap, subst, ◌∙◌}
+use Rattle.std.proofs.Common.{◌≡◌, ℕ, length, ◌+◌, ◌*◌, List, [], ◌++◌, map, Result}
+use Rattle.std.proofs.Common.{Ok, Err, IfOk, sym, ap, subst, ◌∙◌}
 use Rattle.std.specs.List.{count_by}
 use Rattle.trace_lines.specs.Line.{Line}
 use Rattle.lawful_run.specs.Accepted.{is_refused}
