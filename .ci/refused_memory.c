@@ -6,7 +6,9 @@
 #include <stdio.h>
 #include <stdlib.h>
 
-static unsigned long calls, refused;
+/* Threads count together. */
+static _Atomic unsigned long calls;
+static unsigned long refused;
 
 /* Calls of the loader and of the C library, before the program begins, aren't counted. */
 static int begun;

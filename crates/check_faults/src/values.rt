@@ -22,11 +22,22 @@ pub fn words(alloc: Global, row: &Call, text: &mut String) -> Result<(), AllocEr
                 places,
             },
         ) => {
-            let Lanes { slices, room, lane } = lanes;
-            push_told(text, "drive: ", &slices)?;
-            push_told(text, " slices, room ", &room)?;
-            push_told(text, ", lane ", &lane)?;
+            push_lanes(text, "drive: ", lanes)?;
             push_turns(turns, text)?;
+            push_told(text, ", places ", &places)?;
+            text.push('\n')
+        }
+        Some(
+            Job::Replay {
+                lanes,
+                patience,
+                linger,
+                places,
+            },
+        ) => {
+            push_lanes(text, "replay: ", lanes)?;
+            push_told(text, ", patience ", &patience)?;
+            push_told(text, ", linger ", &linger)?;
             push_told(text, ", places ", &places)?;
             text.push('\n')
         }
@@ -68,6 +79,12 @@ pub fn words(alloc: Global, row: &Call, text: &mut String) -> Result<(), AllocEr
             text.push('\n')
         }
     }
+}
+
+fn push_lanes(text: &mut String, command: &str, lanes: Lanes) -> Result<(), AllocError> {
+    push_told(text, command, &lanes.slices)?;
+    push_told(text, " slices, room ", &lanes.room)?;
+    push_told(text, ", lane ", &lanes.lane)
 }
 
 fn push_turns(turns: Turns, text: &mut String) -> Result<(), AllocError> {

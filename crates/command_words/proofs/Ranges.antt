@@ -5,7 +5,7 @@ use Rattle.std.specs.Option.{option_map_or}
 use Rattle.std.specs.Str.Parse.{digits_value}
 use Rattle.text_fields.specs.Fields.{pieces}
 use Rattle.text_fields.specs.Number.{is_decimal, number_in}
-use Rattle.command_words.specs.Job.{Command, IsInRange, LanesInRange, TurnsInRange, audit_job, balance_job, commands, drive_job, has_number, job_of, lanes_audit, lanes_by, lanes_of, make_job, number_of, number_or, solo_audit, turns_of}
+use Rattle.command_words.specs.Job.{Command, IsInRange, LanesInRange, TurnsInRange, audit_job, balance_job, commands, drive_job, has_number, job_of, lanes_audit, lanes_by, lanes_of, make_job, number_of, number_or, replay_job, solo_audit, turns_of}
 use Rattle.command_words.specs.Options.{Given, given_once, has_flag, value_of}
 use Rattle.command_words.specs.Turns.{comma, last_worker, most_turns, numbers_in, turns_asked, turns_in}
 use Rattle.command_words.specs.Words.{Text}
@@ -220,6 +220,28 @@ drive_keeps given asked is = go (lanes_of given) refl is
         by_turns lanes (turns_of lanes.slices given) (lanes_within (value_of (codes "slices") given)
         (value_of (codes "room") given) (value_of (codes "lane") given) lanes known) refl e
 
+replay_keeps : (given : List Given) (asked : Job) → replay_job given ≡ Some asked → IsInRange asked
+replay_keeps given asked is =
+    go (lanes_of given) (number_of (codes "patience") 0 1000000 10000 given)
+    (number_of (codes "linger") 0 1000000 1000 given)
+    (λ lanes e. lanes_within (value_of (codes "slices") given) (value_of (codes "room") given)
+    (value_of (codes "lane") given) lanes e)
+    (λ n e. number_within (codes "patience") 0 1000000 10000 given n (lit≤ tt, lit≤ tt) e)
+    (λ n e. number_within (codes "linger") 0 1000000 1000 given n (lit≤ tt, lit≤ tt) e) is
+  where
+    go : (found : Option Lanes) (patience linger : Option ℕ)
+        → ((lanes : Lanes) → found ≡ Some lanes → LanesInRange lanes)
+        → ((n : ℕ) → patience ≡ Some n → IsWithin 0 1000000 n)
+        → ((n : ℕ) → linger ≡ Some n → IsWithin 0 1000000 n)
+        → option_and_then (λ (lanes : Lanes). option_and_then (λ p. option_map (λ l.
+        job.Replay lanes p l (has_flag (codes "places") given)) linger) patience) found ≡ Some asked → IsInRange asked
+    go None patience linger range patient lingers e = absurd (cc)
+    go (Some lanes) None linger range patient lingers e = absurd (cc)
+    go (Some lanes) (Some p) None range patient lingers e = absurd (cc)
+    go (Some lanes) (Some p) (Some l) range patient lingers e =
+        let same : job.Replay lanes p l (has_flag (codes "places") given) ≡ asked = cc in
+        subst IsInRange same (range lanes refl, (patient p refl).1, (lingers l refl).1)
+
 audit_keeps : (given : List Given) (asked : Job) → audit_job given ≡ Some asked → IsInRange asked
 audit_keeps given asked is = go (has_flag (codes "solo") given) is
   where
@@ -254,7 +276,10 @@ all_keep = (
   bare_keeps job.Solo tt,
   (
     drive_keeps,
-    (make_keeps, (bare_keeps job.Import tt, (bare_keeps job.Export tt, (audit_keeps, (balance_keeps, tt))))),
+    (
+      replay_keeps,
+      (make_keeps, (bare_keeps job.Import tt, (bare_keeps job.Export tt, (audit_keeps, (balance_keeps, tt))))),
+    ),
   ),
 )
 

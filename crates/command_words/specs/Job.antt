@@ -52,6 +52,15 @@ drive_job given =
     (turns_of lanes.slices given))
     (lanes_of given)
 
+-- the lanes of `replay`, how often a line is tried again, how often the front pumps at last, and whether places are told
+abbrev pub replay_job : List Given → Option Job
+replay_job given =
+    option_and_then (λ (lanes : Lanes). option_and_then (λ patience. option_map (λ linger.
+    job.Replay lanes patience linger (has_flag (codes "places") given))
+    (number_of (codes "linger") 0 1000000 1000 given))
+    (number_of (codes "patience") 0 1000000 10000 given))
+    (lanes_of given)
+
 -- each number of `make`, and whether it sums up
 abbrev pub make_job : List Given → Option Job
 make_job given =
@@ -94,6 +103,10 @@ drive_forms = with_value (codes "slices") ∷ with_value (codes "room") ∷ with
     ∷ with_value (codes "turns") ∷ with_value (codes "seed") ∷ with_value (codes "per")
     ∷ without_value (codes "places") ∷ []
 
+abbrev pub replay_forms : List Form
+replay_forms = with_value (codes "slices") ∷ with_value (codes "room") ∷ with_value (codes "lane")
+    ∷ with_value (codes "patience") ∷ with_value (codes "linger") ∷ without_value (codes "places") ∷ []
+
 abbrev pub make_forms : List Form
 make_forms = with_value (codes "seed") ∷ with_value (codes "subs") ∷ with_value (codes "lines") ∷ without_value
     (codes "summary") ∷ []
@@ -108,6 +121,9 @@ balance_forms = with_value (codes "slices") ∷ with_value (codes "most") ∷ []
 abbrev pub drive_command : Command
 drive_command = record { name = codes "drive"; forms = drive_forms; job = drive_job }
 
+abbrev pub replay_command : Command
+replay_command = record { name = codes "replay"; forms = replay_forms; job = replay_job }
+
 abbrev pub make_command : Command
 make_command = record { name = codes "make"; forms = make_forms; job = make_job }
 
@@ -121,6 +137,7 @@ balance_command = record { name = codes "balance"; forms = balance_forms; job = 
 abbrev pub commands : List Command
 commands = bare (codes "solo") job.Solo
     ∷ drive_command
+    ∷ replay_command
     ∷ make_command
     ∷ bare (codes "import") job.Import
     ∷ bare (codes "export") job.Export
@@ -154,6 +171,8 @@ LanesInRange lanes =
 abbrev pub IsInRange : Job → Type 0
 IsInRange job.Solo = Unit {0}
 IsInRange (job.Drive lanes turns places) = LanesInRange lanes × TurnsInRange lanes.slices turns
+IsInRange (job.Replay lanes patience linger places) =
+    LanesInRange lanes × (patience ≤ 1000000) × (linger ≤ 1000000)
 IsInRange (job.Make seed subs lines summary) = (1 ≤ subs) × (subs ≤ 65533) × (lines ≤ 100000)
 IsInRange job.Import = Unit {0}
 IsInRange job.Export = Unit {0}

@@ -21,6 +21,15 @@ pub enum Job {
         turns: Turns,
         places: bool,
     },
+    /// `replay`: replay a trace over slices in threads, with the places of packets in the report or without. A line
+    /// whose queue or lane is full is tried so often again (0 to 1,000,000) before it is refused, and behind an epoch's
+    /// last line the front pumps so often (0 to 1,000,000).
+    Replay {
+        lanes: Lanes,
+        patience: u32,
+        linger: u32,
+        places: bool,
+    },
     /// `make`: write a generated trace of so many further lines for so many subscribers (1 to 65,533;
     /// at most 100,000 lines), or the counts of its report.
     Make {

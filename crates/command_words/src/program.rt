@@ -3,6 +3,7 @@ ghost use Rattle.std.specs.Prelude.{◌≡◌, IfOk, false, take};
 ghost use Rattle.clap.specs.Words.{app_of, rule_of, shape_of};
 ghost use Rattle.clap.specs.declared.builder.command.Command.TheViews.{out-Command as fields_of};
 ghost use Rattle.command_words.specs.Job.{audit_command, balance_command, drive_command, make_command};
+ghost use Rattle.command_words.specs.Job.{replay_command};
 ghost use Rattle.command_words.specs.Options.{with_value, without_value};
 ghost use Rattle.command_words.specs.Program.{command_shape, no_commands, option_rule, program_app};
 
@@ -25,13 +26,13 @@ fn without_value<'a>(alloc: Global, name: &'a str) -> Arg<'a>
     Arg::new(alloc, name).long(name).action(ArgAction::SetTrue)
 }
 
-// The command `drive` with the options of its lanes alone.
-fn drive_lanes<'a>(alloc: Global) -> Result<Command<'a>, AllocError>
+// A command with the options of its lanes alone.
+fn with_lanes<'a>(alloc: Global, name: &'a str) -> Result<Command<'a>, AllocError>
     ensures shape { IfOk result (λ command. shape_of command
-        ≡ command_shape (record drive_command { forms = take 3 drive_command.forms })) }
+        ≡ command_shape (record drive_command { name = name.entry.now; forms = take 3 drive_command.forms })) }
     ensures local { IfOk result (λ command. (fields_of command).has_globals ≡ false) }
 {
-    Command::new(alloc, "drive")
+    Command::new(alloc, name)
         .arg(with_value(alloc, "slices"))?
         .arg(with_value(alloc, "room"))?
         .arg(with_value(alloc, "lane"))
@@ -41,10 +42,20 @@ fn drive<'a>(alloc: Global) -> Result<Command<'a>, AllocError>
     ensures shape { IfOk result (λ command. shape_of command ≡ command_shape drive_command) }
     ensures local { IfOk result (λ command. (fields_of command).has_globals ≡ false) }
 {
-    drive_lanes(alloc)?
+    with_lanes(alloc, "drive")?
         .arg(with_value(alloc, "turns"))?
         .arg(with_value(alloc, "seed"))?
         .arg(with_value(alloc, "per"))?
+        .arg(without_value(alloc, "places"))
+}
+
+fn replay<'a>(alloc: Global) -> Result<Command<'a>, AllocError>
+    ensures shape { IfOk result (λ command. shape_of command ≡ command_shape replay_command) }
+    ensures local { IfOk result (λ command. (fields_of command).has_globals ≡ false) }
+{
+    with_lanes(alloc, "replay")?
+        .arg(with_value(alloc, "patience"))?
+        .arg(with_value(alloc, "linger"))?
         .arg(without_value(alloc, "places"))
 }
 
@@ -107,6 +118,7 @@ pub fn program<'a>(alloc: Global) -> Result<Command<'a>, AllocError>
     no_commands(alloc)
         .subcommand(Command::new(alloc, "solo"))?
         .subcommand(drive(alloc)?)?
+        .subcommand(replay(alloc)?)?
         .subcommand(make(alloc)?)?
         .subcommand(Command::new(alloc, "import"))?
         .subcommand(Command::new(alloc, "export"))?

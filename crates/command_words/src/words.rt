@@ -9,7 +9,7 @@ ghost use Rattle.text_fields.specs.Number.{number_in};
 ghost use Rattle.command_words.specs.Job.{Command, IsInRange, asked_of, audit_forms, audit_job, balance_forms};
 ghost use Rattle.command_words.specs.Job.{balance_job, commands, has_number, job_of};
 ghost use Rattle.command_words.specs.Job.{LanesInRange, drive_forms, drive_job, lanes_audit, lanes_by, make_forms};
-ghost use Rattle.command_words.specs.Job.{make_job, solo_audit};
+ghost use Rattle.command_words.specs.Job.{make_job, replay_forms, replay_job, solo_audit};
 ghost use Rattle.command_words.specs.Options.{Given};
 ghost use Rattle.command_words.specs.Program.{Gives, found_asked};
 ghost use Rattle.command_words.specs.Turns.{turns_asked};
@@ -190,6 +190,20 @@ fn drive_job(alloc: Global, matches: &ArgMatches<'_>) -> Result<Option<Job>, All
     }))
 }
 
+fn replay_job(matches: &ArgMatches<'_>) -> Option<Job>
+    ensures { (given : List Given) → Gives matches.now replay_forms given → result ≡ replay_job given }
+{
+    let lanes = lanes(matches)?;
+    let patience = small_number(matches, "patience", 0, 1_000_000, 10_000)?;
+    let linger = small_number(matches, "linger", 0, 1_000_000, 1_000)?;
+    Some(Job::Replay {
+        lanes,
+        patience,
+        linger,
+        places: matches.get_flag("places"),
+    })
+}
+
 // The turns that are listed or drawn; None where both are asked for, or half of what is drawn.
 fn turns(alloc: Global, matches: &ArgMatches<'_>, slices: u8) -> Result<Option<Turns>, AllocError>
     requires some { 1 ≤ slices }
@@ -218,6 +232,7 @@ fn job_named(alloc: Global, name: &str, matches: &ArgMatches<'_>) -> Result<Opti
     match name {
         "solo" => Ok(Some(Job::Solo)),
         "drive" => drive_job(alloc, matches),
+        "replay" => Ok(replay_job(matches)),
         "make" => Ok(make_job(matches)),
         "import" => Ok(Some(Job::Import)),
         "export" => Ok(Some(Job::Export)),

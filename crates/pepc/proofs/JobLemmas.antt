@@ -8,7 +8,7 @@ use Rattle.trace_maker.specs.Generated.{made}
 use Rattle.trace_run.specs.declared.status.Status.{Status}
 use Rattle.trace_run.specs.declared.status.Status.TheVariants as status
 use Rattle.pepc.specs.Audit.{audit_setup}
-use Rattle.pepc.specs.Jobs.{Completes, Does}
+use Rattle.pepc.specs.Jobs.{Completes, Does, without_threads}
 use Rattle.pepc.specs.Make.{IsMakeFront, Made, Makes}
 use Rattle.trace_run.specs.Report.{IsDone}
 use Rattle.pepc.proofs.AuditReports.{audit_complete, nothing_audited, nothing_settles}
@@ -19,7 +19,11 @@ use Rattle.pepc.proofs.ReportLemmas.{nothing_runs}
 use Rattle.trace_run.proofs.EndingLemmas.{complete, nothing_runs as nothing_told_of}
 use Rattle.drive_run.specs.Driven.{IsDrivenReport}
 use Rattle.drive_run.proofs.Reports.{says_nothing}
+use Rattle.lawful_run.specs.Trace.{IsReport}
+use Rattle.replay_run.proofs.Reports.{says_nothing as nothing_replayed}
+use Rattle.command_words.specs.declared.jobs.Lanes.{Lanes}
 use Rattle.pepc.specs.Drive.{schedule_asked}
+use Rattle.pepc.specs.Replay.{setup_asked}
 use Rattle.pepc.specs.Report.{IsSoloReport}
 
 no_front : (summary : Bool) (lines : List Line) → IsMakeFront summary lines []
@@ -39,6 +43,9 @@ nothing_done (Some job.Solo) source_failed start old = nothing_runs source_faile
 nothing_done (Some (job.Drive lanes turns places)) source_failed start old =
     nothing_told_of (IsDrivenReport (schedule_asked lanes turns)) places source_failed start old
     (says_nothing (schedule_asked lanes turns) places)
+nothing_done (Some (job.Replay lanes patience linger places)) source_failed start old =
+    nothing_told_of (IsReport (setup_asked lanes)) places source_failed start old
+    (nothing_replayed lanes.slices lanes.room lanes.lane places)
 nothing_done (Some (job.Make seed subs lines summary)) source_failed start old =
     (refl, nothing_made seed subs lines summary old)
 nothing_done (Some job.Import) source_failed start old = nothing_imported source_failed start old
@@ -51,6 +58,7 @@ pub nothing_completes : (asked : Option Job) (start : Option (List ℕ)) → Com
 nothing_completes None start = tt
 nothing_completes (Some job.Solo) start = λ octets is stop. inr refl
 nothing_completes (Some (job.Drive lanes turns places)) start = λ octets is stop. inr refl
+nothing_completes (Some (job.Replay lanes patience linger places)) start = λ octets is stop. inr refl
 nothing_completes (Some (job.Make seed subs lines summary)) start = inr refl
 nothing_completes (Some job.Import) start = λ octets is stop. inr refl
 nothing_completes (Some job.Export) start = λ octets is stop. inr refl
@@ -86,6 +94,11 @@ job_completes (job.Drive lanes turns places) ending source_failed sink_failed st
     λ octets is stop.
     complete (IsDrivenReport (schedule_asked lanes turns)) places ending source_failed sink_failed octets start left old new
     is stop no_source no_sink read write usage does
+job_completes (job.Replay lanes patience linger places) ending source_failed sink_failed start left old new no_source
+    no_sink read write usage does =
+    λ octets is stop.
+    complete (IsReport (setup_asked lanes)) places ending source_failed sink_failed octets start left old new
+    is stop no_source no_sink read write usage does
 job_completes (job.Make seed subs lines summary) ending source_failed sink_failed start left old new no_source no_sink
     read write usage does =
     make_complete ending sink_failed summary (made seed subs lines) does.1.text no_sink write does.1.is
@@ -105,3 +118,27 @@ job_completes (job.Balance slices most) ending source_failed sink_failed start l
     λ octets is stop good each.
     balance_complete slices most ending source_failed sink_failed octets start left old new is stop good each no_source
     no_sink read write does
+
+-- a job that starts no threads
+pub no_threads : (asked : Job) → ((lanes : Lanes) (patience linger : ℕ) (places : Bool)
+    → asked ≡ job.Replay lanes patience linger places → ⊥) → without_threads asked ≡ Some asked
+no_threads job.Solo none = refl
+no_threads (job.Drive lanes turns places) none = refl
+no_threads (job.Replay lanes patience linger places) none = absurd (none lanes patience linger places refl)
+no_threads (job.Make seed subs lines summary) none = refl
+no_threads job.Import none = refl
+no_threads job.Export none = refl
+no_threads (job.Audit solo slices room lane why) none = refl
+no_threads (job.Balance slices most) none = refl
+
+-- the same of what is done without threads
+pub plain_completes : (done : Option Job) (ending : Status) (source_failed sink_failed : Type 0)
+    (start left old new : Option (List ℕ)) → (source_failed → ⊥) → (sink_failed → ⊥)
+    → (ending ≡ status.ReadFault → source_failed) → (ending ≡ status.WriteFault → sink_failed)
+    → (ending ≡ status.Usage → done ≡ None) → Does done ending source_failed start left old new
+    → Completes done ending start
+plain_completes None ending source_failed sink_failed start left old new no_source no_sink read write usage does = tt
+plain_completes (Some asked) ending source_failed sink_failed start left old new no_source no_sink read write usage
+    does =
+    job_completes asked ending source_failed sink_failed start left old new no_source no_sink read write
+    (λ is. let none = usage is in cc) does

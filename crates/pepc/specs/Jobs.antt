@@ -1,11 +1,12 @@
 -- What a run left, by the job that was asked for.
-use Rattle.std.specs.Prelude.{◌≡◌, ℕ, false, List, Option, None, Some}
+use Rattle.std.specs.Prelude.{◌≡◌, ℕ, false, List, Option, None, Some, option_and_then}
 use Rattle.command_words.specs.declared.jobs.Job.{Job}
 use Rattle.command_words.specs.declared.jobs.Job.TheVariants as job
 use Rattle.pcap_form.specs.Capture as capture
 use Rattle.trace_lines.specs.Input.{ended, input_of}
 use Rattle.trace_run.specs.declared.status.Status.{Status}
 use Rattle.drive_run.specs.Driven.{IsDrivenReport}
+use Rattle.lawful_run.specs.Trace.{IsReport}
 use Rattle.audit_run.specs.Findings.{Finds}
 use Rattle.audit_reading.specs.Texts as texts
 use Rattle.audit_reading.specs.Said.{HasNoEntry, report_texts}
@@ -16,8 +17,23 @@ use Rattle.pepc.specs.Drive.{schedule_asked}
 use Rattle.pepc.specs.Export.{Exports}
 use Rattle.pepc.specs.Import.{Imports}
 use Rattle.pepc.specs.Make.{Makes}
+use Rattle.pepc.specs.Replay.{setup_asked}
 use Rattle.pepc.specs.Report.{IsSoloReport}
 use Rattle.trace_run.specs.Report.{IsDone, Runs}
+
+-- The job that is done without threads: `replay` starts some, so it is none.
+abbrev pub without_threads : Job → Option Job
+without_threads job.Solo = Some job.Solo
+without_threads (job.Drive lanes turns places) = Some (job.Drive lanes turns places)
+without_threads (job.Replay lanes patience linger places) = None
+without_threads (job.Make seed subs lines summary) = Some (job.Make seed subs lines summary)
+without_threads job.Import = Some job.Import
+without_threads job.Export = Some job.Export
+without_threads (job.Audit solo slices room lane why) = Some (job.Audit solo slices room lane why)
+without_threads (job.Balance slices most) = Some (job.Balance slices most)
+
+abbrev pub plain_job : Option Job → Option Job
+plain_job asked = option_and_then without_threads asked
 
 -- What a run with this status did. The source told these octets before and after it, and so did the sink. Without a job
 -- nothing is done.
@@ -28,6 +44,8 @@ Does (Some job.Solo) ending source_failed start left old new =
     Runs IsSoloReport false ending source_failed start left old new
 Does (Some (job.Drive lanes turns places)) ending source_failed start left old new =
     Runs (IsDrivenReport (schedule_asked lanes turns)) places ending source_failed start left old new
+Does (Some (job.Replay lanes patience linger places)) ending source_failed start left old new =
+    Runs (IsReport (setup_asked lanes)) places ending source_failed start left old new
 Does (Some (job.Make seed subs lines summary)) ending source_failed start left old new =
     (left ≡ start) × Makes seed subs lines summary ending old new
 Does (Some job.Import) ending source_failed start left old new = Imports ending source_failed start left old new
@@ -43,6 +61,8 @@ Completes None ending start = Unit {0}
 Completes (Some job.Solo) ending start =
     (octets : List ℕ) → start ≡ Some octets → (input_of octets).stop ≡ ended → IsDone ending
 Completes (Some (job.Drive lanes turns places)) ending start =
+    (octets : List ℕ) → start ≡ Some octets → (input_of octets).stop ≡ ended → IsDone ending
+Completes (Some (job.Replay lanes patience linger places)) ending start =
     (octets : List ℕ) → start ≡ Some octets → (input_of octets).stop ≡ ended → IsDone ending
 Completes (Some (job.Make seed subs lines summary)) ending start = IsDone ending
 Completes (Some job.Import) ending start =

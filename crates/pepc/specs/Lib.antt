@@ -12,4 +12,5 @@ pub mod Export
 pub mod ExportProgress
 pub mod Import
 pub mod Drive
+pub mod Replay
 pub mod Jobs

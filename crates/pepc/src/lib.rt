@@ -1,5 +1,5 @@
-//! All that the program does, on one thread: `run_plain` does the job that the command line asks for, over a source
-//! and a sink, and tells how it ended. Which streams these are is left to the program.
+//! All that the program does: `run_words` does the job that the command line asks for, over a source and a sink, and
+//! tells how it ended; `run_plain` does each that starts no threads. Which streams these are is left to the program.
 #![tactic(auto)]
 
 mod audit;
@@ -13,10 +13,13 @@ mod laws;
 mod make;
 mod plain;
 mod refuting;
+mod replay;
 mod run;
 mod solo;
 mod summary;
+mod words;
 
 pub use crate::laws::{each_packet_is_charged, one_report};
 pub use crate::plain::run_plain;
+pub use crate::words::run_words;
 pub use trace_run::{Status, fault_text};

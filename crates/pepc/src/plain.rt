@@ -1,9 +1,9 @@
-//! All commands of the program, on one thread.
+//! All commands of the program that need no threads.
 ghost use Rattle.std.specs.Prelude.{◌≡◌, ◌≤◌, ◌⊎◌, ℕ, Bool, None, Some, map};
 ghost use Rattle.std.specs.String.{string_bytes};
 ghost use Rattle.command_words.specs.Job.{IsInRange, job_of};
 ghost use Rattle.pc_outside.specs.Faults.{Rises};
-ghost use Rattle.pepc.specs.Jobs.{Completes, Does};
+ghost use Rattle.pepc.specs.Jobs.{Completes, Does, plain_job, without_threads};
 
 use crate::audit::audit;
 use crate::balance::balance;
@@ -18,13 +18,20 @@ use pc_outside::{Sink, Source};
 use std::alloc::{AllocError, Global};
 use trace_run::Status;
 
-// Does a job.
-fn do_job<S: Source, K: Sink>(alloc: Global, asked: Job, source: &mut S, sink: &mut K) -> Status
+/// Does a job without threads; one that starts some is Usage.
+pub(crate) fn do_job<S: Source, K: Sink>(
+    alloc: Global,
+    asked: Job,
+    source: &mut S,
+    sink: &mut K,
+) -> Status
     requires { IsInRange asked }
 
-    ensures does { Does (Some asked) result (Rises (S.faults source.old) (S.faults source.new)) (S.left source.old)
-        (S.left source.new) (K.written sink.old) (K.written sink.new) }
-    ensures no_usage { result ≡ Status.Usage → ⊥ }
+    ensures does { Does (without_threads asked) result (Rises (S.faults source.old) (S.faults source.new))
+        (S.left source.old) (S.left source.new) (K.written sink.old) (K.written sink.new) }
+    ensures usage { result ≡ Status.Usage → without_threads asked ≡ None }
+    ensures no_job { without_threads asked ≡ None → result ≡ Status.Usage }
+    ensures untouched { without_threads asked ≡ None → (source.new ≡ source.old) × (sink.new ≡ sink.old) }
     ensures unread { (seed subs lines : ℕ) (summary : Bool) → asked ≡ Job.Make seed subs lines summary
         → source.new ≡ source.old }
 
@@ -40,6 +47,7 @@ fn do_job<S: Source, K: Sink>(alloc: Global, asked: Job, source: &mut S, sink: &
             turns,
             places,
         } => drive(alloc, lanes, turns, places, source, sink),
+        Job::Replay { .. } => Status::Usage,
         Job::Make {
             seed,
             subs,
@@ -71,7 +79,7 @@ fn do_job<S: Source, K: Sink>(alloc: Global, asked: Job, source: &mut S, sink: &
 /// its report to the sink, epoch by epoch, as one thread answers it or under a schedule of turns; `make` writes a
 /// generated trace, or the summary of its report; `import` makes a trace of a capture, and `export` a capture of a
 /// trace; `audit` reads a trace and a report of it, and writes whether the report is a lawful one, and `balance` the
-/// trace with planned moves. Other arguments are Usage.
+/// trace with planned moves. Other arguments are Usage, and so is `replay`, which starts threads.
 pub fn run_plain<S: Source, K: Sink>(
     alloc: Global,
     arguments: &[String],
@@ -79,12 +87,12 @@ pub fn run_plain<S: Source, K: Sink>(
     sink: &mut K,
 ) -> Status
     // The arguments decide whether anything is done. Memory may run out before they are read.
-    ensures usage { result ≡ Status.Usage → job_of (map string_bytes arguments.now) ≡ None }
-    ensures no_job { job_of (map string_bytes arguments.now) ≡ None
+    ensures usage { result ≡ Status.Usage → plain_job (job_of (map string_bytes arguments.now)) ≡ None }
+    ensures no_job { plain_job (job_of (map string_bytes arguments.now)) ≡ None
         → (result ≡ Status.Usage) ⊎ (result ≡ Status.NoMemory) }
 
     // Arguments that ask for no job touch nothing.
-    ensures untouched { job_of (map string_bytes arguments.now) ≡ None
+    ensures untouched { plain_job (job_of (map string_bytes arguments.now)) ≡ None
         → (source.new ≡ source.old) × (sink.new ≡ sink.old) }
 
     // `make` reads nothing.
@@ -92,14 +100,14 @@ pub fn run_plain<S: Source, K: Sink>(
         → job_of (map string_bytes arguments.now) ≡ Some (Job.Make seed subs lines summary) → source.new ≡ source.old }
 
     // What is written is that of the job and the status, where source and sink tell their octets.
-    ensures report { Does (job_of (map string_bytes arguments.now)) result
+    ensures report { Does (plain_job (job_of (map string_bytes arguments.now))) result
         (Rises (S.faults source.old) (S.faults source.new)) (S.left source.old) (S.left source.new)
         (K.written sink.old) (K.written sink.new) }
 
     // Where no count of faults rose, the job is done, unless memory ran out.
     ensures complete { ¬ Rises (S.faults source.old) (S.faults source.new)
         → ¬ Rises (K.faults sink.old) (K.faults sink.new)
-        → Completes (job_of (map string_bytes arguments.now)) result (S.left source.old) }
+        → Completes (plain_job (job_of (map string_bytes arguments.now))) result (S.left source.old) }
 
     // Faults are those of the source and the sink.
     ensures source_later { S.faults source.old ≤ S.faults source.new }

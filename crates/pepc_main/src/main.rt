@@ -1,9 +1,9 @@
-//! A 4G packet gateway that replays traces: it hands the command line and the standard streams to `run_plain`, and
+//! A 4G packet gateway that replays traces: it hands the command line and the standard streams to `run_words`, and
 //! tells its status.
 #![tactic(auto)]
 
 use pc_outside::{StdSink, StdSource};
-use pepc::{Status, fault_text, run_plain};
+use pepc::{Status, fault_text, run_words};
 use std::env::Env;
 use std::process::ExitCode;
 use std::{env, io};
@@ -29,7 +29,13 @@ fn main(rt: HostRuntime) -> ExitCode {
     let mut source = StdSource::new(rt.stdin());
     let mut sink = StdSink::new(rt.stdout());
     let status = match arguments_given(&rt) {
-        Ok(arguments) => run_plain(rt.alloc(), arguments.as_slice(), &mut source, &mut sink),
+        Ok(arguments) => run_words(
+            &rt,
+            rt.alloc(),
+            arguments.as_slice(),
+            &mut source,
+            &mut sink,
+        ),
         Err(error) => without_arguments(&error),
     };
     if status != Status::Ok {

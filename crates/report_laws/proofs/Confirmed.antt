@@ -1,5 +1,5 @@
--- An audit finds nothing to refute in a report that one thread made.
-use Rattle.std.proofs.Common.{◌≡◌, ℕ, ◌+◌, ◌≤◌, false, true, Bool, List, [], ◌∷◌, ◌++◌, map, length, refl, sym, ap, ◌∙◌, subst, arith, None, Result, Ok, Err}
+-- An audit finds nothing to refute in a lawful report without places.
+use Rattle.std.proofs.Common.{◌≡◌, ℕ, ◌+◌, ◌≤◌, false, true, Bool, List, [], ◌∷◌, ◌++◌, map, length, refl, sym, ap, ◌∙◌, subst, arith, inl, inr, None, Result, Ok, Err}
 use Rattle.std.specs.List.{All}
 use Rattle.std.proofs.lemmas.List.Elements.{All-from_recursion}
 use Rattle.demux.specs.Trace.{book_of}
@@ -15,13 +15,14 @@ use Rattle.lawful_run.specs.Report.{Report, entries_of}
 use Rattle.lawful_run.specs.Run.{IsRun}
 use Rattle.lawful_run.specs.Setup.{Setup, slices_of, solo}
 use Rattle.lawful_run.specs.Trace.{epochs_told}
+use Rattle.report_laws.proofs.WithoutPlaces.{left_out}
 use Rattle.lawful_run.proofs.InRange.{told_few, told_in_range}
 use Rattle.audit_run.specs.Findings.{IsOf}
 use Rattle.audit_reading.specs.Said.{marker, trace_from}
 use Rattle.audit_reading.specs.Texts.{Text}
 use Rattle.audit_run.proofs.OneFinding.{one_finding}
 use Rattle.audit_reading.proofs.SaidLemmas.{report_behind, trace_before}
-use Rattle.report_laws.specs.Confirming.{IsOwnReport, OwnReportIsConfirmed, OwnReportIsNeverRefuted, audited, lines_of}
+use Rattle.report_laws.specs.Confirming.{AreHeld, IsOwnReport, OwnReportIsConfirmed, OwnReportIsNeverRefuted, audited, lines_of}
 use Rattle.report_laws.specs.Shown.{report_shown}
 use Rattle.report_laws.proofs.EntriesIn.{entries_in}
 use Rattle.report_laws.proofs.OneThread.{entries_shown, lawful_on_slices}
@@ -53,19 +54,26 @@ pub texts_shown : (entries : List Entry)
 texts_shown [] = refl
 texts_shown (told ∷ entries) = ap (λ rest. entry_text (shown false told) ∷ rest) (texts_shown entries)
 
--- the lines are lawful under each setup with as many slices
-lawful_under : (setup : Setup) (input : Input) (report : Report) → slices_of setup ≡ 64
-    → IsRun solo (length (book_of input.lines)) (epochs_told 64 input) report
+-- the lines are lawful under the same setup, and those of one thread under each with as many slices
+lawful_under : (under setup : Setup) (input : Input) (report : Report) → AreHeld under setup
+    → IsRun under (length (book_of input.lines)) (epochs_told (slices_of under) input) report
     → IsOf setup input (entries_of (report_shown report))
-lawful_under setup input report slices run = (
+lawful_under under setup input report (inl same) run = (
   report_shown report,
-  subst (λ n. IsRun setup (length (book_of input.lines)) (epochs_told n input) (report_shown report)) (sym slices)
-      (lawful_on_slices setup (length (book_of input.lines)) (epochs_told 64 input) report run),
+  left_out setup (length (book_of input.lines)) (epochs_told (slices_of setup) input) report
+      (subst (λ s. IsRun s (length (book_of input.lines)) (epochs_told (slices_of s) input) report) same run),
+  refl,
+)
+lawful_under under setup input report (inr on) run = (
+  report_shown report,
+  subst (λ n. IsRun setup (length (book_of input.lines)) (epochs_told n input) (report_shown report)) (sym on.1)
+      (lawful_on_slices setup (length (book_of input.lines)) (epochs_told 64 input) report
+      (subst (λ s. IsRun s (length (book_of input.lines)) (epochs_told (slices_of s) input) report) on.0 run)),
   refl,
 )
 
 pub own_confirmed : OwnReportIsConfirmed
-own_confirmed setup trace report slices own =
+own_confirmed under setup trace report held own =
     let input : Input = trace_from 1 0 trace in
     let are : All IsLine input.lines = All-from_recursion IsLine input.lines (trace_lines_are 1 0 trace) in
     record {
@@ -73,15 +81,16 @@ own_confirmed setup trace report slices own =
       are = record {
         same = report_behind trace (lines_of report) own.unmarked ∙ texts_shown (entries_of report)
             ∙ ap (map entry_text) (sym (entries_shown report));
-        ranges = entries_in solo (length (book_of input.lines)) (epochs_told 64 input) report own.lawful
-            (told_in_range 64 input are) (omega (arith, own.few, told_few 64 input, trace_lines_few 1 0 trace))
+        ranges = entries_in under (length (book_of input.lines)) (epochs_told (slices_of under) input) report own.lawful
+            (told_in_range (slices_of under) input are)
+            (omega (arith, own.few, told_few (slices_of under) input, trace_lines_few 1 0 trace))
             (book_most input.lines);
       };
       lawful = subst (λ (texts : List Text). IsOf setup (trace_from 1 0 texts) (entries_of (report_shown report)))
           (sym (trace_before trace (lines_of report) own.unmarked))
-          (lawful_under setup input report slices own.lawful);
+          (lawful_under under setup input report held own.lawful);
     }
 
 pub own_never_refuted : OwnReportIsNeverRefuted
-own_never_refuted setup trace report found slices own finds =
-    one_finding setup (audited trace report) found None finds (own_confirmed setup trace report slices own)
+own_never_refuted under setup trace report found held own finds =
+    one_finding setup (audited trace report) found None finds (own_confirmed under setup trace report held own)

@@ -23,7 +23,7 @@ use Rattle.trace_lines.specs.Meaning.{line_meaning}
 use Rattle.trace_lines.specs.declared.bad.LineBad.{LineBad}
 use Rattle.trace_lines.proofs.InputLemmas.{all_differ}
 use Rattle.lawful_run.specs.Report.{Report, entries_of, report_text, texts_of as texts_told}
-use Rattle.lawful_run.specs.Setup.{Setup, slices_of, solo}
+use Rattle.lawful_run.specs.Setup.{Setup, slices_of}
 use Rattle.lawful_run.specs.Trace.{IsReport, epochs_told}
 use Rattle.lawful_run.proofs.InRange.{octets_in_range, told_few}
 use Rattle.audit_run.specs.Findings.{Finds}
@@ -369,16 +369,16 @@ entries_of_octets setup octets report lawful =
     (omega (arith, told_few (slices_of setup) (input_of octets), lines_few octets)) (book_most (input_of octets).lines)
 
 -- what an audit reads
-own_lines : (octets text : List ℕ) (own : IsOwnText octets text)
+own_lines : (under : Setup) (octets text : List ℕ) (own : IsOwnText under octets text)
     → (texts_of (audited_octets octets text)).stop ≡ said.ended
     → (texts_of (audited_octets octets text)).lines ≡ audited (pieces newline own.front) own.report
-own_lines octets text own stop =
+own_lines under octets text own stop =
     let trace : List Text = pieces newline own.front in
     let lines : List Text = lines_of own.report in
     let same : octets ≡ octets_of trace = cut_lines octets own.front own.whole in
     let report_lacks : AllLack newline lines =
     subst (AllLack newline) (sym (texts_shown (entries_of own.report) ∙ ap (map entry_text) (sym (entries_shown own.report))))
-    (entries_lack (entries_of (report_shown own.report)) (entries_of_octets solo octets own.report own.lawful)) in
+    (entries_lack (entries_of (report_shown own.report)) (entries_of_octets under octets own.report own.lawful)) in
     texts_read (audited_octets octets text) (trace ++ marker ∷ lines)
     (all_lack trace (marker ∷ lines) (pieces_lack newline own.front) (marker_lacks, report_lacks))
     (ap (λ o. o ++ (marker ++ newline ∷ text)) same
@@ -386,9 +386,9 @@ own_lines octets text own stop =
     ∙ ap (λ rest. octets_of trace ++ rest) (sym (append_assoc marker (newline ∷ []) (octets_of lines)))
     ∙ sym (octets-append trace (marker ∷ lines))) stop
 
-own_report : (octets text : List ℕ) (own : IsOwnText octets text)
-    → IsOwnReport (pieces newline own.front) own.report
-own_report octets text own =
+own_report : (under : Setup) (octets text : List ℕ) (own : IsOwnText under octets text)
+    → IsOwnReport under (pieces newline own.front) own.report
+own_report under octets text own =
     let trace : List Text = pieces newline own.front in
     let same : octets ≡ octets_of trace = cut_lines octets own.front own.whole in
     let read : ReadWhole octets trace = input_read octets trace (pieces_lack newline own.front) same own.ends in
@@ -397,15 +397,15 @@ own_report octets text own =
     record {
       unmarked = whole.unmarked;
       few = omega (arith, whole.few, read.within, ap (λ (o : List ℕ). length o) same);
-      lawful = subst (λ (input : Input). IsReport solo input own.report) read.same own.lawful;
+      lawful = subst (λ (input : Input). IsReport under input own.report) read.same own.lawful;
     }
 
 pub own_text_confirmed : OwnTextIsConfirmed
-own_text_confirmed setup octets text slices own stop =
-    subst (λ (lines : List Text). Finds setup lines None) (sym (own_lines octets text own stop))
-    (own_confirmed setup (pieces newline own.front) own.report slices (own_report octets text own))
+own_text_confirmed under setup octets text held own stop =
+    subst (λ (lines : List Text). Finds setup lines None) (sym (own_lines under octets text own stop))
+    (own_confirmed under setup (pieces newline own.front) own.report held (own_report under octets text own))
 
 pub own_text_never_refuted : OwnTextIsNeverRefuted
-own_text_never_refuted setup octets text found slices own stop finds =
+own_text_never_refuted under setup octets text found held own stop finds =
     one_finding setup (texts_of (audited_octets octets text)).lines found None finds
-    (own_text_confirmed setup octets text slices own stop)
+    (own_text_confirmed under setup octets text held own stop)

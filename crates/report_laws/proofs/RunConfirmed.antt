@@ -1,34 +1,33 @@
 -- The same of runs of the program.
-use Rattle.std.proofs.Common.{◌≡◌, ℕ, Bool, true, false, List, None, Some, refl}
-use Rattle.lawful_run.specs.Setup.{slices_of}
+use Rattle.std.proofs.Common.{◌≡◌, ℕ, List, None, Some, refl}
+use Rattle.trace_lines.specs.Input.{Input, input_of}
+use Rattle.lawful_run.specs.Report.{Report}
+use Rattle.lawful_run.specs.Setup.{Setup}
 use Rattle.pepc.specs.Audit.{audit_setup}
 use Rattle.report_laws.specs.Confirming.{IsOwnText, audited_octets}
-use Rattle.report_laws.specs.Running.{IsOwnRun, OwnRunIsConfirmed, OwnRunIsNeverRefuted}
+use Rattle.report_laws.specs.Running.{AreLawful, IsOwnRun, OwnRunIsConfirmed, OwnRunIsNeverRefuted}
 use Rattle.report_laws.proofs.OctetsConfirmed.{own_text_confirmed, own_text_never_refuted}
 
-own_text : (octets text : List ℕ) → IsOwnRun octets text → IsOwnText octets text
-own_text octets text own = record {
+own_text : (under : Setup) (may_have : Input → Report → Type 0) → AreLawful under may_have → (octets text : List ℕ)
+    → IsOwnRun may_have octets text → IsOwnText under octets text
+own_text under may_have are octets text own = record {
   front = own.front;
   whole = own.whole;
   ends = own.wrote.0;
   report = own.wrote.2.report;
-  lawful = own.wrote.2.allowed.lawful;
+  lawful = are (input_of octets) own.wrote.2.report own.wrote.2.allowed;
   written = own.wrote.2.written;
 }
 
-as_many : (alone : Bool) (room lane : ℕ) → slices_of (audit_setup alone 64 room lane) ≡ 64
-as_many true room lane = refl
-as_many false room lane = refl
-
 pub run_confirmed : OwnRunIsConfirmed
-run_confirmed octets text alone why room lane ending own completes =
+run_confirmed under may_have are octets text alone why slices room lane ending held own completes =
     completes (audited_octets octets text) refl own.read None
-    (own_text_confirmed (audit_setup alone 64 room lane) octets text (as_many alone room lane) (own_text octets text own)
-    own.read)
+    (own_text_confirmed under (audit_setup alone slices room lane) octets text held
+    (own_text under may_have are octets text own) own.read)
 
 pub run_never_refuted : OwnRunIsNeverRefuted
-run_never_refuted octets text left told alone why room lane own audits =
+run_never_refuted under may_have are octets text left told alone why slices room lane held own audits =
     let k : ℕ = audits.1.0 in
     let none : Some k ≡ None =
-    own_text_never_refuted (audit_setup alone 64 room lane) octets text (Some k) (as_many alone room lane)
-    (own_text octets text own) own.read audits.1.1.finds in cc
+    own_text_never_refuted under (audit_setup alone slices room lane) octets text (Some k) held
+    (own_text under may_have are octets text own) own.read audits.1.1.finds in cc

@@ -1,5 +1,5 @@
--- What an audit finds of a report that one thread made.
-use Rattle.std.specs.Prelude.{◌≡◌, ℕ, ◌+◌, ◌<◌, ◌^◌, false, List, [], ◌∷◌, ◌++◌, length, map, All}
+-- What an audit finds of a lawful report without places.
+use Rattle.std.specs.Prelude.{◌≡◌, ℕ, ◌+◌, ◌<◌, ◌^◌, ◌⊎◌, false, List, [], ◌∷◌, ◌++◌, length, map, All}
 use Rattle.std.specs.Prelude.{Option, None, bytes_eq}
 use Rattle.report_lines.specs.Text.{entry_text, shown}
 use Rattle.report_lines.specs.declared.entry.Entry.{Entry}
@@ -16,34 +16,39 @@ use Rattle.audit_reading.specs.Texts.{Text, texts_of}
 abbrev pub lines_of : Report → List Text
 lines_of report = map (λ (told : Entry). entry_text (shown false told)) (entries_of report)
 
--- A trace of fewer than 2^40 lines, none of which is the one that ends it, and a report of it by one thread. The trace
--- stops at the first of the lines that is a bad one.
-pub record IsOwnReport (trace : List Text) (report : Report) : Type 0 where
+-- Reports under one setup are held against another: against the same, or those of one thread against 64 slices with any
+-- room and lanes.
+abbrev pub AreHeld : Setup → Setup → Type 0
+AreHeld under setup = (under ≡ setup) ⊎ ((under ≡ solo) × (slices_of setup ≡ 64))
+
+-- A trace of fewer than 2^40 lines, none of which is the one that ends it, and a lawful report of it. The trace stops at
+-- the first of the lines that is a bad one.
+pub record IsOwnReport (under : Setup) (trace : List Text) (report : Report) : Type 0 where
   pub unmarked : All (λ (text : Text). bytes_eq text marker ≡ false) trace
   pub few : length trace + 2 < 2 ^ 40
-  pub lawful : IsReport solo (trace_from 1 0 trace) report
+  pub lawful : IsReport under (trace_from 1 0 trace) report
 
 -- what an audit is given: the trace, and the report behind it
 abbrev pub audited : List Text → Report → List Text
 audited trace report = trace ++ marker ∷ lines_of report
 
--- It finds nothing to refute, where it is held against one thread or against 64 slices with any room and lanes.
+-- It finds nothing to refute.
 abbrev pub OwnReportIsConfirmed : Type 0
-OwnReportIsConfirmed = (setup : Setup) (trace : List Text) (report : Report) → slices_of setup ≡ 64
-    → IsOwnReport trace report → Finds setup (audited trace report) None
+OwnReportIsConfirmed = (under setup : Setup) (trace : List Text) (report : Report) → AreHeld under setup
+    → IsOwnReport under trace report → Finds setup (audited trace report) None
 
 -- and nothing else
 abbrev pub OwnReportIsNeverRefuted : Type 0
-OwnReportIsNeverRefuted = (setup : Setup) (trace : List Text) (report : Report) (found : Option ℕ)
-    → slices_of setup ≡ 64 → IsOwnReport trace report → Finds setup (audited trace report) found → found ≡ None
+OwnReportIsNeverRefuted = (under setup : Setup) (trace : List Text) (report : Report) (found : Option ℕ)
+    → AreHeld under setup → IsOwnReport under trace report → Finds setup (audited trace report) found → found ≡ None
 
--- Octets that end with a newline are a whole trace, and this is the text of a report of it by one thread.
-pub record IsOwnText (octets text : List ℕ) : Type 0 where
+-- Octets that end with a newline are a whole trace, and this is the text of a lawful report of it.
+pub record IsOwnText (under : Setup) (octets text : List ℕ) : Type 0 where
   pub front : List ℕ
   pub whole : octets ≡ front ++ 10 ∷ []
   pub ends : (input_of octets).stop ≡ ended
   pub report : Report
-  pub lawful : IsReport solo (input_of octets) report
+  pub lawful : IsReport under (input_of octets) report
   pub written : text ≡ report_text false report
 
 -- the octets that an audit is given
@@ -52,11 +57,12 @@ audited_octets octets text = octets ++ (marker ++ 10 ∷ text)
 
 -- The same of octets: where an audit reads them whole.
 abbrev pub OwnTextIsConfirmed : Type 0
-OwnTextIsConfirmed = (setup : Setup) (octets text : List ℕ) → slices_of setup ≡ 64 → IsOwnText octets text
+OwnTextIsConfirmed = (under setup : Setup) (octets text : List ℕ) → AreHeld under setup
+    → IsOwnText under octets text
     → (texts_of (audited_octets octets text)).stop ≡ texts.ended
     → Finds setup (texts_of (audited_octets octets text)).lines None
 
 abbrev pub OwnTextIsNeverRefuted : Type 0
-OwnTextIsNeverRefuted = (setup : Setup) (octets text : List ℕ) (found : Option ℕ) → slices_of setup ≡ 64
-    → IsOwnText octets text → (texts_of (audited_octets octets text)).stop ≡ texts.ended
+OwnTextIsNeverRefuted = (under setup : Setup) (octets text : List ℕ) (found : Option ℕ) → AreHeld under setup
+    → IsOwnText under octets text → (texts_of (audited_octets octets text)).stop ≡ texts.ended
     → Finds setup (texts_of (audited_octets octets text)).lines found → found ≡ None

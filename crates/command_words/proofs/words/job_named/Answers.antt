@@ -2,7 +2,7 @@ use Rattle.std.proofs.Common.{◌≡◌, ◌∙◌, IfOk, List, [], ◌∷◌, S
 use Rattle.std.proofs.lemmas.Bool.{cond-false, false_from_ne_true}
 use Rattle.std.proofs.lemmas.Slice.Eq.{bytes_eq-Decides}
 use Rattle.std.specs.Str.{bytes_eq}
-use Rattle.command_words.specs.Job.{Command, audit_command, balance_command, commands, drive_command, make_command}
+use Rattle.command_words.specs.Job.{Command, audit_command, balance_command, commands, drive_command, make_command, replay_command}
 use Rattle.command_words.specs.Program.{Gives}
 use Rattle.command_words.specs.Words.{Text}
 use Rattle.command_words.proofs.Parsed.{named_so, same_command}
@@ -29,7 +29,10 @@ returns-in_default c = λ command given known gives.
       other.not-solo,
       (
         other.not-drive,
-        (other.not-make, (other.not-import, (other.not-export, (other.not-audit, (other.not-balance, tt))))),
+        (
+          other.not-replay,
+          (other.not-make, (other.not-import, (other.not-export, (other.not-audit, (other.not-balance, tt))))),
+        ),
       ),
     ) known)
 
@@ -38,6 +41,13 @@ returns-in-drive c = λ command given known gives.
     let same : drive_command ≡ command = same_command c.args.name.now _ drive_command command c.in-drive.is refl known in
     subst (λ (its : Command). Gives c.args.matches.now its.forms given
     → IfOk c.drive_job.result (λ asked. asked ≡ its.job given)) same (λ g. c.drive_job.ensures given g) gives
+
+pub returns-in-replay : goal.returns-in-replay
+returns-in-replay c = λ command given known gives.
+    let same : replay_command ≡ command =
+    same_command c.args.name.now _ replay_command command c.in-replay.is refl known in
+    subst (λ (its : Command). Gives c.args.matches.now its.forms given
+    → c.replay_job.result ≡ its.job given) same (λ g. c.replay_job.ensures given g) gives
 
 pub returns-in-make : goal.returns-in-make
 returns-in-make c = λ command given known gives.

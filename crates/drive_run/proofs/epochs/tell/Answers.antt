@@ -1,4 +1,4 @@
-use Rattle.std.proofs.Common.{◌≡◌, ◌++◌, ap, ◌∙◌, append_assoc}
+use Rattle.std.proofs.Common.{◌≡◌, ◌++◌, ap, sym, ◌∙◌, append_assoc}
 use Rattle.slot_replay.specs.Replaying.{effects_told, rows_told}
 use Rattle.epoch_drive.specs.Telling.{told_by}
 use Rattle.trace_run.specs.Entries.{charges_text, closing_text, effects_text, lines_text}
@@ -20,5 +20,7 @@ returns c =
     ∙ ap (λ all. c.push_lines.new.report ++ (note ++ (effects_text places told.effects
     ++ charges_text places (rows_told all)))) c.as_slice-3.ensures.value
     ∙ ap (λ text. text ++ (note ++ closing_text places told)) lines
-    ∙ append_assoc c.args.report.now (lines_text places told.lines) (note ++ closing_text places told))
+    ∙ append_assoc c.args.report.now (lines_text places told.lines) (note ++ closing_text places told)
+    ∙ ap (λ text. c.args.report.now ++ text)
+    (sym (append_assoc (lines_text places told.lines) note (closing_text places told))))
     (c.push_closing.ensures places)

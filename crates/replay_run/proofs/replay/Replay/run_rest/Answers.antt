@@ -1,0 +1,24 @@
+use Rattle.std.proofs.Common.{◌++◌, ◌∙◌, Option, None, List, ap, sym, subst}
+use Rattle.packet_steps.proofs.ResultLemmas.{on_ok}
+use Rattle.trace_lines.specs.Line.{Line}
+use Rattle.trace_lines.specs.declared.bad.LineBad.{LineBad}
+use Rattle.replay_run.specs.Standing.{Replayed, ReplayedAll}
+use Rattle.replay_run.proofs.Reports.{all_so, none_so}
+use Rattle.replay_run.proofs.replay.Replay.run_rest.Goals as goal
+
+pub returns-then-is_done : goal.returns-then-is_done
+returns-then-is_done g c = λ first done latest closed open_ sent so_far counted.
+    let now = c.args.self.now in
+    let none = c.if-is_done.ensures in
+    let empty = sym so_far.kept ∙ none.0 in
+    subst (λ (bad : Option LineBad). ReplayedAll first now done closed open_ bad (sent ++ c.args.text.now)) (sym none.1)
+    (subst (λ (lines : List Line). ReplayedAll first now done closed lines None (sent ++ c.args.text.now)) (sym empty)
+    (none_so first now done latest closed sent c.args.text.now
+    (subst (λ (lines : List Line). Replayed first now done latest closed lines sent c.args.text.now) empty so_far)))
+
+pub returns : goal.returns
+returns g c = λ first done latest closed open_ sent so_far counted.
+    on_ok c.run.result
+    (all_so first c.args.self.now c.run.new.self done latest closed open_ sent c.args.bad c.args.number c.run.new.text
+    counted (λ none bad. c.if-is_done.ensures (so_far.kept ∙ none) bad))
+    (c.run.ensures first done latest closed open_ sent so_far)
