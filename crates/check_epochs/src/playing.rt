@@ -5,16 +5,18 @@ use crate::meeting::Meeting;
 use at_rest::AtRest;
 use audit_reading::Setup;
 use audit_run::{Finding, finding_of};
-use epoch_texts::push_entries;
 use front_close::{Ended, Entry};
 use pc_base::{Place, SliceNo};
 use slice_runner::run_epoch;
-use std::alloc::Global;
+use std::alloc::{AllocError, Global};
 use std::sync::Wait;
 use std::thread::Threads;
 use text_fields::Text;
 use trace_lines::TraceLine;
-use trace_run::{push_effects, push_opens, push_records};
+use trace_run::{
+    push_answer, push_effects, push_judged_placed, push_note, push_opens, push_records,
+    push_refusal,
+};
 
 // A slice's lane has one place, and a slot's queues four, so that a worker has to get on before the front can.
 const SETUP: Setup = Setup {
@@ -54,12 +56,39 @@ fn handled_at(entries: &[Entry], slice: SliceNo) -> bool {
     false
 }
 
+// The line of an entry, with its place.
+fn push_line(report: &mut Text, entry: &Entry) -> Result<(), AllocError> {
+    match entry {
+        Entry::Note { line, text } => push_note(report, *line, text.as_slice()),
+        Entry::Answer {
+            line,
+            slot,
+            number,
+            reply,
+        } => push_answer(report, *line, *slot, *number, reply),
+        Entry::Judgement {
+            line,
+            slot,
+            number,
+            commands,
+            verdict,
+            place,
+            parked,
+        } => push_judged_placed(
+            report, *line, *slot, *number, *commands, verdict, *place, *parked,
+        ),
+        Entry::Refusal { line, slot, packet } => push_refusal(report, *line, *slot, *packet),
+    }
+}
+
 // Whether an audit finds that the report of an epoch is a lawful one of these lines.
 fn is_lawful(alloc: Global, lines: &[TraceLine], ended: Ended) -> Result<bool, Stop>
     requires { length lines.now ≤ 1000000 }
 {
     let mut report = Text::new(alloc);
-    push_entries(&mut report, ended.epoch.lines, true)?;
+    for entry in &ended.epoch.lines {
+        push_line(&mut report, entry)?;
+    }
     push_effects(&mut report, ended.epoch.effects.as_slice())?;
     push_records(&mut report, ended.epoch.rows.as_slice())?;
     push_opens(&mut report, ended.rest.subscribers.as_slice())?;

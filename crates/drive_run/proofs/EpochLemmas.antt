@@ -2,11 +2,10 @@
 use Rattle.std.proofs.Common.{◌≡◌, ℕ, zero, suc, ◌+◌, ◌*◌, List, [], ◌∷◌, ◌++◌, length, drop, replicate, refl, sym, ap, ◌∙◌, arith}
 use Rattle.trace_lines.specs.Line.{Line}
 use Rattle.demux.specs.Trace.{Meaning}
-use Rattle.lawful_run.specs.Cut.{lines_in}
 use Rattle.lawful_run.specs.Merging.{Histories, behind}
 use Rattle.lawful_run.specs.Report.{EpochReport}
 use Rattle.lawful_run.specs.Run.{behind_all, told_in}
-use Rattle.lawful_run.specs.Trace.{meant_epochs, meant_from}
+use Rattle.lawful_run.specs.Trace.{meant_epochs}
 use Rattle.lawful_run.proofs.MoreEpochs.{first_behind}
 use Rattle.slice_schedule.specs.Turns.{state_behind}
 use Rattle.slice_schedule.specs.World.{Rooms}

@@ -1,5 +1,5 @@
 -- The report of a run, by the epochs that were driven.
-use Rattle.std.proofs.Common.{◌≡◌, ℕ, ◌+◌, ◌%◌, ◌≤◌, Bool, true, false, not, MatchBool, Option, None, Some, is_some, List, [], ◌∷◌, ◌++◌, codes, length, flat_map, map, refl, sym, ap, ap₂, subst, ◌∙◌, arith, length-append, append_assoc, append-nil, true≢false}
+use Rattle.std.proofs.Common.{◌≡◌, ℕ, ◌+◌, ◌%◌, ◌≤◌, Bool, Option, None, Some, List, [], ◌∷◌, ◌++◌, length, flat_map, map, refl, sym, ap, ap₂, subst, ◌∙◌, arith, length-append, append_assoc, append-nil}
 use Rattle.trace_lines.specs.Input.{Stop, ended}
 use Rattle.trace_lines.specs.Line.{Line}
 use Rattle.trace_lines.specs.declared.bad.LineBad.{LineBad}
@@ -17,7 +17,6 @@ use Rattle.at_rest.specs.Rest.{IsBehind, Rest, RepresentsAll, bound_at, new_rest
 use Rattle.slice_schedule.specs.World.{Rooms}
 use Rattle.schedule_run.specs.TurnsTold.{AreWorkers}
 use Rattle.epoch_drive.specs.Kept.{AreNone}
-use Rattle.at_rest.specs.Coming.{AreLater, latest_behind}
 use Rattle.at_rest.proofs.Coming.{latest-push, later-push}
 use Rattle.at_rest.specs.Meant.{AreStanding, Stand}
 use Rattle.epoch_drive.specs.Taken.{HasTaken, IsResting, MayCome}
@@ -27,7 +26,7 @@ use Rattle.epoch_drive.proofs.Keeping.{lines_begin}
 use Rattle.driven_run.specs.Driven.{IsDriven}
 use Rattle.driven_run.specs.Runs.{AreDriven}
 use Rattle.driven_run.proofs.NotedEpoch.{note_is_driven}
-use Rattle.trace_run.specs.Entries.{charges_text, closing_text, epochs_text, lines_text}
+use Rattle.trace_run.specs.Entries.{charges_text}
 use Rattle.trace_run.specs.Lines.{stop_of}
 use Rattle.trace_run.specs.Noted.{bad_at, meant_all, noted, noted_entry, noted_meant, words_of}
 use Rattle.trace_run.specs.Reporting.{IsDue, SaysEpochs}

@@ -11,17 +11,17 @@ use Rattle.lawful_run.specs.Outcomes.{opens}
 use Rattle.lawful_run.specs.Report.{EpochReport, Report, epoch_entries}
 use Rattle.lawful_run.specs.Run.{AreEpochRuns, IsEpochRun, behind_all, by_slot, no_events, told_in}
 use Rattle.lawful_run.specs.Setup.{Setup, sliced, slices_of}
-use Rattle.lawful_run.specs.Trace.{IsReport, meant_from, open_epoch, own_epoch, stop_noted}
+use Rattle.lawful_run.specs.Trace.{IsReport, meant_from, stop_noted}
 use Rattle.lawful_run.proofs.BookGrows.{book_grows_all}
 use Rattle.lawful_run.proofs.CutLines.{cut_closed, cut_nothing, length-meant_from, lines_in-push, meant_epochs-push}
 use Rattle.lawful_run.proofs.MoreEpochs.{behind_all-push}
 use Rattle.lawful_run.proofs.NotedEpoch.{note_is_lawful}
-use Rattle.at_rest.specs.Coming.{AreLater, latest_behind}
+use Rattle.at_rest.specs.Coming.{AreLater}
 use Rattle.at_rest.specs.Rest.{IsBehind, Rest, RepresentsAll, new_rest}
 use Rattle.at_rest.proofs.Coming.{latest-push, later-push}
-use Rattle.trace_run.specs.Entries.{charges_text, epochs_text}
+use Rattle.trace_run.specs.Entries.{charges_text}
 use Rattle.trace_run.specs.Lines.{stop_of}
-use Rattle.trace_run.specs.Noted.{bad_at, meant_all, noted, noted_entry, noted_meant, words_of}
+use Rattle.trace_run.specs.Noted.{bad_at, meant_all, noted_entry, noted_meant, words_of}
 use Rattle.trace_run.specs.Reporting.{IsDue, SaysEpochs}
 use Rattle.trace_run.specs.Takers.{IsNextOf}
 use Rattle.trace_run.specs.declared.ending.Ending.{Ending}

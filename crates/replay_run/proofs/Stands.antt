@@ -1,9 +1,11 @@
 -- What stands behind one more epoch.
-use Rattle.std.proofs.Common.{◌≡◌, ℕ, ◌+◌, ◌≤◌, List, [], ◌∷◌, ◌++◌, length, sym, ap, subst, ◌∙◌, arith}
+use Rattle.std.proofs.Common.{◌≡◌, ℕ, ◌+◌, ◌*◌, ◌≤◌, ◌^◌, Bool, Option, List, [], ◌∷◌, ◌++◌, count_by, length, sym, ap, subst, ◌∙◌, arith}
 use Rattle.trace_lines.specs.Line.{Line}
+use Rattle.trace_lines.specs.declared.bad.LineBad.{LineBad}
 use Rattle.demux.specs.Trace.{Meaning, book_of}
+use Rattle.lawful_run.specs.Accepted.{is_refused}
 use Rattle.lawful_run.specs.Cut.{lines_in}
-use Rattle.lawful_run.specs.Merging.{Histories, behind}
+use Rattle.lawful_run.specs.Merging.{behind}
 use Rattle.lawful_run.specs.Report.{EpochReport}
 use Rattle.lawful_run.specs.Run.{AreEpochRuns, IsEpochRun, behind_all, no_events, told_in}
 use Rattle.lawful_run.specs.Setup.{Setup, sliced, slices_of}
@@ -11,8 +13,14 @@ use Rattle.lawful_run.specs.Trace.{meant_from}
 use Rattle.lawful_run.proofs.BookGrows.{book_grows_all}
 use Rattle.lawful_run.proofs.CutLines.{lines_in-push, meant_epochs-push}
 use Rattle.lawful_run.proofs.MoreEpochs.{behind_all-push, first_behind-meant, lawful-push, lawful_length}
+use Rattle.at_rest.specs.Coming.{AreLater, latest_behind}
 use Rattle.at_rest.specs.Rest.{IsBehind, Rest, RepresentsAll}
 use Rattle.front_close.specs.Closing.{Closes}
+use Rattle.front_halves.specs.Tries.{RisesBy}
+use Rattle.trace_run.specs.Entries.{closing_text, lines_text}
+use Rattle.trace_run.specs.Noted.{noted}
+use Rattle.replay_run.specs.Epoch.{IsReplayed}
+use Rattle.replay_run.specs.declared.epochs.Pace.{Pace}
 use Rattle.replay_run.specs.Standing.{IsLawfulNext, Stands, events_behind, meant_in}
 
 -- what the closing of the next epoch says of it
@@ -68,4 +76,35 @@ stands_more setup rest new closed told lines entry stands closes =
           (lawful_more setup closed told made entry slots rest stands
           (omega (arith, wide, book_grows_all (lines_in closed) lines))
           (next_so setup rest new closed told lines entry stands closes slots wide));
+    }
+
+-- ---- an epoch that was run: the gateway and the lines are those that were given
+
+pub few_so : (old given : Rest) (lines lent : List Line) → given ≡ old → lent ≡ lines
+    → old.lines + length lines ≤ 2 ^ 39 → given.lines + length lent ≤ 2 ^ 39
+few_so old given lines lent same lent_is few =
+    omega (arith, few, ap (λ (rest : Rest). rest.lines) same, ap length lent_is)
+
+pub later_so : (old given : Rest) (lines lent : List Line) → given ≡ old → lent ≡ lines → AreLater old.latest lines
+    → AreLater given.latest lent
+later_so old given lines lent same lent_is later =
+    subst (AreLater given.latest) (sym lent_is)
+    (subst (λ (rest : Rest). AreLater rest.latest lines) (sym same) later)
+
+pub replayed_so : (old given : Rest) (lines lent : List Line) (pace : Pace) (bad : Option LineBad) (n : ℕ)
+    (places : Bool) (before after : List ℕ) (new : Rest) (told : EpochReport) → given ≡ old → lent ≡ lines
+    → Closes given lent new told → new.latest ≡ latest_behind given.latest lent
+    → RisesBy ((pace.patience + 1) * count_by is_refused told.lines) given.fulls new.fulls
+    → after ≡ before ++ (lines_text places told.lines ++ lines_text places (noted bad n) ++ closing_text places told)
+    → IsReplayed old lines pace bad n places before after new
+replayed_so old given lines lent pace bad n places before after new told same lent_is closes latest refusals said =
+    record {
+      told = told;
+      closes = subst (λ rest. Closes rest lines new told) same
+          (subst (λ taken. Closes given taken new told) lent_is closes);
+      latest = latest ∙ ap (latest_behind given.latest) lent_is
+          ∙ ap (λ (rest : Rest). latest_behind rest.latest lines) same;
+      refusals = subst (λ (rest : Rest). RisesBy ((pace.patience + 1) * count_by is_refused told.lines) rest.fulls
+          new.fulls) same refusals;
+      said = said;
     }

@@ -1,12 +1,16 @@
--- Refusals of an epoch that was closed.
+-- What holds of an epoch that was closed.
 use Rattle.std.proofs.Common.{◌≡◌, ℕ, ◌*◌, List, [], ◌++◌, map, Result, Ok, Err, IfOk, sym, ap, subst, ◌∙◌}
 use Rattle.std.specs.List.{count_by}
 use Rattle.trace_lines.specs.Line.{Line}
 use Rattle.lawful_run.specs.Accepted.{is_refused}
+use Rattle.at_rest.specs.Coming.{latest_behind}
+use Rattle.at_rest.specs.Rest.{Rest}
 use Rattle.front_halves.specs.Tries.{RisesBy}
 use Rattle.front_core.specs.declared.front.Front.{Front}
 use Rattle.front_core.specs.declared.taken.Taken.{Taken}
-use Rattle.front_core.specs.Words.{entries_in, fulls_in, latest_in, lines_in}
+use Rattle.front_core.specs.Entries.{lines_of}
+use Rattle.front_core.specs.Words.{entries_in, fulls_in, latest_in, lines_in, opened_of, taken_by}
+use Rattle.front_close.specs.Closing.{Closes}
 use Rattle.front_close.specs.Filled.{took_told, told_by}
 use Rattle.front_close.specs.declared.epoch.Ended.{Ended}
 use Rattle.slice_runner.specs.Lines.{TakesAll, fulls_among}
@@ -33,3 +37,34 @@ module _ {E : Type 0} where
       subst (λ n. RisesBy (tries * n) fulls ended.rest.fulls) (sym many)
       (subst (λ n. RisesBy (tries * fulls_among takes.entries) fulls n) (sym counts.2)
       (subst (λ n. RisesBy (tries * fulls_among takes.entries) n (fulls_in new)) at takes.fulls))
+
+  -- its report is of these lines, and it began with this gateway
+  pub closes_are : (tries : ℕ) (rest : Rest) (lines : List Line) (old new : Front) (closed : Result Ended E)
+      → opened_of old ≡ rest → entries_in old ≡ [] → TakesAll tries lines old new
+      → IfOk closed (λ ended. Closes (opened_of new) (taken_by new) ended.rest (told_by ended.epoch))
+      → IfOk closed (λ ended. Closes rest lines ended.rest (told_by ended.epoch))
+  closes_are tries rest lines old new (Err e) is none takes closes = tt
+  closes_are tries rest lines old new (Ok ended) is none takes closes =
+      let taken : taken_by new ≡ lines =
+      takes.taken ∙ ap (λ (es : List Taken). lines_of es ++ lines) none in
+      subst (λ r. Closes r lines ended.rest (told_by ended.epoch)) (takes.opened ∙ is)
+      (subst (λ ls. Closes (opened_of new) ls ended.rest (told_by ended.epoch)) taken closes)
+
+  -- counts go on from those before
+  pub count_is : (tries count : ℕ) (lines : List Line) (old new : Front) (closed : Result Ended E)
+      → lines_in old ≡ count → TakesAll tries lines old new
+      → IfOk closed (λ ended. (ended.rest.lines ≡ lines_in new) × (ended.rest.latest ≡ latest_in new)
+      × (ended.rest.fulls ≡ fulls_in new))
+      → IfOk closed (λ ended. ended.rest.lines ≡ count + length lines)
+  count_is tries count lines old new (Err e) at takes counts = tt
+  count_is tries count lines old new (Ok ended) at takes counts =
+      counts.0 ∙ (takes.count ∙ ap (λ n. n + length lines) at)
+
+  pub latest_is : (tries latest : ℕ) (lines : List Line) (old new : Front) (closed : Result Ended E)
+      → latest_in old ≡ latest → TakesAll tries lines old new
+      → IfOk closed (λ ended. (ended.rest.lines ≡ lines_in new) × (ended.rest.latest ≡ latest_in new)
+      × (ended.rest.fulls ≡ fulls_in new))
+      → IfOk closed (λ ended. ended.rest.latest ≡ latest_behind latest lines)
+  latest_is tries latest lines old new (Err e) at takes counts = tt
+  latest_is tries latest lines old new (Ok ended) at takes counts =
+      counts.1 ∙ (takes.latest ∙ ap (λ n. latest_behind n lines) at)

@@ -14,7 +14,7 @@ loop-text-preserved c =
     let low = c.if-len-ge-MOST_LINES.false in
     record {
       later = subst (AreLater 0) (sym items) (later-push 0 lines line known.later
-        (omega (arith, known.latest, made.0, made.1)));
+          (omega (arith, known.latest, made.0, made.1)));
       latest = ap (latest_behind 0) items ∙ (latest-push 0 lines line ∙ sym made.1);
       few = omega (arith, ap length items, length_push lines line, low, c.loop-text.lines.ok);
     }

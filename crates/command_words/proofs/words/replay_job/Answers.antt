@@ -1,8 +1,7 @@
-use Rattle.std.proofs.Common.{◌≡◌, ◌∙◌, ℕ, Some, None, codes, refl, sym, ap, option_and_then, option_map}
+use Rattle.std.proofs.Common.{◌≡◌, ◌∙◌, Some, None, codes, refl, sym, ap}
 use Rattle.command_words.specs.Job.{lanes_of, number_of, replay_forms}
 use Rattle.command_words.specs.Options.{has_flag}
 use Rattle.command_words.specs.declared.jobs.Job.TheVariants as job
-use Rattle.command_words.specs.declared.jobs.Lanes.{Lanes}
 use Rattle.command_words.proofs.Lookups.{flag_is, lanes_are, number_is}
 use Rattle.command_words.proofs.words.replay_job.Goals as goal
 

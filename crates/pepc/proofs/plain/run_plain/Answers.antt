@@ -1,8 +1,8 @@
-use Rattle.std.proofs.Common.{◌≡◌, ◌∙◌, None, Some, inl, map, sym, subst}
+use Rattle.std.proofs.Common.{◌≡◌, ◌∙◌, Some, map, sym, subst}
 use Rattle.std.specs.String.{string_bytes}
 use Rattle.command_words.specs.Job.{job_of}
 use Rattle.pc_outside.specs.Faults.{Rises}
-use Rattle.pepc.specs.Jobs.{Completes, Does, plain_job, without_threads}
+use Rattle.pepc.specs.Jobs.{Completes, plain_job, without_threads}
 use Rattle.pepc.proofs.JobLemmas.{nothing_completes, nothing_done, plain_completes}
 use Rattle.pepc.proofs.plain.run_plain.Goals as goal
 

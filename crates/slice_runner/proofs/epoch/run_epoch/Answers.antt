@@ -1,7 +1,35 @@
 use Rattle.std.proofs.Common.{◌+◌}
 use Rattle.slice_runner.specs.Lines.{TakesAll}
-use Rattle.slice_runner.proofs.Refused.{front_of, refusals_are}
+use Rattle.slice_runner.proofs.Refused.{closes_are, count_is, front_of, latest_is, refusals_are}
 use Rattle.slice_runner.proofs.epoch.run_epoch.Goals as goal
+
+pub returns-clause-closes : goal.returns-clause-closes
+returns-clause-closes g c =
+    let old = c.in_ok-opened.opened.front in
+    let front = c.in_ok-served.field-0 in
+    let takes = front_of (TakesAll (c.args.patience + 1) c.args.lines.now old) c.scoped-served.result.front front
+    c.in_ok-served.was c.scoped-served.ensures.1.takes in
+    let made = c.in_ok-opened.ensures in
+    closes_are (c.args.patience + 1) c.args.rest c.args.lines.now old front c.close.result made.opened.0 made.opened.1
+    takes c.close.ensures.closes
+
+pub returns-clause-count : goal.returns-clause-count
+returns-clause-count g c =
+    let old = c.in_ok-opened.opened.front in
+    let front = c.in_ok-served.field-0 in
+    let takes = front_of (TakesAll (c.args.patience + 1) c.args.lines.now old) c.scoped-served.result.front front
+    c.in_ok-served.was c.scoped-served.ensures.1.takes in
+    count_is (c.args.patience + 1) c.args.rest.lines c.args.lines.now old front c.close.result
+    c.in_ok-opened.ensures.counts.0 takes c.close.ensures.counts
+
+pub returns-clause-latest : goal.returns-clause-latest
+returns-clause-latest g c =
+    let old = c.in_ok-opened.opened.front in
+    let front = c.in_ok-served.field-0 in
+    let takes = front_of (TakesAll (c.args.patience + 1) c.args.lines.now old) c.scoped-served.result.front front
+    c.in_ok-served.was c.scoped-served.ensures.1.takes in
+    latest_is (c.args.patience + 1) c.args.rest.latest c.args.lines.now old front c.close.result
+    c.in_ok-opened.ensures.counts.1 takes c.close.ensures.counts
 
 pub returns-clause-refusals : goal.returns-clause-refusals
 returns-clause-refusals g c =

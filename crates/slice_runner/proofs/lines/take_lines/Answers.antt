@@ -4,8 +4,14 @@ use Rattle.trace_lines.specs.Line.{Line}
 use Rattle.at_rest.specs.Coming.{AreLater}
 use Rattle.front_core.specs.Words.{latest_in}
 use Rattle.slice_runner.specs.Lines.{TakesAll}
-use Rattle.slice_runner.proofs.Takes.{takes_more}
+use Rattle.slice_runner.proofs.Takes.{takes_more, takes_none}
 use Rattle.slice_runner.proofs.lines.take_lines.Goals as goal
+
+pub loop-line-init : goal.loop-line-init
+loop-line-init g c = record {
+  takes = takes_none (c.args.patience + 1) c.args.front c.requires.whole;
+  later = c.requires.later;
+}
 
 pub loop-line-preserved : goal.loop-line-preserved
 loop-line-preserved g c =

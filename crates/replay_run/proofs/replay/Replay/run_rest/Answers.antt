@@ -1,4 +1,4 @@
-use Rattle.std.proofs.Common.{◌++◌, ◌∙◌, Option, None, List, ap, sym, subst}
+use Rattle.std.proofs.Common.{◌++◌, ◌∙◌, Option, None, List, sym, subst}
 use Rattle.packet_steps.proofs.ResultLemmas.{on_ok}
 use Rattle.trace_lines.specs.Line.{Line}
 use Rattle.trace_lines.specs.declared.bad.LineBad.{LineBad}
