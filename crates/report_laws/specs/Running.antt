@@ -42,15 +42,26 @@ pub record IsOwnRun (may_have : Input → Report → Type 0) (octets text : List
 -- Where no count of faults rises, a run of `audit` over it has status 0, unless memory runs out: of the same slices, room
 -- and lanes; or of what one thread wrote of one thread, or of 64 slices with any room and lanes; whether or not it is
 -- asked where a report is refuted.
-abbrev pub OwnRunIsConfirmed : Type 0
-OwnRunIsConfirmed = (under : Setup) (may_have : Input → Report → Type 0) → AreLawful under may_have
-    → (octets text : List ℕ) (alone why : Bool) (slices room lane : ℕ) (ending : Status)
+abbrev pub RunIsConfirmed : Setup → (Input → Report → Type 0) → Type 0
+RunIsConfirmed under may_have = (octets text : List ℕ) (alone why : Bool) (slices room lane : ℕ) (ending : Status)
     → AreHeld under (audit_setup alone slices room lane) → IsOwnRun may_have octets text
     → Completes (Some (job.Audit alone slices room lane why)) ending (Some (audited_octets octets text)) → IsDone ending
 
 -- and never status 9
-abbrev pub OwnRunIsNeverRefuted : Type 0
-OwnRunIsNeverRefuted = (under : Setup) (may_have : Input → Report → Type 0) → AreLawful under may_have
-    → (octets text left told : List ℕ) (alone why : Bool) (slices room lane : ℕ)
+abbrev pub RunIsNeverRefuted : Setup → (Input → Report → Type 0) → Type 0
+RunIsNeverRefuted under may_have = (octets text left told : List ℕ) (alone why : Bool) (slices room lane : ℕ)
     → AreHeld under (audit_setup alone slices room lane) → IsOwnRun may_have octets text
     → AuditReports status.Refuted why (audit_setup alone slices room lane) (audited_octets octets text) left told → ⊥
+
+-- So it is for each command.
+pub record OwnRunIsConfirmed : Type 0 where
+  pub sequential : RunIsConfirmed solo IsSoloReport
+  pub driven : (lanes : Lanes) (turns : Turns)
+      → RunIsConfirmed (setup_asked lanes) (IsDrivenReport (schedule_asked lanes turns))
+  pub replayed : (lanes : Lanes) → RunIsConfirmed (setup_asked lanes) (IsReport (setup_asked lanes))
+
+pub record OwnRunIsNeverRefuted : Type 0 where
+  pub sequential : RunIsNeverRefuted solo IsSoloReport
+  pub driven : (lanes : Lanes) (turns : Turns)
+      → RunIsNeverRefuted (setup_asked lanes) (IsDrivenReport (schedule_asked lanes turns))
+  pub replayed : (lanes : Lanes) → RunIsNeverRefuted (setup_asked lanes) (IsReport (setup_asked lanes))

@@ -30,4 +30,6 @@ pub fn each_report_is_lawful()
 pub fn own_run_is_confirmed()
     ensures done { OwnRunIsConfirmed }
     ensures never { OwnRunIsNeverRefuted }
-{}
+{
+    each_report_is_lawful();
+}
