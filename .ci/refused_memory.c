@@ -5,6 +5,8 @@
 #include <errno.h>
 #include <stdio.h>
 #include <stdlib.h>
+#include <sys/syscall.h>
+#include <unistd.h>
 
 /* Threads count together. */
 static _Atomic unsigned long calls;
@@ -27,6 +29,13 @@ __attribute__((destructor)) static void end(void) {
         fprintf(file, "%lu\n", calls);
         fclose(file);
     }
+}
+
+/* A program with threads ends here, past what is called at the end otherwise. */
+__attribute__((noreturn)) void _exit(int status) {
+    end();
+    for (;;)
+        syscall(SYS_exit_group, status);
 }
 
 static int is_refused(void) {
