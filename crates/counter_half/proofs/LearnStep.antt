@@ -94,7 +94,7 @@ module _ (sessions : SessionsAreOfCommands) (versions : VersionsAreOfCommands) (
     events_more = ap (λ (l : List Event). before ++ l) made_more
         ∙ sym (append_assoc before made (event.Command last ∷ []))
 
-    few_made : length before + length (front ++ last ∷ []) + length handled < 2 ^ 40 → length events < 2 ^ 40
+    few_made : length before + length (front ++ last ∷ []) + length handled < 2 ^ 40 → length events < 2 ^ 51
     few_made few = omega (
       arith,
       few,

@@ -25,3 +25,7 @@ packets_of events = filter_map as_packet events
 -- bounds what comes to a slot asks for this.
 abbrev pub FewEvents : ℕ → Type 0
 FewEvents count = count < 2 ^ 40
+
+-- Counts may rise once more where they are below this: those of a saved state are below 2^50, and few events follow.
+abbrev pub MayRise : ℕ → Type 0
+MayRise count = count < 2 ^ 51

@@ -93,6 +93,14 @@ impl<'a> Ip4<'a> {
         }
     }
 
+    /// The packet that octets are, of which it is known that they are one: nothing of them is looked at.
+    pub fn known(octets: &'a [u8]) -> Ip4<'a>
+        requires { IsPacket octets.now }
+        ensures { result ≡ octets.now }
+    {
+        Ip4 { octets }
+    }
+
     /// How many octets the packet has, as it says itself: its total length, 20 to 65,535.
     pub fn total_len(&self) -> u16
         ensures total { result ≡ total_length self.now }

@@ -8,7 +8,8 @@ use Rattle.packet_steps.specs.Rows.{ForwardedRow, HeldRow}
 use Rattle.packet_steps.specs.Past.{new_past}
 use Rattle.packet_steps.specs.Policing.{ambr}
 use Rattle.packet_steps.specs.Meters.{bucket_of, new_meter, Polices}
-use Rattle.packet_steps.specs.Standing.{StandsFor}
+use Rattle.packet_steps.specs.Parts.{new_counters}
+use Rattle.packet_steps.specs.Standing.{CountersState, StandsFor}
 
 abbrev pub rate_by : Bool → ℕ → ℕ → ℕ
 rate_by true up_rate down_rate = up_rate
@@ -55,3 +56,17 @@ new_stands none accounts held slot is charges nothing = record {
     none_if_not_live = λ dead. refl;
   };
 }
+
+-- they are the ones that have nothing
+abbrev counters_with : Meter → book.Accounts → List HeldRow → CountersState
+counters_with none accounts held = record {
+  meters = record { shared = none; own = none ∷ none ∷ none ∷ none ∷ none ∷ none ∷ none ∷ none ∷ none ∷ none ∷ none ∷ [] };
+  book = accounts;
+  held = held;
+  last = None;
+}
+
+pub new_is : (none : Meter) (accounts : book.Accounts) (held : List HeldRow) → none ≡ new_meter 0 0
+    → book.StandsFor accounts [] 0 → held ≡ [] → counters_with none accounts held ≡ new_counters
+new_is none accounts held is charges nothing = λ i. counters_with (is i)
+    (record { opens = charges.opens i; moments = charges.moments i; rows = charges.rows i }) (nothing i)

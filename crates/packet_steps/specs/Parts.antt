@@ -129,6 +129,15 @@ abbrev pub no_meters : List Meter
 no_meters =
     unused ∷ unused ∷ unused ∷ unused ∷ unused ∷ unused ∷ unused ∷ unused ∷ unused ∷ unused ∷ unused ∷ []
 
+-- counters before the first packet
+abbrev pub new_counters : CountersState
+new_counters = record {
+  meters = record { shared = unused; own = no_meters };
+  book = record { opens = []; moments = []; rows = [] };
+  held = [];
+  last = None;
+}
+
 abbrev pub own_with : List Meter → List ActiveBearer → List bucket.BucketState → List Meter
 own_with own [] buckets = own
 own_with own (bearer ∷ bearers) buckets =

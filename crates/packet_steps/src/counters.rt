@@ -1,6 +1,7 @@
 //! The running counters of a subscriber.
 ghost use Rattle.std.specs.Prelude.{◌≡◌, ℕ, [], length, drop};
 ghost use Rattle.charging_book.specs.Happenings.{rows_of};
+ghost use Rattle.packet_steps.specs.Parts.{new_counters};
 ghost use Rattle.packet_steps.specs.Past.{Past, new_past};
 ghost use Rattle.packet_steps.specs.Standing.{StandsFor, book_of, last_of};
 
@@ -41,7 +42,8 @@ impl Model for Counters {
 impl Counters {
     /// The counters of a subscriber before its first event.
     pub fn new(alloc: Global) -> Counters
-        ensures { (slot : ℕ) → StandsFor result (new_past slot) 0 }
+        ensures stands { (slot : ℕ) → StandsFor result (new_past slot) 0 }
+        ensures new { result ≡ new_counters }
     {
         let none = Meter::new(Kbps(0), Kbps(0));
         Counters {

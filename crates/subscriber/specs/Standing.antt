@@ -2,11 +2,12 @@
 use Rattle.std.specs.Prelude.{◌≡◌, ℕ, ◌+◌, List, length, Option}
 use Rattle.pc_base.specs.declared.packet.Packet.{Packet}
 use Rattle.pc_base.specs.declared.packet.Way.{Way}
-use Rattle.bearer_state.specs.Session.{SessionState}
-use Rattle.bearer_state.specs.Version.{VersionState}
+use Rattle.bearer_state.specs.Session.{SessionState, new_session}
+use Rattle.bearer_state.specs.Version.{VersionState, version_of}
+use Rattle.packet_steps.specs.Parts.{new_counters}
 use Rattle.packet_steps.specs.Standing as counters
 use Rattle.gate_model.specs.declared.event.Event.{Event}
-use Rattle.gate_model.specs.Events.{FewEvents, commands_of, packets_of}
+use Rattle.gate_model.specs.Events.{FewEvents, MayRise, commands_of, packets_of}
 use Rattle.gate_model.specs.SlotPast.{past_of, records_after, session_after, version_after}
 
 -- the session, the version that packets go by, the running counters, how many packets came, and the slice that the
@@ -26,6 +27,16 @@ subscriber_of session version running packets destination = record {
   version = version;
   counters = running;
   packets = packets;
+  destination = destination;
+}
+
+-- a subscriber before its first event, bound for a slice
+abbrev pub new_subscriber : (slot destination : ℕ) → SubscriberState
+new_subscriber slot destination = record {
+  session = new_session slot;
+  version = version_of (new_session slot) 0;
+  counters = new_counters;
+  packets = 0;
   destination = destination;
 }
 
@@ -57,9 +68,9 @@ StandsForPackets subscriber slot events taken =
 
 -- its counts may rise: how often its session's rates were set, its lives, and its commands and packets
 pub record HasRoom (subscriber : SubscriberState) : Type 0 where
-  pub rates : FewEvents subscriber.session.rates
-  pub lives : FewEvents subscriber.session.lives
-  pub few : FewEvents (commands_met subscriber + subscriber.packets)
+  pub rates : MayRise subscriber.session.rates
+  pub lives : MayRise subscriber.session.lives
+  pub few : MayRise (commands_met subscriber + subscriber.packets)
 
 -- where it represents few events, they may
 abbrev pub FewEventsLeaveRoom : Type 0

@@ -11,7 +11,7 @@ use std::alloc::Global;
 use std::marker::Model;
 
 /// No subscriber has as many commands and packets.
-const MOST_EVENTS: u64 = 0x100_0000_0000;
+const MOST_EVENTS: u64 = 0x8_0000_0000_0000;
 
 /// A subscriber between two events. A contract speaks of it by the events of its slot, and by how many
 /// of their charging records were taken out: it represents these.
@@ -47,12 +47,13 @@ impl Subscriber {
     ghost use Rattle.packet_steps.specs.Plans.{verdict_by};
     ghost use Rattle.packet_steps.specs.Running.{planned, GoesOn, brought, Advances};
     ghost use Rattle.control_steps.specs.Table.{controlled};
-    ghost use Rattle.subscriber.specs.Standing.{StandsFor, StandsForPackets, HasRoom, commands_met};
+    ghost use Rattle.subscriber.specs.Standing.{StandsFor, StandsForPackets, HasRoom, commands_met, new_subscriber};
     ghost use Rattle.subscriber.specs.Standing.{last_of, packet_of};
 
     /// The subscriber of a slot before its first event, bound for a slice.
     pub fn new(alloc: Global, slot: Slot, destination: SliceNo) -> Result<Subscriber, NoMemory>
         ensures stands { IfOk result (λ subscriber. StandsFor subscriber slot [] 0) }
+        ensures new { IfOk result (λ subscriber. subscriber ≡ new_subscriber slot destination) }
         ensures destination { IfOk result (λ subscriber. subscriber.destination ≡ destination) }
         ensures last { IfOk result (λ subscriber. last_of subscriber ≡ None) }
     {
@@ -233,7 +234,7 @@ impl Subscriber {
         self.version.bearers()
     }
 
-    /// Whether its counts may rise: each is below 2^40.
+    /// Whether its counts may rise: each is below 2^51.
     pub fn has_room(&self) -> bool
         ensures { IsTrue result ↔ HasRoom self.now }
     {
