@@ -174,6 +174,7 @@ pub fn statuses(text: &mut String) -> Result<(), AllocError> {
         Status::TooLong,
         Status::Refuted,
         Status::BadCapture,
+        Status::BadState,
         Status::BadReport,
     ];
     for status in all {

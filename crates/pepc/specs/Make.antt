@@ -57,6 +57,7 @@ Made status.LineLong summary lines text = ⊥
 Made status.TooLong summary lines text = ⊥
 Made status.Refuted summary lines text = ⊥
 Made status.BadCapture summary lines text = ⊥
+Made status.BadState summary lines text = ⊥
 Made status.BadReport summary lines text = ⊥
 
 -- a run of `make` that ended with this status: the sink before and after

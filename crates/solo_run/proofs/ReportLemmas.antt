@@ -14,6 +14,7 @@ use Rattle.lawful_run.proofs.BookGrows.{book_grows_all}
 use Rattle.lawful_run.proofs.CutEpochs.{cut_means}
 use Rattle.lawful_run.proofs.CutLines.{cut_nothing, epochs_are}
 use Rattle.lawful_run.proofs.EveryTrace.{answered_is_run, answered_run_in_sequence}
+use Rattle.trace_run.specs.Beginnings.{whole_input}
 use Rattle.trace_run.specs.declared.ending.Ending.{Ending}
 use Rattle.trace_run.specs.declared.status.Status.TheVariants as status
 use Rattle.trace_run.specs.Lines.{stop_of}
@@ -65,7 +66,7 @@ says_nothing = says_epochs [] [] cut_nothing (λ slots known. refl)
 -- nothing was read and nothing written
 pub nothing_runs : (source_failed : Type 0) (start old : Option (List ℕ))
     → Runs IsSoloReport false status.NoMemory source_failed start start old old
-nothing_runs source_failed start old = nothing_runs_of IsSoloReport false source_failed start old says_nothing
+nothing_runs source_failed start old = nothing_runs_of whole_input IsSoloReport false source_failed start old says_nothing
 
 -- the whole report, behind the entry of a bad line, the last epoch's texts and the open counters
 pub is_due : (gateway : Solo) (ending : Ending) (done : List Line) (latest lines : ℕ) (closed : List (List Line))

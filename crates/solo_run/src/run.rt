@@ -21,6 +21,8 @@ impl Reporter for Solo {
 
     ghost places = { λ first. false };
 
+    ghost begins = { λ first. 1 };
+
     ghost represents = { λ first now. HasAnswered now };
 
     fn take(
