@@ -16,7 +16,7 @@ use Rattle.pepc.proofs.AuditReports.{audit_complete, nothing_audited, nothing_se
 use Rattle.pepc.proofs.BalanceReports.{balance_complete, nothing_balanced}
 use Rattle.pepc.proofs.ExportReports.{export_complete, nothing_exported}
 use Rattle.pepc.proofs.ImportReports.{import_complete, nothing_imported}
-use Rattle.pepc.proofs.ReportLemmas.{nothing_runs}
+use Rattle.solo_run.proofs.ReportLemmas.{nothing_runs}
 use Rattle.trace_run.proofs.EndingLemmas.{complete, nothing_runs as nothing_told_of}
 use Rattle.drive_run.specs.Driven.{IsDrivenReport}
 use Rattle.drive_run.proofs.Reports.{says_nothing}
@@ -25,7 +25,7 @@ use Rattle.replay_run.proofs.Reports.{says_nothing as nothing_replayed}
 use Rattle.command_words.specs.declared.jobs.Lanes.{Lanes}
 use Rattle.pepc.specs.Drive.{schedule_asked}
 use Rattle.pepc.specs.Replay.{setup_asked}
-use Rattle.pepc.specs.Report.{IsSoloReport}
+use Rattle.solo_run.specs.Report.{IsSoloReport}
 
 no_front : (summary : Bool) (lines : List Line) → IsMakeFront summary lines []
 no_front false lines = record { front = []; rest = lines; parts = refl; written = refl }
