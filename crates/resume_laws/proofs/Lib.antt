@@ -6,5 +6,4 @@ pub mod SavedAlike
 pub mod LawLemmas
 pub mod Octets
 pub mod LawTexts
-pub mod Indexed
 pub mod StateLemmas
