@@ -8,3 +8,4 @@ pub mod Octets
 pub mod LawTexts
 pub mod Indexed
 pub mod StateLemmas
+pub mod RunLemmas
