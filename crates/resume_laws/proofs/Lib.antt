@@ -7,3 +7,4 @@ pub mod LawLemmas
 pub mod Octets
 pub mod LawTexts
 pub mod StateLemmas
+pub mod RunLemmas

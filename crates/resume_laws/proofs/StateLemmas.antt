@@ -1,5 +1,5 @@
 -- An input has one state before its trace, or none.
-use Rattle.std.proofs.Common.{◌≡◌, ◌≢◌, ℕ, cond, List, [], ◌∷◌, ◌++◌, ◌⊎◌, inl, inr, Option, Some, None, refl, sym, ap, ◌∙◌, subst, append-nil}
+use Rattle.std.proofs.Common.{◌≡◌, ◌≢◌, ℕ, cond, List, [], ◌∷◌, ◌++◌, ◌⊎◌, inl, inr, Option, Some, None, refl, sym, ap, ◌∙◌, subst, append-nil, arith}
 use Rattle.std.specs.Option.{is_some}
 use Rattle.audit_reading.specs.Texts.{Text, Texts, after_lines, big, ended, long, texts_of}
 use Rattle.audit_reading.specs.Texts as texts
@@ -55,11 +55,11 @@ none_bad octets found (inl bad) =
     none.none found.file (subst (λ (ts : List Text). front.SaysState ts found.file) one found.says)
 none_bad octets found (inr over) = some_other octets found over.1
 
-none_stopped : (octets : List ℕ) (stop : texts.Stop) → HasState octets
+pub none_stopped : (octets : List ℕ) (stop : texts.Stop) → HasState octets
     → ((texts_of octets).stop ≡ stop) × (others_in (texts_of octets).lines ≡ []) → ⊥
 none_stopped octets stop found is = some_other octets found is.1
 
-stop_code : texts.Stop → ℕ
+pub stop_code : texts.Stop → ℕ
 stop_code texts.long = 0
 stop_code texts.big = 1
 stop_code texts.ended = 2
@@ -74,12 +74,12 @@ not_long octets (inl bad) stops each =
     let nothing : none.other ∷ bad.1.lines ≡ [] = sym other ∙ sym (ap others_in same) ∙ each in
     absurd cc
 not_long octets (inr over) (inl is) each =
-    let codes : 2 ≡ 0 = ap stop_code (sym over.0 ∙ is) in absurd cc
+    let codes : 2 ≡ 0 = ap stop_code (sym over.0 ∙ is) in absurd (omega arith)
 not_long octets (inr over) (inr is) each =
-    let codes : 2 ≡ 1 = ap stop_code (sym over.0 ∙ is) in absurd cc
+    let codes : 2 ≡ 1 = ap stop_code (sym over.0 ∙ is) in absurd (omega arith)
 
 not_both : (octets : List ℕ) → IsLong octets → IsBig octets → ⊥
-not_both octets one other = let codes : 0 ≡ 1 = ap stop_code (sym one.0 ∙ other.0) in absurd cc
+not_both octets one other = let codes : 0 ≡ 1 = ap stop_code (sym one.0 ∙ other.0) in absurd (omega arith)
 
 stopped_told : (ending : Status) (octets left text : List ℕ) → StoppedFirst ending octets left → text ≡ []
     → StatesAreTold ending octets left text

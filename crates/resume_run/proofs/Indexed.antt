@@ -1,6 +1,6 @@
 -- The pieces of a book in the order of its version's bearers: they fit, where the book's own do.
 use Rattle.std.proofs.Common.{◌≡◌, ℕ, suc, ◌+◌, ◌<◌, ◌≤◌, ◌^◌, ◌==◌, ◌&&◌, Bool, true, false, not, cond, IsTrue, Contains, List, [], ◌∷◌, length, map, Option, Some, None, refl, sym, ap, ◌∙◌, subst, inl, inr, arith, eq-eqb}
-use Rattle.std.specs.List.{AllByRecursion, cons_option, filter_map, find, list_all, list_any}
+use Rattle.std.specs.List.{AllByRecursion, cons_option, filter_map, list_all, list_any}
 use Rattle.std.proofs.lemmas.Bool.{and_parts, and_from, eqb-true, false≢true, ne_eqb, cases_Bool}
 use Rattle.charging_book.specs.Accounts.{AreDistinct}
 use Rattle.charging_book.specs.Parts.{are_parts, has_life, is_counting}
@@ -11,10 +11,11 @@ use Rattle.bearer_state.specs.Version.{IsActiveBefore, IsVersion, VersionState}
 use Rattle.bearer_state.specs.declared.version.ActiveBearer.{ActiveBearer}
 use Rattle.packet_steps.specs.Parts.{PartsState, all_have_bearers, buckets_fit, fit, has_bearer, held_fit, is_piece_of, may_fit, pieces_fit, were_asked}
 use Rattle.packet_steps.proofs.BearerLemmas.{same_by_life}
-use Rattle.gate_model.proofs.Members.{In, contains_in, in_any, in_contains, of_any, of_find, of_map}
-use Rattle.parts_laws.specs.Alike.{life_of}
+use Rattle.gate_model.proofs.Members.{In, at_each, contains_in, in_any, of_any, of_find}
 use Rattle.parts_laws.proofs.FitLemmas.{fitting_open}
 use Rattle.record_codec.specs.Saved.{ArePiecesFor, IsPieceOf, by_index, piece_for}
+use Rattle.resume_run.specs.Laws.{PiecesFitInOrder}
+use Rattle.resume_run.proofs.OpenPieces.{has_piece}
 
 -- a bearer's piece
 pub record HasOne (pieces : List Piece) (b : ActiveBearer) : Type 0 where
@@ -22,17 +23,6 @@ pub record HasOne (pieces : List Piece) (b : ActiveBearer) : Type 0 where
   pub found : piece_for pieces b ≡ Some piece
   pub of : IsPieceOf b piece
   pub among : In piece pieces
-
-in_found : {X : Type 0} (test : X → Bool) (x : X) (xs : List X) → In x xs → test x ≡ true
-    → (y : X) × (find test xs ≡ Some y)
-in_found test x [] there passed = absurd there
-in_found test x (y ∷ xs) (inl here) passed = (y, rw (ap test here ∙ passed) refl)
-in_found test x (y ∷ xs) (inr there) passed = by_first (test y) (in_found test x xs there passed)
-  where
-    by_first : (passes : Bool) → (z : X) × (find test xs ≡ Some z)
-        → (z : X) × (cond passes (Some y) (find test xs) ≡ Some z)
-    by_first true rest = (y, refl)
-    by_first false rest = rest
 
 all_of : {X : Type 0} (test : X → Bool) (xs : List X) (x : X) → list_all test xs ≡ true → In x xs → test x ≡ true
 all_of test [] x holds there = absurd there
@@ -44,10 +34,7 @@ pub one_for : (version : VersionState) (pieces : List Piece) → IsVersion versi
     → In b version.bearers → HasOne pieces b
 one_for version pieces ranges fits counting b there =
     let bearers = version.bearers in
-    let named = in_any (λ (c : ActiveBearer). c.life == b.life) b bearers there (eq-eqb b.life b.life refl) in
-    let piece = of_map life_of b.life pieces
-    (in_contains b.life (map life_of pieces) ((fitting_open version pieces fits counting b.life).1 named)) in
-    let found = in_found (is_of b.life) piece.0 pieces piece.1 (eq-eqb piece.0.counts.life b.life piece.2) in
+    let found = has_piece version pieces (fitting_open version pieces fits counting) b there in
     let p = found.0 in
     let passes = of_find (is_of b.life) p pieces found.1 in
     let known = and_parts (length pieces == length bearers) (all_have_bearers bearers pieces) fits in
@@ -139,7 +126,7 @@ are_parts_for (b ∷ bearers) (piece ∷ pieces) apart are counting =
     (are_parts_for bearers pieces apart.1 are.1 counting.1)
 
 -- each of the book's pieces is not full
-pub counting_at : (pieces : List Piece) → are_parts pieces ≡ true → (p : Piece) → In p pieces → is_counting p ≡ true
+counting_at : (pieces : List Piece) → are_parts pieces ≡ true → (p : Piece) → In p pieces → is_counting p ≡ true
 counting_at [] parts p there = absurd there
 counting_at (piece ∷ pieces) parts p there =
     let first = and_parts (not (has_life piece.counts.life pieces) && is_counting piece) (are_parts pieces) parts in
@@ -151,8 +138,7 @@ counting_at (piece ∷ pieces) parts p there =
     ]
 
 -- parts that fit do so with the pieces in the order of the bearers
-pub fits_indexed : (version : VersionState) (parts : PartsState) → IsVersion version → fit version parts ≡ true
-    → fit version (record parts { pieces = by_index version.bearers parts.pieces }) ≡ true
+pub fits_indexed : PiecesFitInOrder
 fits_indexed version parts ranges fits =
     let bearers = version.bearers in
     let pieces = parts.pieces in
@@ -171,12 +157,14 @@ fits_indexed version parts ranges fits =
     (have_bearers bearers bearers indexed (λ b there. there) are) in
     let counting : are_parts indexed ≡ true =
     are_parts_for bearers indexed ranges.apart are
-    (each_indexed (λ (p : Piece). is_counting p ≡ true) pieces bearers one (counting_at pieces all.1)) in
-    and_from (may_fit version (record parts { pieces = indexed })) (are_parts indexed)
-    (and_from (buckets_fit version parts.buckets)
-    (were_asked parts.last parts.buckets && (held_fit parts.last bearers parts.held && pieces_fit bearers indexed))
-    first.0
-    (and_from (were_asked parts.last parts.buckets)
-    (held_fit parts.last bearers parts.held && pieces_fit bearers indexed) second.0
-    (and_from (held_fit parts.last bearers parts.held) (pieces_fit bearers indexed) third.0 own)))
-    counting
+    (each_indexed (λ (p : Piece). is_counting p ≡ true) pieces bearers one (counting_at pieces all.1)) in (
+      are,
+      and_from (may_fit version (record parts { pieces = indexed })) (are_parts indexed)
+          (and_from (buckets_fit version parts.buckets)
+          (were_asked parts.last parts.buckets && (held_fit parts.last bearers parts.held && pieces_fit bearers indexed))
+          first.0
+          (and_from (were_asked parts.last parts.buckets)
+          (held_fit parts.last bearers parts.held && pieces_fit bearers indexed) second.0
+          (and_from (held_fit parts.last bearers parts.held) (pieces_fit bearers indexed) third.0 own)))
+          counting,
+    )
