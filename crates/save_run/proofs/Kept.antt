@@ -2,18 +2,18 @@
 use Rattle.std.proofs.Common.{◌≡◌, ℕ, ◌+◌, ◌*◌, ◌<◌, ◌≤◌, ◌^◌, ◌==◌, ◌&&◌, nat_le, Bool, true, false, cond, Option, None, Some, IfSome, IsTrue, List, [], ◌∷◌, length, drop, map, refl, sym, ap, ◌∙◌, subst, inl, inr, arith, append-nil}
 use Rattle.std.specs.Prelude.{unwrap_or, nat_lt}
 use Rattle.std.specs.List.{AllByRecursion, list_all}
-use Rattle.std.proofs.lemmas.Bool.{and_parts, eqb-true, leb-true, ltb-true}
+use Rattle.std.proofs.lemmas.Bool.{and_parts, eqb-true, leb-true}
 use Rattle.std.proofs.lemmas.List.Elements.{recursion_from_All}
 use Rattle.std.proofs.lemmas.List.Prefix.{front_rest}
 use Rattle.rate_policer.specs.Buckets.{BucketState}
 use Rattle.rate_policer.specs.Conforming.{burst}
 use Rattle.charging_book.specs.Accounts.{Accounts, AreDistinct}
 use Rattle.charging_book.specs.Happenings.{Happening, moments_at, open_at, rows_of, lives_of}
-use Rattle.charging_book.specs.Parts.{ArePiecesOf, are_parts, counts_in, is_counting, moments_in}
+use Rattle.charging_book.specs.Parts.{ArePiecesOf, are_parts, counts_in, moments_in}
 use Rattle.charging_book.specs.Pieces.{volume}
 use Rattle.charging_book.specs.Rows.{Charged, Counters, Moments}
 use Rattle.charging_book.specs.declared.records.Piece.{Piece}
-use Rattle.charging_book.proofs.PartLemmas.{parts_distinct}
+use Rattle.charging_book.proofs.PartLemmas.{parts_counting, parts_distinct}
 use Rattle.bearer_state.specs.declared.kept.Kept.{Kept}
 use Rattle.bearer_state.specs.declared.version.ActiveBearer.{ActiveBearer}
 use Rattle.bearer_state.specs.Qos.{is_guaranteed}
@@ -27,7 +27,7 @@ use Rattle.gate_model.specs.SlotPast.{past_of, records_after, session_after}
 use Rattle.gate_model.specs.declared.event.Event.{Event}
 use Rattle.gate_model.specs.declared.event.Event.TheVariants as event
 use Rattle.gate_model.proofs.FewCharges.{few_after, few_held}
-use Rattle.gate_model.proofs.Members.{In, at_each, contains_in, each_at, in_contains}
+use Rattle.gate_model.proofs.Members.{In, at_each, contains_in, each_at, in_contains, in_map}
 use Rattle.gate_model.proofs.RoomLemmas.{counts_within}
 use Rattle.gate_model.proofs.SlotLemmas.{slot_stays}
 use Rattle.gate_model.proofs.Sound.{past_sound}
@@ -45,7 +45,7 @@ use Rattle.past_ranges.proofs.PastsIn.{lead_in}
 use Rattle.record_codec.specs.Saved.{AreSavedParts, IsAnswer, IsBucket, IsHeld, IsOwnBearer, IsPiece, IsResting, IsSaved, IsSavedSession, by_index, parts_of, pieces_of, saved}
 use Rattle.record_codec.proofs.PieceLemmas.{parts_are, pieces_are}
 use Rattle.save_run.specs.Known.{HasParts, IsKind, IsKnown, IsLevel}
-use Rattle.save_run.proofs.Indexed.{HasOne, counting_at, each_indexed, fits_indexed, indexed_for, one_for}
+use Rattle.resume_run.proofs.Indexed.{HasOne, each_indexed, fits_indexed, indexed_for, one_for}
 use Rattle.save_run.proofs.LineEvents.{AreEvents, NumberBelow, numbers_below}
 
 -- the kept answer
@@ -136,10 +136,10 @@ opens_in happened (q ∷ pieces) (life ∷ lives) opens moments all p (inr behin
     let spans : map moments_in pieces ≡ map (moments_at happened) lives = cc in
     opens_in happened pieces lives later spans all p behind
 
-piece_is : (most : ℕ) (p : Piece) → most < 2 ^ 50 → is_counting p ≡ true → OpenIn most p.counts (moments_in p)
-    → IsPiece p
-piece_is most p few counting is = record {
-  octets = ltb-true (p.counts.up_octets + p.counts.down_octets) volume counting;
+piece_is : (most : ℕ) (p : Piece) → most < 2 ^ 50 → p.counts.up_octets + p.counts.down_octets < volume
+    → OpenIn most p.counts (moments_in p) → IsPiece p
+piece_is most p few octets is = record {
+  octets = octets;
   seq = omega (arith, few, is.seq);
   up_packets = omega (arith, few, is.up_packets);
   down_packets = omega (arith, few, is.down_packets);
@@ -234,7 +234,10 @@ parts_kept moment slot one events left known =
     let spans : map moments_in parts.pieces ≡ map (moments_at past.charged) (lives_of past.charged) =
     has.are.pieces.moments ∙ stands.counters.charges.moments in
     let each_piece : (p : Piece) → In p parts.pieces → IsPiece p = λ p there.
-    piece_is most p charged_few (counting_at parts.pieces tests.counting p there)
+    piece_is most p charged_few
+    (at_each (λ (c : Counters). c.up_octets + c.down_octets < volume) p.counts (map counts_in parts.pieces)
+    (recursion_from_All (λ (c : Counters). c.up_octets + c.down_octets < volume) (map counts_in parts.pieces)
+    (parts_counting parts.pieces tests.counting)) (in_map counts_in p parts.pieces there))
     (opens_in past.charged parts.pieces (lives_of past.charged) opens spans led.packets.charged p there) in
     let last : unwrap_or parts.last 0 ≤ moment =
     last_by parts.last moment (subst (λ (o : Option ℕ). IfSome o (λ at. at ≤ moment)) (sym has.are.last) left.late) in
@@ -283,7 +286,7 @@ saved_is moment slot imsi one events imsi_is left known =
     ≡ record has.parts { pieces = by_index one.version.bearers has.parts.pieces } =
     parts_are one.version one.counters has.parts has.are in
     let fits : fit one.version (record has.parts { pieces = by_index one.version.bearers has.parts.pieces }) ≡ true =
-    fits_indexed one.version has.parts ranges (fits_so slot one events taken has stands) in
+    (fits_indexed one.version has.parts ranges (fits_so slot one events taken has stands)).1 in
     record {
       imsi = imsi_is;
       slot_is = ap (λ (s : SessionState). s.slot) session ∙ slot_stays slot events;
