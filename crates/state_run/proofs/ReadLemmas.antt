@@ -37,7 +37,7 @@ line_more (Some octets) (Some ahead) (Some rest) room after line false done befo
     inl (read_more (Some octets) (Some ahead) (Some rest) room after line false done refl before reads)
 line_more (Some octets) (Some ahead) (Some rest) room after line true done before reads =
     let e = ends_last (Some octets) (Some ahead) (Some rest) room after line true [] done refl before reads in
-    inr (e.0.1, e.1, e.0.0)
+    inr (e.0.1, e.1, e.0.0, reads.form.more)
 
 pub state_read : (start a b : Option (List ℕ)) (room after : ℕ) (line : Text) (last : Bool) (done : List Text)
     (file : FileState) → WhereTold start a (λ octets rest. HasRead octets rest room done)
