@@ -1,7 +1,9 @@
 //! A run of `save`.
-ghost use Rattle.std.specs.Prelude.{◌≡◌, ◌≤◌};
+ghost use Rattle.std.specs.Prelude.{◌≡◌, ◌≤◌, ◌^◌, ℕ, List, length};
 ghost use Rattle.pc_outside.specs.Faults.{Rises};
-ghost use Rattle.save_run.specs.Saves.{Saves};
+ghost use Rattle.trace_lines.specs.Line.{Line};
+ghost use Rattle.save_run.specs.Left.{HasTaken};
+ghost use Rattle.save_run.specs.Saves.{Saves, Wrote};
 
 use crate::keeping::file_of;
 use crate::saver::Saver;
@@ -13,6 +15,7 @@ use trace_run::{Ending, Status, run_lines, status_at, status_without, write_octe
 /// Reads a trace, and writes the text of the state that it leaves; nothing where the trace isn't read whole.
 pub fn save<S: Source, K: Sink>(alloc: Global, source: &mut S, sink: &mut K) -> Status
     ensures saves { Saves result (S.left source.old) (S.left source.new) (K.written sink.old) (K.written sink.new) }
+    ensures no_usage { result ≡ Status.Usage → ⊥ }
 
     ensures source_later { S.faults source.old ≤ S.faults source.new }
     ensures sink_later { K.faults sink.old ≤ K.faults sink.new }
@@ -32,6 +35,13 @@ pub fn save<S: Source, K: Sink>(alloc: Global, source: &mut S, sink: &mut K) -> 
 
 /// Writes the text of what a trace leaves.
 fn write_file<K: Sink>(alloc: Global, saver: Saver, sink: &mut K) -> Status
+    requires { (done : List Line) × (latest : ℕ) × HasTaken saver done latest × (length done ≤ 2 ^ 39) }
+
+    ensures wrote { (done : List Line) (latest : ℕ) → HasTaken saver done latest → length done ≤ 2 ^ 39
+        → Wrote result done (K.written sink.old) (K.written sink.new) }
+
+    ensures later { K.faults sink.old ≤ K.faults sink.new }
+    ensures fault { result ≡ Status.WriteFault → Rises (K.faults sink.old) (K.faults sink.new) }
 {
     let Ok(file) = file_of(saver) else {
         return Status::NoMemory;
