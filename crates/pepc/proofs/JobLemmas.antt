@@ -5,6 +5,7 @@ use Rattle.command_words.specs.declared.jobs.Job.{Job}
 use Rattle.command_words.specs.declared.jobs.Job.TheVariants as job
 use Rattle.trace_lines.specs.Line.{Line}
 use Rattle.trace_maker.specs.Generated.{made}
+use Rattle.trace_run.specs.Beginnings.{whole_input}
 use Rattle.trace_run.specs.declared.status.Status.{Status}
 use Rattle.trace_run.specs.declared.status.Status.TheVariants as status
 use Rattle.pepc.specs.Audit.{audit_setup}
@@ -15,7 +16,7 @@ use Rattle.pepc.proofs.AuditReports.{audit_complete, nothing_audited, nothing_se
 use Rattle.pepc.proofs.BalanceReports.{balance_complete, nothing_balanced}
 use Rattle.pepc.proofs.ExportReports.{export_complete, nothing_exported}
 use Rattle.pepc.proofs.ImportReports.{import_complete, nothing_imported}
-use Rattle.pepc.proofs.ReportLemmas.{nothing_runs}
+use Rattle.solo_run.proofs.ReportLemmas.{nothing_runs}
 use Rattle.trace_run.proofs.EndingLemmas.{complete, nothing_runs as nothing_told_of}
 use Rattle.drive_run.specs.Driven.{IsDrivenReport}
 use Rattle.drive_run.proofs.Reports.{says_nothing}
@@ -24,7 +25,7 @@ use Rattle.replay_run.proofs.Reports.{says_nothing as nothing_replayed}
 use Rattle.command_words.specs.declared.jobs.Lanes.{Lanes}
 use Rattle.pepc.specs.Drive.{schedule_asked}
 use Rattle.pepc.specs.Replay.{setup_asked}
-use Rattle.pepc.specs.Report.{IsSoloReport}
+use Rattle.solo_run.specs.Report.{IsSoloReport}
 
 no_front : (summary : Bool) (lines : List Line) → IsMakeFront summary lines []
 no_front false lines = record { front = []; rest = lines; parts = refl; written = refl }
@@ -41,10 +42,10 @@ pub nothing_done : (asked : Option Job) (source_failed : Type 0) (start old : Op
 nothing_done None source_failed start old = (refl, refl)
 nothing_done (Some job.Solo) source_failed start old = nothing_runs source_failed start old
 nothing_done (Some (job.Drive lanes turns places)) source_failed start old =
-    nothing_told_of (IsDrivenReport (schedule_asked lanes turns)) places source_failed start old
+    nothing_told_of whole_input (IsDrivenReport (schedule_asked lanes turns)) places source_failed start old
     (says_nothing (schedule_asked lanes turns) places)
 nothing_done (Some (job.Replay lanes patience linger places)) source_failed start old =
-    nothing_told_of (IsReport (setup_asked lanes)) places source_failed start old
+    nothing_told_of whole_input (IsReport (setup_asked lanes)) places source_failed start old
     (nothing_replayed lanes.slices lanes.room lanes.lane places)
 nothing_done (Some (job.Make seed subs lines summary)) source_failed start old =
     (refl, nothing_made seed subs lines summary old)
@@ -78,6 +79,7 @@ make_complete status.LineLong sink_failed summary lines text no_sink write is = 
 make_complete status.TooLong sink_failed summary lines text no_sink write is = absurd is
 make_complete status.Refuted sink_failed summary lines text no_sink write is = absurd is
 make_complete status.BadCapture sink_failed summary lines text no_sink write is = absurd is
+make_complete status.BadState sink_failed summary lines text no_sink write is = absurd is
 make_complete status.BadReport sink_failed summary lines text no_sink write is = absurd is
 
 -- a job that ends with this status, where nothing failed
@@ -88,16 +90,16 @@ pub job_completes : (asked : Job) (ending : Status) (source_failed sink_failed :
     → Completes (Some asked) ending start
 job_completes job.Solo ending source_failed sink_failed start left old new no_source no_sink read write usage does =
     λ octets is stop.
-    complete IsSoloReport false ending source_failed sink_failed octets start left old new is stop no_source no_sink read write usage does
+    complete whole_input IsSoloReport false ending source_failed sink_failed octets start left old new is stop no_source no_sink read write usage does
 job_completes (job.Drive lanes turns places) ending source_failed sink_failed start left old new no_source no_sink read
     write usage does =
     λ octets is stop.
-    complete (IsDrivenReport (schedule_asked lanes turns)) places ending source_failed sink_failed octets start left old new
+    complete whole_input (IsDrivenReport (schedule_asked lanes turns)) places ending source_failed sink_failed octets start left old new
     is stop no_source no_sink read write usage does
 job_completes (job.Replay lanes patience linger places) ending source_failed sink_failed start left old new no_source
     no_sink read write usage does =
     λ octets is stop.
-    complete (IsReport (setup_asked lanes)) places ending source_failed sink_failed octets start left old new
+    complete whole_input (IsReport (setup_asked lanes)) places ending source_failed sink_failed octets start left old new
     is stop no_source no_sink read write usage does
 job_completes (job.Make seed subs lines summary) ending source_failed sink_failed start left old new no_source no_sink
     read write usage does =

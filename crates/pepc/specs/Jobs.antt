@@ -18,7 +18,7 @@ use Rattle.pepc.specs.Export.{Exports}
 use Rattle.pepc.specs.Import.{Imports}
 use Rattle.pepc.specs.Make.{Makes}
 use Rattle.pepc.specs.Replay.{setup_asked}
-use Rattle.pepc.specs.Report.{IsSoloReport}
+use Rattle.solo_run.specs.Report.{IsSoloReport}
 use Rattle.trace_run.specs.Report.{IsDone, Runs}
 
 -- The job that is done without threads: `replay` starts some, so it is none.

@@ -11,10 +11,10 @@ use crate::drive::drive;
 use crate::export::export;
 use crate::import::import;
 use crate::make::make;
-use crate::run::solo;
 use audit_reading::Setup;
 use command_words::{Job, job};
 use pc_outside::{Sink, Source};
+use solo_run::solo;
 use std::alloc::{AllocError, Global};
 use trace_run::Status;
 
