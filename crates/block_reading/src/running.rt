@@ -20,6 +20,7 @@ pub fn run_report_in_blocks<R: Threads + Sync, S: Source, K: Sink, T: Reporter>(
     reporter: T,
 ) -> Status
     requires first { T.represents reporter reporter [] 0 [] [] [] [] }
+    requires begins { T.begins reporter ≡ 1 }
     requires nothing { SaysEpochs (T.may_have reporter) (T.places reporter) [] [] }
 
     ensures runs { Runs (T.may_have reporter) (T.places reporter) result
