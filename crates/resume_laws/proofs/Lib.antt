@@ -6,4 +6,5 @@ pub mod SavedAlike
 pub mod LawLemmas
 pub mod Octets
 pub mod LawTexts
-pub mod Indexed
+pub mod StateLemmas
+pub mod RunLemmas

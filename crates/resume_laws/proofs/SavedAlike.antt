@@ -26,6 +26,7 @@ use Rattle.parts_laws.specs.Subscribers.{AreSubscribersAlike}
 use Rattle.parts_laws.proofs.PlaceLemmas.{made_alike}
 use Rattle.record_codec.specs.Saved.{IsResting, SavedSubscriber, all_saved, by_index, parts_of, piece_for, pieces_of, saved}
 use Rattle.record_codec.proofs.PieceLemmas.{pieces_are}
+use Rattle.resume_run.proofs.OpenPieces.{has_piece}
 use Rattle.resume_laws.proofs.Steps.{AreOne, IsGoing}
 use Rattle.resume_laws.proofs.Gateways.{AreAllOne}
 
@@ -101,30 +102,7 @@ all_saved_same (imsi ∷ book) (one ∷ ones) (other ∷ others) most each =
 
 -- ---- saved alike, so alike
 
-found_if : {X : Type 0} (passes : Bool) (x : X) (rest : Option X) → ((y : X) × (rest ≡ Some y))
-    → (y : X) × (cond passes (Some x) rest ≡ Some y)
-found_if true x rest found = (x, refl)
-found_if false x rest found = found
-
-found_here : {X : Type 0} (passes : Bool) (x : X) (rest : Option X) → passes ≡ true
-    → (y : X) × (cond passes (Some x) rest ≡ Some y)
-found_here true x rest is = (x, refl)
-found_here false x rest is = absurd (false≢true is)
-
-in_found : {X : Type 0} (test : X → Bool) (x : X) (xs : List X) → In x xs → test x ≡ true
-    → (y : X) × (find test xs ≡ Some y)
-in_found test x [] there passed = absurd there
-in_found test x (y ∷ xs) (inl here) passed = found_here (test y) y (find test xs) (ap test here ∙ passed)
-in_found test x (y ∷ xs) (inr there) passed = found_if (test y) y (find test xs) (in_found test x xs there passed)
-
--- an active bearer has its piece · a piece has its active bearer
-pub has_piece : (version : VersionState) (pieces : List Piece) → AreOpen version pieces → (b : ActiveBearer)
-    → In b version.bearers → (p : Piece) × (piece_for pieces b ≡ Some p)
-has_piece version pieces open_ b there =
-    let named = in_any (λ (c : ActiveBearer). c.life == b.life) b version.bearers there (eq-eqb b.life b.life refl) in
-    let among = of_map life_of b.life pieces (in_contains b.life (map life_of pieces) ((open_ b.life).1 named)) in
-    in_found (is_of b.life) among.0 pieces among.1 (eq-eqb among.0.counts.life b.life among.2)
-
+-- a piece has its active bearer
 record HasBearer (version : VersionState) (life : ℕ) : Type 0 where
   bearer : ActiveBearer
   there : In bearer version.bearers

@@ -5,4 +5,4 @@
 
 mod laws;
 
-pub use laws::resumed_goes_on;
+pub use laws::{resumed_goes_on, resumed_runs_go_on, states_are_told};

@@ -1,5 +1,8 @@
--- Lines and epochs are answered one behind another.
+-- Lines and epochs are answered one behind another; and the pieces of a version that are saved in their order fit it.
 use Rattle.std.specs.Prelude.{◌≡◌, ℕ, true, All, List, [], ◌∷◌, ◌++◌, length}
+use Rattle.bearer_state.specs.Version.{IsVersion, VersionState}
+use Rattle.packet_steps.specs.Parts.{PartsState, fit}
+use Rattle.record_codec.specs.Saved.{ArePiecesFor, by_index}
 use Rattle.trace_lines.specs.Line.{Line}
 use Rattle.lawful_run.specs.Report.{EpochReport}
 use Rattle.lawful_run.specs.Trace.{is_whole}
@@ -29,3 +32,9 @@ NextEpochGoesOn = (slices : ℕ) (first : List (List Line)) (epoch : List Line) 
     (reports : List EpochReport) (told : List Told) → AnswersAll slices first old reports between
     → AnswersLines slices epoch between told new
     → AnswersAll slices (first ++ epoch ∷ []) old (reports ++ told_epoch (length new.book) told ∷ []) new
+
+-- Where parts fit a version, their pieces in the order of its bearers are one for each of these, and fit it too.
+abbrev pub PiecesFitInOrder : Type 0
+PiecesFitInOrder = (version : VersionState) (parts : PartsState) → IsVersion version → fit version parts ≡ true
+    → ArePiecesFor version.bearers (by_index version.bearers parts.pieces)
+    × (fit version (record parts { pieces = by_index version.bearers parts.pieces }) ≡ true)

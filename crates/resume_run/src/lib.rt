@@ -5,4 +5,4 @@
 
 mod laws;
 
-pub use laws::lines_go_on;
+pub use laws::{lines_go_on, pieces_fit_in_order};

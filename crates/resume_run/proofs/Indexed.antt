@@ -14,7 +14,8 @@ use Rattle.packet_steps.proofs.BearerLemmas.{same_by_life}
 use Rattle.gate_model.proofs.Members.{In, at_each, contains_in, in_any, of_any, of_find}
 use Rattle.parts_laws.proofs.FitLemmas.{fitting_open}
 use Rattle.record_codec.specs.Saved.{ArePiecesFor, IsPieceOf, by_index, piece_for}
-use Rattle.resume_laws.proofs.SavedAlike.{has_piece}
+use Rattle.resume_run.specs.Laws.{PiecesFitInOrder}
+use Rattle.resume_run.proofs.OpenPieces.{has_piece}
 
 -- a bearer's piece
 pub record HasOne (pieces : List Piece) (b : ActiveBearer) : Type 0 where
@@ -137,8 +138,7 @@ counting_at (piece ∷ pieces) parts p there =
     ]
 
 -- parts that fit do so with the pieces in the order of the bearers
-pub fits_indexed : (version : VersionState) (parts : PartsState) → IsVersion version → fit version parts ≡ true
-    → fit version (record parts { pieces = by_index version.bearers parts.pieces }) ≡ true
+pub fits_indexed : PiecesFitInOrder
 fits_indexed version parts ranges fits =
     let bearers = version.bearers in
     let pieces = parts.pieces in
@@ -157,12 +157,14 @@ fits_indexed version parts ranges fits =
     (have_bearers bearers bearers indexed (λ b there. there) are) in
     let counting : are_parts indexed ≡ true =
     are_parts_for bearers indexed ranges.apart are
-    (each_indexed (λ (p : Piece). is_counting p ≡ true) pieces bearers one (counting_at pieces all.1)) in
-    and_from (may_fit version (record parts { pieces = indexed })) (are_parts indexed)
-    (and_from (buckets_fit version parts.buckets)
-    (were_asked parts.last parts.buckets && (held_fit parts.last bearers parts.held && pieces_fit bearers indexed))
-    first.0
-    (and_from (were_asked parts.last parts.buckets)
-    (held_fit parts.last bearers parts.held && pieces_fit bearers indexed) second.0
-    (and_from (held_fit parts.last bearers parts.held) (pieces_fit bearers indexed) third.0 own)))
-    counting
+    (each_indexed (λ (p : Piece). is_counting p ≡ true) pieces bearers one (counting_at pieces all.1)) in (
+      are,
+      and_from (may_fit version (record parts { pieces = indexed })) (are_parts indexed)
+          (and_from (buckets_fit version parts.buckets)
+          (were_asked parts.last parts.buckets && (held_fit parts.last bearers parts.held && pieces_fit bearers indexed))
+          first.0
+          (and_from (were_asked parts.last parts.buckets)
+          (held_fit parts.last bearers parts.held && pieces_fit bearers indexed) second.0
+          (and_from (held_fit parts.last bearers parts.held) (pieces_fit bearers indexed) third.0 own)))
+          counting,
+    )
