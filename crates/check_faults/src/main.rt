@@ -109,6 +109,11 @@ fn main(rt: HostRuntime) -> io::Result<()> {
     let mut rows = Vec::new(alloc);
     rt.reader().read_to_end(&mut rows)?;
     let lines = rows.as_slice();
-    let text = told(&rt, alloc, &inputs, lines.strip_suffix(b"\n").unwrap_or(lines))?;
+    let text = told(
+        &rt,
+        alloc,
+        &inputs,
+        lines.strip_suffix(b"\n").unwrap_or(lines),
+    )?;
     io::writer(&rt).write_all(text.as_bytes())
 }
