@@ -8,7 +8,8 @@ pub returns-in-Err-clause-runs : goal.returns-in-Err-clause-runs
 returns-in-Err-clause-runs g c =
     rw c.status_without.ensures
     (cuts_run _ _ _ (λ (now : Epochs g.row.R.Denot). g.R.Reporter.represents c.args.reporter now.reporter) (λ now. now.size)
-    (λ now. now.text) c.in-Err.why _ _ _ _ _ (rw (c.behind-epochs.ensures.same, c.requires.begins) at c.in-Err.ensures.cut))
+    (λ now. now.text) c.in-Err.why _ _ _ _ _ (g.R.Reporter.begins c.args.reporter) c.requires.begins
+    (rw c.behind-epochs.ensures.same at c.in-Err.ensures.cut))
 
 pub returns-in-Err-finish-clause-runs : goal.returns-in-Err-finish-clause-runs
 returns-in-Err-finish-clause-runs g c =
