@@ -30,7 +30,7 @@ use Rattle.resume_run.specs.Left.{IsLeft}
 use Rattle.resume_run.specs.Reports.{AnswersEpochs, Gives, IsResumed, stop_told}
 use Rattle.resume_laws.specs.Law.{ResumedRunsGoOn, ResumedTextsGoOn, TellsAll}
 use Rattle.resume_laws.specs.Resumes.{HasState, Resumed, ResumesAs, StoppedFirst, begins_at}
-use Rattle.resume_laws.proofs.StateLemmas.{none_stopped, one_state, stop_code}
+use Rattle.resume_laws.proofs.StateLemmas.{none_stopped, one_state}
 
 -- ---- octets that fewer than are looked at, and that say no lines and end, are none
 
@@ -43,7 +43,7 @@ no_rest (octet ∷ rest) none ends = by_length (nat_lt line_max (length (octet �
         → (if b then texts.stopped texts.long else after_lines ((octet ∷ rest) ∷ []) (texts.stopped ended)).lines ≡ []
         → (if b then texts.stopped texts.long else after_lines ((octet ∷ rest) ∷ []) (texts.stopped ended)).stop ≡ ended
         → octet ∷ rest ≡ []
-    by_length true empty over = let codes : 0 ≡ 2 = ap stop_code over in absurd (omega arith)
+    by_length true empty over = absurd cc
     by_length false empty over = absurd cc
 
 no_pieces : (pieces : List Text) → (texts.pieces_texts false pieces).lines ≡ []
@@ -58,7 +58,7 @@ no_pieces (line ∷ next ∷ pieces) none ends = by_length (nat_lt line_max (len
         → (if b then texts.stopped texts.long
         else after_lines (line ∷ []) (texts.pieces_texts false (next ∷ pieces))).stop ≡ ended
         → (line ∷ next ∷ pieces ≡ []) ⊎ (line ∷ next ∷ pieces ≡ [] ∷ [])
-    by_length true empty over = let codes : 0 ≡ 2 = ap stop_code over in absurd (omega arith)
+    by_length true empty over = absurd cc
     by_length false empty over = absurd cc
 
 pub nothing_within : (room : ℕ) (octets : List ℕ) → length octets < room → (texts_within room octets).lines ≡ []
@@ -161,7 +161,7 @@ one_ahead octets ahead next room room_next done few read read_next =
 -- ---- a report by the octets that are ahead
 
 -- where no octets are ahead, the room doesn't matter: the input ends, or is as large as it may be, without a line
-none_ahead : (room number least : ℕ)
+pub none_ahead : (room number least : ℕ)
     → ((input_within room number least []).lines ≡ []) × (stop_told (input_within room number least []).stop ≡ [])
 unfolding input_within
 none_ahead room number least =
