@@ -9,8 +9,7 @@ ghost use Rattle.split_record.specs.Props.{accepted_prop};
 use crate::patience::{Stop, again};
 use audit_reading::trace_of;
 use audit_sentences::Meant;
-use control_half::ControlHalf;
-use control_steps::Command;
+use control_half::{BoxedCommand, ControlHalf};
 use counter_half::{FlowHalf, FlowItem};
 use flow_core::Flow;
 use lane_core::Full;
@@ -155,7 +154,10 @@ impl Bench {
         meant: Meant<'_>,
     ) -> Result<(), Stop> {
         match meant {
-            Meant::Command { command, .. } => self.give_command(rt, line, command),
+            Meant::Command { command, .. } => {
+                let command = again(|| BoxedCommand::of(alloc, command.try_clone()?))?;
+                self.give_command(rt, line, command)
+            }
             Meant::Packet { packet, .. } => {
                 let packet = again(|| packet.numbered(alloc, 0))?;
                 self.give_packet(line, packet)
@@ -188,7 +190,7 @@ impl Bench {
         Ok(())
     }
 
-    fn give_command<R: Wait>(&mut self, rt: &R, line: u64, command: Command) -> Result<(), Stop> {
+    fn give_command<R: Wait>(&mut self, rt: &R, line: u64, command: BoxedCommand) -> Result<(), Stop> {
         if self.front.commands() > 100 {
             return Err(Stop::Trace);
         }

@@ -3,7 +3,7 @@ ghost use Rattle.std.specs.Prelude.{◌≡◌, []};
 ghost use Rattle.counter_half.specs.Half.{handled_by};
 
 use crate::stop::Stop;
-use control_half::ControlHalf;
+use control_half::{BoxedCommand, ControlHalf};
 use control_steps::{Command, CommandKind};
 use counter_half::{FlowHalf, FlowItem};
 use pc_base::{Addr4, Kbps, Moment, Octets, Packet, Peer, SliceNo, Slot, Teid, Way};
@@ -43,7 +43,10 @@ pub fn new_subject<R: Wait>(rt: &R, alloc: Global) -> Result<Subject, Stop> {
     let Some(command) = Command::of(attach) else {
         return Err(Stop::Back);
     };
-    let Ok(()) = front.give_command(rt, 1, command) else {
+    let Ok(boxed) = BoxedCommand::of(alloc, command) else {
+        return Err(Stop::Back);
+    };
+    let Ok(()) = front.give_command(rt, 1, boxed) else {
         return Err(Stop::Back);
     };
     let item = front.packet_item(2, false, new_packet(alloc));

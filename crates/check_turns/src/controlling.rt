@@ -2,7 +2,7 @@
 use crate::answers::{Stop, push_counted, push_word};
 use crate::step::Step;
 use bearer_state::{Session, Version};
-use control_half::{Batch, CommandDone, CommandItem, ControlHalf};
+use control_half::{Batch, BoxedCommand, CommandDone, CommandItem, ControlHalf};
 use control_steps::{Command, CommandKind};
 use lane_core::{Did, NoMemory, Receiver, Sender, lane};
 use pc_base::{Addr4, Kbps, Outcome, Peer, Slot, Teid};
@@ -19,19 +19,20 @@ const ENB: Peer = Peer {
 /// A half, and the far ends of its lanes.
 #[derive(Drop)]
 pub struct Desk {
+    alloc: Global,
     half: ControlHalf,
     commands: Sender<CommandItem>,
     versions: Receiver<Batch<Version>>,
 }
 
-fn attach() -> Result<Command, Stop> {
+fn attach(alloc: Global) -> Result<BoxedCommand, Stop> {
     let kind = CommandKind::Attach {
         enb: ENB,
         up: Kbps(1000),
         down: Kbps(2000),
     };
     match Command::of(kind) {
-        Some(command) => Ok(command),
+        Some(command) => Ok(BoxedCommand::of(alloc, command)?),
         None => Err(Stop::Step),
     }
 }
@@ -47,6 +48,7 @@ impl Desk {
         let session = Session::new(alloc, Slot(1));
         match ControlHalf::new(session, 0, 0, taking, sending) {
             Ok(half) => Ok(Desk {
+                alloc,
                 half,
                 commands,
                 versions,
@@ -66,7 +68,7 @@ impl Desk {
             hop: u64::from(step.one),
             floor: u64::from(step.two),
             line: number + 10,
-            command: attach()?,
+            command: attach(self.alloc)?,
         };
         Ok(self.commands.offer(rt, item).is_ok())
     }

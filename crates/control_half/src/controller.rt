@@ -32,7 +32,7 @@ impl Controller {
     {
         let alloc = *self.notes.allocator();
         self.notes.reserve(1)?;
-        let reply = step(alloc, &mut self.session, &item.command)?;
+        let reply = step(alloc, &mut self.session, item.command.command())?;
         self.notes.push_reserved(CommandDone {
             line: item.line,
             number: self.number,

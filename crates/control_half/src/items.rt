@@ -1,5 +1,5 @@
 //! What comes to the half, and what it notes.
-use control_steps::Command;
+use crate::BoxedCommand;
 use lane_core::Carried;
 use pc_base::Reply;
 
@@ -14,7 +14,7 @@ pub struct CommandItem {
     pub floor: u64,
     /// Its line of the trace.
     pub line: u64,
-    pub command: Command,
+    pub command: BoxedCommand,
 }
 
 impl Carried for CommandItem {}

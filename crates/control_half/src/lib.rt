@@ -5,6 +5,7 @@
 
 mod as_split;
 mod batch;
+mod boxed;
 mod controller;
 mod half;
 mod inner;
@@ -16,6 +17,7 @@ mod turning;
 
 pub use as_split::AsSplit;
 pub use batch::Batch;
+pub use boxed::BoxedCommand;
 pub use controller::Controller;
 pub use half::ControlHalf;
 pub use items::{CommandDone, CommandItem};

@@ -176,6 +176,30 @@ impl<H: Flow> FlowSide<H> {
         ensures stays { (slice : ℕ) → NoneLeaves slice (places_of self.old)
             → HomeStays slice (desks_of self.old) (desks_of self.new) }
     {
+        if self.due.is_empty() {
+            return;
+        }
+        self.pump_due(rt);
+    }
+
+    // The same where something may be due.
+    fn pump_due<R: Wait>(&mut self, rt: &R)
+        ensures roll { roll_of H.name self.new ≡ roll_of H.name self.old }
+        ensures room { queue_room_of self.new ≡ queue_room_of self.old }
+        ensures drains { EachShortens (places_of self.old) (places_of self.new) }
+        ensures rests { (slot : ℕ) → parks_at (place_at (places_of self.old) slot) ≡ false
+            → parks_at (place_at (places_of self.new) slot) ≡ false }
+        ensures states { EachState Pumps (places_of self.old) (places_of self.new) }
+        ensures aside { KeepsAside (λ half. H.slot_at (H.name half)) (places_of self.old) (places_of self.new)
+            (aside_of self.old) (aside_of self.new) }
+        ensures full { AllMetFull (places_of self.new) (desks_of self.old) (desks_of self.new) }
+        ensures queues { QueuesMetFull (places_of self.new) (desks_of self.old) (desks_of self.new) }
+        ensures home { (slice : ℕ) → slice < length (desks_of self.old)
+            → HomeEnded (length (aside_of self.new)) (admitted_of self.new) slice (desks_of self.old)
+            (desks_of self.new) ⊎ NoneLeaves slice (places_of self.old) }
+        ensures stays { (slice : ℕ) → NoneLeaves slice (places_of self.old)
+            → HomeStays slice (desks_of self.old) (desks_of self.new) }
+    {
         self.take_all(rt);
         self.serve_all(rt);
         self.drain_all(rt);

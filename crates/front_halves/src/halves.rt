@@ -4,8 +4,7 @@ ghost use Rattle.std.specs.Prelude.{◌≡◌, ◌<◌, ◌≤◌, ◌+◌, ℕ,
 use crate::NoMemory;
 use crate::lot::{self, Lot};
 use crate::tried::{Given, Tried};
-use control_half::ControlHalf;
-use control_steps::Command;
+use control_half::{BoxedCommand, ControlHalf};
 use counter_half::FlowHalf;
 use flow_migration::FlowNo;
 use front_sides::BothSides;
@@ -124,7 +123,7 @@ impl Halves {
         rt: &R,
         slot: Slot,
         line: u64,
-        command: Command,
+        command: BoxedCommand,
         patience: u32,
     ) -> Given
         requires { MayGive slot self.old }
@@ -150,8 +149,8 @@ impl Halves {
         rt: &R,
         slot: Slot,
         line: u64,
-        command: Command,
-    ) -> Result<(), Full<Command>>
+        command: BoxedCommand,
+    ) -> Result<(), Full<BoxedCommand>>
         requires { MayGive slot self.old }
         ensures sent { OnOk result (Commanded slot line command self.old self.new) }
         ensures full { IfErr result (λ full. (full.0 ≡ command) × Settles self.old self.new

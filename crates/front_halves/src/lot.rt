@@ -15,7 +15,7 @@ ghost use Rattle.front_halves.specs.Lots.{
   end_of,
 };
 
-use control_steps::Command;
+use control_half::BoxedCommand;
 use counter_half::FlowItem;
 use lane_core::Full;
 use pc_base::Packet;
@@ -74,8 +74,8 @@ pub fn send<R: Wait>(
     rt: &R,
     lot: &mut Option<Lot>,
     line: u64,
-    command: Command,
-) -> Result<(), Full<Command>>
+    command: BoxedCommand,
+) -> Result<(), Full<BoxedCommand>>
     requires { MaySend lot.old }
     ensures sent { OnOk result (LotSends line command lot.old lot.new) }
     ensures full { IfErr result (λ full. (full.0 ≡ command) × LotRefuses lot.old lot.new) }

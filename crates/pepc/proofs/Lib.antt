@@ -1,6 +1,8 @@
 pub mod OneReport
 pub mod SummaryLemmas
 pub mod MakeLemmas
+pub mod ResumeReports
+pub mod SaveReports
 pub mod JobLemmas
 pub mod ExportLemmas
 pub mod ExportReports

@@ -12,6 +12,7 @@ mod make;
 mod plain;
 mod refuting;
 mod replay;
+mod resume;
 mod summary;
 mod words;
 

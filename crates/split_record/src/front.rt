@@ -4,8 +4,7 @@ ghost use Rattle.lane_core.specs.Ends.{sent, sender_lane, full_answers, raised};
 ghost use Rattle.subscriber.specs.Standing.{commands_met};
 ghost use Rattle.control_half.specs.declared.items.CommandItem.{CommandItem};
 
-use control_half::CommandItem;
-use control_steps::Command;
+use control_half::{BoxedCommand, CommandItem};
 use counter_half::FlowItem;
 use lane_core::{Full, Sender};
 use pc_base::{Packet, SliceNo, Slot};
@@ -51,8 +50,8 @@ impl FrontEnd {
         &mut self,
         rt: &R,
         line: u64,
-        command: Command,
-    ) -> Result<(), Full<Command>>
+        command: BoxedCommand,
+    ) -> Result<(), Full<BoxedCommand>>
         requires { length (commands_sent self.old) < 2 ^ 50 }
 
         ensures same { IsSameFront self.old self.new }

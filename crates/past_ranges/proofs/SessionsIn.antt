@@ -30,21 +30,8 @@ use Rattle.tft_codec.specs.declared.filter.Filter.{Filter}
 use Rattle.tft_codec.specs.Spelling.{spelling as tft_spelling}
 use Rattle.demux.specs.Ranges.{HasAddress, IsAskInRange, IsCommandInRange, IsOctet}
 use Rattle.demux.proofs.MessagesSmall.{ElementIn, message_small}
+use Rattle.past_ranges.specs.Ranges.{BearerIn, PhaseIn, SessionIn}
 use Rattle.demux.proofs.Small.{Small, template_small}
-
-abbrev pub PhaseIn : Phase → Type 0
-PhaseIn (Asked seq) = Unit {0}
-PhaseIn (Active ebi) = IsOctet ebi
-
-pub record BearerIn (bearer : Bearer) : Type 0 where
-  pub phase : PhaseIn bearer.phase
-  pub arp : IsOctet bearer.qos.arp
-  pub qci : IsOctet bearer.qos.qci
-  pub enb : IfSome bearer.enb HasAddress
-
-pub record SessionIn (session : SessionState) : Type 0 where
-  pub bearers : AllByRecursion BearerIn session.bearers
-  pub last : IfSome session.last (λ (kept : Kept). Small kept.reply)
 
 -- lists of bearers
 mapped : (change : Bearer → Bearer) → ((b : Bearer) → BearerIn b → BearerIn (change b)) → (bearers : List Bearer)

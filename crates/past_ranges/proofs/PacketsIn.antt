@@ -31,36 +31,9 @@ use Rattle.tft_match.specs.Chosen.{chosen}
 use Rattle.wire_octets.specs.Numbers.{be16_octets, be32_octets}
 use Rattle.demux.specs.Ranges.{HasAddress, IsOctet}
 use Rattle.demux.proofs.MessagesSmall.{message_small}
-use Rattle.report_laws.proofs.Octets.{gpdu_some, marker_some, notification_some, packet_some}
+use Rattle.past_ranges.specs.Ranges.{ActiveIn, HappeningIn, HeldIn, PacketIn, PacketsIn}
+use Rattle.past_ranges.proofs.Octets.{gpdu_some, marker_some, notification_some, packet_some}
 use Rattle.demux.proofs.Small.{Small, be16_small, be32_small, both, each_append}
-
-pub record ActiveIn (bearer : ActiveBearer) : Type 0 where
-  pub life : bearer.life < 2 ^ 40
-  pub ebi : IsOctet bearer.ebi
-  pub qci : IsOctet bearer.qos.qci
-  pub enb : IfSome bearer.enb HasAddress
-
-pub record PacketIn (packet : Packet) : Type 0 where
-  pub octets : Small packet.octets
-  pub short : length packet.octets < 2 ^ 16
-  pub moment : packet.moment < 2 ^ 50
-  pub number : packet.number < 2 ^ 40
-
-pub record HeldIn (row : HeldRow) : Type 0 where
-  pub packet : PacketIn row.packet
-  pub some : 0 < length row.packet.octets
-  pub life : row.life < 2 ^ 40
-
-abbrev pub HappeningIn : Happening → Type 0
-HappeningIn (started life ebi qci) = (life < 2 ^ 40) × IsOctet ebi × IsOctet qci
-HappeningIn (forwarded life p) = (life < 2 ^ 40) × (p.octets < 2 ^ 16) × (p.at < 2 ^ 50)
-HappeningIn (closed life why) = life < 2 ^ 40
-
-pub record PacketsIn (past : Past) : Type 0 where
-  pub bearers : AllByRecursion ActiveIn past.version.bearers
-  pub held : AllByRecursion HeldIn past.held
-  pub last : IfSome past.last (λ at. at < 2 ^ 50)
-  pub charged : AllByRecursion HappeningIn past.charged
 
 -- octets of messages
 are_octets : (octets : List ℕ) → 0 < length octets → Small octets → IsOctets octets

@@ -3,14 +3,15 @@ use Rattle.std.proofs.Common.{◌≡◌, ℕ, ◌+◌, ◌-◌, ◌<◌, ◌≤�
 use Rattle.std.specs.List.{AllByRecursion}
 use Rattle.std.proofs.lemmas.Bool.{leb-false}
 use Rattle.std.proofs.lemmas.List.Sums.{count_by-le-length, sum_by-append}
-use Rattle.charging_book.specs.Happenings.{Happening, Story, closed, forwarded, open_at, rows_at, rows_by, rows_from, rows_of, started, story_of, story_step, with_item}
+use Rattle.charging_book.specs.Happenings.{Happening, Story, closed, forwarded, moments_at, open_at, rows_at, rows_by, rows_from, rows_of, started, story_of, story_step, with_item}
 use Rattle.charging_book.specs.Pieces.{Finished, Forwarded, Item, down_octets, down_packets, finished, finished_from, finishes, first_at, is_full, last_piece, mark, packet, piece_after, row_of, up_octets, up_packets}
 use Rattle.charging_book.specs.Rows.{Charged}
 use Rattle.charging_book.specs.declared.records.Why.TheVariants.{Volume}
 use Rattle.report_lines.specs.Ranges.{AreCounters, IsMoment}
 use Rattle.report_lines.specs.Text.{counters_of}
 use Rattle.demux.specs.Ranges.{IsOctet}
-use Rattle.report_laws.proofs.PacketsIn.{HappeningIn}
+use Rattle.past_ranges.specs.Laws.{OpenPiecesAreInRange}
+use Rattle.past_ranges.specs.Ranges.{HappeningIn}
 use Rattle.demux.proofs.Small.{each_append}
 
 pub record PartIn (p : Forwarded) : Type 0 where
@@ -194,6 +195,21 @@ last_from : (at : Option ℕ) (piece : List Forwarded) → IfSome at IsMoment �
     → IfSome (fold (λ (other : Option ℕ) (p : Forwarded). Some p.at) at piece) IsMoment
 last_from at [] is all = is
 last_from at (p ∷ piece) is all = let own : PartIn p = all.0 in last_from (Some p.at) piece own.at all.1
+
+-- an open piece
+pub open_piece_in : OpenPiecesAreInRange
+open_piece_in happened life all =
+    let story = story_of happened life in
+    let is = story_in happened life all in
+    let piece = piece_of_story (length happened) story is in
+    record {
+      seq = omega (arith, finished_few [] story.items, is.few);
+      up_packets = omega (arith, count_by-le-length (λ (p : Forwarded). p.up) (last_piece story.items), piece.few);
+      down_packets =
+          omega (arith, count_by-le-length (λ (p : Forwarded). not p.up) (last_piece story.items), piece.few);
+      first = first_in (last_piece story.items) piece.each;
+      last = last_from None (last_piece story.items) tt piece.each;
+    }
 
 -- records
 pub record RowIn (row : Charged) : Type 0 where

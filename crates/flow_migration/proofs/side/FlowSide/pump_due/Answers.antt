@@ -6,7 +6,7 @@ use Rattle.flow_migration.proofs.Passes.{met_in_all, queues_in_all}
 use Rattle.worker_core.proofs.Homes.{ended_since, stays_since}
 use Rattle.flow_migration.proofs.Pumps.{each_pumped, keeps_on}
 use Rattle.flow_migration.proofs.Queues.{pump_shortens, rests_at, moved_same}
-use Rattle.flow_migration.proofs.side.FlowSide.pump.Goals as goal
+use Rattle.flow_migration.proofs.side.FlowSide.pump_due.Goals as goal
 
 pub returns-clause-states : goal.returns-clause-states
 returns-clause-states g c = each_pumped _ _ _ _ c.take_all.ensures.takes.states c.serve_all.ensures.states
