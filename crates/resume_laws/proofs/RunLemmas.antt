@@ -272,7 +272,8 @@ behind_state octets behind room file lines resumed few read found same_file same
       (input_within room (found.file.lines + 1) found.file.moment os) resumed) (sym none) there)
 ]
   where
-    nothing_behind : (found.ahead ≡ []) × ((texts_of octets).lines ≡ found.texts) × ((texts_of octets).stop ≡ ended)
+    nothing_behind : (found.ahead ≡ [])
+        × ((texts_of octets).lines ≡ found.texts) × ((texts_of octets).stop ≡ ended) × (0 < found.room)
         → behind ≡ []
     nothing_behind all =
         let says : texts_of octets ≡ after_lines lines (texts_within room behind) =
