@@ -133,7 +133,7 @@ lines_most room number least octets =
 
 -- ---- texts
 
-texts_split : (entries more : List Entry) → texts_of false (entries ++ more) ≡ texts_of false entries ++ texts_of false more
+pub texts_split : (entries more : List Entry) → texts_of false (entries ++ more) ≡ texts_of false entries ++ texts_of false more
 texts_split entries more =
     flat_map-append (λ (told : Entry). entry_text (shown false told) ++ 10 ∷ []) entries more
 
