@@ -2,9 +2,9 @@
 ghost use Rattle.std.specs.Prelude.{All, IfSome, OnOk};
 ghost use Rattle.pc_base.specs.Imsi.{IsImsi};
 ghost use Rattle.record_codec.specs.Saved.{IsOwnBearer, IsPeer};
-ghost use Rattle.save_run.specs.Known.{HasNumbers, IsKnown, IsLevel};
+ghost use Rattle.save_run.specs.Known.{HasNumbers, IsKind, IsKnown, IsLevel};
 
-use bearer_state::{Bearer, Session};
+use bearer_state::{Bearer, Kept, Session};
 use pc_base::{Imsi, Peer};
 use rate_policer::Bucket;
 use std::alloc::AllocError;
@@ -68,16 +68,34 @@ fn known_peer(peer: &Option<Peer>)
     ensures { IfSome peer.now IsPeer }
 {
     if let Some(peer) = peer {
-        let _teid = peer.teid.0;
-        let _addr = peer.addr.0;
+        peer_numbers(peer);
     }
+}
+
+fn peer_numbers(peer: &Peer)
+    ensures { IsPeer peer.now }
+{
+    let _teid = peer.teid.0;
+    let _addr = peer.addr.0;
 }
 
 fn known_numbers(session: &Session)
     ensures { HasNumbers session.now }
 {
     known_peer(&session.mme);
-    if let Some(kept) = &session.last {
-        let _kind = kept.kind;
+    known_kept(&session.last);
+}
+
+fn known_kept(last: &Option<Kept>)
+    ensures { IfSome last.now IsKind }
+{
+    if let Some(kept) = last {
+        kept_kind(kept);
     }
+}
+
+fn kept_kind(kept: &Kept)
+    ensures { IsKind kept.now }
+{
+    let _kind = kept.kind;
 }

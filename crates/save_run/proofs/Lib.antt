@@ -1,0 +1,5 @@
+pub mod LineEvents
+pub mod Kept
+pub mod FileLemmas
+pub mod TakenLemmas
+pub mod SaveLemmas
