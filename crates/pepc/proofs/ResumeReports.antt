@@ -16,7 +16,7 @@ use Rattle.trace_run.specs.Report.{IsCutText, IsDone, IsEpochsText, IsFaultText,
 use Rattle.trace_run.proofs.EndingLemmas.{complete}
 use Rattle.resume_run.specs.Reports.{IsResumed}
 use Rattle.resume_laws.specs.Resumes.{CompletesResume, HasState, Resumed, Resumes, ResumesAs, StoppedFirst, begins_at}
-use Rattle.resume_laws.proofs.RunLemmas.{ends_alike}
+use Rattle.pepc.proofs.OneTrace.{ends_alike}
 use Rattle.resume_laws.proofs.StateLemmas.{none_bad, none_stopped}
 
 -- ---- reports that are allowed by one relation are allowed by a wider one, and a failure is one of more calls

@@ -1,6 +1,7 @@
 use Rattle.std.proofs.Common.{◌∷◌, [], ◌++◌, refl, sym, ◌∙◌, subst, arith}
 use Rattle.std.specs.Io.KnownBytes.{prepend_known}
 use Rattle.pc_outside.specs.WhereTold.{WhereTold}
+use Rattle.pc_outside.specs.declared.reading.LineRead.TheVariants as line_read
 use Rattle.audit_reading.specs.Progress.{HasRead}
 use Rattle.audit_reading.specs.Texts.{Text}
 use Rattle.audit_reading.proofs.InputLemmas.{ends_fault, read_more, told_still}
@@ -79,4 +80,4 @@ returns-in-ReadFault-clause-stopped g c =
 pub returns-in_err-file-in-Line-clause-cut : goal.returns-in_err-file-in-Line-clause-cut
 returns-in_err-file-in-Line-clause-cut g c =
     let p = c.loop-front.invariant.read in
-    in_err _ c.from_residual.result (told_still _ _ _ _ _ _ _ _ _ p.0 p.2 c.in-Line.ensures.octets)
+    in_err _ c.from_residual.result (told_still _ _ _ _ _ line_read.Line _ _ _ p.0 p.2 c.in-Line.ensures.octets)
