@@ -43,6 +43,8 @@ pub fn words(alloc: Global, row: &Call, text: &mut String) -> Result<(), AllocEr
         }
         Some(Job::Import) => text.push_str("import\n"),
         Some(Job::Export) => text.push_str("export\n"),
+        Some(Job::Save) => text.push_str("save\n"),
+        Some(Job::Resume) => text.push_str("resume\n"),
         Some(
             Job::Make {
                 seed,
@@ -174,6 +176,7 @@ pub fn statuses(text: &mut String) -> Result<(), AllocError> {
         Status::TooLong,
         Status::Refuted,
         Status::BadCapture,
+        Status::BadState,
         Status::BadReport,
     ];
     for status in all {

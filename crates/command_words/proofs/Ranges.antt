@@ -278,7 +278,16 @@ all_keep = (
     drive_keeps,
     (
       replay_keeps,
-      (make_keeps, (bare_keeps job.Import tt, (bare_keeps job.Export tt, (audit_keeps, (balance_keeps, tt))))),
+      (
+        make_keeps,
+        (
+          bare_keeps job.Import tt,
+          (
+            bare_keeps job.Export tt,
+            (audit_keeps, (balance_keeps, (bare_keeps job.Save tt, (bare_keeps job.Resume tt, tt)))),
+          ),
+        ),
+      ),
     ),
   ),
 )

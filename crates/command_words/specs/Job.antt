@@ -52,7 +52,8 @@ drive_job given =
     (turns_of lanes.slices given))
     (lanes_of given)
 
--- the lanes of `replay`, how often a line is tried again, how often the front pumps at last, and whether places are told
+-- the lanes of `replay`, how often a line is tried again, how often the front pumps at last, and whether places are
+-- told
 abbrev pub replay_job : List Given → Option Job
 replay_job given =
     option_and_then (λ (lanes : Lanes). option_and_then (λ patience. option_map (λ linger.
@@ -143,6 +144,8 @@ commands = bare (codes "solo") job.Solo
     ∷ bare (codes "export") job.Export
     ∷ audit_command
     ∷ balance_command
+    ∷ bare (codes "save") job.Save
+    ∷ bare (codes "resume") job.Resume
     ∷ []
 
 -- the command of the first word, with the options that the others give
@@ -180,3 +183,5 @@ IsInRange (job.Audit solo slices room lane why) =
     (1 ≤ slices) × (slices ≤ 64) × (IsTrue solo → slices ≡ 64) × (1 ≤ room) × (room ≤ 256) × (1 ≤ lane)
     × (lane ≤ 16384)
 IsInRange (job.Balance slices most) = (1 ≤ slices) × (slices ≤ 64) × (1 ≤ most) × (most ≤ 16)
+IsInRange job.Save = Unit {0}
+IsInRange job.Resume = Unit {0}

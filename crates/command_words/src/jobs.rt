@@ -58,4 +58,8 @@ pub enum Job {
         slices: u8,
         most: u32,
     },
+    /// `save`: write what a trace leaves as a saved state.
+    Save,
+    /// `resume`: replay a trace behind a saved state on one thread.
+    Resume,
 }

@@ -123,5 +123,7 @@ pub fn program<'a>(alloc: Global) -> Result<Command<'a>, AllocError>
         .subcommand(Command::new(alloc, "import"))?
         .subcommand(Command::new(alloc, "export"))?
         .subcommand(audit(alloc)?)?
-        .subcommand(balance(alloc)?)
+        .subcommand(balance(alloc)?)?
+        .subcommand(Command::new(alloc, "save"))?
+        .subcommand(Command::new(alloc, "resume"))
 }

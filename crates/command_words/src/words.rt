@@ -238,6 +238,8 @@ fn job_named(alloc: Global, name: &str, matches: &ArgMatches<'_>) -> Result<Opti
         "export" => Ok(Some(Job::Export)),
         "audit" => Ok(audit_job(matches)),
         "balance" => Ok(balance_job(matches)),
+        "save" => Ok(Some(Job::Save)),
+        "resume" => Ok(Some(Job::Resume)),
         _ => Ok(None),
     }
 }

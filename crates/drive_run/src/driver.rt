@@ -132,6 +132,8 @@ impl Reporter for Driver {
 
     ghost places = { λ first. first.places };
 
+    ghost begins = { λ first. 1 };
+
     ghost represents = { Drove };
 
     fn take(

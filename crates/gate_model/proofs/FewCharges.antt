@@ -68,7 +68,7 @@ up_grows : (past : Past) (octets : List ℕ) (found : Option ActiveBearer) → G
 up_grows past octets None = stays past
 up_grows past octets (Some b) = up_if past octets b (source_of octets == addr_of past.version.slot)
 
-is_short : (n : ℕ) → nat_le 16 n ≡ false → n + 1 ≤ 16
+pub is_short : (n : ℕ) → nat_le 16 n ≡ false → n + 1 ≤ 16
 is_short n fails = grind (arith, nat_tests)
 
 waiting_if : (past : Past) (row : HeldRow) (idle held : Verdict) (full : Bool) → nat_le 16 (length past.held) ≡ full
@@ -144,19 +144,19 @@ filter_if : {X : Type 0} (fits : Bool) (x : X) (xs : List X) (most : ℕ) → le
 filter_if true x xs most few = omega arith
 filter_if false x xs most few = omega arith
 
-filter_few : {X : Type 0} (test : X → Bool) (xs : List X) → length (filter test xs) ≤ length xs
+pub filter_few : {X : Type 0} (test : X → Bool) (xs : List X) → length (filter test xs) ≤ length xs
 filter_few test [] = omega arith
 filter_few test (x ∷ xs) = omega (arith, filter_if (test x) x (filter test xs) (length xs) (filter_few test xs))
 
 -- the marks of a change
-few_mapped : {X Y : Type 0} (f : X → Y) (test : X → Bool) (xs : List X) → length (map f (filter test xs)) ≤ length xs
+pub few_mapped : {X Y : Type 0} (f : X → Y) (test : X → Bool) (xs : List X) → length (map f (filter test xs)) ≤ length xs
 few_mapped f test xs = omega (arith, length-map (filter test xs) f, filter_few test xs)
 
 few_ended : (before after : List ActiveBearer) → length (ended before after) ≤ length before
 few_ended before after =
     few_mapped (λ (b : ActiveBearer). closed b.life Gone) (λ (b : ActiveBearer). not (has_life after b.life)) before
 
-few_cut : (was_set : Bool) (before after : List ActiveBearer) → length (cut was_set before after) ≤ length before
+pub few_cut : (was_set : Bool) (before after : List ActiveBearer) → length (cut was_set before after) ≤ length before
 few_cut true before after =
     let shared = shared_with after before in
     let one : length (map (λ (b : ActiveBearer). closed b.life Qos) (filter shares_ambr shared)) ≤ length shared =
@@ -169,7 +169,7 @@ few_begun : (before after : List ActiveBearer) → length (begun before after) �
 few_begun before after = few_mapped (λ (b : ActiveBearer). started b.life b.ebi b.qos.qci)
     (λ (b : ActiveBearer). not (has_life before b.life)) after
 
-few_marks : (was_set : Bool) (before after : List ActiveBearer) → length before ≤ 11 → length after ≤ 11
+pub few_marks : (was_set : Bool) (before after : List ActiveBearer) → length before ≤ 11 → length after ≤ 11
     → length (marks_between was_set before after) ≤ 33
 few_marks was_set before after few few_after =
     omega (
@@ -204,11 +204,11 @@ learns past after few few_after =
     }
 
 -- what every past keeps behind so many events
-record AreFewAfter (count : ℕ) (past : SlotPast) : Type 0 where
-  sound : IsSound past
-  rise : Rise 0 past.session.bearers
-  held : length past.packets.held ≤ 16
-  charged : length past.packets.charged ≤ 49 * count
+pub record AreFewAfter (count : ℕ) (past : SlotPast) : Type 0 where
+  pub sound : IsSound past
+  pub rise : Rise 0 past.session.bearers
+  pub held : length past.packets.held ≤ 16
+  pub charged : length past.packets.charged ≤ 49 * count
 
 few_bearers : (past : SlotPast) → IsSound past → Rise 0 past.session.bearers → length past.packets.version.bearers ≤ 11
 few_bearers past sound rise =
@@ -252,7 +252,7 @@ all_few count all past [] is few = subst (λ n. AreFewAfter n past) (let same : 
 all_few count all past (now ∷ later) is few =
     all_few (count + 1) all (behind past now) later (omega arith) (few_behind count past now few)
 
-few_after : (slot : ℕ) (events : List Event) → AreFewAfter (length events) (past_of slot events)
+pub few_after : (slot : ℕ) (events : List Event) → AreFewAfter (length events) (past_of slot events)
 few_after slot events =
     all_few 0 (length events) (new_slot slot) events (omega arith)
     (record { sound = new_sound slot; rise = tt; held = omega arith; charged = omega arith })

@@ -42,7 +42,7 @@ of_effect granted session (CreateAns seq cause ebi row_cause enb) = of_enb sessi
 of_effect denied session (CreateAns seq cause ebi row_cause enb) = refl
 of_effect row session command = refl
 
-of_command : (session : SessionState) (command : CommandKind) → (controlled session command).0.slot ≡ session.slot
+pub of_command : (session : SessionState) (command : CommandKind) → (controlled session command).0.slot ≡ session.slot
 of_command session command = of_effect (row_of session command) session command
 
 of_events : (past : SlotPast) (events : List Event) → (fold behind past events).session.slot ≡ past.session.slot

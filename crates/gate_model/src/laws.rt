@@ -58,7 +58,7 @@ pub fn events_bound_counts()
     ensures { EventsBoundCounts }
 {}
 
-/// Behind fewer than 2^51 events every count of what is charged may rise, and the version that one command
+/// Behind fewer than 2^52 events every count of what is charged may rise, and the version that one command
 /// more leaves follows on the past. At most sixteen packets are held.
 pub fn few_events_are_few()
     ensures charged { FewEventsAreFew }

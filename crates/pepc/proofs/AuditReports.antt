@@ -188,6 +188,7 @@ audit_complete why setup ending source_failed sink_failed octets start left old 
         subst (λ f. Settles f status.Refuted)
         (one_finding setup (texts_of octets).lines (Some reports.1.0) found reports.1.1.finds finds) (inl refl)
     by_status status.BadCapture l text reports read write = absurd reports
+    by_status status.BadState l text reports read write = absurd reports
     by_status status.BadReport l text reports read write = absurd reports
 
     by_left : (l : Option (List ℕ)) → WhereTold (Some octets) l (λ o rest. AuditReports ending why setup o rest runs.text)

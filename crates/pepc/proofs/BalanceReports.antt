@@ -77,6 +77,7 @@ balance_complete slices most ending source_failed sink_failed octets start left 
     by_status status.TooLong l text reports read write = let clash : ended ≡ big = sym stop ∙ reports.0 in cc
     by_status status.Refuted l text reports read write = absurd reports
     by_status status.BadCapture l text reports read write = absurd reports
+    by_status status.BadState l text reports read write = absurd reports
     by_status status.BadReport l text reports read write = absurd (each reports.2)
 
     by_left : (l : Option (List ℕ)) → WhereTold (Some octets) l

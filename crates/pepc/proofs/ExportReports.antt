@@ -14,6 +14,7 @@ use Rattle.trace_run.specs.declared.status.Status.{Status}
 use Rattle.trace_run.specs.declared.status.Status.TheVariants as status
 use Rattle.pepc.specs.Export.{ExportReports, Exports, IsCutExport, IsFirstExport, input_export}
 use Rattle.pepc.specs.ExportProgress.{BreaksOff, Captures, IsFirst}
+use Rattle.trace_run.specs.Beginnings.{whole_input}
 use Rattle.trace_run.specs.Lines.{Begins, Reached, Stops}
 use Rattle.trace_run.specs.Status.{status_at, status_without}
 use Rattle.trace_run.specs.Report.{IsBad, IsDone, IsLong}
@@ -46,20 +47,20 @@ lines_are octets done stop text stops is = is ∙ ap (λ (i : Input). export_of 
 reports_at : (ending : Ending) (octets left text : List ℕ) (done : List Line) → text ≡ export_of done
     → Reached ending octets left done → ExportReports (status_at ending) octets left text
 reports_at Ended octets left text done is reached =
-    (stop_is octets done ended reached.0, reached.1, lines_are octets done ended text reached.0 is)
+    (stop_is whole_input octets done ended reached.0, reached.1, lines_are octets done ended text reached.0 is)
 reports_at ReadFault octets left text done is reached = record {
   taken = reached.taken;
-  stop = stop_is reached.taken.whole done ended reached.stops;
+  stop = stop_is whole_input reached.taken.whole done ended reached.stops;
   capture = lines_are reached.taken.whole done ended text reached.stops is;
 }
 reports_at (BadLine why) octets left text done is reached =
     let stop = bad (length done + 1) why in
-    (subst IsBad (sym (stop_is octets done stop reached)) tt, lines_are octets done stop text reached is)
+    (subst IsBad (sym (stop_is whole_input octets done stop reached)) tt, lines_are octets done stop text reached is)
 reports_at LineLong octets left text done is reached =
     let stop = long (length done + 1) in
-    (subst IsLong (sym (stop_is octets done stop reached)) tt, lines_are octets done stop text reached is)
+    (subst IsLong (sym (stop_is whole_input octets done stop reached)) tt, lines_are octets done stop text reached is)
 reports_at TooLong octets left text done is reached =
-    (stop_is octets done big reached, lines_are octets done big text reached is)
+    (stop_is whole_input octets done big reached, lines_are octets done big text reached is)
 
 -- what waited is written
 pub ends_whole : (ending : Ending) (failed : Type 0) (start left old new : Option (List ℕ)) (now : List ℕ)
@@ -142,6 +143,7 @@ export_complete ending source_failed sink_failed octets start left old new is st
     by_status status.TooLong l text reports read write = let clash : ended ≡ big = sym stop ∙ reports.0 in cc
     by_status status.Refuted l text reports read write = absurd reports
     by_status status.BadCapture l text reports read write = absurd reports
+    by_status status.BadState l text reports read write = absurd reports
     by_status status.BadReport l text reports read write = absurd reports
 
     by_left : (l : Option (List ℕ)) → WhereTold (Some octets) l (λ o rest. ExportReports ending o rest runs.text)

@@ -64,6 +64,7 @@ import_complete ending source_failed sink_failed octets start left old new is st
     by_status status.TooLong l text reports read write = let clash : ended ≡ big = sym stop ∙ reports.0 in cc
     by_status status.Refuted l text reports read write = absurd reports
     by_status status.BadCapture l text reports read write = let clash : ended ≡ bad = sym stop ∙ reports.0 in cc
+    by_status status.BadState l text reports read write = absurd reports
     by_status status.BadReport l text reports read write = absurd reports
 
     by_left : (l : Option (List ℕ)) → WhereTold (Some octets) l (λ o rest. ImportReports ending o rest runs.text)

@@ -15,12 +15,12 @@ use Rattle.trace_run.specs.declared.ending.Ending.TheVariants.{Ended}
 use Rattle.trace_run.specs.Report.{IsText, IsWholeLines}
 use Rattle.trace_run.specs.Reporting.{IsDue, Standing}
 use Rattle.trace_run.specs.Takers.{IsNextOf}
-use Rattle.pepc.specs.declared.solo.Solo.{Solo}
+use Rattle.solo_run.specs.declared.solo.Solo.{Solo}
 use Rattle.pepc.specs.Counting.{CountedSoFar, Counting, CountsMore}
-use Rattle.pepc.specs.Entries.{text_line}
+use Rattle.solo_run.specs.Entries.{text_line}
 use Rattle.pepc.specs.Make.{IsCounted}
-use Rattle.pepc.specs.Progress.{HasAnswered}
-use Rattle.pepc.specs.Report.{IsSoloReport}
+use Rattle.solo_run.specs.Progress.{HasAnswered}
+use Rattle.solo_run.specs.Report.{IsSoloReport}
 
 -- what is said of an option that is known
 pub at_some : {A : Type 0} (P : Type 0) (Q : A → Type 0) (o : Option A) (value : A) → o ≡ Some value

@@ -57,6 +57,7 @@ AuditReports status.TooLong why setup octets left text = ((texts_of octets).stop
 AuditReports status.Refuted why setup octets left text =
     IsReadWhole octets left × ((k : ℕ) × SaysWhole why setup octets text (Some k))
 AuditReports status.BadCapture why setup octets left text = ⊥
+AuditReports status.BadState why setup octets left text = ⊥
 AuditReports status.BadReport why setup octets left text = ⊥
 
 -- octets were appended to what a sink tells, and they say what is found of those that a source told

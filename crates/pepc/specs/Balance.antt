@@ -30,6 +30,7 @@ BalanceReports status.LineLong slices most octets left text = Reports balanced.L
 BalanceReports status.TooLong slices most octets left text = Reports balanced.TooLong slices most octets left text
 BalanceReports status.Refuted slices most octets left text = ⊥
 BalanceReports status.BadCapture slices most octets left text = ⊥
+BalanceReports status.BadState slices most octets left text = ⊥
 BalanceReports status.BadReport slices most octets left text = Reports balanced.BadReport slices most octets left text
 
 -- octets were appended to what a sink tells, and they are what is written of those that a source told

@@ -5,9 +5,9 @@ use Rattle.trace_lines.specs.Line.{Line}
 use Rattle.trace_maker.specs.Numbering.{AreInOrder}
 use Rattle.trace_run.specs.declared.epoch.Size.{Size}
 use Rattle.trace_run.specs.Reporting.{Standing}
-use Rattle.pepc.specs.declared.solo.Solo.{Solo}
-use Rattle.pepc.specs.Progress.{HasAnswered}
-use Rattle.pepc.specs.Report.{IsSoloReport}
+use Rattle.solo_run.specs.declared.solo.Solo.{Solo}
+use Rattle.solo_run.specs.Progress.{HasAnswered}
+use Rattle.solo_run.specs.Report.{IsSoloReport}
 
 -- counts grow by those of a text
 abbrev pub CountsMore : EntryCounts → EntryCounts → List ℕ → Type 0

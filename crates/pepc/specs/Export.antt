@@ -42,6 +42,7 @@ ExportReports status.LineLong octets left text = IsLong (input_of octets).stop �
 ExportReports status.TooLong octets left text = ((input_of octets).stop ≡ big) × (text ≡ input_export octets)
 ExportReports status.Refuted octets left text = ⊥
 ExportReports status.BadCapture octets left text = ⊥
+ExportReports status.BadState octets left text = ⊥
 ExportReports status.BadReport octets left text = ⊥
 
 -- octets were appended to what a sink tells, and they are the capture of what a source told

@@ -29,6 +29,7 @@ ImportReports status.LineLong octets left text = ⊥
 ImportReports status.TooLong octets left text = (stop_of octets ≡ big) × (text ≡ input_text octets)
 ImportReports status.Refuted octets left text = ⊥
 ImportReports status.BadCapture octets left text = (stop_of octets ≡ bad) × (text ≡ input_text octets)
+ImportReports status.BadState octets left text = ⊥
 ImportReports status.BadReport octets left text = ⊥
 
 -- octets were appended to what a sink tells, and they are the trace of what a source told

@@ -11,6 +11,8 @@ use Rattle.audit_run.specs.Findings.{Finds}
 use Rattle.audit_reading.specs.Texts as texts
 use Rattle.audit_reading.specs.Said.{HasNoEntry, report_texts}
 use Rattle.balance_run.specs.Said.{IsTrace}
+use Rattle.resume_laws.specs.Resumes.{CompletesResume, Resumes}
+use Rattle.save_run.specs.Saves.{Saves}
 use Rattle.pepc.specs.Audit.{Audits, Settles, audit_setup}
 use Rattle.pepc.specs.Balance.{Balances}
 use Rattle.pepc.specs.Drive.{schedule_asked}
@@ -18,7 +20,7 @@ use Rattle.pepc.specs.Export.{Exports}
 use Rattle.pepc.specs.Import.{Imports}
 use Rattle.pepc.specs.Make.{Makes}
 use Rattle.pepc.specs.Replay.{setup_asked}
-use Rattle.pepc.specs.Report.{IsSoloReport}
+use Rattle.solo_run.specs.Report.{IsSoloReport}
 use Rattle.trace_run.specs.Report.{IsDone, Runs}
 
 -- The job that is done without threads: `replay` starts some, so it is none.
@@ -31,6 +33,8 @@ without_threads job.Import = Some job.Import
 without_threads job.Export = Some job.Export
 without_threads (job.Audit solo slices room lane why) = Some (job.Audit solo slices room lane why)
 without_threads (job.Balance slices most) = Some (job.Balance slices most)
+without_threads job.Save = Some job.Save
+without_threads job.Resume = Some job.Resume
 
 abbrev pub plain_job : Option Job → Option Job
 plain_job asked = option_and_then without_threads asked
@@ -54,6 +58,8 @@ Does (Some (job.Audit solo slices room lane why)) ending source_failed start lef
     Audits why (audit_setup solo slices room lane) ending start left old new
 Does (Some (job.Balance slices most)) ending source_failed start left old new =
     Balances slices most ending start left old new
+Does (Some job.Save) ending source_failed start left old new = Saves ending start left old new
+Does (Some job.Resume) ending source_failed start left old new = Resumes ending source_failed start left old new
 
 -- Where nothing failed and the octets end as they should, a job is done, unless memory ran out.
 abbrev pub Completes : Option Job → Status → Option (List ℕ) → Type 0
@@ -75,3 +81,6 @@ Completes (Some (job.Audit solo slices room lane why)) ending start =
 Completes (Some (job.Balance slices most)) ending start =
     (octets : List ℕ) → start ≡ Some octets → (texts.texts_of octets).stop ≡ texts.ended
     → IsTrace (texts.texts_of octets).lines → ¬ HasNoEntry (report_texts (texts.texts_of octets).lines) → IsDone ending
+Completes (Some job.Save) ending start =
+    (octets : List ℕ) → start ≡ Some octets → (input_of octets).stop ≡ ended → IsDone ending
+Completes (Some job.Resume) ending start = CompletesResume ending start

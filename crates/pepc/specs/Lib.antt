@@ -1,11 +1,5 @@
-pub mod Places
-pub mod Report
-pub mod Entries
-pub mod Gathering
-pub mod Standing
 pub mod Counting
 pub mod Make
-pub mod Progress
 pub mod Audit
 pub mod Balance
 pub mod Export

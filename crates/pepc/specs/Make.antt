@@ -8,7 +8,7 @@ use Rattle.trace_lines.specs.Line.{Line}
 use Rattle.trace_maker.specs.Generated.{made, text_of}
 use Rattle.trace_run.specs.declared.status.Status.{Status}
 use Rattle.trace_run.specs.declared.status.Status.TheVariants as status
-use Rattle.pepc.specs.Report.{IsSoloReport}
+use Rattle.solo_run.specs.Report.{IsSoloReport}
 use Rattle.trace_run.specs.Report.{IsText}
 
 -- the counts are those of the report that one thread gives of these lines
@@ -57,6 +57,7 @@ Made status.LineLong summary lines text = ⊥
 Made status.TooLong summary lines text = ⊥
 Made status.Refuted summary lines text = ⊥
 Made status.BadCapture summary lines text = ⊥
+Made status.BadState summary lines text = ⊥
 Made status.BadReport summary lines text = ⊥
 
 -- a run of `make` that ended with this status: the sink before and after

@@ -52,6 +52,8 @@ impl LineTaker for Capture {
 
     ghost represents = { λ first now done latest. Captures now.waiting.items done };
 
+    ghost begins = { λ first. 1 };
+
     ghost breaks = { λ first. BreaksOff };
 
     // Appends the record of the line. A piece that is long enough is written.

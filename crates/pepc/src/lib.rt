@@ -5,17 +5,14 @@
 mod audit;
 mod balance;
 mod drive;
-mod entry_text;
 mod export;
-mod gathered;
 mod import;
 mod laws;
 mod make;
 mod plain;
 mod refuting;
 mod replay;
-mod run;
-mod solo;
+mod resume;
 mod summary;
 mod words;
 

@@ -11,10 +11,13 @@ use crate::drive::drive;
 use crate::export::export;
 use crate::import::import;
 use crate::make::make;
-use crate::run::solo;
+use crate::resume::resume;
 use audit_reading::Setup;
 use command_words::{Job, job};
 use pc_outside::{Sink, Source};
+use save_run::save;
+use solo_run::solo;
+use state_run::lines_say_one_state;
 use std::alloc::{AllocError, Global};
 use trace_run::Status;
 
@@ -72,6 +75,8 @@ pub(crate) fn do_job<S: Source, K: Sink>(
             audit(alloc, &setup, why, source, sink)
         }
         Job::Balance { slices, most } => balance(alloc, slices, most, source, sink),
+        Job::Save => save(alloc, source, sink),
+        Job::Resume => resume(alloc, source, sink),
     }
 }
 
@@ -79,7 +84,8 @@ pub(crate) fn do_job<S: Source, K: Sink>(
 /// its report to the sink, epoch by epoch, as one thread answers it or under a schedule of turns; `make` writes a
 /// generated trace, or the summary of its report; `import` makes a trace of a capture, and `export` a capture of a
 /// trace; `audit` reads a trace and a report of it, and writes whether the report is a lawful one, and `balance` the
-/// trace with planned moves. Other arguments are Usage, and so is `replay`, which starts threads.
+/// trace with planned moves; `save` writes the state that a trace leaves, and `resume` the report of a trace behind a
+/// state. Other arguments are Usage, and so is `replay`, which starts threads.
 pub fn run_plain<S: Source, K: Sink>(
     alloc: Global,
     arguments: &[String],
@@ -115,6 +121,7 @@ pub fn run_plain<S: Source, K: Sink>(
     ensures read_fault { result ≡ Status.ReadFault → Rises (S.faults source.old) (S.faults source.new) }
     ensures write_fault { result ≡ Status.WriteFault → Rises (K.faults sink.old) (K.faults sink.new) }
 {
+    lines_say_one_state();
     match job(alloc, arguments) {
         Ok(Some(asked)) => do_job(alloc, asked, source, sink),
         Ok(None) => Status::Usage,

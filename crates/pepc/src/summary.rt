@@ -9,8 +9,8 @@ ghost use Rattle.trace_run.specs.Takers.{IsNextOf};
 ghost use Rattle.pepc.specs.Counting.{CountedSoFar};
 ghost use Rattle.pepc.specs.Make.{IsCounted};
 
-use crate::solo::Solo;
 use entry_counts::EntryCounts;
+use solo_run::Solo;
 use std::alloc::{AllocError, Global};
 use text_fields::Text;
 use trace_lines::{TraceLine, push_text};

@@ -10,6 +10,7 @@ use crate::replay::replay;
 use command_words::{Job, job};
 use pc_outside::{Sink, Source};
 use replay_run::Pace;
+use state_run::lines_say_one_state;
 use std::alloc::{AllocError, Global};
 use std::sync::Wait;
 use std::thread::Threads;
@@ -96,6 +97,7 @@ pub fn run_words<R: Threads + Wait + Sync, S: Source, K: Sink>(
     ensures read_fault { result ≡ Status.ReadFault → Rises (S.faults source.old) (S.faults source.new) }
     ensures write_fault { result ≡ Status.WriteFault → Rises (K.faults sink.old) (K.faults sink.new) }
 {
+    lines_say_one_state();
     match job(alloc, arguments) {
         Ok(Some(asked)) => run_job(rt, alloc, asked, source, sink),
         Ok(None) => Status::Usage,

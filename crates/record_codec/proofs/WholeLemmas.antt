@@ -1,11 +1,15 @@
 -- A subscriber and a file as their readers put them together.
-use Rattle.std.proofs.Common.{◌≡◌, ℕ, ◌<◌, ◌≤◌, ◌^◌, Bool, true, false, cond, List, [], ◌∷◌, length, Option, Some, None, refl, sym, ap, ◌∙◌, arith}
+use Rattle.std.proofs.Common.{◌≡◌, ℕ, ◌<◌, ◌≤◌, ◌^◌, ◌&&◌, Bool, true, false, cond, List, [], ◌∷◌, length, Option, Some, None, refl, sym, ap, ◌∙◌, subst, arith}
 use Rattle.std.specs.Prelude.{map, nat_eq, All}
 use Rattle.std.specs.Option.{option_and_then}
 use Rattle.std.specs.List.{AllByRecursion, cons_option}
 use Rattle.std.specs.Int.{w32}
+use Rattle.std.proofs.lemmas.Bool.{and_parts}
 use Rattle.std.proofs.lemmas.Option.{none-some}
 use Rattle.std.proofs.lemmas.List.Elements.{All-from_recursion}
+use Rattle.charging_book.specs.Accounts.{AreDistinct}
+use Rattle.charging_book.specs.Parts.{are_parts}
+use Rattle.charging_book.proofs.PartLemmas.{parts_distinct}
 use Rattle.bearer_state.specs.declared.bearer.Bearer.{Bearer}
 use Rattle.bearer_state.specs.declared.version.ActiveBearer.{ActiveBearer}
 use Rattle.bearer_state.specs.Bearer.{AreBearers}
@@ -13,8 +17,10 @@ use Rattle.bearer_state.specs.Session.{SessionState}
 use Rattle.bearer_state.specs.Version.{VersionState, IsVersion, IsActiveBearer, version_of, actives, active_in}
 use Rattle.bearer_state.proofs.Few.{few_bearers}
 use Rattle.packet_steps.specs.Standing.{CountersState}
-use Rattle.packet_steps.specs.Parts.{PartsState, IsMadeOf, fit}
+use Rattle.packet_steps.specs.Parts.{PartsState, IsMadeOf, buckets_fit, fit, held_fit, may_fit, pieces_fit, were_asked}
 use Rattle.subscriber.specs.Standing.{SubscriberState}
+use Rattle.parts_laws.proofs.FitLemmas.{fitting_open}
+use Rattle.parts_laws.proofs.PieceLemmas.{lives_are}
 use Rattle.record_codec.specs.declared.fault.Fault.{Fault}
 use Rattle.record_codec.specs.declared.fault.Fault.TheVariants as fault
 use Rattle.record_codec.specs.Saved.{SavedSubscriber, FileState, IsFile, IsResting, all_saved, parts_of, imsi_of}
@@ -185,20 +191,37 @@ subscriber_not moment slot octets r1 r2 r3 r4 r5 r6 imsi session commands packet
     e5 read
     ∙ fits_not one r6 (ap (λ v. fit v parts) (sym is) ∙ fits)
 
--- a subscriber of these parts is at rest
+-- a subscriber of these parts is at rest, where they fit
 pub resting_is : (session : SessionState) (commands packets destination : ℕ) (version : VersionState) (parts :
     PartsState)
     (counters : CountersState) → version ≡ version_of session commands → IsMadeOf version parts counters
-    → IsResting (record {
+    → fit version parts ≡ true → IsResting (record {
       session = session;
       version = version;
       counters = counters;
       packets = packets;
       destination = destination;
     })
-resting_is session commands packets destination version parts counters is made =
+resting_is session commands packets destination version parts counters is made fits =
     let number_is : commands ≡ version.number = sym (ap (λ (v : VersionState). v.number) is) in
-    record { version = is ∙ ap (version_of session) number_is; rows = made.rows; sized = made.sized }
+    let rests = held_fit parts.last version.bearers parts.held && pieces_fit version.bearers parts.pieces in
+    let asked = were_asked parts.last parts.buckets && rests in
+    let all = and_parts (may_fit version parts) (are_parts parts.pieces) fits in
+    let behind_buckets = and_parts (buckets_fit version parts.buckets) asked all.0 in
+    let behind_asked = and_parts (were_asked parts.last parts.buckets) rests behind_buckets.1 in
+    let behind_held = and_parts (held_fit parts.last version.bearers parts.held)
+    (pieces_fit version.bearers parts.pieces) behind_asked.1 in
+    record {
+      version = is ∙ ap (version_of session) number_is;
+      rows = made.rows;
+      sized = made.sized;
+      has_pieces = record {
+        pieces = parts.pieces;
+        are = made.parts_are.pieces;
+        apart = subst AreDistinct (lives_are parts.pieces) (parts_distinct parts.pieces all.1);
+        open_ = fitting_open version parts.pieces behind_held.1 all.1;
+      };
+    }
 
 -- ---- the whole file
 

@@ -9,7 +9,8 @@ use Rattle.rate_policer.specs.Conforming.{burst}
 use Rattle.charging_book.specs.declared.records.Piece.{Piece}
 use Rattle.charging_book.specs.Rows.{Counters, Moments}
 use Rattle.charging_book.specs.Pieces.{volume}
-use Rattle.charging_book.specs.Parts.{piece_of}
+use Rattle.charging_book.specs.Accounts.{AreDistinct}
+use Rattle.charging_book.specs.Parts.{ArePiecesOf, piece_of}
 use Rattle.tft_codec.specs.Filter.{AreFilters}
 use Rattle.bearer_state.specs.declared.bearer.Bearer.{Bearer}
 use Rattle.bearer_state.specs.declared.kept.Kept.{Kept}
@@ -21,6 +22,8 @@ use Rattle.packet_steps.specs.Rows.{HeldRow}
 use Rattle.packet_steps.specs.Standing.{CountersState}
 use Rattle.packet_steps.specs.Parts.{PartsState, buckets_in, fit}
 use Rattle.subscriber.specs.Standing.{SubscriberState}
+use Rattle.parts_laws.specs.Alike.{life_of}
+use Rattle.parts_laws.specs.Charging.{AreOpen}
 use Rattle.address_book.specs.Book.{IsBook}
 
 -- a subscriber as it is saved: its IMSI, its session, how many commands and packets came, the slice that it is bound
@@ -172,11 +175,19 @@ pub record IsFile (file : FileState) : Type 0 where
   pub book : IsBook (map imsi_of file.subscribers)
   pub subscribers : AreSaved file.moment 0 file.subscribers
 
+-- a subscriber's pieces are those of its active bearers, one each
+pub record HasItsPieces (subscriber : SubscriberState) : Type 0 where
+  pub pieces : List Piece
+  pub are : ArePiecesOf subscriber.counters.book pieces
+  pub apart : AreDistinct (map life_of pieces)
+  pub open_ : AreOpen subscriber.version pieces
+
 -- a subscriber that was read is at rest: its version is that of its session, and its records were taken out
 pub record IsResting (subscriber : SubscriberState) : Type 0 where
   pub version : subscriber.version ≡ version_of subscriber.session subscriber.version.number
   pub rows : subscriber.counters.book.rows ≡ []
   pub sized : length subscriber.counters.meters.own ≡ 11
+  pub has_pieces : HasItsPieces subscriber
 
 -- what its octets need room for: the kept answer, and the packets that are held
 pub record IsWritable (subscriber : SubscriberState) : Type 0 where

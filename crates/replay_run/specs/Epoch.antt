@@ -12,7 +12,7 @@ use Rattle.trace_run.specs.Entries.{closing_text, lines_text}
 use Rattle.trace_run.specs.Noted.{noted}
 use Rattle.replay_run.specs.declared.epochs.Pace.{Pace}
 
--- The report is a lawful one of the lines, whatever the schedule; it is told with the note of a bad line, where there is
+-- The report is a lawful one of the lines, whatever the schedule; it is told with the note of a bad line, if there is
 -- one; and behind each refusal are as many tries, each answered Full, as the patience says, and one.
 pub record IsReplayed (old : Rest) (lines : List Line) (pace : Pace) (bad : Option LineBad) (n : ℕ) (places : Bool)
     (before after : List ℕ) (new : Rest) : Type 0 where

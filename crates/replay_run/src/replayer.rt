@@ -54,6 +54,8 @@ impl<'r, R: Threads + Wait + Sync> Reporter for Replayer<'r, R> {
 
     ghost places = { λ first. first.replay.places };
 
+    ghost begins = { λ first. 1 };
+
     ghost represents = { λ first now done latest closed open_ sent waiting. IsSync R.row
         × Replayed first.replay now.replay done latest closed open_ sent waiting };
 

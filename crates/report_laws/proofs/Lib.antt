@@ -4,12 +4,8 @@ mod Confirmed
 mod Marks
 mod Fates
 mod HeldTold
-mod Octets
 mod OctetsTold
-mod SessionsIn
-mod PacketsIn
 mod EventsIn
-mod ChargesIn
 mod EntriesIn
 mod OctetsConfirmed
 mod RunConfirmed

@@ -9,7 +9,7 @@ use Rattle.command_words.specs.declared.turns.Turns.{Turns}
 use Rattle.drive_run.specs.Driven.{IsDrivenReport}
 use Rattle.pepc.specs.Drive.{schedule_asked}
 use Rattle.pepc.specs.Replay.{setup_asked}
-use Rattle.pepc.specs.Report.{IsSoloReport}
+use Rattle.solo_run.specs.Report.{IsSoloReport}
 use Rattle.pepc.specs.Audit.{audit_setup}
 use Rattle.report_laws.specs.Confirming.{IsOwnText, audited_octets}
 use Rattle.report_laws.specs.Running.{AreLawful, EachIsLawful, IsOwnRun, OwnRunIsConfirmed, OwnRunIsNeverRefuted}

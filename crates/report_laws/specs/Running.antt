@@ -11,7 +11,7 @@ use Rattle.pepc.specs.Audit.{AuditReports, audit_setup}
 use Rattle.pepc.specs.Jobs.{Completes}
 use Rattle.pepc.specs.Drive.{schedule_asked}
 use Rattle.pepc.specs.Replay.{setup_asked}
-use Rattle.pepc.specs.Report.{IsSoloReport}
+use Rattle.solo_run.specs.Report.{IsSoloReport}
 use Rattle.drive_run.specs.Driven.{IsDrivenReport}
 use Rattle.lawful_run.specs.Report.{Report}
 use Rattle.lawful_run.specs.Setup.{Setup, solo}

@@ -1,5 +1,5 @@
 -- How far a state was read, line after line.
-use Rattle.std.proofs.Common.{◌≡◌, ℕ, ◌≤◌, Bool, true, false, List, [], ◌∷◌, ◌++◌, Option, None, Some, refl, sym, ap, ◌∙◌, inl, inr, arith, append-nil}
+use Rattle.std.proofs.Common.{◌≡◌, ℕ, ◌≤◌, Bool, true, false, List, [], ◌∷◌, ◌++◌, Option, None, Some, Result, Ok, Err, IfErr, refl, sym, ap, ◌∙◌, inl, inr, arith, append-nil}
 use Rattle.pc_outside.specs.Line.{HoldsLine}
 use Rattle.pc_outside.specs.LineReads.{Reads}
 use Rattle.pc_outside.specs.WhereTold.{WhereTold}
@@ -14,6 +14,11 @@ use Rattle.record_codec.specs.Saved.{FileState}
 use Rattle.state_run.specs.declared.reading.StateRead.TheVariants as read
 use Rattle.state_run.specs.Front.{SaysState, SaysNone, others_in}
 use Rattle.state_run.specs.Reading.{AreRead, Found, HasFound, IsBadState, IsBig, IsLong}
+
+-- what holds in any case, at an error
+pub in_err : {T E : Type 0} (P : Type 0) (r : Result T E) → P → IfErr r (λ e. P)
+in_err P (Ok x) is = tt
+in_err P (Err e) is = is
 
 -- a line takes room
 pub less_room : (room after : ℕ) (octets rest line : List ℕ) (last : Bool) → HoldsLine room after octets rest line last
@@ -32,7 +37,7 @@ line_more (Some octets) (Some ahead) (Some rest) room after line false done befo
     inl (read_more (Some octets) (Some ahead) (Some rest) room after line false done refl before reads)
 line_more (Some octets) (Some ahead) (Some rest) room after line true done before reads =
     let e = ends_last (Some octets) (Some ahead) (Some rest) room after line true [] done refl before reads in
-    inr (e.0.1, e.1, e.0.0)
+    inr (e.0.1, e.1, e.0.0, reads.form.more)
 
 pub state_read : (start a b : Option (List ℕ)) (room after : ℕ) (line : Text) (last : Bool) (done : List Text)
     (file : FileState) → WhereTold start a (λ octets rest. HasRead octets rest room done)

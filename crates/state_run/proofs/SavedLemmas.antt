@@ -172,7 +172,7 @@ tails : (one other : Text) (texts others : List Text) → one ∷ texts ≡ othe
 tails one other texts others same = cc
 
 -- the lines up to the first one that is none of a state are the same in all that begin with them
-one_front : (texts others behind more : List Text) (one other : Text) → others_in texts ≡ one ∷ []
+pub one_front : (texts others behind more : List Text) (one other : Text) → others_in texts ≡ one ∷ []
     → others_in others ≡ other ∷ [] → texts ++ behind ≡ others ++ more → texts ≡ others
 one_front [] others behind more one other first second same = cc
 one_front (text ∷ texts) [] behind more one other first second same = cc

@@ -1,5 +1,5 @@
 -- What came of reading a state.
-use Rattle.std.specs.Prelude.{◌≡◌, ℕ, ◌⊎◌, List, [], Option}
+use Rattle.std.specs.Prelude.{◌≡◌, ℕ, ◌<◌, ◌⊎◌, List, [], Option}
 use Rattle.pc_outside.specs.WhereTold.{WhereTold}
 use Rattle.audit_reading.specs.Texts.{Text, Texts, after_lines, texts_of, big, ended, long}
 use Rattle.audit_reading.specs.Progress.{HasRead, IsTaken}
@@ -9,11 +9,11 @@ use Rattle.state_run.specs.declared.reading.StateRead.TheVariants as read
 use Rattle.state_run.specs.Front.{SaysState, SaysNone, others_in}
 
 -- octets begin with these lines, and those ahead are left with this room; or they are all of them, and the last line
--- has no newline
+-- has no newline and leaves room
 abbrev pub AreRead : (octets rest : List ℕ) → ℕ → List Text → Type 0
 AreRead octets rest room texts =
     HasRead octets rest room texts
-    ⊎ ((rest ≡ []) × ((texts_of octets).lines ≡ texts) × ((texts_of octets).stop ≡ ended))
+    ⊎ ((rest ≡ []) × ((texts_of octets).lines ≡ texts) × ((texts_of octets).stop ≡ ended) × (0 < room))
 
 -- the lines that were read have the state of this file, and behind them comes the trace
 abbrev pub HasFound : FileState → (octets rest : List ℕ) → ℕ → Type 0

@@ -1,7 +1,8 @@
 //! A state before a trace, read line by line.
-ghost use Rattle.std.specs.Prelude.{◌≡◌, ◌≤◌, ◌^◌, [], false, IfOk};
+ghost use Rattle.std.specs.Prelude.{◌≡◌, ◌≤◌, ◌^◌, [], false, IfErr, IfOk};
 ghost use Rattle.std.specs.Io.KnownBytes.{prepend_known};
 ghost use Rattle.pc_outside.specs.Faults.{Rises};
+ghost use Rattle.pc_outside.specs.WhereTold.{WhereTold};
 ghost use Rattle.state_run.specs.Reading.{Found, Stopped};
 
 use crate::NoMemory;
@@ -40,6 +41,9 @@ pub fn read_state<S: Source>(
 
     // Why none was found.
     ensures stopped { IfOk result (λ read. Stopped read (S.left source.old) (S.left source.new)) }
+
+    // Out of memory: a source that told its octets tells what is left.
+    ensures cut { IfErr result (λ why. WhereTold (S.left source.old) (S.left source.new) (λ octets rest. Unit {0})) }
 
     ensures later { S.faults source.old ≤ S.faults source.new }
     ensures fault { IfOk result (λ read. read ≡ StateRead.ReadFault

@@ -1,5 +1,5 @@
 //! A state file to its text.
-ghost use Rattle.std.specs.Prelude.{◌≡◌, ◌<◌, ◌++◌, length, IfOk, OnOk};
+ghost use Rattle.std.specs.Prelude.{◌≡◌, ◌<◌, ◌++◌, length, All, IfOk, OnOk};
 ghost use Rattle.record_codec.specs.Spelling.{state};
 ghost use Rattle.state_run.specs.Text.{IsStateText, state_line};
 
@@ -19,11 +19,17 @@ pub(crate) const TRACE_WORD: &[u8] = b"TRACE";
 
 /// The text of the state of a file: its octets in lines, and the line `TRACE`.
 pub fn saved_text(alloc: Global, file: &StateFile) -> Result<Text, NoMemory>
-    ensures { IfOk result (λ text. IsStateText (state file.now) text) }
+    ensures text { IfOk result (λ text. IsStateText (state file.now) text) }
+    ensures octets { IfOk result (λ _. All (λ octet. octet < 256) (state file.now)) }
 {
     let octets = record_codec::text(alloc, file)?;
+    known_octets(octets.as_slice());
     text_of(alloc, octets.as_slice())
 }
+
+fn known_octets(octets: &[u8])
+    ensures { All (λ octet. octet < 256) octets.now }
+{}
 
 fn text_of(alloc: Global, octets: &[u8]) -> Result<Text, NoMemory>
     requires { 0 < length octets.now }

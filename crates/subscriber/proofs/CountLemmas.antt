@@ -60,12 +60,12 @@ past_counts slot events = omega (arith, counts_from (new_slot slot) events)
 
 -- so few events that the counts may rise
 pub counts_are_few : (subscriber : SubscriberState) → HasRoom subscriber
-    → commands_met subscriber + subscriber.packets < 2 ^ 51
+    → commands_met subscriber + subscriber.packets < 2 ^ 52
 counts_are_few subscriber room = room.few
 
 pub events_are_few : (subscriber : SubscriberState) (slot : ℕ) (events : List Event) (taken : ℕ)
     → HasRoom subscriber → StandsFor subscriber slot events taken
-    → length events < 2 ^ 51
+    → length events < 2 ^ 52
 events_are_few subscriber slot events taken room stands =
     omega (arith, room.few, all_counted events, stands.commands, stands.packets)
 

@@ -11,7 +11,7 @@ use std::alloc::Global;
 use std::marker::Model;
 
 /// No subscriber has as many commands and packets.
-const MOST_EVENTS: u64 = 0x8_0000_0000_0000;
+const MOST_EVENTS: u64 = 0x10_0000_0000_0000;
 
 /// A subscriber between two events. A contract speaks of it by the events of its slot, and by how many
 /// of their charging records were taken out: it represents these.
@@ -234,7 +234,7 @@ impl Subscriber {
         self.version.bearers()
     }
 
-    /// Whether its counts may rise: each is below 2^51.
+    /// Whether its counts may rise: each is below 2^52.
     pub fn has_room(&self) -> bool
         ensures { IsTrue result ↔ HasRoom self.now }
     {

@@ -1,5 +1,6 @@
 -- The lines of a report: an entry's text and a newline.
 use Rattle.std.specs.Prelude.{◌==◌, ℕ, Bool, Option, None, Some, List, [], ◌∷◌, ◌++◌, find, flat_map, map}
+use Rattle.bearer_state.specs.declared.version.ActiveBearer.{ActiveBearer}
 use Rattle.charging_book.specs.Rows.{Counters}
 use Rattle.report_lines.specs.Records.{Effected}
 use Rattle.report_lines.specs.Text.{entry_text}
@@ -9,6 +10,7 @@ use Rattle.report_lines.specs.declared.entry.Entry.{Entry}
 use Rattle.report_lines.specs.declared.entry.Entry.TheVariants as entry
 use Rattle.report_lines.specs.declared.entry.LineEntry.{LineEntry}
 use Rattle.lawful_run.specs.Report.{EpochReport, epoch_entries, texts_of}
+use Rattle.subscriber.specs.Standing.{SubscriberState}
 
 -- an entry as it stands, and a newline
 abbrev pub line_of : Entry → List ℕ
@@ -39,3 +41,8 @@ open_entry slot None = []
 
 abbrev pub open_for : ℕ → List Counters → ℕ → List ChargeEntry
 open_for slot counted life = open_entry slot (find (λ (counters : Counters). counters.life == life) counted)
+
+-- those that a subscriber holds of its active bearers, by index
+abbrev pub opens_held : SubscriberState → List ChargeEntry
+opens_held one = flat_map (λ (bearer : ActiveBearer).
+    open_for one.session.slot one.counters.book.opens bearer.life) one.version.bearers

@@ -2,6 +2,7 @@ pub mod Entries
 pub mod Next
 pub mod Cut
 pub mod Status
+pub mod Beginnings
 pub mod Report
 pub mod Lines
 pub mod Noted

@@ -5,13 +5,14 @@ use Rattle.std.specs.Io.KnownBytes.{Appends}
 use Rattle.pc_outside.specs.Line.{NoNewline}
 use Rattle.pc_outside.specs.Limits.{newline, line_max}
 use Rattle.trace_lines.specs.Epochs.{epochs_of}
-use Rattle.trace_lines.specs.Input.{Input, Stop, bad, long, big, ended, input_of}
+use Rattle.trace_lines.specs.Input.{Input, Stop, bad, long, big, ended}
 use Rattle.trace_lines.specs.Line.{Line}
 use Rattle.lawful_run.specs.Report.{Report, epoch_entries, report_text, texts_of}
 use Rattle.lawful_run.specs.Trace.{is_whole}
 use Rattle.trace_run.specs.declared.status.Status.{Status}
 use Rattle.trace_run.specs.declared.status.Status.TheVariants as status
 use Rattle.pc_outside.specs.WhereTold.{WhereTold}
+use Rattle.trace_run.specs.Beginnings.{Beginning, input_from, whole_input}
 
 -- Which reports an input may have is a relation, and whether places are told in its text a choice; the definitions
 -- below hold for any of them. The text is that of a report that the input may have.
@@ -42,29 +43,33 @@ IsWholeLines octets = (octets ≡ []) ⊎ ((front : List ℕ) × (octets ≡ fro
 
 -- What was taken of the octets is whole lines and an unfinished one, and these are left. The unfinished one isn't too
 -- long, and not all octets were taken that are looked at.
-pub record Taken (octets left : List ℕ) : Type 0 where
+pub record TakenFrom (begin : Beginning) (octets left : List ℕ) : Type 0 where
   pub whole : List ℕ
   pub unfinished : List ℕ
   pub parts : octets ≡ whole ++ unfinished ++ left
   pub lines : IsWholeLines whole
   pub no_newline : NoNewline unfinished
   pub short : length unfinished ≤ line_max
-  pub within : length whole + length unfinished < 2 ^ 40
+  pub within : length whole + length unfinished < begin.room
+
+abbrev pub Taken : (octets left : List ℕ) → Type 0
+Taken octets left = TakenFrom whole_input octets left
 
 -- the report of the whole lines that were taken, none of which is bad or long
-pub record IsFaultText (may_have : Input → Report → Type 0) (places : Bool) (octets left text : List ℕ) : Type 0 where
-  pub taken : Taken octets left
-  pub stop : (input_of taken.whole).stop ≡ ended
-  pub report : IsText may_have places (input_of taken.whole) text
+pub record IsFaultText (begin : Beginning) (may_have : Input → Report → Type 0) (places : Bool)
+    (octets left text : List ℕ) : Type 0 where
+  pub taken : TakenFrom begin octets left
+  pub stop : (input_from begin taken.whole).stop ≡ ended
+  pub report : IsText may_have places (input_from begin taken.whole) text
 
 -- a prefix of what another status would have left: of the whole report, or of that of the lines taken where the source
 -- failed; or a prefix of the text of some first whole epochs, without open counters
-pub record IsCutText (may_have : Input → Report → Type 0) (places : Bool) (source_failed : Type 0)
-    (octets left text : List ℕ) : Type 0 where
+pub record IsCutText (begin : Beginning) (may_have : Input → Report → Type 0) (places : Bool)
+    (source_failed : Type 0) (octets left text : List ℕ) : Type 0 where
   pub more : List ℕ
-  pub whole : IsText may_have places (input_of octets) (text ++ more)
-      ⊎ ((source_failed × IsFaultText may_have places octets left (text ++ more))
-      ⊎ IsEpochsText may_have places (input_of octets) (text ++ more))
+  pub whole : IsText may_have places (input_from begin octets) (text ++ more)
+      ⊎ ((source_failed × IsFaultText begin may_have places octets left (text ++ more))
+      ⊎ IsEpochsText may_have places (input_from begin octets) (text ++ more))
 
 -- the input stops at a bad line, or at a long one
 abbrev pub IsBad : Stop → Type 0
@@ -80,31 +85,44 @@ IsLong big = ⊥
 IsLong ended = ⊥
 
 -- what a run with this status wrote, where the source had these octets and has those left
-abbrev pub Reports : (Input → Report → Type 0) → Bool → Status → Type 0 → List ℕ → List ℕ → List ℕ → Type 0
-Reports may_have places status.Ok source_failed octets left text =
-    ((input_of octets).stop ≡ ended) × (left ≡ []) × IsText may_have places (input_of octets) text
-Reports may_have places status.Usage source_failed octets left text = text ≡ []
-Reports may_have places status.ReadFault source_failed octets left text = IsFaultText may_have places octets left text
-Reports may_have places status.WriteFault source_failed octets left text =
-    IsCutText may_have places source_failed octets left text
-Reports may_have places status.NoMemory source_failed octets left text =
-    IsEpochsText may_have places (input_of octets) text
-Reports may_have places status.BadLine source_failed octets left text =
-    IsBad (input_of octets).stop × IsText may_have places (input_of octets) text
-Reports may_have places status.LineLong source_failed octets left text =
-    IsLong (input_of octets).stop × IsText may_have places (input_of octets) text
-Reports may_have places status.TooLong source_failed octets left text =
-    ((input_of octets).stop ≡ big) × IsText may_have places (input_of octets) text
-Reports may_have places status.Refuted source_failed octets left text = ⊥
-Reports may_have places status.BadCapture source_failed octets left text = ⊥
-Reports may_have places status.BadReport source_failed octets left text = ⊥
+abbrev pub ReportsFrom : Beginning → (Input → Report → Type 0) → Bool → Status → Type 0
+    → (octets left text : List ℕ) → Type 0
+ReportsFrom begin may_have places status.Ok source_failed octets left text =
+    ((input_from begin octets).stop ≡ ended) × (left ≡ []) × IsText may_have places (input_from begin octets) text
+ReportsFrom begin may_have places status.Usage source_failed octets left text = text ≡ []
+ReportsFrom begin may_have places status.ReadFault source_failed octets left text =
+    IsFaultText begin may_have places octets left text
+ReportsFrom begin may_have places status.WriteFault source_failed octets left text =
+    IsCutText begin may_have places source_failed octets left text
+ReportsFrom begin may_have places status.NoMemory source_failed octets left text =
+    IsEpochsText may_have places (input_from begin octets) text
+ReportsFrom begin may_have places status.BadLine source_failed octets left text =
+    IsBad (input_from begin octets).stop × IsText may_have places (input_from begin octets) text
+ReportsFrom begin may_have places status.LineLong source_failed octets left text =
+    IsLong (input_from begin octets).stop × IsText may_have places (input_from begin octets) text
+ReportsFrom begin may_have places status.TooLong source_failed octets left text =
+    ((input_from begin octets).stop ≡ big) × IsText may_have places (input_from begin octets) text
+ReportsFrom begin may_have places status.Refuted source_failed octets left text = ⊥
+ReportsFrom begin may_have places status.BadCapture source_failed octets left text = ⊥
+ReportsFrom begin may_have places status.BadState source_failed octets left text = ⊥
+ReportsFrom begin may_have places status.BadReport source_failed octets left text = ⊥
 
 -- octets were appended to what a sink tells, and they are the report of what a source told
-pub record Runs (may_have : Input → Report → Type 0) (places : Bool) (ending : Status) (source_failed : Type 0)
-    (start left old new : Option (List ℕ)) : Type 0 where
+pub record RunsFrom (begin : Beginning) (may_have : Input → Report → Type 0) (places : Bool) (ending : Status)
+    (source_failed : Type 0) (start left old new : Option (List ℕ)) : Type 0 where
   pub text : List ℕ
   pub written : Appends old new text
-  pub report : WhereTold start left (λ octets rest. Reports may_have places ending source_failed octets rest text)
+  pub report : WhereTold start left
+      (λ octets rest. ReportsFrom begin may_have places ending source_failed octets rest text)
+
+-- the same of an input that is a trace alone
+abbrev pub Reports : (Input → Report → Type 0) → Bool → Status → Type 0 → List ℕ → List ℕ → List ℕ → Type 0
+Reports may_have places ending source_failed octets left text =
+    ReportsFrom whole_input may_have places ending source_failed octets left text
+
+abbrev pub Runs : (Input → Report → Type 0) → Bool → Status → Type 0 → (start left old new : Option (List ℕ)) → Type 0
+Runs may_have places ending source_failed start left old new =
+    RunsFrom whole_input may_have places ending source_failed start left old new
 
 -- Where the input ends with its last line and nothing failed, memory alone can run out.
 abbrev pub IsDone : Status → Type 0

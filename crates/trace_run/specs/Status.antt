@@ -18,6 +18,7 @@ code_of status.LineLong = 7
 code_of status.TooLong = 8
 code_of status.Refuted = 9
 code_of status.BadCapture = 10
+code_of status.BadState = 11
 code_of status.BadReport = 12
 
 abbrev pub fault_text_of : Status → List ℕ
@@ -31,6 +32,7 @@ fault_text_of status.LineLong = codes "pepc: line too long"
 fault_text_of status.TooLong = codes "pepc: input too long"
 fault_text_of status.Refuted = codes "pepc: report refuted"
 fault_text_of status.BadCapture = codes "pepc: bad capture"
+fault_text_of status.BadState = codes "pepc: bad state"
 fault_text_of status.BadReport = codes "pepc: bad report"
 
 -- the status of an ending, and of a report that is cut

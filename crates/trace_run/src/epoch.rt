@@ -15,14 +15,11 @@ pub struct Size {
 }
 
 impl Size {
-    /// An epoch before the first line of a trace.
-    pub fn new() -> Size
-        ensures { Counts result 1 [] }
+    /// An epoch before its first line, which has this number.
+    pub fn at(first: u64) -> Size
+        ensures { Counts result first [] }
     {
-        Size {
-            first: 1,
-            octets: 0,
-        }
+        Size { first, octets: 0 }
     }
 
     /// Takes the next line, with a text of this length, into the epoch: whether it is the epoch's last one. The

@@ -10,7 +10,7 @@ ghost use Rattle.lawful_run.specs.Run.{by_slot};
 ghost use Rattle.report_lines.specs.declared.entry.ChargeEntry.TheVariants.{O};
 ghost use Rattle.report_lines.specs.declared.entry.Entry.TheVariants as entry;
 ghost use Rattle.subscriber.specs.Standing.{StandsFor, SubscriberState, Represents};
-ghost use Rattle.trace_run.specs.Entries.{charges_text, line_of, open_for};
+ghost use Rattle.trace_run.specs.Entries.{charges_text, line_of, open_for, opens_held};
 
 use crate::entries::end_line;
 use bearer_state::ActiveBearer;
@@ -20,13 +20,15 @@ use std::alloc::AllocError;
 use subscriber::Subscriber;
 use text_fields::Text;
 
-/// Appends the lines of the open counters of subscribers by slot, each one's by its bearers' indices.
+/// Appends the lines of the open counters of subscribers in their order, each one's by its bearers' indices.
 pub fn push_opens(report: &mut Text, subscribers: &[Subscriber]) -> Result<(), AllocError>
-    ensures { (places : Bool) (events : Histories)
+    ensures after { (places : Bool) (events : Histories)
         → ((slot : ℕ) (none : SubscriberState) → slot < length subscribers.now
         → Represents (get_or subscribers.now slot none) slot (events slot))
         → OnOk result (report.new ≡ report.old ++ charges_text places
         (by_slot (length subscribers.now) (λ slot. opens slot (events slot)))) }
+    ensures own { (places : Bool) → OnOk result (report.new
+        ≡ report.old ++ charges_text places (flat_map opens_held subscribers.now)) }
 {
     for subscriber in subscribers {
         push_subscriber(report, subscriber)?;
@@ -36,9 +38,11 @@ pub fn push_opens(report: &mut Text, subscribers: &[Subscriber]) -> Result<(), A
 
 // Appends those of a subscriber.
 fn push_subscriber(report: &mut Text, subscriber: &Subscriber) -> Result<(), AllocError>
-    ensures { (places : Bool) (slot : ℕ) (events : List Event) (taken : ℕ)
+    ensures after { (places : Bool) (slot : ℕ) (events : List Event) (taken : ℕ)
         → StandsFor subscriber.now slot events taken
         → OnOk result (report.new ≡ report.old ++ charges_text places (opens slot events)) }
+    ensures own { (places : Bool) → OnOk result (report.new
+        ≡ report.old ++ charges_text places (opens_held subscriber.now)) }
 {
     let slot = subscriber.slot();
     let counted = subscriber.still_open();

@@ -77,6 +77,9 @@ impl LineBuffer for LineBuf {
 pub trait LineReader {
     ghost holds: { Self → Held };
 
+    /// It can be asked for lines, and stays so.
+    ghost is_ready: { Self → Type 0 };
+
     /// Gives the line of this number, which may have no moment below the least; its octets may take the room.
     fn next<S: Source>(
         &mut self,
@@ -85,11 +88,14 @@ pub trait LineReader {
         number: u64,
         least: Moment,
     ) -> Next
+        requires { is_ready self.old }
+
         ensures tells { Tells result number least (holds self.old).room (holds self.new).room
             (prepend_known (holds self.old).front (S.left source.old))
             (prepend_known (holds self.new).front (S.left source.new)) }
         ensures room { TakesRoom result (holds self.old).room (holds self.new).room }
         ensures given { Gives result number least }
+        ensures ready { is_ready self.new }
 
         // A fault is the source's, and comes only where more octets of a line are needed.
         ensures later { S.faults source.old ≤ S.faults source.new }
@@ -99,6 +105,8 @@ pub trait LineReader {
 
 impl LineReader for LineBuf {
     ghost holds = { λ buf. buf };
+
+    ghost is_ready = { λ buf. Unit {0} };
 
     #[inline(always)]
     fn next<S: Source>(

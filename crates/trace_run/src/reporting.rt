@@ -1,5 +1,7 @@
 //! The report of a trace, told epoch by epoch.
-ghost use Rattle.std.specs.Prelude.{◌≡◌, ◌≤◌, ◌+◌, ◌^◌, ◌∷◌, ◌++◌, [], ℕ, Bool, List, Option, length, Ok, OnOk, IfOk};
+ghost use Rattle.std.specs.Io.KnownBytes.{prepend_known};
+ghost use Rattle.std.specs.Prelude.{◌≡◌, ◌≤◌, ◌<◌, ◌+◌, ◌^◌, ◌∷◌, ◌++◌, [], ℕ, Bool, List, Option, length, Ok, OnOk};
+ghost use Rattle.std.specs.Prelude.{IfOk};
 ghost use Rattle.pc_outside.specs.Faults.{Rises};
 ghost use Rattle.pc_outside.specs.Limits.{input_max, line_max};
 ghost use Rattle.trace_lines.specs.Input.{Input};
@@ -7,15 +9,17 @@ ghost use Rattle.trace_lines.specs.Line.{Line};
 ghost use Rattle.trace_lines.specs.Text.{line_text};
 ghost use Rattle.lawful_run.specs.Cut.{IsCut};
 ghost use Rattle.lawful_run.specs.Report.{Report};
-ghost use Rattle.trace_run.specs.Report.{Runs};
-ghost use Rattle.trace_run.specs.Reporting.{AnsweredAs, IsDue, SaysEpochs, Standing};
-ghost use Rattle.trace_run.specs.Takers.{IsNextOf};
+ghost use Rattle.trace_run.specs.Report.{Runs, RunsFrom};
+ghost use Rattle.trace_run.specs.Beginnings.{behind};
+ghost use Rattle.trace_run.specs.Reporting.{AnsweredFrom, IsDueFrom, SaysEpochs, Standing, StandingFrom};
+ghost use Rattle.trace_run.specs.Takers.{IsNextFrom};
 
 use crate::ending::{Ending, Unwritten, status_at, status_without, write_report};
 use crate::epoch::Size;
 use crate::reading::LineReader;
 use crate::status::Status;
-use crate::taking::{LineTaker, run_lines_by};
+use crate::taking::{LineTaker, run_lines_behind};
+use pc_base::Moment;
 use pc_outside::{LineBuf, Sink, Source};
 use std::alloc::{AllocError, Global};
 use text_fields::Text;
@@ -28,6 +32,9 @@ pub trait Reporter: Drop {
     ghost may_have: { Self → Input → Report → Type 0 };
 
     ghost places: { Self → Bool };
+
+    /// By what it was before the first line: the number of that line.
+    ghost begins: { Self → ℕ };
 
     /// What it was before the first line, and what it is behind these lines, where the last one has this moment (0
     /// before the first): they are these whole epochs, whose text is the former, and those of the open one, whose
@@ -43,11 +50,13 @@ pub trait Reporter: Drop {
     ) -> Result<(), AllocError>
         requires { (first : Self) × (done : List Line) × (latest : ℕ) × (closed : List (List Line))
             × (open_ : List Line) × (sent : List ℕ)
-            × represents first self.old done latest closed open_ sent text.old × IsNextOf done latest line }
+            × represents first self.old done latest closed open_ sent text.old
+            × IsNextFrom (begins first) done latest line }
 
         ensures { (first : Self) (done : List Line) (latest : ℕ) (closed : List (List Line))
             (open_ : List Line) (sent : List ℕ)
-            → represents first self.old done latest closed open_ sent text.old → IsNextOf done latest line
+            → represents first self.old done latest closed open_ sent text.old
+            → IsNextFrom (begins first) done latest line
             → OnOk result (represents first self.new (done ++ line ∷ []) line.moment closed (open_ ++ line ∷ [])
             sent text.new) };
 
@@ -75,14 +84,14 @@ pub trait Reporter: Drop {
         requires reported { (first : Self) × (done : List Line) × (latest : ℕ) × (closed : List (List Line))
             × (open_ : List Line) × (sent : List ℕ)
             × represents first self.old done latest closed open_ sent text.old × IsCut done closed open_
-            × (lines ≡ length done) }
-        requires few { lines ≤ 2 ^ 40 }
+            × (lines + 1 ≡ length done + begins first) }
+        requires few { lines ≤ 2 ^ 60 }
 
         ensures { (first : Self) (done : List Line) (latest : ℕ) (closed : List (List Line))
             (open_ : List Line) (sent : List ℕ)
             → represents first self.old done latest closed open_ sent text.old → IsCut done closed open_
-            → lines ≡ length done
-            → OnOk result (IsDue (may_have first) (places first) ending done (sent ++ text.new)) };
+            → lines + 1 ≡ length done + begins first
+            → OnOk result (IsDueFrom (begins first) (may_have first) (places first) ending done (sent ++ text.new)) };
 }
 
 /// A reporter, how large the open epoch is, and the text of what stands in it.
@@ -94,17 +103,29 @@ pub struct Epochs<R> {
 }
 
 impl<R: Reporter> Epochs<R> {
-    /// Before the first line.
+    /// Before the first line of an input.
     pub fn new(alloc: Global, reporter: R) -> Epochs<R>
         ensures same { result.reporter ≡ reporter }
-        ensures stands { R.represents reporter reporter [] 0 [] [] [] []
+        ensures stands { R.begins reporter ≡ 1 → R.represents reporter reporter [] 0 [] [] [] []
             → SaysEpochs (R.may_have reporter) (R.places reporter) [] []
             → Standing (R.may_have reporter) (R.places reporter) (R.represents reporter result.reporter [] 0)
             result.size result.text [] [] }
     {
+        Epochs::behind(alloc, reporter, 0)
+    }
+
+    /// Before the first line behind so many.
+    pub fn behind(alloc: Global, reporter: R, lines: u64) -> Epochs<R>
+        requires low { lines < 2 ^ 51 }
+        ensures same { result.reporter ≡ reporter }
+        ensures stands { (least : ℕ) → R.represents reporter reporter [] least [] [] [] []
+            → SaysEpochs (R.may_have reporter) (R.places reporter) [] []
+            → StandingFrom (lines + 1) (R.may_have reporter) (R.places reporter)
+            (R.represents reporter result.reporter [] least) result.size result.text [] [] }
+    {
         Epochs {
             reporter,
-            size: Size::new(),
+            size: Size::at(lines + 1),
             text: Text::new(alloc),
         }
     }
@@ -119,15 +140,17 @@ impl<R: Reporter> Epochs<R> {
         room: &mut Vec<u8>,
     ) -> Result<bool, AllocError>
         requires next { (first : R) × (done : List Line) × (latest : ℕ) × (sent : List ℕ)
-            × Standing (R.may_have first) (R.places first) (R.represents first self.old.reporter done latest)
-            self.old.size self.old.text done sent × IsNextOf done latest line }
+            × StandingFrom (R.begins first) (R.may_have first) (R.places first)
+            (R.represents first self.old.reporter done latest) self.old.size self.old.text done sent
+            × IsNextFrom (R.begins first) done latest line }
         requires long { len ≡ length (line_text line) }
         requires short { len ≤ line_max }
 
         ensures { (first : R) (done : List Line) (latest : ℕ) (sent : List ℕ)
-            → Standing (R.may_have first) (R.places first) (R.represents first self.old.reporter done latest)
-            self.old.size self.old.text done sent → IsNextOf done latest line
-            → IfOk result (λ ends. AnsweredAs ends (R.may_have first) (R.places first)
+            → StandingFrom (R.begins first) (R.may_have first) (R.places first)
+            (R.represents first self.old.reporter done latest) self.old.size self.old.text done sent
+            → IsNextFrom (R.begins first) done latest line
+            → IfOk result (λ ends. AnsweredFrom (R.begins first) ends (R.may_have first) (R.places first)
             (R.represents first self.new.reporter (done ++ line ∷ []) line.moment) self.new.size self.new.text
             (done ++ line ∷ []) sent) }
     {
@@ -143,14 +166,17 @@ impl<R: Reporter> Epochs<R> {
     /// Ends the last epoch and the report, where so many lines were read and ended so.
     pub fn finish(&mut self, ending: Ending, lines: u64) -> Result<(), AllocError>
         requires reported { (first : R) × (done : List Line) × (latest : ℕ) × (sent : List ℕ)
-            × Standing (R.may_have first) (R.places first) (R.represents first self.old.reporter done latest)
-            self.old.size self.old.text done sent × (lines ≡ length done) }
-        requires few { lines ≤ 2 ^ 40 }
+            × StandingFrom (R.begins first) (R.may_have first) (R.places first)
+            (R.represents first self.old.reporter done latest) self.old.size self.old.text done sent
+            × (lines + 1 ≡ length done + R.begins first) }
+        requires few { lines ≤ 2 ^ 60 }
 
         ensures { (first : R) (done : List Line) (latest : ℕ) (sent : List ℕ)
-            → Standing (R.may_have first) (R.places first) (R.represents first self.old.reporter done latest)
-            self.old.size self.old.text done sent → lines ≡ length done
-            → OnOk result (IsDue (R.may_have first) (R.places first) ending done (sent ++ self.new.text)) }
+            → StandingFrom (R.begins first) (R.may_have first) (R.places first)
+            (R.represents first self.old.reporter done latest) self.old.size self.old.text done sent
+            → lines + 1 ≡ length done + R.begins first
+            → OnOk result (IsDueFrom (R.begins first) (R.may_have first) (R.places first) ending done
+            (sent ++ self.new.text)) }
     {
         self.reporter.finish(ending, lines, &mut self.text)
     }
@@ -159,8 +185,10 @@ impl<R: Reporter> Epochs<R> {
 impl<R: Reporter> LineTaker for Epochs<R> {
     ghost use Rattle.trace_run.specs.Reporting.{BreaksOff, HasWritten};
 
-    ghost represents = { λ first now done latest. HasWritten (R.may_have first.reporter) (R.places first.reporter)
-        (R.represents first.reporter now.reporter done latest) now.size now.text done };
+    ghost represents = { λ first now done latest. HasWritten (R.begins first.reporter) (R.may_have first.reporter)
+        (R.places first.reporter) (R.represents first.reporter now.reporter done latest) now.size now.text done };
+
+    ghost begins = { λ first. R.begins first.reporter };
 
     ghost breaks = { λ first. BreaksOff (R.may_have first.reporter) (R.places first.reporter) };
 
@@ -187,6 +215,7 @@ pub fn run_report<S: Source, K: Sink, R: Reporter>(
     reporter: R,
 ) -> Status
     requires first { R.represents reporter reporter [] 0 [] [] [] [] }
+    requires begins { R.begins reporter ≡ 1 }
     requires nothing { SaysEpochs (R.may_have reporter) (R.places reporter) [] [] }
 
     ensures runs { Runs (R.may_have reporter) (R.places reporter) result
@@ -216,7 +245,9 @@ pub fn run_report_by<L: LineReader, S: Source, K: Sink, R: Reporter>(
     reporter: R,
 ) -> Status
     requires reader { ((L.holds reader.old).front ≡ []) × ((L.holds reader.old).room ≡ input_max) }
+    requires ready { L.is_ready reader.old }
     requires first { R.represents reporter reporter [] 0 [] [] [] [] }
+    requires begins { R.begins reporter ≡ 1 }
     requires nothing { SaysEpochs (R.may_have reporter) (R.places reporter) [] [] }
 
     ensures runs { Runs (R.may_have reporter) (R.places reporter) result
@@ -231,8 +262,50 @@ pub fn run_report_by<L: LineReader, S: Source, K: Sink, R: Reporter>(
     ensures write_fault { result ≡ Status.WriteFault
         → Rises (K.faults sink.old) (K.faults sink.new) }
 {
-    let mut epochs = Epochs::new(alloc, reporter);
-    let (ending, lines) = match run_lines_by(reader, alloc, source, sink, &mut epochs) {
+    run_report_behind(reader, alloc, source, sink, reporter, 0, Moment(0))
+}
+
+/// The same of what a reader and a source have left of an input, behind so many lines, the last of which has this
+/// moment.
+pub fn run_report_behind<L: LineReader, S: Source, K: Sink, R: Reporter>(
+    reader: &mut L,
+    alloc: Global,
+    source: &mut S,
+    sink: &mut K,
+    reporter: R,
+    lines: u64,
+    least: Moment,
+) -> Status
+    requires first { R.represents reporter reporter [] least [] [] [] [] }
+    requires begins { R.begins reporter ≡ lines + 1 }
+    requires low { lines < 2 ^ 51 }
+    requires ready { L.is_ready reader.old }
+    requires room { (L.holds reader.old).room ≤ 2 ^ 40 }
+    requires nothing { SaysEpochs (R.may_have reporter) (R.places reporter) [] [] }
+
+    ensures runs { RunsFrom (behind (L.holds reader.old).room lines least) (R.may_have reporter)
+        (R.places reporter) result (Rises (S.faults source.old) (S.faults source.new))
+        (prepend_known (L.holds reader.old).front (S.left source.old)) (S.left source.new)
+        (K.written sink.old) (K.written sink.new) }
+    ensures no_usage { result ≡ Status.Usage → ⊥ }
+
+    ensures source_later { S.faults source.old ≤ S.faults source.new }
+    ensures sink_later { K.faults sink.old ≤ K.faults sink.new }
+    ensures read_fault { result ≡ Status.ReadFault
+        → Rises (S.faults source.old) (S.faults source.new) }
+    ensures write_fault { result ≡ Status.WriteFault
+        → Rises (K.faults sink.old) (K.faults sink.new) }
+{
+    let mut epochs = Epochs::behind(alloc, reporter, lines);
+    let (ending, lines) = match run_lines_behind(
+        reader,
+        alloc,
+        source,
+        sink,
+        &mut epochs,
+        lines,
+        least,
+    ) {
         Ok(end) => end,
         Err(why) => return status_without(why),
     };

@@ -25,6 +25,8 @@ pub enum Status {
     Refuted,
     /// The octets are no capture from some place on; the trace of the records before was written.
     BadCapture,
+    /// The input begins with no saved state; nothing was written.
+    BadState,
     /// A line of the report is no entry; nothing was written.
     BadReport,
 }
@@ -45,6 +47,7 @@ impl Status {
             Status::TooLong => 8,
             Status::Refuted => 9,
             Status::BadCapture => 10,
+            Status::BadState => 11,
             Status::BadReport => 12,
         }
     }
@@ -65,6 +68,7 @@ pub fn fault_text(status: Status) -> &'static str
         Status::TooLong => "pepc: input too long",
         Status::Refuted => "pepc: report refuted",
         Status::BadCapture => "pepc: bad capture",
+        Status::BadState => "pepc: bad state",
         Status::BadReport => "pepc: bad report",
     }
 }

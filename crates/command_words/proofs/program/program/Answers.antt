@@ -19,5 +19,9 @@ returns c =
     ∙ ap₂ with_subcommand five (ap (λ (app : App). app.top) c.new-3.ensures.app) in
     let seven = c.in_ok-subcommand-7.ensures.shape c.in_ok-audit.ensures.local
     ∙ ap₂ with_subcommand six c.in_ok-audit.ensures.shape in
-    IfOk-weaker c.subcommand-8.result _ _ (λ program adds. adds.shape c.in_ok-balance.ensures.local
-    ∙ ap₂ with_subcommand seven c.in_ok-balance.ensures.shape) c.subcommand-8.ensures
+    let eight = c.in_ok-subcommand-8.ensures.shape c.in_ok-balance.ensures.local
+    ∙ ap₂ with_subcommand seven c.in_ok-balance.ensures.shape in
+    let nine = c.in_ok-subcommand-9.ensures.shape c.new-4.ensures.local
+    ∙ ap₂ with_subcommand eight (ap (λ (app : App). app.top) c.new-4.ensures.app) in
+    IfOk-weaker c.subcommand-10.result _ _ (λ program adds. adds.shape c.new-5.ensures.local
+    ∙ ap₂ with_subcommand nine (ap (λ (app : App). app.top) c.new-5.ensures.app)) c.subcommand-10.ensures

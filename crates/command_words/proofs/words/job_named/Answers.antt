@@ -31,7 +31,16 @@ returns-in_default c = λ command given known gives.
         other.not-drive,
         (
           other.not-replay,
-          (other.not-make, (other.not-import, (other.not-export, (other.not-audit, (other.not-balance, tt))))),
+          (
+            other.not-make,
+            (
+              other.not-import,
+              (
+                other.not-export,
+                (other.not-audit, (other.not-balance, (other.not-save, (other.not-resume, tt)))),
+              ),
+            ),
+          ),
         ),
       ),
     ) known)

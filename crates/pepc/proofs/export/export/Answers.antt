@@ -28,5 +28,5 @@ returns-clause-exports g c =
     let end = c.in-Ok-run_lines.ensures.ended in
     let why_is : c.in-Err-write.why ≡ WriteFault = cc (c.in-Err-write.ensures.no_other) in
     rw (c.status_without-in-Err-write.ensures, why_is)
-    (ends_cut _ _ _ _ _ end.done (begins_at c.in-Ok-run_lines.ending _ _ end.done end.reached)
+    (ends_cut _ _ _ _ _ end.done (begins_at _ c.in-Ok-run_lines.ending _ _ end.done end.reached)
     (breaks_off _ end.done _ _ _ end.stands c.in-Err-write.ensures.cut))

@@ -22,5 +22,5 @@ returns-in-Ok-Some-clause-complete g c =
     sym c.in-Ok-Some.field-0-is ∙ c.in-Ok-Some.ensures.job in
     λ no_source no_sink.
     subst (λ asked. Completes (plain_job asked) c.do_job.result (g.S.Source.left c.args.source.now)) is
-    (plain_completes (without_threads c.in-Ok-Some.asked) c.do_job.result _ _ _ _ _ _ no_source no_sink
+    (plain_completes c.lines_say_one_state.ensures (without_threads c.in-Ok-Some.asked) c.do_job.result _ _ _ _ _ _ no_source no_sink
     c.do_job.ensures.read_fault c.do_job.ensures.write_fault c.do_job.ensures.usage c.do_job.ensures.does)

@@ -1,9 +1,9 @@
-use Rattle.std.proofs.Common.{◌≡◌, ◌+◌, [], ◌∷◌, length, ap, sym, subst, arith}
+use Rattle.std.proofs.Common.{◌≡◌, ◌+◌, [], ◌∷◌, length, ap, refl, sym, subst, arith}
 use Rattle.trace_maker.specs.Generated.{made}
 use Rattle.trace_maker.proofs.ReadLemmas.{length-made}
 use Rattle.pepc.specs.Counting.{Counting, CountsMore}
-use Rattle.pepc.proofs.ReportLemmas.{says_nothing}
-use Rattle.pepc.proofs.RunLemmas.{begins}
+use Rattle.solo_run.proofs.ReportLemmas.{says_nothing}
+use Rattle.solo_run.proofs.RunLemmas.{begins}
 use Rattle.pepc.proofs.SummaryLemmas.{all_done, at_none, counting_begins, counting_ends, counting_goes_on, next_in_order, next_is}
 use Rattle.pepc.proofs.summary.counted.Goals as goal
 
@@ -13,7 +13,7 @@ loop-room-init c =
     (made c.args.seed c.args.subs c.args.lines)) (sym c.new-maker.ensures)
     (counting_begins c.new-epochs.result.reporter c.new-epochs.result.size c.new-epochs.result.text
     c.new-counts.result c.args.seed c.args.subs c.args.lines c.requires.some c.requires.slots c.requires.most
-    (c.new-epochs.ensures.stands (begins c.new.result c.new.ensures) says_nothing) c.new-counts.ensures)
+    (c.new-epochs.ensures.stands refl (begins c.new.result c.new.ensures) says_nothing) c.new-counts.ensures)
 
 pub loop-room-preserved : goal.loop-room-preserved
 loop-room-preserved c =
@@ -41,7 +41,7 @@ finish-requires-clause-reported c =
       length-made c.args.seed c.args.subs c.args.lines,
       ap length (all_done _ _ _ _ (made c.args.seed c.args.subs c.args.lines) c.loop-room.maker so_far none),
     ) in
-    (c.loop-room.epochs.reporter, so_far.done, so_far.latest, so_far.so_far.sent, so_far.so_far.standing, counted)
+    (c.loop-room.epochs.reporter, so_far.done, so_far.latest, so_far.so_far.sent, so_far.so_far.standing, ap (λ n. n + 1) counted)
 
 pub returns : goal.returns
 returns c =
@@ -62,5 +62,5 @@ returns c =
     c.loop-room.counts c.add.new.self c.args.seed c.args.subs c.args.lines c.loop-room.maker c.requires.some
     c.requires.slots c.requires.most so_far none
     (c.in_ok-finish.ensures c.loop-room.epochs.reporter so_far.done so_far.latest so_far.so_far.sent
-    so_far.so_far.standing counted)
+    so_far.so_far.standing (ap (λ n. n + 1) counted))
     (subst (CountsMore c.loop-room.counts c.add.new.self) c.as_slice.ensures c.add.ensures)

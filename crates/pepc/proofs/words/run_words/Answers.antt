@@ -22,5 +22,5 @@ returns-in-Ok-Some-clause-complete g c =
     sym c.in-Ok-Some.field-0-is ∙ c.in-Ok-Some.ensures.job in
     λ no_source no_sink.
     subst (λ asked. Completes asked c.run_job.result (g.S.Source.left c.args.source.now)) is
-    (job_completes c.in-Ok-Some.asked c.run_job.result _ _ _ _ _ _ no_source no_sink c.run_job.ensures.read_fault
+    (job_completes c.lines_say_one_state.ensures c.in-Ok-Some.asked c.run_job.result _ _ _ _ _ _ no_source no_sink c.run_job.ensures.read_fault
     c.run_job.ensures.write_fault c.run_job.ensures.no_usage c.run_job.ensures.does)

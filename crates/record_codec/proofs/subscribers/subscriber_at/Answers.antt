@@ -46,4 +46,4 @@ pub returns-in-Some-clause-resting : goal.returns-in-Some-clause-resting
 returns-in-Some-clause-resting c =
     resting_is c.in_ok-session.session c.in_ok-commands.commands c.in_ok-packets.packets c.in_ok-destination.destination
     c.in_ok-version.version c.in_ok-parts.parts c.in-Some.counters c.in_ok-version.ensures
-    (rw c.in-Some.is at c.in_ok-made.ensures.made)
+    (rw c.in-Some.is at c.in_ok-made.ensures.made) (sym c.in_ok-made.ensures.fit ∙ ap is_some c.in-Some.is)

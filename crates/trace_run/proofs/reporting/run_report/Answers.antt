@@ -1,6 +1,6 @@
+use Rattle.trace_run.specs.Beginnings.{whole_input}
 use Rattle.trace_run.proofs.EndingLemmas.{nothing_runs}
 use Rattle.trace_run.proofs.reporting.run_report.Goals as goal
 
 pub returns-in-Err-clause-runs : goal.returns-in-Err-clause-runs
-returns-in-Err-clause-runs g c =
-    nothing_runs (g.R.Reporter.may_have c.args.reporter) (g.R.Reporter.places c.args.reporter) _ _ _ c.requires.nothing
+returns-in-Err-clause-runs g c = nothing_runs whole_input _ _ _ _ _ c.requires.nothing

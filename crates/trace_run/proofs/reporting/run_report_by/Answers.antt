@@ -1,34 +1,5 @@
-use Rattle.std.proofs.Common.{◌≡◌}
-use Rattle.trace_run.specs.declared.ending.Unwritten.TheVariants.{WriteFault}
-use Rattle.trace_run.specs.declared.reporting.Epochs.{Epochs}
-use Rattle.trace_run.proofs.ReportingLemmas.{begins_at, cuts_run, ends_cut, ends_unwritten, ends_whole}
+use Rattle.trace_run.proofs.TakeLemmas.{runs_here}
 use Rattle.trace_run.proofs.reporting.run_report_by.Goals as goal
 
-pub returns-in-Err-clause-runs : goal.returns-in-Err-clause-runs
-returns-in-Err-clause-runs g c =
-    rw c.status_without.ensures
-    (cuts_run _ _ (λ (now : Epochs g.row.R.Denot). g.R.Reporter.represents c.args.reporter now.reporter) (λ now. now.size)
-    (λ now. now.text) c.in-Err.why _ _ _ _ _ (rw c.new-epochs.ensures.same at c.in-Err.ensures.cut))
-
-pub returns-in-Err-finish-clause-runs : goal.returns-in-Err-finish-clause-runs
-returns-in-Err-finish-clause-runs g c =
-    let end = rw c.new-epochs.ensures.same at c.in-Ok.ensures.ended in
-    ends_unwritten _ _ _ _ _ _ _ _ _ _ end.done (begins_at c.in-Ok.end.0 _ _ end.done end.reached) end.stands
-
-pub returns-in-Ok-write_report-clause-runs : goal.returns-in-Ok-write_report-clause-runs
-returns-in-Ok-write_report-clause-runs g c =
-    let end = rw c.new-epochs.ensures.same at c.in-Ok.ensures.ended in
-    rw c.status_at.ensures
-    (ends_whole _ _ c.in-Ok.end.0 _ _ _ _ _ _ end.done end.stands.sent c.finish.new.self.text end.reached
-    (c.in-Ok-finish.ensures c.args.reporter end.done end.latest end.stands.sent end.stands.standing end.counted)
-    end.stands.written c.in-Ok-write_report.ensures.moved)
-
 pub returns-clause-runs : goal.returns-clause-runs
-returns-clause-runs g c =
-    let end = rw c.new-epochs.ensures.same at c.in-Ok.ensures.ended in
-    let why_is : c.in-Err-write_report.why ≡ WriteFault = cc (c.in-Err-write_report.ensures.no_other) in
-    rw (c.status_without-in-Err-write_report.ensures, why_is)
-    (ends_cut _ _ c.in-Ok.end.0 _ _ _ _ _ _ end.done end.stands.sent c.finish.new.self.text c.in-Ok.ensures.read_fault
-    end.reached
-    (c.in-Ok-finish.ensures c.args.reporter end.done end.latest end.stands.sent end.stands.standing end.counted)
-    end.stands.written c.in-Err-write_report.ensures.cut)
+returns-clause-runs g c = runs_here _ _ _ _ _ _ _ _ _ c.requires.reader c.run_report_behind.ensures.runs

@@ -1,6 +1,6 @@
 use Rattle.std.proofs.Common.{◌∷◌, ◌++◌, [], OnErr, subst}
 use Rattle.pc_outside.specs.Fronts.{AppendsFront}
-use Rattle.pepc.proofs.Answered.{on_ok_both}
+use Rattle.solo_run.proofs.Answered.{on_ok_both}
 use Rattle.pepc.proofs.ExportLemmas.{breaks_off, sends, stays}
 use Rattle.pepc.proofs.export.CaptureLineTaker.take.Goals as goal
 

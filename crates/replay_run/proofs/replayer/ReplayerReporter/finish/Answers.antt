@@ -1,4 +1,4 @@
-use Rattle.std.proofs.Common.{◌+◌, ◌++◌, ap, subst}
+use Rattle.std.proofs.Common.{◌++◌, subst}
 use Rattle.packet_steps.proofs.ResultLemmas.{on_ok}
 use Rattle.lawful_run.specs.Run.{behind_all, no_events}
 use Rattle.trace_run.specs.Noted.{bad_at, meant_all}
@@ -11,7 +11,7 @@ returns g c = λ first done latest closed open_ sent so_far cut counted.
     let now = c.run_rest.new.self in
     let all : ReplayedAll first.replay now done closed open_ (bad_at c.args.ending) (sent ++ c.run_rest.new.text) =
     subst (λ bad. ReplayedAll first.replay now done closed open_ bad (sent ++ c.run_rest.new.text)) c.bad_at.ensures
-    (c.in_ok-run_rest.ensures first.replay done latest closed open_ sent so_far.1 (ap (λ n. n + 1) counted)) in
+    (c.in_ok-run_rest.ensures first.replay done latest closed open_ sent so_far.1 counted) in
     on_ok c.push_counters.result
     (due_so first.replay now done closed open_ c.args.ending sent c.run_rest.new.text c.push_counters.new.text cut all)
     (c.push_counters.ensures first.replay.places

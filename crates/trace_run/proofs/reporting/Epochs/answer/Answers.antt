@@ -7,15 +7,15 @@ use Rattle.trace_run.proofs.reporting.Epochs.answer.Goals as goal
 pub take-ends-requires-clause-counted : goal.take-ends-requires-clause-counted
 take-ends-requires-clause-counted g c =
     let due = c.requires.next in
-    sized_so _ _ _ c.args.self.now.size c.args.self.now.text due.1 due.3 due.2 c.args.line due.4 due.5
+    sized_so _ _ _ _ c.args.self.now.size c.args.self.now.text due.1 due.3 due.2 c.args.line due.4 due.5
 
 pub returns-then-not-ends : goal.returns-then-not-ends
 returns-then-not-ends g c = λ first done latest sent standing due.
     let line = c.args.line in
-    let counts = counts_next c.args.self.now.size done standing.open_ latest line standing.sized due in
+    let counts = counts_next _ c.args.self.now.size done standing.open_ latest line standing.sized due in
     let stays : ends_epoch standing.open_ line ≡ false =
     sym (c.take-ends.ensures.ends standing.open_ counts) ∙ c.if-not-ends.true in
-    stays_open _ _ _ _ c.args.self.now.size c.take-ends.new.self c.args.self.now.text c.take.new.text done sent latest
+    stays_open _ _ _ _ _ c.args.self.now.size c.take-ends.new.self c.args.self.now.text c.take.new.text done sent latest
     line standing due stays (c.take-ends.ensures.counts standing.open_ counts)
     (c.in_ok-take.ensures first done latest standing.closed standing.open_ sent standing.stands due)
 
@@ -24,7 +24,7 @@ close-requires g c =
     let due = c.requires.next in
     let standing = due.4 in
     let line = c.args.line in
-    let counts = counts_next c.args.self.now.size due.1 standing.open_ due.2 line standing.sized due.5 in
+    let counts = counts_next _ c.args.self.now.size due.1 standing.open_ due.2 line standing.sized due.5 in
     let ends : ends_epoch standing.open_ line ≡ true =
     sym (c.take-ends.ensures.ends standing.open_ counts) ∙ c.if-not-ends.false in (
       due.0,
@@ -40,12 +40,12 @@ close-requires g c =
 pub returns : goal.returns
 returns g c = λ first done latest sent standing due.
     let line = c.args.line in
-    let counts = counts_next c.args.self.now.size done standing.open_ latest line standing.sized due in
+    let counts = counts_next _ c.args.self.now.size done standing.open_ latest line standing.sized due in
     let ends : ends_epoch standing.open_ line ≡ true =
     sym (c.take-ends.ensures.ends standing.open_ counts) ∙ c.if-not-ends.false in
     let stands = c.in_ok-take.ensures first done latest standing.closed standing.open_ sent standing.stands due in
     let cut = cut_whole done standing.closed standing.open_ line standing.cut ends in
-    ends_open _ _ _ _ c.args.self.now.size c.take-ends.new.self c.args.self.now.text c.close.new.text done sent latest
+    ends_open _ _ _ _ _ c.args.self.now.size c.take-ends.new.self c.args.self.now.text c.close.new.text done sent latest
     line standing due ends (c.take-ends.ensures.counts standing.open_ counts)
     (c.in_ok-close.ensures.closed first (done ++ line ∷ []) line.moment standing.closed (standing.open_ ++ line ∷ [])
     sent stands cut)

@@ -5,20 +5,20 @@ pub returns-then-not-branch-clause-taken : goal.returns-then-not-branch-clause-t
 returns-then-not-branch-clause-taken g c = λ first done latest old has due. record {
   sent = has.sent;
   written = has.written;
-  standing = answered_open c.in_ok-answer.field-0 _ _ _ _ _ _ _ c.if-not-branch.true
+  standing = answered_open _ c.in_ok-answer.field-0 _ _ _ _ _ _ _ c.if-not-branch.true
       (c.in_ok-answer.ensures first.reporter done latest has.sent has.standing due);
 }
 
 pub returns-clause-taken : goal.returns-clause-taken
 returns-clause-taken g c = λ first done latest old has due.
-    let standing = answered_whole c.in_ok-answer.field-0 _ _ _ _ _ _ _ c.if-not-branch.false
+    let standing = answered_whole _ c.in_ok-answer.field-0 _ _ _ _ _ _ _ c.if-not-branch.false
     (c.in_ok-answer.ensures first.reporter done latest has.sent has.standing due) in
-    written_more c.write_report.result _ _ _ _ _ c.write_report.new.report _ has.sent old _ _ has.written standing
+    written_more _ c.write_report.result _ _ _ _ _ c.write_report.new.report _ has.sent old _ _ has.written standing
     c.write_report.ensures.moved c.write_report.ensures.emptied
 
 pub returns-clause-broken : goal.returns-clause-broken
 returns-clause-broken g c = λ first done latest old has due failed.
-    let standing = answered_whole c.in_ok-answer.field-0 _ _ _ _ _ _ _ c.if-not-branch.false
+    let standing = answered_whole _ c.in_ok-answer.field-0 _ _ _ _ _ _ _ c.if-not-branch.false
     (c.in_ok-answer.ensures first.reporter done latest has.sent has.standing due) in
-    breaks_off c.write_report.result _ _ _ _ _ _ has.sent old _ _ has.written standing failed
+    breaks_off _ c.write_report.result _ _ _ _ _ _ has.sent old _ _ has.written standing failed
     c.write_report.ensures.cut

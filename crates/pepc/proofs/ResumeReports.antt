@@ -1,0 +1,186 @@
+-- What a run of `resume` wrote, by its status.
+use Rattle.std.proofs.Common.{◌≡◌, ℕ, ◌++◌, inl, inr, Bool, false, List, [], Option, None, Some, refl, sym, ◌∙◌, subst}
+use Rattle.std.proofs.KnownBytes.{Appends-nil}
+use Rattle.pc_outside.specs.WhereTold.{WhereTold}
+use Rattle.pc_outside.proofs.ToldLemmas.{told_map, told_then}
+use Rattle.trace_lines.specs.Input.{Input, big, ended}
+use Rattle.lawful_run.specs.Report.{Report}
+use Rattle.record_codec.specs.Saved.{FileState}
+use Rattle.state_run.specs.Laws.{LinesSayOneState}
+use Rattle.state_run.specs.Reading.{HasFound}
+use Rattle.audit_reading.specs.Texts as texts
+use Rattle.trace_run.specs.declared.status.Status.{Status}
+use Rattle.trace_run.specs.declared.status.Status.TheVariants as status
+use Rattle.trace_run.specs.Beginnings.{Beginning, input_from}
+use Rattle.trace_run.specs.Report.{IsCutText, IsDone, IsEpochsText, IsFaultText, IsText, ReportsFrom, RunsFrom}
+use Rattle.trace_run.proofs.EndingLemmas.{complete}
+use Rattle.resume_run.specs.Reports.{IsResumed}
+use Rattle.resume_laws.specs.Resumes.{CompletesResume, HasState, Resumed, Resumes, ResumesAs, StoppedFirst, begins_at}
+use Rattle.resume_laws.proofs.RunLemmas.{ends_alike}
+use Rattle.resume_laws.proofs.StateLemmas.{none_bad, none_stopped}
+
+-- ---- reports that are allowed by one relation are allowed by a wider one, and a failure is one of more calls
+
+module _ (may more : Input → Report → Type 0) (wider : (input : Input) (report : Report) → may input report
+    → more input report) (places : Bool) where
+  text_wider : (input : Input) (text : List ℕ) → IsText may places input text → IsText more places input text
+  text_wider input text is = record {
+    report = is.report;
+    allowed = wider input is.report is.allowed;
+    written = is.written;
+  }
+
+  epochs_wider : (input : Input) (text : List ℕ) → IsEpochsText may places input text
+      → IsEpochsText more places input text
+  epochs_wider input text is = record {
+    first = is.first;
+    rest = is.rest;
+    parts = is.parts;
+    whole = is.whole;
+    report = is.report;
+    allowed = wider _ is.report is.allowed;
+    written = is.written;
+  }
+
+  fault_wider : (begin : Beginning) (octets left text : List ℕ) → IsFaultText begin may places octets left text
+      → IsFaultText begin more places octets left text
+  fault_wider begin octets left text is = record {
+    taken = is.taken;
+    stop = is.stop;
+    report = text_wider _ text is.report;
+  }
+
+  cut_wider : (begin : Beginning) (failed after : Type 0) (octets left text : List ℕ) → (failed → after)
+      → IsCutText begin may places failed octets left text → IsCutText begin more places after octets left text
+  cut_wider begin failed after octets left text fails is = record {
+    more = is.more;
+    whole = elim is.whole [
+      | inl whole ↦ inl (text_wider _ _ whole)
+      | inr (inl faulty) ↦ inr (inl (fails faulty.0, fault_wider begin octets left _ faulty.1))
+      | inr (inr first) ↦ inr (inr (epochs_wider _ _ first))
+    ];
+  }
+
+  pub reports_wider : (begin : Beginning) (ending : Status) (failed after : Type 0) (octets left text : List ℕ)
+      → (failed → after) → ReportsFrom begin may places ending failed octets left text
+      → ReportsFrom begin more places ending after octets left text
+  reports_wider begin status.Ok failed after octets left text fails is = (is.0, is.1, text_wider _ text is.2)
+  reports_wider begin status.Usage failed after octets left text fails is = is
+  reports_wider begin status.ReadFault failed after octets left text fails is = fault_wider begin octets left text is
+  reports_wider begin status.WriteFault failed after octets left text fails is =
+      cut_wider begin failed after octets left text fails is
+  reports_wider begin status.NoMemory failed after octets left text fails is = epochs_wider _ text is
+  reports_wider begin status.BadLine failed after octets left text fails is = (is.0, text_wider _ text is.1)
+  reports_wider begin status.LineLong failed after octets left text fails is = (is.0, text_wider _ text is.1)
+  reports_wider begin status.TooLong failed after octets left text fails is = (is.0, text_wider _ text is.1)
+  reports_wider begin status.Refuted failed after octets left text fails is = is
+  reports_wider begin status.BadCapture failed after octets left text fails is = is
+  reports_wider begin status.BadState failed after octets left text fails is = is
+  reports_wider begin status.BadReport failed after octets left text fails is = is
+
+  pub runs_wider : (begin : Beginning) (ending : Status) (failed : Type 0) (start left old new : Option (List ℕ))
+      → RunsFrom begin may places ending failed start left old new
+      → RunsFrom begin more places ending failed start left old new
+  runs_wider begin ending failed start left old new runs = record {
+    text = runs.text;
+    written = runs.written;
+    report = told_map start left (λ octets rest. ReportsFrom begin may places ending failed octets rest runs.text)
+        (λ octets rest. ReportsFrom begin more places ending failed octets rest runs.text)
+        (λ octets rest is. reports_wider begin ending failed failed octets rest runs.text (λ f. f) is) runs.report;
+  }
+
+-- ---- a run of `resume`
+
+-- memory ran out before anything was read
+pub nothing_resumed : (failed : Type 0) (start sink : Option (List ℕ))
+    → Resumes status.NoMemory failed start start sink sink
+nothing_resumed failed start sink = record { text = []; written = Appends-nil sink; said = told start }
+  where
+    told : (start : Option (List ℕ)) → WhereTold start start
+        (λ octets rest. ResumesAs status.NoMemory failed octets rest [])
+    told None = tt
+    told (Some octets) = inl (tt, refl)
+
+-- no state was found
+pub stops_first : (ending : Status) (failed : Type 0) (start left sink : Option (List ℕ))
+    → WhereTold start left (StoppedFirst ending) → Resumes ending failed start left sink sink
+stops_first ending failed start left sink stopped = record {
+  text = [];
+  written = Appends-nil sink;
+  said = told_map start left (StoppedFirst ending) (λ octets rest. ResumesAs ending failed octets rest [])
+      (λ octets rest is. inl (is, refl)) stopped;
+}
+
+-- a state was found, and the trace behind it was answered
+pub resumes_behind : (file : FileState) (room : ℕ) (ending : Status) (failed after : Type 0)
+    (start ahead left old new : Option (List ℕ)) → (failed → after)
+    → WhereTold start ahead (λ octets rest. HasFound file octets rest room)
+    → RunsFrom (begins_at file room) (IsResumed 64 file) false ending failed ahead left old new
+    → Resumes ending after start left old new
+resumes_behind file room ending failed after start ahead left old new fails found runs = record {
+  text = runs.text;
+  written = runs.written;
+  said = told_then start ahead left (λ octets rest. HasFound file octets rest room)
+      (λ octets rest. ReportsFrom (begins_at file room) (IsResumed 64 file) false ending failed octets rest runs.text)
+      (λ octets rest. ResumesAs ending after octets rest runs.text)
+      (λ octets next rest has reports. inr (record {
+        state = record {
+          file = file;
+          texts = has.0;
+          ahead = next;
+          room = room;
+          read = has.1;
+          says = has.2;
+        };
+        report = reports_wider (IsResumed 64 file) (IsResumed 64 file) (λ input report is. is) false (begins_at file room)
+            ending failed after next rest runs.text fails reports;
+      })) found runs.report;
+}
+
+-- ---- where nothing failed and the trace behind the state ends, memory alone can run out
+
+stopped_done : (ending : Status) (source_failed : Type 0) (octets left : List ℕ) → HasState octets
+    → (source_failed → ⊥) → (ending ≡ status.ReadFault → source_failed) → StoppedFirst ending octets left
+    → IsDone ending
+stopped_done status.Ok source_failed octets left found no_source read stopped = absurd stopped
+stopped_done status.Usage source_failed octets left found no_source read stopped = absurd stopped
+stopped_done status.ReadFault source_failed octets left found no_source read stopped = absurd (no_source (read refl))
+stopped_done status.WriteFault source_failed octets left found no_source read stopped = absurd stopped
+stopped_done status.NoMemory source_failed octets left found no_source read stopped = inr refl
+stopped_done status.BadLine source_failed octets left found no_source read stopped = absurd stopped
+stopped_done status.LineLong source_failed octets left found no_source read stopped =
+    absurd (none_stopped octets texts.long found stopped)
+stopped_done status.TooLong source_failed octets left found no_source read stopped =
+    absurd (none_stopped octets texts.big found stopped)
+stopped_done status.Refuted source_failed octets left found no_source read stopped = absurd stopped
+stopped_done status.BadCapture source_failed octets left found no_source read stopped = absurd stopped
+stopped_done status.BadState source_failed octets left found no_source read stopped =
+    absurd (none_bad octets found stopped)
+stopped_done status.BadReport source_failed octets left found no_source read stopped = absurd stopped
+
+pub resume_complete : LinesSayOneState → (ending : Status) (source_failed sink_failed : Type 0)
+    (start left old new : Option (List ℕ)) → (source_failed → ⊥) → (sink_failed → ⊥)
+    → (ending ≡ status.ReadFault → source_failed) → (ending ≡ status.WriteFault → sink_failed)
+    → (ending ≡ status.Usage → ⊥) → Resumes ending source_failed start left old new → CompletesResume ending start
+resume_complete one_state ending source_failed sink_failed start left old new no_source no_sink read write usage runs =
+    λ octets is found stop.
+    by_left octets found stop left
+    (subst (λ s. WhereTold s left (λ o l. ResumesAs ending source_failed o l runs.text)) is runs.said)
+  where
+    by_case : (octets : List ℕ) (found : HasState octets)
+        → (input_from (begins_at found.file found.room) found.ahead).stop ≡ ended → (l : List ℕ)
+        → ResumesAs ending source_failed octets l runs.text → IsDone ending
+    by_case octets found stop l (inl stopped) =
+        stopped_done ending source_failed octets l found no_source read stopped.0
+    by_case octets found stop l (inr resumed) =
+        let state = resumed.state in
+        complete (begins_at state.file state.room) (IsResumed 64 state.file) false ending source_failed sink_failed
+        state.ahead (Some state.ahead) (Some l) old new refl (ends_alike one_state octets found state stop) no_source
+        no_sink read write usage
+        (record { text = runs.text; written = runs.written; report = resumed.report })
+
+    by_left : (octets : List ℕ) (found : HasState octets)
+        → (input_from (begins_at found.file found.room) found.ahead).stop ≡ ended → (l : Option (List ℕ))
+        → WhereTold (Some octets) l (λ o rest. ResumesAs ending source_failed o rest runs.text) → IsDone ending
+    by_left octets found stop None told = absurd told
+    by_left octets found stop (Some rest) told = by_case octets found stop rest told

@@ -1,5 +1,0 @@
-use Rattle.pepc.proofs.ReportLemmas.{says_nothing}
-use Rattle.pepc.proofs.run.solo.Goals as goal
-
-pub run_report-requires-clause-nothing : goal.run_report-requires-clause-nothing
-run_report-requires-clause-nothing g c = says_nothing

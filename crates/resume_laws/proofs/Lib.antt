@@ -1,0 +1,10 @@
+pub mod Few
+pub mod Steps
+pub mod Gateways
+pub mod Splits
+pub mod SavedAlike
+pub mod LawLemmas
+pub mod Octets
+pub mod LawTexts
+pub mod StateLemmas
+pub mod RunLemmas

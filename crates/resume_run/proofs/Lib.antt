@@ -1,0 +1,4 @@
+pub mod LineLemmas
+pub mod EpochLemmas
+pub mod OpenPieces
+pub mod Indexed

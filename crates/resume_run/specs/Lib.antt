@@ -1,0 +1,5 @@
+pub mod Answering
+pub mod Gateway
+pub mod Reports
+pub mod Left
+pub mod Laws

@@ -1,0 +1,10 @@
+pub mod Answered
+pub mod InSlots
+pub mod GatherLemmas
+pub mod PlaceLemmas
+pub mod StoryLemmas
+pub mod ShortLemmas
+pub mod LineLemmas
+pub mod TextLemmas
+pub mod RunLemmas
+pub mod ReportLemmas

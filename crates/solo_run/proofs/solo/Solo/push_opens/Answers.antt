@@ -1,0 +1,21 @@
+use Rattle.std.proofs.Common.{◌++◌, ◌<◌, ℕ, false, List, get_or, length, ap, sym, subst, ◌∙◌}
+use Rattle.subscriber.specs.Standing.{SubscriberState, Represents}
+use Rattle.lawful_run.specs.Outcomes.{opens}
+use Rattle.lawful_run.specs.Run.{by_slot}
+use Rattle.packet_steps.proofs.ResultLemmas.{on_ok}
+use Rattle.solo_run.specs.Gathering.{charges_text}
+use Rattle.solo_run.specs.Standing.{events_of}
+use Rattle.solo_run.proofs.StoryLemmas.{stands_each}
+use Rattle.solo_run.proofs.solo.Solo.push_opens.Goals as goal
+
+pub returns : goal.returns
+returns c = λ story stands.
+    let lent = c.as_slice.ensures.value in
+    on_ok c.push_opens.result
+    (λ told. told ∙ ap (λ (items : List SubscriberState). c.args.report.now
+    ++ charges_text (by_slot (length items) (λ slot. opens slot (events_of story slot)))) lent
+    ∙ ap (λ n. c.args.report.now ++ charges_text (by_slot n (λ slot. opens slot (events_of story slot)))) stands.places)
+    (c.push_opens.ensures false (events_of story)
+    (subst (λ (items : List SubscriberState). (slot : ℕ) (none : SubscriberState) → slot < length items
+    → Represents (get_or items slot none) slot (events_of story slot)) (sym lent)
+    (stands_each c.args.self.now story stands)))

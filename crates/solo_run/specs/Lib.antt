@@ -1,0 +1,6 @@
+pub mod Places
+pub mod Report
+pub mod Entries
+pub mod Gathering
+pub mod Standing
+pub mod Progress

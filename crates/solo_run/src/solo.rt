@@ -1,0 +1,232 @@
+//! The sequential gateway, on one thread: each line is answered before the next.
+ghost use Rattle.std.specs.Prelude.{◌≡◌, ℕ, ◌≤◌, ◌<◌, ◌^◌, ◌==◌, ◌+◌, ◌∷◌, ◌++◌, [], List};
+ghost use Rattle.std.specs.Prelude.{flat_map, length, map, find, None, OnOk, IfOk};
+ghost use Rattle.demux.specs.Resolved.{IsDue, book_with, slot_of};
+ghost use Rattle.demux.specs.declared.decision.Whose.TheVariants.{New};
+ghost use Rattle.demux.specs.Texts.{move_note};
+ghost use Rattle.demux.specs.Trace.{Meaning, note as noted, command as commanded, packet as carried};
+ghost use Rattle.lawful_run.specs.Merging.{Histories};
+ghost use Rattle.lawful_run.specs.Outcomes.{opens};
+ghost use Rattle.lawful_run.specs.Run.{by_slot, no_events};
+ghost use Rattle.trace_lines.specs.Line.{Line};
+ghost use Rattle.solo_run.specs.Gathering.{charges_text, closing_text};
+ghost use Rattle.solo_run.specs.Standing.{BringsNothing, HasRoom, IsInBook, IsLate, Stands, Story, entry_line, events_of};
+ghost use Rattle.solo_run.specs.Standing.{meant_next, story_of, with_end, with_book, with_meaning, with_move, with_packet};
+
+use crate::entry_text::{push_handled, push_move};
+use crate::gathered::Gathered;
+use address_book::AddressBook;
+use control_steps::Command;
+use demux::{Decision, LentPacket, Whose, decide, home_slice};
+use pc_base::{Imsi, SliceNo, Slot};
+use std::alloc::{AllocError, Global};
+use subscriber::{Subscriber, few_events_leave_room};
+use text_fields::Text;
+use trace_lines::TraceLine;
+use trace_run::{push_answer, push_note, push_opens};
+
+/// How many slices there are for an order to move.
+const SLICES: u8 = 64;
+
+/// The book, a subscriber for each slot in it, and what waits for the end of the epoch.
+#[derive(Drop)]
+pub struct Solo {
+    book: AddressBook,
+    subscribers: Vec<Subscriber>,
+    gathered: Gathered,
+}
+
+impl Solo {
+    /// The gateway before its first line.
+    pub fn new(alloc: Global) -> Solo
+        ensures { Stands result (story_of [] 0 no_events []) }
+    {
+        Solo {
+            book: AddressBook::new(alloc),
+            subscribers: Vec::new(alloc),
+            gathered: Gathered::new(alloc),
+        }
+    }
+
+    /// Answers a line: its entry's text is appended to the report. After running out of memory the gateway
+    /// may only be dropped.
+    pub fn enter(
+        &mut self,
+        alloc: Global,
+        line: &TraceLine,
+        report: &mut Text,
+    ) -> Result<(), AllocError>
+        requires room { HasRoom self.old }
+        requires late { IsLate self.old line.now }
+
+        ensures told { (done : List Line) (latest : ℕ) (before : Histories) (made : List Meaning)
+            → Stands self.old (story_of done latest before made) → line.now.number ≡ length done + 1
+            → OnOk result (report.new ≡ report.old
+            ++ entry_line (story_of done latest before made) (meant_next done line.now)) }
+        ensures stands { (done : List Line) (latest : ℕ) (before : Histories) (made : List Meaning)
+            → Stands self.old (story_of done latest before made)
+            → latest ≤ line.now.moment
+            → OnOk result (Stands self.new (story_of (done ++ line.now ∷ []) line.now.moment before
+            (made ++ meant_next done line.now ∷ []))) }
+    {
+        let number = line.number;
+        match decide(alloc, &self.book, SLICES, line)? {
+            Decision::Packet { slot, packet } => self.packet(number, slot, &packet, report),
+            Decision::Command { whose, command } => {
+                self.command(alloc, number, whose, &command, report)
+            }
+            Decision::Move { slot, slice } => self.move_to(number, slot, slice, report),
+            Decision::Note(text) => push_note(report, number, text.as_slice()),
+        }
+    }
+
+    /// Ends an epoch: its effects are appended by slot, and then its charging records.
+    pub fn end_epoch(&mut self, report: &mut Text) -> Result<(), AllocError>
+        ensures told { (story : Story) → Stands self.old story
+            → OnOk result (report.new ≡ report.old
+            ++ closing_text (length story.book) story.before story.made) }
+        ensures stands { (story : Story) → Stands self.old story
+            → OnOk result (Stands self.new (with_end story)) }
+    {
+        self.gathered.push_all(report)
+    }
+
+    /// Appends the open counters of all subscribers.
+    pub fn push_opens(&self, report: &mut Text) -> Result<(), AllocError>
+        ensures { (story : Story) → Stands self.now story → OnOk result (report.new
+            ≡ report.old ++ charges_text
+            (by_slot (length story.book) (λ slot. opens slot (events_of story slot)))) }
+    {
+        push_opens(report, self.subscribers.as_slice())
+    }
+
+    // An order that a subscriber goes to a slice.
+    #[inline(never)]
+    fn move_to(
+        &mut self,
+        number: u64,
+        slot: Slot,
+        slice: SliceNo,
+        report: &mut Text,
+    ) -> Result<(), AllocError>
+        requires room { HasRoom self.old }
+        requires known { IsInBook self.old slot }
+
+        ensures told { (story : Story) → Stands self.old story
+            → number ≡ story.lines + 1 → OnOk result (report.new ≡ report.old
+            ++ entry_line story (noted (move_note (story.bound slot) slot slice))) }
+        ensures stands { (story : Story) (now : Meaning) → Stands self.old story → BringsNothing now
+            → OnOk result (Stands self.new (with_move story now slot slice)) }
+    {
+        let place = slot.0 as usize;
+        let subscriber = &mut self.subscribers[place];
+        push_move(report, number, subscriber.destination(), slot, slice)?;
+        subscriber.set_destination(slice);
+        Ok(())
+    }
+
+    // A packet of a slot in the book.
+    fn packet(
+        &mut self,
+        number: u64,
+        slot: Slot,
+        packet: &LentPacket<'_>,
+        report: &mut Text,
+    ) -> Result<(), AllocError>
+        requires room { HasRoom self.old }
+        requires known { IsInBook self.old slot }
+        requires late { (story : Story) × Stands self.old story
+            × (story.latest ≤ packet.now.moment) }
+
+        ensures told { (story : Story) → Stands self.old story
+            → number ≡ story.lines + 1 → OnOk result (report.new ≡ report.old
+            ++ entry_line story (carried slot packet.now)) }
+        ensures stands { (story : Story) → Stands self.old story → story.latest ≤ packet.now.moment
+            → OnOk result (Stands self.new (with_packet story (carried slot packet.now)
+            packet.now.moment)) }
+    {
+        let place = slot.0 as usize;
+        let subscriber = &mut self.subscribers[place];
+        // Below 2^16, as a G-PDU asks.
+        let _len = packet.ip.total_len();
+        few_events_leave_room();
+        let handled = subscriber.judge(packet.moment, packet.way, &packet.ip)?;
+        push_handled(report, number, slot, handled)?;
+        self.gathered.add_rows(slot, subscriber.take_closed())?;
+        Ok(())
+    }
+
+    // A command of a slot in the book, or of a new one.
+    #[inline(never)]
+    fn command(
+        &mut self,
+        alloc: Global,
+        number: u64,
+        whose: Whose,
+        command: &Command,
+        report: &mut Text,
+    ) -> Result<(), AllocError>
+        requires room { HasRoom self.old }
+        requires due { IsDue self.old.book whose }
+
+        ensures told { (story : Story) → Stands self.old story
+            → number ≡ story.lines + 1 → OnOk result (report.new ≡ report.old
+            ++ entry_line story (commanded (slot_of story.book whose) command.now)) }
+        ensures stands { (story : Story) → Stands self.old story
+            → OnOk result (Stands self.new (with_book
+            (with_meaning story (commanded (slot_of story.book whose) command.now))
+            (book_with story.book whose))) }
+    {
+        match whose {
+            Whose::Known(slot) => self.answer(alloc, number, slot, command, report),
+            Whose::New(imsi) => {
+                let slot = self.admit(alloc, imsi)?;
+                self.answer(alloc, number, slot, command, report)
+            }
+        }
+    }
+
+    // A command of a slot in the book.
+    fn answer(
+        &mut self,
+        alloc: Global,
+        number: u64,
+        slot: Slot,
+        command: &Command,
+        report: &mut Text,
+    ) -> Result<(), AllocError>
+        requires room { HasRoom self.old }
+        requires known { IsInBook self.old slot }
+
+        ensures told { (story : Story) → Stands self.old story
+            → number ≡ story.lines + 1 → OnOk result (report.new ≡ report.old
+            ++ entry_line story (commanded slot command.now)) }
+        ensures stands { (story : Story) → Stands self.old story
+            → OnOk result (Stands self.new (with_meaning story (commanded slot command.now))) }
+    {
+        let place = slot.0 as usize;
+        let subscriber = &mut self.subscribers[place];
+        let count = subscriber.commands();
+        few_events_leave_room();
+        let (reply, effects) = subscriber.command(alloc, command)?;
+        push_answer(report, number, slot, count, &reply)?;
+        self.gathered.add_effects(slot, count, effects)?;
+        self.gathered.add_rows(slot, subscriber.take_closed())?;
+        Ok(())
+    }
+
+    // The slot of a new IMSI, which gets a subscriber.
+    fn admit(&mut self, alloc: Global, imsi: Imsi) -> Result<Slot, AllocError>
+        requires due { IsDue self.old.book (New imsi) }
+
+        ensures slot { (story : Story) → Stands self.old story
+            → IfOk result (λ slot. slot ≡ length story.book) }
+        ensures stands { (story : Story) → Stands self.old story
+            → OnOk result (Stands self.new (with_book story (story.book ++ imsi ∷ []))) }
+    {
+        let slot = Whose::New(imsi).admit(&mut self.book)?;
+        let home = home_slice(slot, SLICES);
+        self.subscribers.push(Subscriber::new(alloc, slot, home)?)?;
+        Ok(slot)
+    }
+}
