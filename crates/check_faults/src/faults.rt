@@ -10,8 +10,10 @@ use crate::call::Call;
 use crate::ends::push_octets;
 use crate::telling::push_told;
 use pc_outside::{MemSink, MemSource, SureSink, SureSource};
-use pepc::{Status, run_plain};
+use pepc::{Status, run_plain, run_words};
 use std::alloc::{AllocError, Global};
+use std::sync::Wait;
+use std::thread::Threads;
 
 // More than a run here writes.
 const ROOM: usize = 0x20_0000;
@@ -27,7 +29,8 @@ struct Ended {
 }
 
 // A run of the words over this input, given and taken in pieces. The calls of these numbers fail.
-fn run(
+fn run<R: Threads + Wait + Sync>(
+    rt: &R,
     alloc: Global,
     words: &[String],
     octets: &[u8],
@@ -43,7 +46,7 @@ fn run(
         piece.max(1),
         Vec::from_slice(alloc, failing_writes)?,
     )?;
-    let status = run_plain(alloc, words, &mut source, &mut sink);
+    let status = run_words(rt, alloc, words, &mut source, &mut sink);
     Ok(Ended {
         status,
         written: Vec::from_slice(alloc, sink.written())?,
@@ -60,7 +63,8 @@ fn whole_lines(octets: &[u8]) -> &[u8] {
 
 // What is due where a read fails behind so many octets: of a trace the answer to its whole lines, of a capture that to
 // all octets, of an audit and of planned moves nothing.
-fn due(
+fn due<R: Threads + Wait + Sync>(
+    rt: &R,
     alloc: Global,
     row: &Call,
     words: &[String],
@@ -73,7 +77,7 @@ fn due(
         b"import" => taken,
         _ => whole_lines(taken),
     };
-    Ok(run(alloc, words, given, octets, &[], &[])?.written)
+    Ok(run(rt, alloc, words, given, octets, &[], &[])?.written)
 }
 
 // The command that a row names.
@@ -89,9 +93,15 @@ fn push_ended(text: &mut String, ended: &Ended) -> Result<(), AllocError> {
 
 /// `reads PIECE INPUT WORD..`: how the run ends where each read fails, and whether it wrote what is due, until no read
 /// fails.
-pub fn reads(alloc: Global, row: &Call, input: &[u8], text: &mut String) -> Result<(), AllocError> {
+pub fn reads<R: Threads + Wait + Sync>(
+    rt: &R,
+    alloc: Global,
+    row: &Call,
+    input: &[u8],
+    text: &mut String,
+) -> Result<(), AllocError> {
     for failing in 0..MOST_CALLS {
-        if !read_fails(alloc, row, input, failing, text)? {
+        if !read_fails(rt, alloc, row, input, failing, text)? {
             return Ok(());
         }
     }
@@ -99,7 +109,8 @@ pub fn reads(alloc: Global, row: &Call, input: &[u8], text: &mut String) -> Resu
 }
 
 // The same of one read; whether it fails.
-fn read_fails(
+fn read_fails<R: Threads + Wait + Sync>(
+    rt: &R,
     alloc: Global,
     row: &Call,
     input: &[u8],
@@ -108,7 +119,7 @@ fn read_fails(
 ) -> Result<bool, AllocError> {
     let words = row.texts(alloc, 3)?;
     let piece = row.number(1) as usize;
-    let ended = run(alloc, &words, input, piece, &[failing], &[])?;
+    let ended = run(rt, alloc, &words, input, piece, &[failing], &[])?;
     push_command(text, row)?;
     if ended.status != Status::ReadFault {
         push_told(text, ": no read ", &failing)?;
@@ -117,6 +128,7 @@ fn read_fails(
         return Ok(false);
     }
     let due = due(
+        rt,
         alloc,
         row,
         &words,
@@ -137,16 +149,18 @@ fn read_fails(
 
 /// `writes PIECE INPUT WORD..`: how the run ends where each write fails, and whether what it wrote is a prefix of what
 /// it writes where none does, until no write fails.
-pub fn writes(
+pub fn writes<R: Threads + Wait + Sync>(
+    rt: &R,
     alloc: Global,
     row: &Call,
     input: &[u8],
     text: &mut String,
 ) -> Result<(), AllocError> {
     let words = row.texts(alloc, 3)?;
-    let whole = run(alloc, &words, input, row.number(1) as usize, &[], &[])?;
+    let piece = row.number(1) as usize;
+    let whole = run(rt, alloc, &words, input, piece, &[], &[])?;
     for failing in 0..MOST_CALLS {
-        if !write_fails(alloc, row, input, &whole.written, failing, text)? {
+        if !write_fails(rt, alloc, row, input, &whole.written, failing, text)? {
             return Ok(());
         }
     }
@@ -154,7 +168,8 @@ pub fn writes(
 }
 
 // The same of one write, against what is written where none fails; whether it fails.
-fn write_fails(
+fn write_fails<R: Threads + Wait + Sync>(
+    rt: &R,
     alloc: Global,
     row: &Call,
     input: &[u8],
@@ -164,6 +179,7 @@ fn write_fails(
 ) -> Result<bool, AllocError> {
     let words = row.texts(alloc, 3)?;
     let ended = run(
+        rt,
         alloc,
         &words,
         input,
@@ -191,7 +207,13 @@ fn write_fails(
 }
 
 /// `runs PIECE READS WRITES INPUT WORD..`: the status and the text where these reads and writes fail.
-pub fn runs(alloc: Global, row: &Call, input: &[u8], text: &mut String) -> Result<(), AllocError> {
+pub fn runs<R: Threads + Wait + Sync>(
+    rt: &R,
+    alloc: Global,
+    row: &Call,
+    input: &[u8],
+    text: &mut String,
+) -> Result<(), AllocError> {
     let words = row.texts(alloc, 5)?;
     let reads = row.numbers(alloc, 2)?;
     let writes = row.numbers(alloc, 3)?;
@@ -201,7 +223,7 @@ pub fn runs(alloc: Global, row: &Call, input: &[u8], text: &mut String) -> Resul
         Vec::from_slice(alloc, input)?
     };
     let piece = row.number(1) as usize;
-    let ended = run(alloc, &words, &given, piece, &reads, &writes)?;
+    let ended = run(rt, alloc, &words, &given, piece, &reads, &writes)?;
     push_status(text, ended.status)?;
     push_octets(&ended.written, text)?;
     match ended.written.last() {

@@ -13,6 +13,8 @@ use call::Call;
 use std::alloc::{AllocError, Global};
 use std::fs;
 use std::io::{self, Read, Write};
+use std::sync::Wait;
+use std::thread::Threads;
 
 // The inputs that rows name.
 const NAMES: [&str; 5] = [
@@ -41,11 +43,17 @@ impl Inputs {
     }
 }
 
-fn answer(alloc: Global, inputs: &Inputs, row: &Call, text: &mut String) -> Result<(), AllocError> {
+fn answer<R: Threads + Wait + Sync>(
+    rt: &R,
+    alloc: Global,
+    inputs: &Inputs,
+    row: &Call,
+    text: &mut String,
+) -> Result<(), AllocError> {
     match row.word(0) {
-        b"reads" => faults::reads(alloc, row, inputs.of(row.word(2)), text),
-        b"writes" => faults::writes(alloc, row, inputs.of(row.word(2)), text),
-        b"runs" => faults::runs(alloc, row, inputs.of(row.word(4)), text),
+        b"reads" => faults::reads(rt, alloc, row, inputs.of(row.word(2)), text),
+        b"writes" => faults::writes(rt, alloc, row, inputs.of(row.word(2)), text),
+        b"runs" => faults::runs(rt, alloc, row, inputs.of(row.word(4)), text),
         b"surely" => faults::sure_status(alloc, row, inputs.of(row.word(1)), text),
         b"lines" => ends::lines(alloc, row, text),
         b"long" => ends::long(alloc, row, text),
@@ -62,16 +70,27 @@ fn answer(alloc: Global, inputs: &Inputs, row: &Call, text: &mut String) -> Resu
     }
 }
 
-fn tell(alloc: Global, inputs: &Inputs, line: &[u8], text: &mut String) -> Result<(), AllocError> {
+fn tell<R: Threads + Wait + Sync>(
+    rt: &R,
+    alloc: Global,
+    inputs: &Inputs,
+    line: &[u8],
+    text: &mut String,
+) -> Result<(), AllocError> {
     let row = Call::read(alloc, line)?;
-    answer(alloc, inputs, &row, text)
+    answer(rt, alloc, inputs, &row, text)
 }
 
 /// The answers to rows, a line each.
-fn told(alloc: Global, inputs: &Inputs, rows: &[u8]) -> Result<String, AllocError> {
+fn told<R: Threads + Wait + Sync>(
+    rt: &R,
+    alloc: Global,
+    inputs: &Inputs,
+    rows: &[u8],
+) -> Result<String, AllocError> {
     let mut text = String::new(alloc);
     for line in rows.split(|octet| *octet == b'\n') {
-        tell(alloc, inputs, line, &mut text)?;
+        tell(rt, alloc, inputs, line, &mut text)?;
     }
     Ok(text)
 }
@@ -90,6 +109,11 @@ fn main(rt: HostRuntime) -> io::Result<()> {
     let mut rows = Vec::new(alloc);
     rt.reader().read_to_end(&mut rows)?;
     let lines = rows.as_slice();
-    let text = told(alloc, &inputs, lines.strip_suffix(b"\n").unwrap_or(lines))?;
+    let text = told(
+        &rt,
+        alloc,
+        &inputs,
+        lines.strip_suffix(b"\n").unwrap_or(lines),
+    )?;
     io::writer(&rt).write_all(text.as_bytes())
 }

@@ -1,9 +1,8 @@
 //! A command behind one pointer.
+use crate::NoMemory;
 use control_steps::Command;
 use std::alloc::Global;
 use std::marker::Model;
-
-use crate::NoMemory;
 
 /// A command behind one pointer, since a lane has a place for each item that it can hold. A contract sees the command.
 #[derive(Debug, Drop)]

@@ -6,13 +6,14 @@ ghost use Rattle.pc_outside.specs.Faults.{Rises};
 ghost use Rattle.pepc.specs.Replay.{setup_asked};
 ghost use Rattle.trace_run.specs.Report.{Runs};
 
+use block_reading::run_report_in_blocks;
 use command_words::Lanes;
 use pc_outside::{Sink, Source};
 use replay_run::{Pace, Replayer};
 use std::alloc::Global;
 use std::sync::Wait;
 use std::thread::Threads;
-use trace_run::{Status, run_report};
+use trace_run::Status;
 
 /// Reads a trace, has its epochs run over slices in threads, and writes its report, epoch by epoch. Whatever the
 /// schedule of the threads, the report is a lawful one.
@@ -39,5 +40,5 @@ pub fn replay<R: Threads + Wait + Sync, S: Source, K: Sink>(
 {
     let Lanes { slices, room, lane } = lanes;
     let replayer = Replayer::new(rt, alloc, slices, room, lane, pace, places);
-    run_report(alloc, source, sink, replayer)
+    run_report_in_blocks(rt, alloc, source, sink, replayer)
 }

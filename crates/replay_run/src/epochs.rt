@@ -10,11 +10,11 @@ ghost use Rattle.trace_run.specs.Noted.{noted};
 ghost use Rattle.replay_run.specs.Epoch.{IsReplayed};
 
 use at_rest::AtRest;
-use epoch_texts::push_entries;
+use epoch_texts::push_blocks;
 use front_close::{Ended, Epoch};
 use slice_core::OpenGate;
 use slice_runner::run_epoch;
-use std::alloc::AllocError;
+use std::alloc::{AllocError, Global};
 use std::mem;
 use std::sync::Wait;
 use std::thread::Threads;
@@ -31,7 +31,9 @@ pub struct Pace {
 }
 
 // Appends what is told of an epoch, with the note of a bad line of this number behind the entries of its lines.
-fn tell(
+fn tell<R: Threads + Sync>(
+    rt: &R,
+    alloc: Global,
     report: &mut Text,
     epoch: Epoch,
     bad: Option<LineBad>,
@@ -46,7 +48,7 @@ fn tell(
         effects,
         rows,
     } = epoch;
-    push_entries(report, lines, places)?;
+    push_blocks(rt, alloc, lines, places, report)?;
     push_closing(report, bad, number, effects.as_slice(), rows.as_slice())
 }
 
@@ -83,7 +85,7 @@ pub(crate) fn replay_lines<R: Threads + Wait + Sync>(
         &OpenGate,
     )?;
     *rest = left;
-    tell(report, epoch, bad, number, places)?;
+    tell(rt, alloc, report, epoch, bad, number, places)?;
     lines.clear();
     Ok(())
 }

@@ -17,7 +17,7 @@ use std::sync::Wait;
 use std::thread::Threads;
 use text_fields::Text;
 use trace_lines::{LineBad, TraceLine};
-use trace_run::push_opens;
+use trace_run::{push_closing, push_opens};
 
 /// The gateway at rest, the lines of the open epoch, and how an epoch is run and told.
 #[derive(Drop)]
@@ -92,7 +92,7 @@ impl Replay {
         )
     }
 
-    /// The same, if there is an open epoch.
+    /// The same, if there is an open epoch. The note of a bad line that stands alone needs no threads.
     pub(crate) fn run_rest<R: Threads + Wait + Sync>(
         &mut self,
         rt: &R,
@@ -110,6 +110,9 @@ impl Replay {
     {
         if self.is_done(bad) {
             return Ok(());
+        }
+        if self.lines.is_empty() {
+            return push_closing(text, bad, number, &[], &[]);
         }
         self.run(rt, bad, number, text)
     }

@@ -1,8 +1,9 @@
-use Rattle.std.proofs.Common.{◌++◌, ◌∙◌, Option, None, List, sym, subst}
+use Rattle.std.proofs.Common.{◌++◌, ◌∙◌, Option, None, OnOk, List, [], sym, subst}
 use Rattle.packet_steps.proofs.ResultLemmas.{on_ok}
 use Rattle.trace_lines.specs.Line.{Line}
 use Rattle.trace_lines.specs.declared.bad.LineBad.{LineBad}
 use Rattle.replay_run.specs.Standing.{Replayed, ReplayedAll}
+use Rattle.replay_run.proofs.NoLines.{notes_on}
 use Rattle.replay_run.proofs.Reports.{all_so, none_so}
 use Rattle.replay_run.proofs.replay.Replay.run_rest.Goals as goal
 
@@ -15,6 +16,20 @@ returns-then-is_done g c = λ first done latest closed open_ sent so_far counted
     (subst (λ (lines : List Line). ReplayedAll first now done closed lines None (sent ++ c.args.text.now)) (sym empty)
     (none_so first now done latest closed sent c.args.text.now
     (subst (λ (lines : List Line). Replayed first now done latest closed lines sent c.args.text.now) empty so_far)))
+
+pub returns-then-is_empty : goal.returns-then-is_empty
+returns-then-is_empty g c = λ first done latest closed open_ sent so_far counted.
+    let now = c.args.self.now in
+    let text = c.push_closing.new.report in
+    let empty = sym so_far.kept ∙ c.if-is_empty.true in
+    subst (λ (lines : List Line). OnOk c.push_closing.result
+    (ReplayedAll first now done closed lines c.args.bad (sent ++ text))) (sym empty)
+    (on_ok c.push_closing.result
+    (λ said. all_so first now now done latest closed [] sent c.args.bad c.args.number text counted
+    (λ none bad. c.if-is_done.ensures c.if-is_empty.true bad)
+    (notes_on first now done latest closed sent c.args.text.now c.args.bad c.args.number text
+    (subst (λ (lines : List Line). Replayed first now done latest closed lines sent c.args.text.now) empty so_far) said))
+    (c.push_closing.ensures first.places))
 
 pub returns : goal.returns
 returns g c = λ first done latest closed open_ sent so_far counted.
