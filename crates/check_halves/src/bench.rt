@@ -190,7 +190,12 @@ impl Bench {
         Ok(())
     }
 
-    fn give_command<R: Wait>(&mut self, rt: &R, line: u64, command: BoxedCommand) -> Result<(), Stop> {
+    fn give_command<R: Wait>(
+        &mut self,
+        rt: &R,
+        line: u64,
+        command: BoxedCommand,
+    ) -> Result<(), Stop> {
         if self.front.commands() > 100 {
             return Err(Stop::Trace);
         }
