@@ -1,5 +1,5 @@
 -- Lines that were read apart, behind others and before more octets.
-use Rattle.std.proofs.Common.{◌≡◌, ℕ, suc, ◌+◌, ◌≤◌, ◌⊎◌, inl, inr, Bool, true, false, List, [], ◌∷◌, ◌++◌, length, take, drop, Option, None, Some, Result, Ok, Err, IfOk, IfErr, ap, sym, ◌∙◌, refl, subst, arith, append_assoc, length-append, true≢false, not}
+use Rattle.std.proofs.Common.{◌≡◌, ℕ, suc, ◌+◌, ◌≤◌, ◌⊎◌, Bool, true, false, List, [], ◌∷◌, ◌++◌, length, drop, Option, None, Some, Result, Ok, Err, IfOk, IfErr, ap, sym, ◌∙◌, refl, subst, arith, append_assoc, length-append, true≢false, not}
 use Rattle.std.proofs.lemmas.List.{drop-drop}
 use Rattle.std.specs.Io.KnownBytes.{prepend_known}
 use Rattle.pc_outside.specs.Limits.{newline}

@@ -1,5 +1,5 @@
 -- A kept answer is short, where requests ask of few bearers.
-use Rattle.std.proofs.Common.{◌≡◌, ℕ, ◌+◌, ◌*◌, ◌<◌, ◌≤◌, ◌^◌, ◌==◌, Bool, true, false, cond, Option, Some, None, List, [], ◌∷◌, ◌++◌, length, fold, map, eqb, arith, length-append}
+use Rattle.std.proofs.Common.{◌≡◌, ℕ, ◌+◌, ◌*◌, ◌<◌, ◌≤◌, ◌^◌, ◌||◌, Bool, true, false, Option, Some, None, List, [], ◌∷◌, ◌++◌, length, fold, map, eqb, arith, length-append}
 use Rattle.std.specs.Prelude.{IfSome}
 use Rattle.std.specs.List.{AllByRecursion, cons_option, filter_map, list_any, IsDistinct}
 use Rattle.std.specs.Option.{option_map, option_or}
@@ -10,6 +10,7 @@ use Rattle.std.proofs.lemmas.Map.Steps.{length-le_from_distinct_below}
 use Rattle.gtpv2_ie.specs.Element.{Element}
 use Rattle.gtpv2_ie.specs.Spelling as ie
 use Rattle.gtpv2_msg.specs.Message.{Message}
+use Rattle.gtpv2_msg.specs.declared.kind.TheConstants.{CREATE_SESSION_REQUEST}
 use Rattle.gtpv2_msg.specs.Spelling.{header_octets, spelling}
 use Rattle.bearer_state.specs.Lookup.{active_index}
 use Rattle.bearer_state.specs.Session.{SessionState}
@@ -18,11 +19,11 @@ use Rattle.bearer_state.specs.declared.bearer.Bearer.{Bearer}
 use Rattle.bearer_state.specs.declared.kept.Kept.{Kept}
 use Rattle.control_steps.specs.Command.{request_of}
 use Rattle.control_steps.specs.Messages.{accepted, ask_accepted, cause_alone, cause_element, create_session_response, modify_bearer_response}
-use Rattle.control_steps.specs.Row.{Row, repeated, pdn_refused, class_refused, created, no_session, no_bearer, modified, released, deleted, row_of}
+use Rattle.control_steps.specs.Row.{Row, repeated, pdn_refused, class_refused, created, no_session, no_bearer, modified, released, deleted, asked, refiltered, dropped, rerated, row_of}
 use Rattle.control_steps.specs.Table.{cause_answer, kept_answer, last_answer, written, teid_of_mme}
-use Rattle.control_steps.specs.declared.cause.TheConstants.{REQUEST_ACCEPTED, CONTEXT_NOT_FOUND}
+use Rattle.control_steps.specs.declared.cause.TheConstants.{REQUEST_ACCEPTED, CONTEXT_NOT_FOUND, PREFERRED_PDN_TYPE_NOT_SUPPORTED, REQUEST_REJECTED}
 use Rattle.control_steps.specs.declared.command.CommandKind.{CommandKind}
-use Rattle.control_steps.specs.declared.command.CommandKind.TheVariants.{Create, Modify}
+use Rattle.control_steps.specs.declared.command.CommandKind.TheVariants.{AddBearer, Ambr, Create, Drop, Filters, Modify}
 use Rattle.gate_model.specs.SlotPast.{SlotPast, behind, commanded, happens, met, new_slot}
 use Rattle.gate_model.specs.declared.event.Event.{Event}
 use Rattle.gate_model.specs.declared.event.Event.TheVariants as event
@@ -39,7 +40,7 @@ below (ask ∷ asks) all q is = by_first (eqb q ask.ebi) (λ same. at_first (eqb
     at_first same = let most = all.0.0 in omega (arith, same)
 
     by_first : (here : Bool) → (here ≡ true → q < 256) → (list_any (eqb q) (ebis asks) ≡ true → q < 256)
-        → cond here true (list_any (eqb q) (ebis asks)) ≡ true → q < 256
+        → (here || list_any (eqb q) (ebis asks)) ≡ true → q < 256
     by_first true first rest now = first now
     by_first false first rest now = rest now
 
@@ -112,10 +113,37 @@ caused : (session : SessionState) (request : Option (ℕ × ℕ)) (code : ℕ)
 caused session None code = tt
 caused session (Some request) code = cause_short (teid_of_mme session.mme) request.0 request.1 code
 
+nothing : (request : Option (ℕ × ℕ)) → Answered request None
+nothing None = tt
+nothing (Some request) = tt
+
+-- what an instruction has for the MME is kept as no answer
+asks_mme : (session : SessionState) (command : CommandKind)
+    → Answered (request_of command) (option_map spelling (written asked session command))
+asks_mme session (AddBearer seq qci mbr_up mbr_down gbr_up gbr_down tft) = tt
+asks_mme session command = nothing (request_of command)
+
+refilters : (session : SessionState) (command : CommandKind)
+    → Answered (request_of command) (option_map spelling (written refiltered session command))
+refilters session (Filters seq ebi tft) = tt
+refilters session command = nothing (request_of command)
+
+drops : (session : SessionState) (command : CommandKind)
+    → Answered (request_of command) (option_map spelling (written dropped session command))
+drops session (Drop seq ebi) = tt
+drops session command = nothing (request_of command)
+
+rerates : (session : SessionState) (command : CommandKind)
+    → Answered (request_of command) (option_map spelling (written rerated session command))
+rerates session (Ambr seq up down) = tt
+rerates session command = nothing (request_of command)
+
 answered : (row : Row) (session : SessionState) (command : CommandKind) → IsCommandInRange command → AsksOnce command
     → Answered (request_of command) (option_map spelling (written row session command))
-answered pdn_refused session (Create seq mme pdn ebi qos enb up down) is once = cause_short mme.teid _ seq _
-answered class_refused session (Create seq mme pdn ebi qos enb up down) is once = cause_short mme.teid _ seq _
+answered pdn_refused session (Create seq mme pdn ebi qos enb up down) is once =
+    cause_short mme.teid CREATE_SESSION_REQUEST seq PREFERRED_PDN_TYPE_NOT_SUPPORTED
+answered class_refused session (Create seq mme pdn ebi qos enb up down) is once =
+    cause_short mme.teid CREATE_SESSION_REQUEST seq REQUEST_REJECTED
 answered created session (Create seq mme pdn ebi qos enb up down) is once =
     created_short session.slot mme.teid seq pdn ebi
 answered no_session session command is once = caused session (request_of command) CONTEXT_NOT_FOUND
@@ -125,7 +153,11 @@ answered modified session (Modify seq mme asks) is once =
     (few_asks asks (recursion_from_All IsAskInRange asks is) once)
 answered released session command is once = caused session (request_of command) REQUEST_ACCEPTED
 answered deleted session command is once = caused session (request_of command) REQUEST_ACCEPTED
-answered row session command is once = tt
+answered asked session command is once = asks_mme session command
+answered refiltered session command is once = refilters session command
+answered dropped session command is once = drops session command
+answered rerated session command is once = rerates session command
+answered row session command is once = nothing (request_of command)
 
 kept_short : (request : Option (ℕ × ℕ)) (answer : Option (List ℕ)) (last : Option Kept) → Answered request answer
     → IfSome last IsShortAnswer → IfSome (option_or (kept_answer request answer) last) IsShortAnswer

@@ -82,7 +82,7 @@ ebis asks = map (λ (ask : Ask). ask.ebi) asks
 
 abbrev pub AsksOnce : CommandKind → Type 0
 AsksOnce (Modify seq mme asks) = IsDistinct nat_eq (ebis asks)
-AsksOnce command = Unit {0}
+AsksOnce other = Unit {0}
 
 abbrev pub EventAsksOnce : Event → Type 0
 EventAsksOnce (event.Command c) = AsksOnce c

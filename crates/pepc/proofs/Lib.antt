@@ -1,6 +1,7 @@
 pub mod OneReport
 pub mod SummaryLemmas
 pub mod MakeLemmas
+pub mod OneTrace
 pub mod ResumeReports
 pub mod SaveReports
 pub mod JobLemmas

@@ -1,9 +1,9 @@
 -- What a run of `resume` wrote, by its status.
-use Rattle.std.proofs.Common.{◌≡◌, ℕ, ◌++◌, inl, inr, Bool, false, List, [], Option, None, Some, refl, sym, ◌∙◌, subst}
+use Rattle.std.proofs.Common.{◌≡◌, ℕ, ◌++◌, ◌⊎◌, inl, inr, Bool, false, List, [], Option, None, Some, refl, subst}
 use Rattle.std.proofs.KnownBytes.{Appends-nil}
 use Rattle.pc_outside.specs.WhereTold.{WhereTold}
 use Rattle.pc_outside.proofs.ToldLemmas.{told_map, told_then}
-use Rattle.trace_lines.specs.Input.{Input, big, ended}
+use Rattle.trace_lines.specs.Input.{Input, ended}
 use Rattle.lawful_run.specs.Report.{Report}
 use Rattle.record_codec.specs.Saved.{FileState}
 use Rattle.state_run.specs.Laws.{LinesSayOneState}
@@ -16,7 +16,7 @@ use Rattle.trace_run.specs.Report.{IsCutText, IsDone, IsEpochsText, IsFaultText,
 use Rattle.trace_run.proofs.EndingLemmas.{complete}
 use Rattle.resume_run.specs.Reports.{IsResumed}
 use Rattle.resume_laws.specs.Resumes.{CompletesResume, HasState, Resumed, Resumes, ResumesAs, StoppedFirst, begins_at}
-use Rattle.resume_laws.proofs.RunLemmas.{ends_alike}
+use Rattle.pepc.proofs.OneTrace.{ends_alike}
 use Rattle.resume_laws.proofs.StateLemmas.{none_bad, none_stopped}
 
 -- ---- reports that are allowed by one relation are allowed by a wider one, and a failure is one of more calls
@@ -51,15 +51,16 @@ module _ (may more : Input → Report → Type 0) (wider : (input : Input) (repo
   }
 
   cut_wider : (begin : Beginning) (failed after : Type 0) (octets left text : List ℕ) → (failed → after)
-      → IsCutText begin may places failed octets left text → IsCutText begin more places after octets left text
-  cut_wider begin failed after octets left text fails is = record {
-    more = is.more;
-    whole = elim is.whole [
-      | inl whole ↦ inl (text_wider _ _ whole)
-      | inr (inl faulty) ↦ inr (inl (fails faulty.0, fault_wider begin octets left _ faulty.1))
-      | inr (inr first) ↦ inr (inr (epochs_wider _ _ first))
-    ];
-  }
+      → IsText may places (input_from begin octets) text
+      ⊎ ((failed × IsFaultText begin may places octets left text)
+      ⊎ IsEpochsText may places (input_from begin octets) text)
+      → IsText more places (input_from begin octets) text
+      ⊎ ((after × IsFaultText begin more places octets left text)
+      ⊎ IsEpochsText more places (input_from begin octets) text)
+  cut_wider begin failed after octets left text fails (inl whole) = inl (text_wider _ text whole)
+  cut_wider begin failed after octets left text fails (inr (inl faulty)) =
+      inr (inl (fails faulty.0, fault_wider begin octets left text faulty.1))
+  cut_wider begin failed after octets left text fails (inr (inr first)) = inr (inr (epochs_wider _ text first))
 
   pub reports_wider : (begin : Beginning) (ending : Status) (failed after : Type 0) (octets left text : List ℕ)
       → (failed → after) → ReportsFrom begin may places ending failed octets left text
@@ -68,7 +69,7 @@ module _ (may more : Input → Report → Type 0) (wider : (input : Input) (repo
   reports_wider begin status.Usage failed after octets left text fails is = is
   reports_wider begin status.ReadFault failed after octets left text fails is = fault_wider begin octets left text is
   reports_wider begin status.WriteFault failed after octets left text fails is =
-      cut_wider begin failed after octets left text fails is
+      record { more = is.more; whole = cut_wider begin failed after octets left (text ++ is.more) fails is.whole }
   reports_wider begin status.NoMemory failed after octets left text fails is = epochs_wider _ text is
   reports_wider begin status.BadLine failed after octets left text fails is = (is.0, text_wider _ text is.1)
   reports_wider begin status.LineLong failed after octets left text fails is = (is.0, text_wider _ text is.1)

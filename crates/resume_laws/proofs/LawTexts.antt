@@ -29,7 +29,7 @@ use Rattle.record_codec.specs.Saved.{FileState}
 use Rattle.trace_run.specs.Report.{input_with}
 use Rattle.resume_run.specs.Gateway.{Gateway, no_subscribers}
 use Rattle.resume_run.specs.Reports.{Gives, IsResumed}
-use Rattle.resume_laws.specs.Law.{ResumedTextsGoOn}
+use Rattle.resume_laws.specs.Law.{EndWithFence, ResumedTextsGoOn}
 use Rattle.resume_run.specs.Left.{IsLeft}
 use Rattle.resume_laws.proofs.LawLemmas.{reports_go_on}
 use Rattle.resume_laws.proofs.Octets.{Say, all_said, ends_at_last}
@@ -133,7 +133,7 @@ lines_most room number least octets =
 
 -- ---- texts
 
-texts_split : (entries more : List Entry) → texts_of false (entries ++ more) ≡ texts_of false entries ++ texts_of false more
+pub texts_split : (entries more : List Entry) → texts_of false (entries ++ more) ≡ texts_of false entries ++ texts_of false more
 texts_split entries more =
     flat_map-append (λ (told : Entry). entry_text (shown false told) ++ 10 ∷ []) entries more
 
@@ -151,8 +151,12 @@ whole_text whole first resumed epochs opens =
     ∙ append_assoc (flat_map epoch_entries first.epochs) (flat_map epoch_entries resumed.epochs) charges in
     ap (texts_of false) all ∙ texts_split (flat_map epoch_entries first.epochs) (entries_of resumed)
 
-pub texts_go_on : ResumedTextsGoOn
-texts_go_on octets behind text file first whole resumed fenced short saved_short left written gives whole_is resumed_is =
+-- what both parts say: the lines of the first, and what the second says behind them
+pub whole_says : (octets behind : List ℕ) (room : ℕ) → EndWithFence octets → length octets + length behind < 2 ^ 40
+    → length behind < room
+    → input_of (octets ++ behind) ≡ after_lines (input_of octets).lines
+    (input_within room (length (input_of octets).lines + 1) (latest_behind 0 (input_of octets).lines) behind)
+whole_says octets behind room fenced short roomy =
     let extra = 2 ^ 40 - length octets in
     let rooms : 2 ^ 40 ≡ length octets + extra = omega arith in
     let stops : (input_within (length octets + extra) 1 0 octets).stop ≡ ended =
@@ -160,35 +164,49 @@ texts_go_on octets behind text file first whole resumed fenced short saved_short
     let said : Say 1 0 octets =
     all_said 1 0 extra [] octets (All-nil (λ o. o ≢ newline)) (ends_at_last octets fenced.front fenced.parts) stops in
     let lines = said.lines in
-    let next = input_within extra (1 + length lines) (latest_behind 0 lines) behind in
-    let whole_input : input_of (octets ++ behind) ≡ after_lines lines next =
+    let whole_input : input_of (octets ++ behind)
+    ≡ after_lines lines (input_within extra (1 + length lines) (latest_behind 0 lines) behind) =
     ap (λ r. input_within r 1 0 (octets ++ behind)) rooms ∙ said.says extra behind in
-    let own_input : input_of octets ≡ input_with lines =
+    let own_input : input_of octets ≡ after_lines lines (input_within extra (1 + length lines) (latest_behind 0 lines) []) =
     ap (λ r. input_within r 1 0 octets) rooms
-    ∙ ap (input_within (length octets + extra) 1 0) (sym (append-nil octets)) ∙ said.says extra []
-    ∙ ap (after_lines lines) (at_end extra (1 + length lines) (latest_behind 0 lines) (omega arith))
-    ∙ ap (λ (ls : List Line). input_with ls) (append-nil lines) in
-    let own_lines : (input_of octets).lines ≡ lines = ap (λ (i : Input). i.lines) own_input in
-    let left_so : IsLeft 64 lines file = subst (λ (ls : List Line). IsLeft 64 ls file) own_lines left in
-    let count : file.lines ≡ length lines = left_so.count in
-    let numbers : file.lines + 1 ≡ 1 + length lines = omega arith in
-    let resumed_input : input_within (2 ^ 40 - length text) (file.lines + 1) file.moment behind ≡ next =
-    any_room (2 ^ 40 - length text) extra (file.lines + 1) file.moment behind (omega arith) (omega arith)
-    ∙ ap (λ n. input_within extra n file.moment behind) numbers
-    ∙ ap (λ m. input_within extra (1 + length lines) m behind) left_so.moment in
-    let ends_so : lines ≡ fenced.earlier ++ fenced.last ∷ [] = sym own_lines ∙ fenced.lines in
+    ∙ ap (input_within (length octets + extra) 1 0) (sym (append-nil octets)) ∙ said.says extra [] in
+    let own_lines : (input_of octets).lines ≡ lines =
+    ap (λ (i : Input). i.lines) own_input
+    ∙ ap (λ (i : Input). lines ++ i.lines) (at_end extra (1 + length lines) (latest_behind 0 lines) (omega arith))
+    ∙ append-nil lines in
+    let numbers : 1 + length lines ≡ length lines + 1 = omega arith in
+    whole_input
+    ∙ ap (after_lines lines)
+    (any_room extra room (1 + length lines) (latest_behind 0 lines) behind (omega arith) roomy
+    ∙ ap (λ n. input_within room n (latest_behind 0 lines) behind) numbers)
+    ∙ ap (λ (ls : List Line). after_lines ls (input_within room (length ls + 1) (latest_behind 0 ls) behind))
+    (sym own_lines)
+
+-- the lines of an input that ends are all that it says
+own_says : (octets : List ℕ) → (input_of octets).stop ≡ ended → input_of octets ≡ input_with (input_of octets).lines
+own_says octets stop = λ i. record { lines = (input_of octets).lines; stop = stop i }
+
+pub texts_go_on : ResumedTextsGoOn
+texts_go_on octets behind text file first whole resumed fenced short saved_short left written gives whole_is resumed_is =
+    let lines = (input_of octets).lines in
+    let room = 2 ^ 40 - length text in
+    let next = input_within room (length lines + 1) (latest_behind 0 lines) behind in
+    let whole_input : input_of (octets ++ behind) ≡ after_lines lines next =
+    whole_says octets behind room fenced short (omega arith) in
+    let resumed_input : input_within room (file.lines + 1) file.moment behind ≡ next =
+    ap (λ n. input_within room (n + 1) file.moment behind) left.count
+    ∙ ap (λ m. input_within room (length lines + 1) m behind) left.moment in
     let cut = cut_at_fence fenced.earlier fenced.last (ap is_fence fenced.fence) in
     let few : length lines + length next.lines < 2 ^ 50 =
     omega (
       arith,
-      lines_most extra (1 + length lines) (latest_behind 0 lines) behind,
+      lines_most room (length lines + 1) (latest_behind 0 lines) behind,
       lines_most input_max 1 0 octets,
-      ap (λ (ls : List Line). length ls) own_lines,
     ) in
     let both = reports_go_on 64 lines next.lines cut.0 next.stop file whole_is.report first resumed_is.report
-    (subst (λ (ls : List Line). IsCut ls cut.0 []) (sym ends_so) cut.1) few left_so
+    (subst (λ (ls : List Line). IsCut ls cut.0 []) (sym fenced.lines) cut.1) few left
     (subst (λ (i : Input). Gives 64 no_subscribers i whole_is.report) whole_input whole_is.allowed)
-    (subst (λ (i : Input). Gives 64 no_subscribers i first) own_input gives)
+    (subst (λ (i : Input). Gives 64 no_subscribers i first) (own_says octets fenced.stop) gives)
     (subst (λ (i : Input). IsResumed 64 file i resumed_is.report) resumed_input resumed_is.allowed) in
     whole_is.written ∙ whole_text whole_is.report first resumed_is.report both.0 both.1
     ∙ ap (λ (t : List ℕ). texts_of false (flat_map epoch_entries first.epochs) ++ t) (sym resumed_is.written)

@@ -11,26 +11,26 @@ use Rattle.audit_reading.specs.Texts.{Text, Texts, after_lines, ended, texts_of,
 use Rattle.audit_reading.specs.Texts as texts
 use Rattle.audit_reading.specs.Progress.{HasRead}
 use Rattle.audit_reading.proofs.TextLemmas.{at_end}
-use Rattle.trace_lines.specs.Epochs.{epochs_of}
 use Rattle.trace_lines.specs.Input.{Input, Stop, input_of, input_within}
 use Rattle.trace_lines.specs.Input as input
-use Rattle.trace_lines.specs.Line.{Line}
+use Rattle.trace_lines.proofs.InputLemmas as input_lemmas
+use Rattle.at_rest.specs.Coming.{latest_behind}
 use Rattle.record_codec.specs.Saved.{FileState}
 use Rattle.record_codec.specs.Spelling.{state}
 use Rattle.state_run.specs.Front.{SaysState}
 use Rattle.state_run.specs.Laws.{LinesSayOneState, TextsSayTheirStates}
 use Rattle.state_run.specs.Text.{IsStateText}
-use Rattle.trace_run.specs.Beginnings.{input_from}
-use Rattle.trace_run.specs.Report.{IsText, ReportsFrom}
+use Rattle.trace_run.specs.Beginnings.{Beginning, input_from, whole_input}
+use Rattle.trace_run.specs.Report.{IsBad, IsLong, IsText, ReportsFrom}
 use Rattle.trace_run.specs.declared.status.Status.{Status}
 use Rattle.trace_run.specs.declared.status.Status.TheVariants as status
-use Rattle.lawful_run.specs.Report.{EpochReport, Report}
-use Rattle.resume_run.specs.Gateway.{Gateway, Told}
-use Rattle.resume_run.specs.Left.{IsLeft}
-use Rattle.resume_run.specs.Reports.{AnswersEpochs, Gives, IsResumed, stop_told}
+use Rattle.lawful_run.specs.Report.{Report}
+use Rattle.resume_run.specs.Gateway.{no_subscribers}
+use Rattle.resume_run.specs.Reports.{Gives, IsResumed}
 use Rattle.resume_laws.specs.Law.{ResumedRunsGoOn, ResumedTextsGoOn, TellsAll}
 use Rattle.resume_laws.specs.Resumes.{HasState, Resumed, ResumesAs, StoppedFirst, begins_at}
-use Rattle.resume_laws.proofs.StateLemmas.{none_stopped, one_state, stop_code}
+use Rattle.resume_laws.proofs.LawTexts.{whole_says}
+use Rattle.resume_laws.proofs.StateLemmas.{none_stopped, one_state}
 
 -- ---- octets that fewer than are looked at, and that say no lines and end, are none
 
@@ -43,7 +43,7 @@ no_rest (octet ∷ rest) none ends = by_length (nat_lt line_max (length (octet �
         → (if b then texts.stopped texts.long else after_lines ((octet ∷ rest) ∷ []) (texts.stopped ended)).lines ≡ []
         → (if b then texts.stopped texts.long else after_lines ((octet ∷ rest) ∷ []) (texts.stopped ended)).stop ≡ ended
         → octet ∷ rest ≡ []
-    by_length true empty over = let codes : 0 ≡ 2 = ap stop_code over in absurd (omega arith)
+    by_length true empty over = absurd cc
     by_length false empty over = absurd cc
 
 no_pieces : (pieces : List Text) → (texts.pieces_texts false pieces).lines ≡ []
@@ -58,7 +58,7 @@ no_pieces (line ∷ next ∷ pieces) none ends = by_length (nat_lt line_max (len
         → (if b then texts.stopped texts.long
         else after_lines (line ∷ []) (texts.pieces_texts false (next ∷ pieces))).stop ≡ ended
         → (line ∷ next ∷ pieces ≡ []) ⊎ (line ∷ next ∷ pieces ≡ [] ∷ [])
-    by_length true empty over = let codes : 0 ≡ 2 = ap stop_code over in absurd (omega arith)
+    by_length true empty over = absurd cc
     by_length false empty over = absurd cc
 
 pub nothing_within : (room : ℕ) (octets : List ℕ) → length octets < room → (texts_within room octets).lines ≡ []
@@ -158,57 +158,61 @@ one_ahead octets ahead next room room_next done few read read_next =
           }
     ]
 
--- ---- a report by the octets that are ahead
+-- ---- a run by its status
 
--- where no octets are ahead, the room doesn't matter: the input ends, or is as large as it may be, without a line
-none_ahead : (room number least : ℕ)
-    → ((input_within room number least []).lines ≡ []) × (stop_told (input_within room number least []).stop ≡ [])
-unfolding input_within
-none_ahead room number least =
-    let full = nat_le room 0 in
-    let cut : List ℕ → List (List ℕ) = slice_split (λ octet. octet == newline) in
-    let is : input_within room number least [] ≡ input.pieces_meaning full number least ([] ∷ []) =
-    ap (λ (os : List ℕ). input.pieces_meaning full number least (cut os)) (take_all room [] (omega arith)) in
-    let stops = by_room full in
-    (ap (λ (i : Input). i.lines) is ∙ stops.0, ap (λ (i : Input). stop_told i.stop) is ∙ stops.1)
-  where
-    by_room : (b : Bool) → ((input.pieces_meaning b number least ([] ∷ [])).lines ≡ [])
-        × (stop_told (input.pieces_meaning b number least ([] ∷ [])).stop ≡ [])
-    by_room true = (refl, refl)
-    by_room false = (refl, refl)
+-- the status that tells all of an input which stops so
+told_as : Stop → Status
+told_as (input.bad number why) = status.BadLine
+told_as (input.long number) = status.LineLong
+told_as input.big = status.TooLong
+told_as input.ended = status.Ok
 
--- inputs of the same lines that both stop without a note have the same reports
-same_resumed : (file : FileState) (one other : Input) (report : Report) → one.lines ≡ other.lines
-    → stop_told one.stop ≡ stop_told other.stop → IsResumed 64 file one report → IsResumed 64 file other report
-same_resumed file one other report lines stops is = record {
-  gateway = is.gateway;
-  has_state = is.has_state;
-  gives = record {
-    last = is.gives.last;
-    epochs = subst (λ (ls : List Line).
-        AnswersEpochs 64 (epochs_of ls) (stop_told other.stop) is.gateway report.epochs is.gives.last) lines
-        (subst (λ (told : List Told).
-        AnswersEpochs 64 (epochs_of one.lines) told is.gateway report.epochs is.gives.last) stops is.gives.epochs);
-    opens = is.gives.opens;
-  };
+bad_told : (stop : Stop) → IsBad stop → status.BadLine ≡ told_as stop
+bad_told (input.bad number why) is = refl
+bad_told (input.long number) is = absurd is
+bad_told input.big is = absurd is
+bad_told input.ended is = absurd is
+
+long_told : (stop : Stop) → IsLong stop → status.LineLong ≡ told_as stop
+long_told (input.bad number why) is = absurd is
+long_told (input.long number) is = refl
+long_told input.big is = absurd is
+long_told input.ended is = absurd is
+
+-- a run that told all has the text of a report, and the status of the stop
+pub record HasTold (begin : Beginning) (may_have : Input → Report → Type 0) (ending : Status) (octets text : List ℕ) :
+    Type 0 where
+  pub text_is : IsText may_have false (input_from begin octets) text
+  pub ending_is : ending ≡ told_as (input_from begin octets).stop
+
+has_told : (begin : Beginning) (may_have : Input → Report → Type 0) (ending : Status) (source_failed : Type 0)
+    (octets left text : List ℕ) → TellsAll ending
+    → ReportsFrom begin may_have false ending source_failed octets left text
+    → HasTold begin may_have ending octets text
+has_told begin may_have status.Ok source_failed octets left text tells report = record {
+  text_is = report.2;
+  ending_is = ap told_as (sym report.0);
 }
-
-text_of : (ending : Status) (file : FileState) (room : ℕ) (source_failed : Type 0) (ahead left text : List ℕ)
-    → TellsAll ending
-    → ReportsFrom (begins_at file room) (IsResumed 64 file) false ending source_failed ahead left text
-    → IsText (IsResumed 64 file) false (input_from (begins_at file room) ahead) text
-text_of status.Ok file room source_failed ahead left text tells report = report.2
-text_of status.Usage file room source_failed ahead left text tells report = absurd tells
-text_of status.ReadFault file room source_failed ahead left text tells report = absurd tells
-text_of status.WriteFault file room source_failed ahead left text tells report = absurd tells
-text_of status.NoMemory file room source_failed ahead left text tells report = absurd tells
-text_of status.BadLine file room source_failed ahead left text tells report = report.1
-text_of status.LineLong file room source_failed ahead left text tells report = report.1
-text_of status.TooLong file room source_failed ahead left text tells report = report.1
-text_of status.Refuted file room source_failed ahead left text tells report = absurd tells
-text_of status.BadCapture file room source_failed ahead left text tells report = absurd tells
-text_of status.BadState file room source_failed ahead left text tells report = absurd tells
-text_of status.BadReport file room source_failed ahead left text tells report = absurd tells
+has_told begin may_have status.Usage source_failed octets left text tells report = absurd tells
+has_told begin may_have status.ReadFault source_failed octets left text tells report = absurd tells
+has_told begin may_have status.WriteFault source_failed octets left text tells report = absurd tells
+has_told begin may_have status.NoMemory source_failed octets left text tells report = absurd tells
+has_told begin may_have status.BadLine source_failed octets left text tells report = record {
+  text_is = report.1;
+  ending_is = bad_told (input_from begin octets).stop report.0;
+}
+has_told begin may_have status.LineLong source_failed octets left text tells report = record {
+  text_is = report.1;
+  ending_is = long_told (input_from begin octets).stop report.0;
+}
+has_told begin may_have status.TooLong source_failed octets left text tells report = record {
+  text_is = report.1;
+  ending_is = ap told_as (sym report.0);
+}
+has_told begin may_have status.Refuted source_failed octets left text tells report = absurd tells
+has_told begin may_have status.BadCapture source_failed octets left text tells report = absurd tells
+has_told begin may_have status.BadState source_failed octets left text tells report = absurd tells
+has_told begin may_have status.BadReport source_failed octets left text tells report = absurd tells
 
 -- a run that told all found the state
 not_stopped : (ending : Status) (octets left : List ℕ) → HasState octets → TellsAll ending
@@ -232,74 +236,81 @@ resumed_of ending source_failed octets left text found tells (inr resumed) = res
 resumed_of ending source_failed octets left text found tells (inl stopped) =
     absurd (not_stopped ending octets left found tells stopped.0)
 
--- what was resumed is a report of the second part behind this state
-behind_state : (octets behind : List ℕ) (room : ℕ) (file : FileState) (lines : List Text) (resumed : List ℕ)
-    → length octets < 2 ^ 40 → HasRead octets behind room lines → (found : HasState octets) → found.file ≡ file
-    → found.texts ≡ lines
-    → IsText (IsResumed 64 found.file) false (input_from (begins_at found.file found.room) found.ahead) resumed
-    → IsText (IsResumed 64 file) false (input_within room (file.lines + 1) file.moment behind) resumed
-behind_state octets behind room file lines resumed few read found same_file same_texts is = elim found.read [
+-- what is said behind the state that was found is what the second part says
+behind_state : (octets behind : List ℕ) (room : ℕ) (lines : List Text) → length octets < 2 ^ 40
+    → HasRead octets behind room lines → (found : HasState octets) → found.texts ≡ lines
+    → (number least : ℕ)
+    → input_within found.room number least found.ahead ≡ input_within room number least behind
+behind_state octets behind room lines few read found same_texts number least = elim found.read [
   | inl own ↦
       let alike : AreAheadAlike found.ahead behind found.room room =
       one_ahead octets found.ahead behind found.room room lines few
       (subst (λ (ts : List Text). HasRead octets found.ahead found.room ts) same_texts own) read in
-      subst (λ (f : FileState). IsText (IsResumed 64 f) false (input_within room (f.lines + 1) f.moment behind) resumed)
-      same_file
-      (subst (λ (os : List ℕ). IsText (IsResumed 64 found.file) false
-      (input_within room (found.file.lines + 1) found.file.moment os) resumed) alike.octets
-      (subst (λ n. IsText (IsResumed 64 found.file) false
-      (input_within n (found.file.lines + 1) found.file.moment found.ahead) resumed) alike.rooms is))
+      ap (λ (os : List ℕ). input_within found.room number least os) alike.octets
+      ∙ ap (λ n. input_within n number least behind) alike.rooms
   | inr all ↦
-      let none : behind ≡ [] = nothing_behind all in
-      let was = none_ahead found.room (found.file.lines + 1) found.file.moment in
-      let now = none_ahead room (found.file.lines + 1) found.file.moment in
-      let ahead_none : found.ahead ≡ [] = all.0 in
-      let here : IsText (IsResumed 64 found.file) false
-      (input_within found.room (found.file.lines + 1) found.file.moment []) resumed =
-      subst (λ (os : List ℕ). IsText (IsResumed 64 found.file) false
-      (input_within found.room (found.file.lines + 1) found.file.moment os) resumed) ahead_none is in
-      let there : IsText (IsResumed 64 found.file) false
-      (input_within room (found.file.lines + 1) found.file.moment []) resumed = record {
-        report = here.report;
-        allowed = same_resumed found.file (input_within found.room (found.file.lines + 1) found.file.moment [])
-            (input_within room (found.file.lines + 1) found.file.moment []) here.report (was.0 ∙ sym now.0)
-            (was.1 ∙ sym now.1) here.allowed;
-        written = here.written;
-      } in
-      subst (λ (f : FileState). IsText (IsResumed 64 f) false (input_within room (f.lines + 1) f.moment behind) resumed)
-      same_file
-      (subst (λ (os : List ℕ). IsText (IsResumed 64 found.file) false
-      (input_within room (found.file.lines + 1) found.file.moment os) resumed) (sym none) there)
+      let says : texts_of octets ≡ after_lines lines (texts_within room behind) =
+      ap texts_of read.parts ∙ read.says behind in
+      let counts : length octets ≡ length read.gone + length behind =
+      ap length read.parts ∙ length-append read.gone behind in
+      let lines_say : lines ++ (texts_within room behind).lines ≡ lines =
+      sym (ap (λ (t : Texts). t.lines) says) ∙ all.1 ∙ same_texts in
+      let none : behind ≡ [] =
+      nothing_within room behind (omega (arith, read.taken))
+      (lines_left lines (texts_within room behind).lines lines_say)
+      (sym (ap (λ (t : Texts). t.stop) says) ∙ all.2) in
+      let roomy : 0 < room = omega (arith, read.taken) in
+      ap (λ (os : List ℕ). input_within found.room number least os) all.0
+      ∙ input_lemmas.at_end found.room number least all.3
+      ∙ sym (input_lemmas.at_end room number least roomy)
+      ∙ ap (λ (os : List ℕ). input_within room number least os) (sym none)
 ]
-  where
-    nothing_behind : (found.ahead ≡ []) × ((texts_of octets).lines ≡ found.texts) × ((texts_of octets).stop ≡ ended)
-        → behind ≡ []
-    nothing_behind all =
-        let says : texts_of octets ≡ after_lines lines (texts_within room behind) =
-        ap texts_of read.parts ∙ read.says behind in
-        let counts : length octets ≡ length read.gone + length behind =
-        ap length read.parts ∙ length-append read.gone behind in
-        nothing_within room behind (omega (arith, read.taken))
-        (lines_left lines (texts_within room behind).lines
-        (sym (ap (λ (t : Texts). t.lines) says) ∙ all.1 ∙ same_texts))
-        (sym (ap (λ (t : Texts). t.stop) says) ∙ all.2)
 
 pub runs_go_on : TextsSayTheirStates → LinesSayOneState → ResumedTextsGoOn → ResumedRunsGoOn
-runs_go_on say one go_on octets behind saved file first whole resumed left ending source_failed fenced short
-    saved_short left_so small written gives whole_is tells resumes =
+runs_go_on say one go_on may_have octets behind saved file first ending resumed_ending source_failed
+    resumed_source_failed whole left resumed resumed_left given fenced short saved_short left_so small written first_has
+    tells reports resumed_tells resumes =
+    let room = 2 ^ 40 - length saved in
     let read = say file saved behind left_so.kept small written (omega arith) in
     let lengths : length (saved ++ behind) ≡ length saved + length behind = length-append saved behind in
     let state_there : HasState (saved ++ behind) = record {
       file = file;
       texts = read.0;
       ahead = behind;
-      room = 2 ^ 40 - length saved;
+      room = room;
       read = inl read.1;
       says = read.2;
     } in
-    let run = resumed_of ending source_failed (saved ++ behind) left resumed state_there tells resumes in
-    let same = one_state one (saved ++ behind) run.state state_there in
-    go_on octets behind saved file first whole resumed fenced short saved_short left_so written gives whole_is
-    (behind_state (saved ++ behind) behind (2 ^ 40 - length saved) file read.0 resumed (omega arith) read.1 run.state
-    same.1 same.0
-    (text_of ending run.state.file run.state.room source_failed run.state.ahead left resumed tells run.report))
+    let run = resumed_of resumed_ending resumed_source_failed (saved ++ behind) resumed_left resumed state_there
+    resumed_tells resumes in
+    let found = run.state in
+    let same = one_state one (saved ++ behind) found state_there in
+    let said : input_from (begins_at found.file found.room) found.ahead
+    ≡ input_within room (file.lines + 1) file.moment behind =
+    behind_state (saved ++ behind) behind room read.0 (omega arith) read.1 found same.0 (found.file.lines + 1)
+    found.file.moment
+    ∙ ap (λ (f : FileState). input_within room (f.lines + 1) f.moment behind) same.1 in
+    let told = has_told (begins_at found.file found.room) (IsResumed 64 found.file) resumed_ending
+    resumed_source_failed found.ahead resumed_left resumed resumed_tells run.report in
+    let all = has_told whole_input may_have ending source_failed (octets ++ behind) left whole tells reports in
+    let resumed_is : IsText (IsResumed 64 file) false (input_within room (file.lines + 1) file.moment behind) resumed =
+    subst (λ (f : FileState). IsText (IsResumed 64 f) false (input_within room (file.lines + 1) file.moment behind)
+    resumed) same.1
+    (subst (λ (i : Input). IsText (IsResumed 64 found.file) false i resumed) said told.text_is) in
+    let whole_is : IsText (Gives 64 no_subscribers) false (input_of (octets ++ behind)) whole = record {
+      report = all.text_is.report;
+      allowed = given (input_of (octets ++ behind)) all.text_is.report all.text_is.allowed;
+      written = all.text_is.written;
+    } in
+    let lines = (input_of octets).lines in
+    let next_is : input_within room (file.lines + 1) file.moment behind
+    ≡ input_within room (length lines + 1) (latest_behind 0 lines) behind =
+    ap (λ n. input_within room (n + 1) file.moment behind) left_so.count
+    ∙ ap (λ m. input_within room (length lines + 1) m behind) left_so.moment in
+    let stops : (input_of (octets ++ behind)).stop ≡ (input_from (begins_at found.file found.room) found.ahead).stop =
+    ap (λ (i : Input). i.stop) (whole_says octets behind room fenced short (omega arith))
+    ∙ sym (ap (λ (i : Input). i.stop) (said ∙ next_is)) in (
+      all.ending_is ∙ ap told_as stops ∙ sym told.ending_is,
+      go_on octets behind saved file first whole resumed fenced short saved_short left_so written
+          (given (input_of octets) first first_has) whole_is resumed_is,
+    )

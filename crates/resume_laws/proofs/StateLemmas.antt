@@ -1,5 +1,5 @@
 -- An input has one state before its trace, or none.
-use Rattle.std.proofs.Common.{◌≡◌, ◌≢◌, ℕ, cond, List, [], ◌∷◌, ◌++◌, ◌⊎◌, inl, inr, Option, Some, None, refl, sym, ap, ◌∙◌, subst, append-nil, arith}
+use Rattle.std.proofs.Common.{◌≡◌, ◌≢◌, ℕ, cond, List, [], ◌∷◌, ◌++◌, ◌⊎◌, inl, inr, Option, Some, None, refl, sym, ap, ◌∙◌, subst, append-nil}
 use Rattle.std.specs.Option.{is_some}
 use Rattle.audit_reading.specs.Texts.{Text, Texts, after_lines, big, ended, long, texts_of}
 use Rattle.audit_reading.specs.Texts as texts
@@ -59,11 +59,6 @@ pub none_stopped : (octets : List ℕ) (stop : texts.Stop) → HasState octets
     → ((texts_of octets).stop ≡ stop) × (others_in (texts_of octets).lines ≡ []) → ⊥
 none_stopped octets stop found is = some_other octets found is.1
 
-pub stop_code : texts.Stop → ℕ
-stop_code texts.long = 0
-stop_code texts.big = 1
-stop_code texts.ended = 2
-
 -- where octets are no state, no line is too long before that is known, and the other way round
 not_long : (octets : List ℕ) → IsBadState octets → ((texts_of octets).stop ≡ long) ⊎ ((texts_of octets).stop ≡ big)
     → others_in (texts_of octets).lines ≡ [] → ⊥
@@ -74,12 +69,12 @@ not_long octets (inl bad) stops each =
     let nothing : none.other ∷ bad.1.lines ≡ [] = sym other ∙ sym (ap others_in same) ∙ each in
     absurd cc
 not_long octets (inr over) (inl is) each =
-    let codes : 2 ≡ 0 = ap stop_code (sym over.0 ∙ is) in absurd (omega arith)
+    let both : ended ≡ long = sym over.0 ∙ is in absurd cc
 not_long octets (inr over) (inr is) each =
-    let codes : 2 ≡ 1 = ap stop_code (sym over.0 ∙ is) in absurd (omega arith)
+    let both : ended ≡ big = sym over.0 ∙ is in absurd cc
 
 not_both : (octets : List ℕ) → IsLong octets → IsBig octets → ⊥
-not_both octets one other = let codes : 0 ≡ 1 = ap stop_code (sym one.0 ∙ other.0) in absurd (omega arith)
+not_both octets one other = let both : long ≡ big = sym one.0 ∙ other.0 in absurd cc
 
 stopped_told : (ending : Status) (octets left text : List ℕ) → StoppedFirst ending octets left → text ≡ []
     → StatesAreTold ending octets left text

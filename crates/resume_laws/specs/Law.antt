@@ -1,6 +1,6 @@
 -- A trace that is cut behind a FENCE, saved and resumed, has the report of the whole.
 use Rattle.std.specs.Prelude.{◌≡◌, ℕ, ◌<◌, ◌^◌, ◌+◌, ◌-◌, false, List, [], ◌∷◌, ◌++◌, length, flat_map, All}
-use Rattle.trace_lines.specs.Input.{Stop, ended, input_of, input_within}
+use Rattle.trace_lines.specs.Input.{Input, Stop, ended, input_of, input_within}
 use Rattle.trace_lines.specs.Line.{Line}
 use Rattle.trace_lines.specs.declared.line.LineKind.TheVariants.{Fence}
 use Rattle.pc_outside.specs.Limits.{newline}
@@ -8,7 +8,7 @@ use Rattle.lawful_run.specs.Cut.{IsCut}
 use Rattle.lawful_run.specs.Report.{Report, epoch_entries, texts_of}
 use Rattle.trace_run.specs.declared.status.Status.{Status}
 use Rattle.trace_run.specs.declared.status.Status.TheVariants as status
-use Rattle.trace_run.specs.Report.{IsText, input_with}
+use Rattle.trace_run.specs.Report.{IsText, Reports, input_with}
 use Rattle.record_codec.specs.Saved.{FileState}
 use Rattle.record_codec.specs.Spelling.{state}
 use Rattle.state_run.specs.Text.{IsStateText}
@@ -64,13 +64,21 @@ TellsAll status.BadCapture = ⊥
 TellsAll status.BadState = ⊥
 TellsAll status.BadReport = ⊥
 
--- The same of a run of `resume`, which reads the saved state of the first part and the second behind it.
+-- what a gateway gives by what its subscribers hold, among whatever else is said of reports
+abbrev pub AreGiven : (Input → Report → Type 0) → Type 0
+AreGiven may_have =
+    (input : Input) (report : Report) → may_have input report → Gives 64 no_subscribers input report
+
+-- The same of runs: of one that answers both parts from no subscribers, and one of `resume`, which reads the saved state
+-- of the first part and the second behind it. Both told all, and so with one status.
 abbrev pub ResumedRunsGoOn : Type 0
-ResumedRunsGoOn = (octets behind saved : List ℕ) (file : FileState) (first : Report) (whole resumed left : List ℕ)
-    (ending : Status) (source_failed : Type 0) → EndWithFence octets → length octets + length behind < 2 ^ 40
-    → length saved + length behind < 2 ^ 40 → IsLeft 64 (input_of octets).lines file
-    → All (λ octet. octet < 256) (state file) → IsStateText (state file) saved
-    → Gives 64 no_subscribers (input_of octets) first
-    → IsText (Gives 64 no_subscribers) false (input_of (octets ++ behind)) whole
-    → TellsAll ending → ResumesAs ending source_failed (saved ++ behind) left resumed
-    → whole ≡ texts_of false (flat_map epoch_entries first.epochs) ++ resumed
+ResumedRunsGoOn = (may_have : Input → Report → Type 0) (octets behind saved : List ℕ) (file : FileState)
+    (first : Report) (ending resumed_ending : Status) (source_failed resumed_source_failed : Type 0)
+    (whole left resumed resumed_left : List ℕ) → AreGiven may_have → EndWithFence octets
+    → length octets + length behind < 2 ^ 40 → length saved + length behind < 2 ^ 40
+    → IsLeft 64 (input_of octets).lines file → All (λ octet. octet < 256) (state file) → IsStateText (state file) saved
+    → may_have (input_of octets) first
+    → TellsAll ending → Reports may_have false ending source_failed (octets ++ behind) left whole
+    → TellsAll resumed_ending
+    → ResumesAs resumed_ending resumed_source_failed (saved ++ behind) resumed_left resumed
+    → (ending ≡ resumed_ending) × (whole ≡ texts_of false (flat_map epoch_entries first.epochs) ++ resumed)

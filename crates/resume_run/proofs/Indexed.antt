@@ -1,5 +1,5 @@
 -- The pieces of a book in the order of its version's bearers: they fit, where the book's own do.
-use Rattle.std.proofs.Common.{◌≡◌, ℕ, suc, ◌+◌, ◌<◌, ◌≤◌, ◌^◌, ◌==◌, ◌&&◌, Bool, true, false, not, cond, IsTrue, Contains, List, [], ◌∷◌, length, map, Option, Some, None, refl, sym, ap, ◌∙◌, subst, inl, inr, arith, eq-eqb}
+use Rattle.std.proofs.Common.{◌≡◌, ℕ, suc, ◌+◌, ◌<◌, ◌≤◌, ◌^◌, ◌==◌, ◌&&◌, ◌||◌, Bool, true, false, not, cond, IsTrue, Contains, List, [], ◌∷◌, length, map, Option, Some, None, refl, sym, ap, ◌∙◌, subst, inl, inr, arith, eq-eqb}
 use Rattle.std.specs.List.{AllByRecursion, cons_option, filter_map, list_all, list_any}
 use Rattle.std.proofs.lemmas.Bool.{and_parts, and_from, eqb-true, false≢true, ne_eqb, cases_Bool}
 use Rattle.charging_book.specs.Accounts.{AreDistinct}
@@ -109,7 +109,7 @@ no_such b (c ∷ bearers) life (piece ∷ pieces) is apart are =
     ne_eqb life piece.counts.life (λ same. apart.0.lives_differ (sym is ∙ same ∙ are.0.life)) in
     neither (life == piece.counts.life) (has_life life pieces) differs (no_such b bearers life pieces is apart.1 are.1)
   where
-    neither : (x y : Bool) → x ≡ false → y ≡ false → cond x true y ≡ false
+    neither : (x y : Bool) → x ≡ false → y ≡ false → (x || y) ≡ false
     neither true y first second = absurd (false≢true (sym first))
     neither false y first second = second
 

@@ -14,3 +14,9 @@ always_ok (Err e) holds = tt
 pub on_ok_both : {T E : Type 0} {P Q R : Type 0} (r : Result T E) → (P → Q → R) → OnOk r P → OnOk r Q → OnOk r R
 on_ok_both (Ok x) follows first second = follows first second
 on_ok_both (Err e) follows first second = tt
+
+-- and from four
+pub on_ok_all : {T E : Type 0} {P Q R S U : Type 0} (r : Result T E) → (P → Q → R → S → U) → OnOk r P → OnOk r Q
+    → OnOk r R → OnOk r S → OnOk r U
+on_ok_all (Ok x) follows first second third fourth = follows first second third fourth
+on_ok_all (Err e) follows first second third fourth = tt

@@ -6,5 +6,8 @@ pub mod StoryLemmas
 pub mod ShortLemmas
 pub mod LineLemmas
 pub mod TextLemmas
+pub mod HoldLemmas
+pub mod TellLemmas
+pub mod GiveLemmas
 pub mod RunLemmas
 pub mod ReportLemmas

@@ -17,12 +17,17 @@ use Rattle.lawful_run.proofs.Growing.{behind_epochs-push}
 use Rattle.trace_run.specs.declared.ending.Ending.{Ending}
 use Rattle.trace_run.specs.declared.ending.Ending.TheVariants.{Ended, ReadFault, BadLine, LineLong, TooLong}
 use Rattle.trace_run.specs.Lines.{stop_of}
+use Rattle.demux.specs.Resolved.{decided}
+use Rattle.resume_run.specs.Gateway.{no_subscribers}
 use Rattle.solo_run.specs.declared.solo.Solo.{Solo}
 use Rattle.solo_run.specs.Entries.{text_line}
 use Rattle.solo_run.specs.Gathering.{closing_text}
+use Rattle.solo_run.specs.Holding.{HasTold, Holds, Tells, Waits, gateway_of, told_closing}
 use Rattle.solo_run.specs.Progress.{HasAnswered, SaysClosed, closed_events, closed_text, end_text, ending_text, entries_text, open_entries, open_meant}
 use Rattle.solo_run.specs.Report.{slices}
 use Rattle.solo_run.specs.Standing.{Stands, entry_line, meant_next, story_of, with_end}
+use Rattle.solo_run.proofs.GiveLemmas.{told_closed, told_lines, told_more, told_nothing}
+use Rattle.solo_run.proofs.HoldLemmas.{nothing_holds}
 use Rattle.solo_run.proofs.TextLemmas.{closed_text-push, closing_wider, entries_text-push}
 
 -- the open epoch's lines mean one thing more
@@ -88,8 +93,16 @@ said_more closed epoch sent lines book said book_is lines_are none = λ slots kn
     (meant_epochs-push slices [] closed epoch))
 
 -- nothing is answered yet
-pub begins : (gateway : Solo) → Stands gateway (story_of [] 0 no_events []) → HasAnswered gateway [] 0 [] [] [] []
-begins gateway stands = record { parts = refl; stands = stands; said = λ slots known. refl; waits = refl }
+pub begins : (gateway : Solo) → Stands gateway (story_of [] 0 no_events []) → gateway_of gateway ≡ no_subscribers
+    → Waits gateway.gathered (length gateway.book) [] → HasAnswered gateway [] 0 [] [] [] []
+begins gateway stands none waits = record {
+  parts = refl;
+  stands = stands;
+  said = λ slots known. refl;
+  waits = refl;
+  told = subst (λ g. HasTold g gateway 0 0 [] [] [] []) none
+      (told_nothing gateway 0 (subst (Holds 0 0) (sym none) (nothing_holds 0)) waits);
+}
 
 -- a line is answered
 pub answers : (gateway after_it : Solo) (done : List Line) (latest : ℕ) (closed : List (List Line))
@@ -99,22 +112,30 @@ pub answers : (gateway after_it : Solo) (done : List Line) (latest : ℕ) (close
     (open_meant closed open_ ++ meant_next done line ∷ []))
     → text ≡ waiting ++ entry_line (story_of done latest (closed_events closed) (open_meant closed open_))
     (meant_next done line)
+    → Tells line.number (decided slices gateway.book line) gateway after_it waiting text → latest ≤ line.moment
     → HasAnswered after_it (done ++ line ∷ []) line.moment closed (open_ ++ line ∷ []) sent text
-answers gateway after_it done latest closed open_ sent waiting text line answered stands told = record {
+answers gateway after_it done latest closed open_ sent waiting text line answered stands told tells late = record {
   parts = ap (λ lines. lines ++ line ∷ []) answered.parts ∙ append_assoc (lines_in closed) open_ (line ∷ []);
   stands = subst (λ made. Stands after_it (story_of (done ++ line ∷ []) line.moment (closed_events closed) made))
       (sym (open_meant-push done closed open_ line answered.parts)) stands;
   said = answered.said;
   waits = told ∙ waits_more done closed open_ line latest waiting answered.parts answered.waits;
+  told = told_lines no_subscribers after_it (length done + 1) (length (done ++ line ∷ [])) line.moment closed
+      (open_ ++ line ∷ []) sent text (sym (length-append done (line ∷ [])))
+      (told_more no_subscribers gateway after_it (length done) latest closed open_ sent waiting text line answered.told
+      tells late);
 }
 
 -- an epoch ends
 pub closes : (gateway after_it : Solo) (done : List Line) (latest : ℕ) (closed : List (List Line))
-    (open_ : List Line) (sent waiting text : List ℕ) → HasAnswered gateway done latest closed open_ sent waiting
+    (open_ : List Line) (sent waiting text : List ℕ)
+    → (answered : HasAnswered gateway done latest closed open_ sent waiting)
     → Stands after_it (with_end (story_of done latest (closed_events closed) (open_meant closed open_)))
     → text ≡ waiting ++ end_text (story_of done latest (closed_events closed) (open_meant closed open_))
+    → gateway_of after_it ≡ gateway_of gateway → Waits after_it.gathered (length after_it.book) []
+    → text ≡ waiting ++ told_closing (length gateway.book) answered.told.told
     → HasAnswered after_it done latest (closed ++ open_ ∷ []) [] (sent ++ text) []
-closes gateway after_it done latest closed open_ sent waiting text answered stands told = record {
+closes gateway after_it done latest closed open_ sent waiting text answered stands told same nothing ends = record {
   parts = answered.parts ∙ sym (lines_in-push closed open_) ∙ sym (append-nil (lines_in (closed ++ open_ ∷ [])));
   stands = subst (λ events. Stands after_it (story_of done latest events [])) (sym (closed_events-push closed open_))
       stands;
@@ -125,6 +146,8 @@ closes gateway after_it done latest closed open_ sent waiting text answered stan
       (append-nil (open_meant closed open_)))
       answered.stands.none_beyond);
   waits = refl;
+  told = told_closed no_subscribers gateway after_it (length done) latest closed open_ sent waiting text answered.told
+      same nothing ends;
 }
 
 -- a bad line has its entry

@@ -103,7 +103,7 @@ closing_wider slots known before made wider none =
     ∙ ap (λ (report : EpochReport). effects_text report.effects ++ charges_text report.rows) told
 
 -- an epoch without lines has nothing
-by_slot-none : {X : Type 0} (slots : ℕ) (has : ℕ → List X) → ((slot : ℕ) → has slot ≡ []) → by_slot slots has ≡ []
+pub by_slot-none : {X : Type 0} (slots : ℕ) (has : ℕ → List X) → ((slot : ℕ) → has slot ≡ []) → by_slot slots has ≡ []
 by_slot-none slots has none =
     ap (λ n. by_slot n has) (omega arith) ∙ by_slot-more 0 slots has (λ slot beyond. none slot)
 

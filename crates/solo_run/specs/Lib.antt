@@ -3,4 +3,5 @@ pub mod Report
 pub mod Entries
 pub mod Gathering
 pub mod Standing
+pub mod Holding
 pub mod Progress

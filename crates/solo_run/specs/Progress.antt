@@ -15,9 +15,11 @@ use Rattle.lawful_run.specs.Run.{by_slot, no_events}
 use Rattle.lawful_run.specs.Trace.{meant_epochs, meant_from}
 use Rattle.trace_run.specs.declared.ending.Ending.{Ending}
 use Rattle.trace_run.specs.declared.ending.Ending.TheVariants as ending
+use Rattle.resume_run.specs.Gateway.{no_subscribers}
 use Rattle.solo_run.specs.declared.solo.Solo.{Solo}
 use Rattle.solo_run.specs.Entries.{text_line}
 use Rattle.solo_run.specs.Gathering.{charges_text, closing_text}
+use Rattle.solo_run.specs.Holding.{HasTold}
 use Rattle.solo_run.specs.Report.{slices}
 use Rattle.solo_run.specs.Standing.{Stands, Story, events_of, story_of}
 
@@ -64,10 +66,11 @@ ending_text number ending.LineLong = []
 ending_text number ending.TooLong = []
 
 -- The gateway answered these lines, which are whole epochs and an open one: the former text is that of the whole
--- epochs, and the entries of the open one's lines wait.
+-- epochs, and the entries of the open one's lines wait. So it did by what its subscribers hold.
 pub record HasAnswered (gateway : Solo) (done : List Line) (latest : ℕ) (closed : List (List Line)) (open_ : List Line)
     (sent waiting : List ℕ) : Type 0 where
   pub parts : done ≡ lines_in closed ++ open_
   pub stands : Stands gateway (story_of done latest (closed_events closed) (open_meant closed open_))
   pub said : SaysClosed sent closed
   pub waits : waiting ≡ entries_text (open_entries closed open_ [])
+  pub told : HasTold no_subscribers gateway (length done) latest closed open_ sent waiting

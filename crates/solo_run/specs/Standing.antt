@@ -4,7 +4,6 @@ use Rattle.std.specs.Prelude.{◌∷◌, ◌++◌, length, IfSome}
 use Rattle.trace_lines.specs.Line.{Line}
 use Rattle.demux.specs.Destinations.{home_slice}
 use Rattle.demux.specs.Trace.{Meaning, book_of, destination_after, meaning}
-use Rattle.gate_model.specs.Events.{FewEvents}
 use Rattle.gate_model.specs.SlotPast.{records_after}
 use Rattle.gate_model.specs.declared.event.Event.{Event}
 use Rattle.report_lines.specs.declared.entry.Entry.TheVariants as entry
@@ -77,10 +76,6 @@ pub record Stands (solo : Solo) (story : Story) : Type 0 where
   pub few : (slot : ℕ) → length (events_of story slot) ≤ story.lines
   pub gathered : Gathers solo.gathered (length story.book) story.before story.made
 
--- so few lines that the next one has a number, and its slot room for an event
-abbrev pub HasRoom : Solo → Type 0
-HasRoom solo = (story : Story) × Stands solo story × FewEvents story.lines
-
 -- a slot of the book
 abbrev pub IsInBook : Solo → ℕ → Type 0
 IsInBook solo slot = slot < length solo.book
@@ -103,8 +98,3 @@ story_of done latest before made = record {
 -- what a line means behind lines
 abbrev pub meant_next : List Line → Line → Meaning
 meant_next done line = settled_by slices done (meaning slices done line)
-
--- a line that doesn't come before the last one
-abbrev pub IsLate : Solo → Line → Type 0
-IsLate solo line = (done : List Line) × (latest : ℕ) × (before : Histories) × (made : List Meaning)
-    × Stands solo (story_of done latest before made) × (latest ≤ line.moment)

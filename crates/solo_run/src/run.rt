@@ -47,8 +47,8 @@ impl Reporter for Solo {
     }
 }
 
-// Appends the entry of a bad line, where one of this number ended the lines.
-fn push_ending(text: &mut Text, ending: Ending, number: u64) -> Result<(), AllocError>
+/// Appends the entry of a bad line, where one of this number ended the lines.
+pub(crate) fn push_ending(text: &mut Text, ending: Ending, number: u64) -> Result<(), AllocError>
     ensures { OnOk result (text.new ≡ text.old ++ ending_text number ending) }
 {
     match ending {

@@ -196,3 +196,16 @@ cuts_run begin may_have places represents size waiting unwritten.WriteFault sour
 cuts_run begin may_have places represents size waiting unwritten.NoMemory source_failed start left old new cuts =
     ends_unwritten begin may_have places (represents cuts.cut.0 cuts.done cuts.cut.1) (size cuts.cut.0)
     (waiting cuts.cut.0) source_failed start left old new cuts.done cuts.reached cuts.cut.2
+
+-- the same where the number of the first line is told otherwise
+pub cuts_run_as : (number : ℕ) (begin : Beginning) {T : Type 0} (may_have : Input → Report → Type 0) (places : Bool)
+    (represents : T → List Line → ℕ → List (List Line) → List Line → List ℕ → List ℕ → Type 0) (size : T → Size)
+    (waiting : T → List ℕ) (why : Unwritten) (source_failed : Type 0) (start left old new : Option (List ℕ))
+    → number ≡ begin.number
+    → LinesCutFrom begin (λ taker done latest. HasWritten number may_have places (represents taker done latest) (size taker)
+    (waiting taker) done) (BreaksOff may_have places) why start left old new
+    → RunsFrom begin may_have places (status_without why) source_failed start left old new
+cuts_run_as number begin may_have places represents size waiting why source_failed start left old new is cuts =
+    cuts_run begin may_have places represents size waiting why source_failed start left old new
+    (subst (λ n. LinesCutFrom begin (λ taker done latest. HasWritten n may_have places (represents taker done latest)
+    (size taker) (waiting taker) done) (BreaksOff may_have places) why start left old new) is cuts)

@@ -1,4 +1,3 @@
-use Rattle.std.proofs.Common.{◌++◌}
 use Rattle.block_reading.proofs.ApartLemmas.{breaks_off, is_whole, joined_first}
 use Rattle.block_reading.proofs.parts.both.Goals as goal
 

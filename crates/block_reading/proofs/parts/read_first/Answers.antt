@@ -1,4 +1,4 @@
-use Rattle.std.proofs.Common.{◌≡◌, ◌++◌, ap, sym, ◌∙◌, take, arith, length-take}
+use Rattle.std.proofs.Common.{◌++◌, ap, sym, ◌∙◌, take, arith, length-take}
 use Rattle.std.proofs.lemmas.List.{take-append-drop}
 use Rattle.block_reading.proofs.ApartLemmas.{means_read}
 use Rattle.block_reading.proofs.parts.read_first.Goals as goal

@@ -1,4 +1,4 @@
-use Rattle.std.proofs.Common.{◌≡◌, ◌+◌, arith, drop, length-drop}
+use Rattle.std.proofs.Common.{◌+◌, arith, drop, length-drop}
 use Rattle.std.proofs.lemmas.List.{take_rest}
 use Rattle.block_reading.proofs.ApartLemmas.{at_place, push_first}
 use Rattle.block_reading.proofs.parts.read_part.Goals as goal

@@ -1,5 +1,4 @@
-use Rattle.std.proofs.Common.{◌≡◌, false, sym, ◌∙◌, arith}
-use Rattle.std.specs.Io.KnownBytes.{prepend_known}
+use Rattle.std.proofs.Common.{false, sym, ◌∙◌, arith}
 use Rattle.trace_lines.proofs.MeaningLemmas.{length-line_text, meaning_given}
 use Rattle.trace_run.proofs.NextLemmas.{given-no_fault, gives_given, gives_refused, takes_given, tells_given, tells_refused}
 use Rattle.block_reading.proofs.ApartLemmas.{behind_is, holds_first, reads_first}

@@ -13,7 +13,8 @@ loop-room-init c =
     (made c.args.seed c.args.subs c.args.lines)) (sym c.new-maker.ensures)
     (counting_begins c.new-epochs.result.reporter c.new-epochs.result.size c.new-epochs.result.text
     c.new-counts.result c.args.seed c.args.subs c.args.lines c.requires.some c.requires.slots c.requires.most
-    (c.new-epochs.ensures.stands refl (begins c.new.result c.new.ensures) says_nothing) c.new-counts.ensures)
+    (c.new-epochs.ensures.stands refl (begins c.new.result c.new.ensures.stands c.new.ensures.gateway
+    (c.new.ensures.waits _)) says_nothing) c.new-counts.ensures)
 
 pub loop-room-preserved : goal.loop-room-preserved
 loop-room-preserved c =

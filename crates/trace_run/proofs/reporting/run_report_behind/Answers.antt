@@ -1,14 +1,16 @@
 use Rattle.std.proofs.Common.{◌≡◌, ◌+◌, length, sym, ap, ◌∙◌}
 use Rattle.trace_run.specs.declared.ending.Unwritten.TheVariants.{WriteFault}
 use Rattle.trace_run.specs.declared.reporting.Epochs.{Epochs}
-use Rattle.trace_run.proofs.ReportingLemmas.{begins_at, cuts_run, ends_cut, ends_unwritten, ends_whole}
+use Rattle.trace_run.proofs.ReportingLemmas.{begins_at, cuts_run_as, ends_cut, ends_unwritten, ends_whole}
 use Rattle.trace_run.proofs.reporting.run_report_behind.Goals as goal
 
 pub returns-in-Err-clause-runs : goal.returns-in-Err-clause-runs
 returns-in-Err-clause-runs g c =
     rw c.status_without.ensures
-    (cuts_run _ _ _ (λ (now : Epochs g.row.R.Denot). g.R.Reporter.represents c.args.reporter now.reporter) (λ now. now.size)
-    (λ now. now.text) c.in-Err.why _ _ _ _ _ (rw (c.behind-epochs.ensures.same, c.requires.begins) at c.in-Err.ensures.cut))
+    (cuts_run_as (g.R.Reporter.begins c.args.reporter) _ _ _
+    (λ (now : Epochs g.row.R.Denot). g.R.Reporter.represents c.args.reporter now.reporter) (λ now. now.size)
+    (λ now. now.text) c.in-Err.why _ _ _ _ _ c.requires.begins
+    (rw c.behind-epochs.ensures.same at c.in-Err.ensures.cut))
 
 pub returns-in-Err-finish-clause-runs : goal.returns-in-Err-finish-clause-runs
 returns-in-Err-finish-clause-runs g c =

@@ -1,4 +1,3 @@
-use Rattle.std.proofs.Common.{◌∙◌}
 use Rattle.pc_outside.proofs.ReadSteps.{reads-of_answers, settles-behind}
 use Rattle.block_reading.proofs.buffer.BlockBufLineBuffer.read_next.Goals as goal
 

@@ -1,6 +1,10 @@
 use Rattle.std.proofs.Common.{◌≡◌, ◌++◌, ◌∷◌, [], OnOk, sym, ap, subst, ◌∙◌}
 use Rattle.demux.specs.Resolved.{book_with, slot_of}
 use Rattle.demux.specs.Trace.{command as commanded}
+use Rattle.demux.specs.declared.decision.Decision.TheVariants as decision
+use Rattle.solo_run.specs.Holding.{Tells}
+use Rattle.solo_run.proofs.Answered.{on_ok}
+use Rattle.solo_run.proofs.TellLemmas.{tells_admitted}
 use Rattle.solo_run.specs.Standing.{Stands, entry_line, with_book, with_meaning}
 use Rattle.solo_run.proofs.solo.Solo.command.Goals as goal
 
@@ -22,3 +26,13 @@ returns-in_ok-slot-in-New-clause-stands c = λ story stands.
     (with_book (with_meaning story (commanded slot c.args.command.now)) (story.book ++ c.in-New.imsi ∷ [])))) own
     (c.answer-in-New.ensures.stands (with_book story (story.book ++ c.in-New.imsi ∷ []))
     (c.in_ok-slot-in-New.ensures.stands story stands)))
+
+pub returns-in_ok-slot-in-New-clause-tells : goal.returns-in_ok-slot-in-New-clause-tells
+returns-in_ok-slot-in-New-clause-tells c =
+    on_ok c.answer-in-New.result
+    (λ tells. subst (λ w. Tells c.args.number (decision.Command w c.args.command.now) c.args.self.now
+    c.answer-in-New.new.self c.args.report.now c.answer-in-New.new.report) c.in-New.is
+    (tells_admitted c.args.self.now c.admit.new.self c.answer-in-New.new.self c.args.number c.in_ok-slot-in-New.slot
+    c.in-New.imsi c.args.command.now c.args.report.now c.answer-in-New.new.report c.in_ok-slot-in-New.ensures.admits
+    c.in_ok-slot-in-New.ensures.next c.in_ok-slot-in-New.ensures.waits tells))
+    c.answer-in-New.ensures.tells

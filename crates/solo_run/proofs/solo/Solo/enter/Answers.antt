@@ -1,21 +1,25 @@
 use Rattle.std.proofs.Common.{◌==◌, ◌++◌, if◌then◌else◌, refl, sym, ap, subst, ◌∙◌, arith}
 use Rattle.trace_lines.specs.Line.{Line}
 use Rattle.demux.specs.declared.decision.Decision.TheVariants as decision
-use Rattle.demux.specs.Resolved.{HasMoment, book_behind, book_with}
+use Rattle.demux.specs.Resolved.{HasMoment, book_behind, book_with, decided}
 use Rattle.demux.specs.Trace.{book_of, destination_after, note as noted}
+use Rattle.report_lines.specs.declared.entry.Entry.TheVariants as entry
+use Rattle.report_lines.specs.declared.entry.LineEntry.TheVariants as line_entry
+use Rattle.solo_run.specs.Entries.{text_line}
+use Rattle.solo_run.specs.Holding.{IsLate}
 use Rattle.solo_run.specs.Report.{slices}
 use Rattle.solo_run.specs.Standing.{story_of}
 use Rattle.solo_run.proofs.Answered.{always_ok, on_ok}
 use Rattle.solo_run.proofs.LineLemmas.{IsDecided, meant_by, move_line, move_nothing, stands_so, told_so}
 use Rattle.solo_run.proofs.StoryLemmas.{stands_noted, told_note}
+use Rattle.solo_run.proofs.TellLemmas.{tells_as, tells_note}
 use Rattle.solo_run.proofs.solo.Solo.enter.Goals as goal
 
 pub packet-requires-clause-late : goal.packet-requires-clause-late
 packet-requires-clause-late c =
     let moment : HasMoment c.args.line.now.moment (decision.Packet c.in-Packet.slot c.in-Packet.packet) =
     subst (HasMoment c.args.line.now.moment) c.in-Packet.is c.in_ok-slot.ensures.moment in
-    let late = c.requires.late in
-    (story_of late.0 late.1 late.2 late.3, late.4, omega (arith, late.5, moment))
+    subst (IsLate c.args.self.now) (sym moment) c.requires.late
 
 pub returns-in-Packet-clause-told : goal.returns-in-Packet-clause-told
 returns-in-Packet-clause-told c = λ done latest before made stands same.
@@ -135,3 +139,41 @@ returns-in-Note-clause-stands c = λ done latest before made stands late.
     (λ slot. refl) late
     (stands_noted c.args.self.now c.args.self.now (story_of done latest before made) (noted c.in-Note.text) stands
     (λ slot events. refl) refl refl refl))
+
+pub returns-in-Packet-clause-answers : goal.returns-in-Packet-clause-answers
+returns-in-Packet-clause-answers c =
+    on_ok c.packet.result
+    (tells_as c.line.inside.number c.args.line.now.number (decision.Packet c.in-Packet.slot c.in-Packet.packet)
+    (decided slices c.args.self.now.book c.args.line.now) c.args.self.now c.packet.new.self c.args.report.now
+    c.packet.new.report (ap (λ (l : Line). l.number) c.line.view_is)
+    (sym c.in-Packet.is ∙ c.in_ok-slot.ensures.decision)) c.packet.ensures.tells
+
+pub returns-in-Command-clause-answers : goal.returns-in-Command-clause-answers
+returns-in-Command-clause-answers c =
+    on_ok c.command-in-Command.result
+    (tells_as c.line.inside.number c.args.line.now.number (decision.Command c.in-Command.whose c.in-Command.command)
+    (decided slices c.args.self.now.book c.args.line.now) c.args.self.now c.command-in-Command.new.self c.args.report.now
+    c.command-in-Command.new.report (ap (λ (l : Line). l.number) c.line.view_is)
+    (sym c.in-Command.is ∙ c.in_ok-slot.ensures.decision)) c.command-in-Command.ensures.tells
+
+pub returns-in-Move-clause-answers : goal.returns-in-Move-clause-answers
+returns-in-Move-clause-answers c =
+    on_ok c.move_to.result
+    (tells_as c.line.inside.number c.args.line.now.number (decision.Move c.in-Move.slot c.in-Move.slice)
+    (decided slices c.args.self.now.book c.args.line.now) c.args.self.now c.move_to.new.self c.args.report.now
+    c.move_to.new.report (ap (λ (l : Line). l.number) c.line.view_is)
+    (sym c.in-Move.is ∙ c.in_ok-slot.ensures.decision)) c.move_to.ensures.tells
+
+pub returns-in-Note-clause-answers : goal.returns-in-Note-clause-answers
+returns-in-Note-clause-answers c =
+    on_ok c.push_note.result
+    (λ told. tells_as c.line.inside.number c.args.line.now.number (decision.Note c.in-Note.text)
+    (decided slices c.args.self.now.book c.args.line.now) c.args.self.now c.args.self.now c.args.report.now
+    c.push_note.new.report (ap (λ (l : Line). l.number) c.line.view_is)
+    (sym c.in-Note.is ∙ c.in_ok-slot.ensures.decision)
+    (tells_note c.args.self.now c.line.inside.number c.in-Note.text c.args.report.now c.push_note.new.report
+    (told ∙ ap (λ text. c.args.report.now ++ text_line (entry.Line (line_entry.N (record {
+      line = c.line.inside.number;
+      note = text;
+    })))) c.as_slice.ensures)))
+    c.push_note.ensures

@@ -1,10 +1,14 @@
 use Rattle.std.proofs.Common.{◌≡◌, ◌<◌, ◌++◌, ◌==◌, if◌then◌else◌, List, ℕ, refl, sym, ap, subst, ◌∙◌, arith, length}
 use Rattle.std.proofs.lemmas.Bool.{eq-eqb, ne_eqb}
 use Rattle.demux.specs.Texts.{move_note}
+use Rattle.report_lines.specs.declared.entry.Entry.TheVariants as entry
+use Rattle.report_lines.specs.declared.entry.LineEntry.TheVariants as line_entry
+use Rattle.solo_run.specs.Entries.{text_line}
 use Rattle.solo_run.specs.Standing.{SlotStands, events_of, with_meaning}
 use Rattle.solo_run.proofs.GatherLemmas.{gathers_none}
 use Rattle.solo_run.proofs.LineLemmas.{move_holds}
 use Rattle.solo_run.proofs.StoryLemmas.{held_at, stands_next, told_note}
+use Rattle.solo_run.proofs.TellLemmas.{tells_move}
 use Rattle.solo_run.proofs.solo.Solo.move_to.Goals as goal
 
 pub returns-clause-told : goal.returns-clause-told
@@ -39,3 +43,14 @@ returns-clause-stands c = λ story now stands nothing.
     (λ slot other. nothing slot (events_of story slot)) (omega arith)
     (gathers_none c.args.self.now.gathered (length story.book) story.before story.made now stands.gathered
     (λ slot. nothing slot (events_of story slot)))
+
+pub returns-clause-tells : goal.returns-clause-tells
+returns-clause-tells c =
+    let one = c.index_mut-subscriber.result.now in
+    tells_move c.args.self.now _ c.args.number c.args.slot c.slot.inside.0 c.args.slice one c.set_destination.new.self
+    c.args.report.now c.push_move.new.report c.requires.room.holds.places c.requires.known c.slot.view_is
+    c.index_mut-subscriber.ensures.value c.set_destination.ensures refl refl refl
+    (c.in_ok-push_move.ensures ∙ ap (λ bound. c.args.report.now ++ text_line (entry.Line (line_entry.N (record {
+      line = c.args.number;
+      note = move_note bound c.args.slot c.args.slice;
+    })))) c.destination.ensures)
