@@ -16,7 +16,7 @@ use audit_reading::Setup;
 use command_words::{Job, job};
 use pc_outside::{Sink, Source};
 use save_run::save;
-use solo_run::solo;
+use solo_run::run_solo;
 use state_run::lines_say_one_state;
 use std::alloc::{AllocError, Global};
 use trace_run::Status;
@@ -44,7 +44,7 @@ pub(crate) fn do_job<S: Source, K: Sink>(
     ensures write_fault { result ≡ Status.WriteFault → Rises (K.faults sink.old) (K.faults sink.new) }
 {
     match asked {
-        Job::Solo => solo(alloc, source, sink),
+        Job::Solo => run_solo(alloc, source, sink),
         Job::Drive {
             lanes,
             turns,

@@ -10,5 +10,5 @@ mod run;
 mod solo;
 
 pub use resumer::Resumer;
-pub use run::solo;
+pub use run::run_solo;
 pub use solo::Solo;

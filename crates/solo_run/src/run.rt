@@ -58,7 +58,7 @@ pub(crate) fn push_ending(text: &mut Text, ending: Ending, number: u64) -> Resul
 }
 
 /// Does the command `solo`: reads a trace and writes its report, epoch by epoch.
-pub fn solo<S: Source, K: Sink>(alloc: Global, source: &mut S, sink: &mut K) -> Status
+pub fn run_solo<S: Source, K: Sink>(alloc: Global, source: &mut S, sink: &mut K) -> Status
     ensures runs { Runs IsSoloReport false result (Rises (S.faults source.old) (S.faults source.new))
         (S.left source.old) (S.left source.new)
         (K.written sink.old) (K.written sink.new) }

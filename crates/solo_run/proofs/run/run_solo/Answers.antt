@@ -1,6 +1,6 @@
 use Rattle.solo_run.proofs.ReportLemmas.{says_nothing}
 use Rattle.solo_run.proofs.RunLemmas.{begins}
-use Rattle.solo_run.proofs.run.solo.Goals as goal
+use Rattle.solo_run.proofs.run.run_solo.Goals as goal
 
 pub run_report-requires-clause-first : goal.run_report-requires-clause-first
 run_report-requires-clause-first g c =
