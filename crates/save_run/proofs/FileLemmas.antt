@@ -114,7 +114,7 @@ early : (solo : Solo) (done : List Line) (latest : ℕ) → LeavesFile solo done
 early solo done latest leaves =
     subst (λ (n : ℕ). n < 2 ^ 50) (sym leaves.latest_is) (early_behind 0 done (omega arith) leaves.valid)
 
-places : (solo : Solo) (done : List Line) (latest : ℕ) → LeavesFile solo done latest
+pub places : (solo : Solo) (done : List Line) (latest : ℕ) → LeavesFile solo done latest
     → length solo.subscribers.items ≡ length solo.book
 places solo done latest leaves =
     leaves.stands.places ∙ ap (λ (book : List (List ℕ)). length book) (sym leaves.stands.same_book)
