@@ -2,4 +2,5 @@ pub mod Entries
 pub mod Keeping
 pub mod Ready
 pub mod Taking
+pub mod Turning
 pub mod Words

@@ -3,6 +3,7 @@
 //! turns the workers meanwhile, and in which threads, is left to the caller.
 #![tactic(auto)]
 
+mod deciding;
 mod front;
 mod opening;
 mod taken;

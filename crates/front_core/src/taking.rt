@@ -9,7 +9,7 @@ ghost use Rattle.front_core.specs.declared.taken.Open.TheVariants.{Note};
 use crate::NoMemory;
 use crate::taken::Open;
 use at_rest::rest_leaves_room;
-use control_steps::Command;
+use control_half::BoxedCommand;
 use demux::{LentPacket, Meant};
 use front_halves::{Given, Halves};
 use pc_base::{Octets, SliceNo, Slot};
@@ -36,7 +36,8 @@ pub(crate) fn take<R: Wait>(
         Meant::Note(text) => Ok(Open::Note(text)),
         Meant::Move { slot, slice, text } => take_move(rt, slot, slice, text, halves),
         Meant::Command { slot, command } => {
-            take_command(rt, line, slot, command, subscribers, halves, patience)
+            let asks = BoxedCommand::of(alloc, command)?;
+            take_command(rt, line, slot, asks, subscribers, halves, patience)
         }
         Meant::Packet { slot, packet } => {
             take_packet(
@@ -73,7 +74,7 @@ fn take_command<R: Wait>(
     rt: &R,
     line: u64,
     slot: Slot,
-    asks: Command,
+    asks: BoxedCommand,
     subscribers: &mut [Subscriber],
     halves: &mut Halves,
     patience: u32,
@@ -94,7 +95,8 @@ fn take_command<R: Wait>(
     }
 }
 
-fn take_packet<R: Wait>(
+/// The same of a packet of a subscriber.
+pub(crate) fn take_packet<R: Wait>(
     rt: &R,
     alloc: Global,
     line: u64,

@@ -24,7 +24,9 @@ pub(crate) fn file_of(saver: Saver) -> Result<StateFile, AllocError>
         ..
     } = saver;
     let Solo {
-        book, subscribers, ..
+        book,
+        subscribers,
+        ..
     } = solo;
     let _count = book.len();
     known_imsis(book.imsis());
