@@ -238,7 +238,7 @@ resumed_of ending source_failed octets left text found tells (inl stopped) =
     absurd (not_stopped ending octets left found tells stopped.0)
 
 -- what is said behind the state that was found is what the second part says
-behind_state : (octets behind : List ℕ) (room : ℕ) (lines : List Text) → length octets < 2 ^ 40
+pub behind_state : (octets behind : List ℕ) (room : ℕ) (lines : List Text) → length octets < 2 ^ 40
     → HasRead octets behind room lines → (found : HasState octets) → found.texts ≡ lines
     → (number least : ℕ)
     → input_within found.room number least found.ahead ≡ input_within room number least behind
