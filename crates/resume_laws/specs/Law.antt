@@ -65,8 +65,8 @@ TellsAll status.BadCapture = ⊥
 TellsAll status.BadState = ⊥
 TellsAll status.BadReport = ⊥
 
--- The same of runs: of one that answers both parts from no subscribers, and one of `resume`, which reads the saved state
--- of the first part and the second behind it. Both told all, and so with one status.
+-- The same of runs: of one that answers both parts from no subscribers, and one of `resume`, which reads the saved
+-- state of the first part and the second behind it. Both told all, and so with one status.
 abbrev pub ResumedRunsGoOn : Type 0
 ResumedRunsGoOn = (octets behind saved : List ℕ) (file : FileState) (first : Report)
     (ending resumed_ending : Status) (faults more_faults faults_too more_faults_too : ℕ)
