@@ -1,5 +1,5 @@
 -- What is said behind a state doesn't depend on how it was found.
-use Rattle.std.proofs.Common.{◌≡◌, ℕ, ◌+◌, ◌<◌, ◌^◌, ◌==◌, Bool, true, false, List, [], ◌∷◌, ◌++◌, length, Result, Ok, Err, inl, inr, refl, sym, ap, ◌∙◌, subst, arith, length-append, take}
+use Rattle.std.proofs.Common.{◌≡◌, ℕ, ◌+◌, ◌<◌, ◌^◌, ◌==◌, Bool, true, false, List, [], ◌∷◌, length, Result, Ok, Err, inl, inr, refl, sym, ap, ◌∙◌, subst, arith, length-append, take}
 use Rattle.std.specs.Prelude.{if◌then◌else◌, nat_le, nat_lt}
 use Rattle.std.specs.List.{join_with_byte, slice_split}
 use Rattle.std.proofs.lemmas.Bool.Decides.{nat_tests}
@@ -7,7 +7,7 @@ use Rattle.std.proofs.lemmas.List.Splits.{join_with_byte-slice_split}
 use Rattle.pc_outside.specs.Limits.{line_max, newline}
 use Rattle.audit_reading.specs.Progress.{HasRead}
 use Rattle.audit_reading.specs.Texts as texts
-use Rattle.audit_reading.specs.Texts.{Text, Texts, after_lines, texts_of, texts_within}
+use Rattle.audit_reading.specs.Texts.{Text, texts_within}
 use Rattle.trace_lines.specs.Input as input
 use Rattle.trace_lines.specs.Input.{Input, input_within}
 use Rattle.trace_lines.specs.Line.{Line}
@@ -18,7 +18,7 @@ use Rattle.record_codec.specs.Saved.{FileState}
 use Rattle.state_run.specs.Laws.{LinesSayOneState}
 use Rattle.trace_run.specs.Beginnings.{input_from}
 use Rattle.resume_laws.specs.Resumes.{HasState, begins_at}
-use Rattle.resume_laws.proofs.RunLemmas.{AreAheadAlike, nothing_within, one_ahead}
+use Rattle.resume_laws.proofs.RunLemmas.{behind_state}
 use Rattle.resume_laws.proofs.StateLemmas.{one_state}
 
 -- ---- what ends has fewer octets than are looked at
@@ -98,41 +98,6 @@ texts_fit room octets over =
     texts_so room octets (slice_split (λ octet. octet == newline) (take room octets))
     (some_piece (take room octets)) (nat_le room (length octets)) refl over
 
--- ---- what is said behind the lines of a state is the same, however they were found
-
-lines_left : (done more : List Text) → done ++ more ≡ done → more ≡ []
-lines_left [] more same = same
-lines_left (text ∷ done) more same =
-    lines_left done more (let tails : done ++ more ≡ done = cc in tails)
-
-same_behind : (octets ahead : List ℕ) (room : ℕ) (lines : List Text) → length octets < 2 ^ 40
-    → HasRead octets ahead room lines → (found : HasState octets) → found.texts ≡ lines → (number least : ℕ)
-    → input_within found.room number least found.ahead ≡ input_within room number least ahead
-same_behind octets ahead room lines few read found same number least = elim found.read [
-  | inl own ↦
-      let alike : AreAheadAlike found.ahead ahead found.room room =
-      one_ahead octets found.ahead ahead found.room room lines few
-      (subst (λ (ts : List Text). HasRead octets found.ahead found.room ts) same own) read in
-      ap (λ (os : List ℕ). input_within found.room number least os) alike.octets
-      ∙ ap (λ n. input_within n number least ahead) alike.rooms
-  | inr all ↦
-      let says : texts_of octets ≡ after_lines lines (texts_within room ahead) =
-      ap texts_of read.parts ∙ read.says ahead in
-      let counts : length octets ≡ length read.gone + length ahead =
-      ap length read.parts ∙ length-append read.gone ahead in
-      let lines_say : lines ++ (texts_within room ahead).lines ≡ lines =
-      sym (ap (λ (t : Texts). t.lines) says) ∙ all.1 ∙ same in
-      let none : ahead ≡ [] =
-      nothing_within room ahead (omega (arith, read.taken))
-      (lines_left lines (texts_within room ahead).lines lines_say)
-      (sym (ap (λ (t : Texts). t.stop) says) ∙ all.2) in
-      let roomy : 0 < room = omega (arith, read.taken) in
-      ap (λ (os : List ℕ). input_within found.room number least os) all.0
-      ∙ at_end found.room number least all.3
-      ∙ sym (at_end room number least roomy)
-      ∙ ap (λ (os : List ℕ). input_within room number least os) (sym none)
-]
-
 -- ---- the trace behind a state ends, however the state was found
 
 few_octets : (octets : List ℕ) (found : HasState octets)
@@ -156,7 +121,7 @@ ends_alike say octets one other over =
       | inl own ↦
           let alike : input_within one.room (one.file.lines + 1) one.file.moment one.ahead
           ≡ input_within other.room (one.file.lines + 1) one.file.moment other.ahead =
-          same_behind octets other.ahead other.room one.texts (few_octets octets one over)
+          behind_state octets other.ahead other.room one.texts (few_octets octets one over)
           (subst (λ (ts : List Text). HasRead octets other.ahead other.room ts) (sym same.0) own) one refl
           (one.file.lines + 1) one.file.moment in
           subst (λ (f : FileState). (input_within other.room (f.lines + 1) f.moment other.ahead).stop ≡ input.ended)
