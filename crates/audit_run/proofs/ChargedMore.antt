@@ -141,7 +141,7 @@ hears_more slot before now few =
     ap (λ (past : SlotPast). past.packets.charged) (past-append slot before now) ∙ on.is in
     let lawful : IsLawful (base ++ on.more) = subst IsLawful is (past_sound slot (before ++ now)).packets.lawful in
     let long : length (base ++ on.more) ≤ 2 ^ 61 - 20 =
-    subst (λ (all : List Happening). length all ≤ 2 ^ 61 - 20) is (events_few slot (before ++ now) few) in
+    subst (λ (all : List Happening). length all ≤ 2 ^ 61 - 20) is (events_few slot (before ++ now) (omega (arith, few))) in
     record {
       more = on.more;
       is = is;

@@ -42,11 +42,11 @@ pub fn do_lines<'a>(
     let alloc = *subscribers.allocator();
     let bounds = lines.bounds.as_slice();
     let asks = lines.asks.as_slice();
+    let room = Bump::new(alloc);
     let scheduled = schedule(alloc, rooms, slices, bounds, asks, turns)?;
     let kept = lines.lines.as_slice();
     let octets = lines.octets.as_slice();
     let slots = book.len();
-    let room = Bump::new(alloc);
     let shares = shares_of(
         alloc,
         &room,
@@ -56,7 +56,7 @@ pub fn do_lines<'a>(
         kept,
         octets,
     )?;
-    let replays = replay_all(alloc, slots, subscribers, shares.as_slice())?;
+    let replays = replay_all(alloc, &room, slots, subscribers, shares.as_slice())?;
     drop(shares);
     let Replays {
         mut answers,

@@ -33,7 +33,7 @@ pub fn join<'a>(
     first: u64,
     kept: &'a [Kept],
     outcomes: &[Outcome],
-    answers: &mut Vec<Answers<'a>>,
+    answers: &mut Vec<Answers<'a, '_>>,
 ) -> Result<Vec<Entry<'a>>, AllocError>
     requires within { All (IsWithin (length answers.old.items)) (map (meaning_in []) kept.now) }
     requires outcomes { length outcomes.now ≡ length kept.now }
@@ -57,7 +57,7 @@ fn entry_of<'a>(
     line: u64,
     now: &'a Kept,
     outcome: Outcome,
-    answers: &mut Vec<Answers<'a>>,
+    answers: &mut Vec<Answers<'a, '_>>,
 ) -> Entry<'a>
     requires { IsWithin (length answers.old.items) (meaning_in [] now.now) }
     ensures { (octets : List ℕ) → FillsNext answers.old.items answers.new.items
@@ -87,7 +87,7 @@ fn command_entry<'a>(
     line: u64,
     slot: Slot,
     taken: bool,
-    answers: &mut Vec<Answers<'a>>,
+    answers: &mut Vec<Answers<'a, '_>>,
 ) -> Entry<'a>
     requires { slot < length answers.old.items }
     ensures { FillsNext answers.old.items answers.new.items (open_command line slot taken) result }
@@ -109,7 +109,7 @@ fn packet_entry<'a>(
     slot: Slot,
     taken: bool,
     parked: bool,
-    answers: &mut Vec<Answers<'a>>,
+    answers: &mut Vec<Answers<'a, '_>>,
 ) -> Entry<'a>
     requires { slot < length answers.old.items }
     ensures { FillsNext answers.old.items answers.new.items (open_packet line slot taken parked) result }
@@ -127,7 +127,7 @@ fn packet_entry<'a>(
 }
 
 // What is told next of a slot's commands, and of its packets.
-fn next_reply(answers: &mut Vec<Answers<'_>>, slot: Slot) -> Option<NumberedReply>
+fn next_reply(answers: &mut Vec<Answers<'_, '_>>, slot: Slot) -> Option<NumberedReply>
     requires { slot < length answers.old.items }
     ensures { TakesReply answers.old.items answers.new.items slot result }
 {
@@ -135,7 +135,7 @@ fn next_reply(answers: &mut Vec<Answers<'_>>, slot: Slot) -> Option<NumberedRepl
     own.replies.pop_front()
 }
 
-fn next_packet<'a>(answers: &mut Vec<Answers<'a>>, slot: Slot) -> Option<NumberedVerdict<'a>>
+fn next_packet<'a>(answers: &mut Vec<Answers<'a, '_>>, slot: Slot) -> Option<NumberedVerdict<'a>>
     requires { slot < length answers.old.items }
     ensures { TakesPacket answers.old.items answers.new.items slot result }
 {

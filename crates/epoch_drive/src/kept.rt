@@ -174,12 +174,9 @@ pub fn packet_at<'a>(octets: &'a [u8], packet: &KeptPacket) -> LentPacket<'a>
     requires { IsPlacedPacket octets.now packet.now }
     ensures { result ≡ packet_in octets.now packet.now }
 {
-    match Ip4::whole(&octets[packet.from..packet.to]) {
-        Some(ip) => LentPacket {
-            moment: packet.moment,
-            way: packet.way,
-            ip,
-        },
-        None => unreachable!(),
+    LentPacket {
+        moment: packet.moment,
+        way: packet.way,
+        ip: Ip4::known(&octets[packet.from..packet.to]),
     }
 }

@@ -5,6 +5,7 @@ ghost use Rattle.report_lines.specs.declared.entry.ChargeEntry.TheVariants.{R};
 ghost use Rattle.epoch_drive.specs.Replays.{AllCanDo, CanDo, DoesShare, HaveDone};
 
 use crate::sharing::Share;
+use bumpalo::Bump;
 use charging_book::ChargeRow;
 use pc_base::Slot;
 use slot_replay::{Caused, Closed, NumberedReply, NumberedVerdict, Replayed, replay};
@@ -14,26 +15,27 @@ use subscriber::Subscriber;
 
 /// What is told of a slot's commands and packets, to be taken from the front.
 #[derive(Drop)]
-pub struct Answers<'a> {
+pub struct Answers<'a, 'b> {
     pub replies: VecDeque<NumberedReply>,
-    pub packets: VecDeque<NumberedVerdict<'a>>,
+    pub packets: VecDeque<NumberedVerdict<'a>, &'b Bump>,
 }
 
 /// By slot: what is told of commands and packets, and all effects and charging records.
 #[derive(Drop)]
-pub struct Replays<'a> {
-    pub answers: Vec<Answers<'a>>,
+pub struct Replays<'a, 'b> {
+    pub answers: Vec<Answers<'a, 'b>>,
     pub effects: Vec<Caused>,
     pub rows: Vec<Closed>,
 }
 
 /// Each subscriber does its share.
-pub fn replay_all<'a>(
+pub fn replay_all<'a, 'b>(
     alloc: Global,
+    room: &'b Bump,
     slots: u32,
     subscribers: &mut Vec<Subscriber>,
     shares: &[Share<'a, '_>],
-) -> Result<Replays<'a>, AllocError>
+) -> Result<Replays<'a, 'b>, AllocError>
     requires slots { slots ≡ vec_len subscribers.old }
     requires few { slots ≤ 65533 }
     requires many { length shares.now ≡ vec_len subscribers.old }
@@ -49,31 +51,32 @@ pub fn replay_all<'a>(
     };
     for i in 0..slots {
         let place = i as usize;
-        let replayed = replay_share(alloc, &mut subscribers[place], &shares[place])?;
+        let replayed = replay_share(alloc, room, &mut subscribers[place], &shares[place])?;
         add_replayed(&mut replays, Slot(i), replayed)?;
     }
     Ok(replays)
 }
 
 // A subscriber does its share. One that has none is not touched, so that short epochs cost little.
-fn replay_share<'a>(
+fn replay_share<'a, 'b>(
     alloc: Global,
+    room: &'b Bump,
     subscriber: &mut Subscriber,
     share: &Share<'a, '_>,
-) -> Result<Replayed<'a>, AllocError>
+) -> Result<Replayed<'a, 'b>, AllocError>
     requires { CanDo subscriber.old share.now }
     ensures { IfOk result (DoesShare subscriber.old subscriber.new share.now) }
 {
     let commands = share.commands.as_slice();
     let packets = share.packets.as_slice();
     if commands.is_empty() && packets.is_empty() {
-        return Ok(nothing(alloc));
+        return Ok(nothing(alloc, room));
     }
-    Ok(replay(alloc, subscriber, commands, packets)?)
+    Ok(replay(alloc, room, subscriber, commands, packets)?)
 }
 
 // What no commands and packets lead to.
-fn nothing<'a>(alloc: Global) -> Replayed<'a>
+fn nothing<'a, 'b>(alloc: Global, room: &'b Bump) -> Replayed<'a, 'b>
     ensures replies { result.replies.items ≡ [] }
     ensures packets { result.packets.items ≡ [] }
     ensures effects { result.effects.items ≡ [] }
@@ -81,17 +84,17 @@ fn nothing<'a>(alloc: Global) -> Replayed<'a>
 {
     Replayed {
         replies: VecDeque::new(alloc),
-        packets: VecDeque::new(alloc),
+        packets: VecDeque::new(room),
         effects: Vec::new(alloc),
         rows: Vec::new(alloc),
     }
 }
 
 // What the next slot's share led to.
-fn add_replayed<'a>(
-    replays: &mut Replays<'a>,
+fn add_replayed<'a, 'b>(
+    replays: &mut Replays<'a, 'b>,
     slot: Slot,
-    replayed: Replayed<'a>,
+    replayed: Replayed<'a, 'b>,
 ) -> Result<(), AllocError>
     ensures answers { OnOk result (replays.new.answers.items ≡ replays.old.answers.items
         ++ record { replies = replayed.entry.replies; packets = replayed.entry.packets } ∷ []) }

@@ -334,7 +334,7 @@ made_in : (slot : ℕ) (before now : List Event) → slot ≤ 65532 → length (
 made_in slot before now known few is =
     rows_entries slot (records_made slot before now) known
     (dropped RowIn (length (records_after slot before)) (records_after slot (before ++ now))
-    (rows_in (past_of slot (before ++ now)).packets.charged (events_few slot (before ++ now) few) is.packets.charged))
+    (rows_in (past_of slot (before ++ now)).packets.charged (events_few slot (before ++ now) (omega (arith, few))) is.packets.charged))
 
 opens_in : (slot : ℕ) (events : List Event) → slot ≤ 65532 → length events < 2 ^ 40 → PastIn (past_of slot events)
     → AllByRecursion IsChargeEntry (made_of.opens slot events)
@@ -342,7 +342,7 @@ opens_in slot events known few is =
     let happened = (past_of slot events).packets.charged in
     mapped AreCounters IsChargeEntry (O slot) (λ counters own. (known, own)) _
     (mapped ActiveIn AreCounters (λ (b : ActiveBearer). open_at happened b.life)
-    (λ b own. open_in happened b.life (events_few slot events few) own.life is.packets.charged)
+    (λ b own. open_in happened b.life (events_few slot events (omega (arith, few))) own.life is.packets.charged)
     (version_after slot events).bearers is.packets.bearers)
 
 -- an epoch

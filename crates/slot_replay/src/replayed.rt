@@ -1,4 +1,5 @@
 //! What the events of a slot lead to.
+use bumpalo::Bump;
 use charging_book::ChargeRow;
 use packet_steps::{Effects, LentVerdict};
 use pc_base::{Place, Reply, Slot};
@@ -38,31 +39,33 @@ pub struct Closed {
 }
 
 /// What the events of a slot in an epoch lead to, each kind in the order of the events: replies and
-/// verdicts, to be taken from the front, effects and charging records.
+/// verdicts, to be taken from the front, effects and charging records. The verdicts stand in an arena,
+/// since many slots have few of them.
 #[derive(Drop)]
-pub struct Replayed<'a> {
+pub struct Replayed<'a, 'b> {
     pub replies: VecDeque<NumberedReply>,
-    pub packets: VecDeque<NumberedVerdict<'a>>,
+    pub packets: VecDeque<NumberedVerdict<'a>, &'b Bump>,
     pub effects: Vec<Caused>,
     pub rows: Vec<ChargeRow>,
 }
 
-impl Replayed<'_> {
+impl<'a, 'b> Replayed<'a, 'b> {
     ghost use Rattle.std.specs.Prelude.{◌≡◌, [], IfOk};
 
     /// Nothing yet, with room for what so many commands and packets lead to.
-    pub(crate) fn with_room<'a>(
+    pub(crate) fn with_room(
         alloc: Global,
+        room: &'b Bump,
         commands: usize,
         packets: usize,
-    ) -> Result<Replayed<'a>, AllocError>
+    ) -> Result<Replayed<'a, 'b>, AllocError>
         ensures replies { IfOk result (λ replayed. replayed.replies.items ≡ []) }
         ensures packets { IfOk result (λ replayed. replayed.packets.items ≡ []) }
         ensures effects { IfOk result (λ replayed. replayed.effects.items ≡ []) }
     {
         Ok(Replayed {
             replies: VecDeque::with_capacity(alloc, commands)?,
-            packets: VecDeque::with_capacity(alloc, packets)?,
+            packets: VecDeque::with_capacity(room, packets)?,
             effects: Vec::new(alloc),
             rows: Vec::new(alloc),
         })

@@ -11,6 +11,7 @@ ghost use Rattle.slot_replay.specs.Replaying.{latest_of, moment_of, placed_lent,
 
 use crate::lending::lend_again;
 use crate::{Caused, NumberedReply, NumberedVerdict, Placed, Replayed};
+use bumpalo::Bump;
 use control_steps::Command;
 use packet_steps::Effects;
 use pc_base::{NoMemory, Slot};
@@ -21,12 +22,13 @@ use subscriber::{Subscriber, few_events_leave_room};
 /// commands as it tells, counted from the slot's first one on, and at last those that are left. The
 /// charging records are taken out. A slot has fewer than 2^40 events. Out of memory, the
 /// subscriber has done a part of them, and may only be dropped.
-pub fn replay<'a>(
+pub fn replay<'a, 'b>(
     alloc: Global,
+    room: &'b Bump,
     subscriber: &mut Subscriber,
     commands: &[&Command],
     packets: &[Placed<'a>],
-) -> Result<Replayed<'a>, NoMemory>
+) -> Result<Replayed<'a, 'b>, NoMemory>
     requires room { ∥ CanReplay subscriber.old (length commands.now + length packets.now) ∥₁ }
     requires late { AreLate (moment_of subscriber.old) packets.now }
 
@@ -52,7 +54,7 @@ pub fn replay<'a>(
     ensures last { OnOk result (moment_of subscriber.new ≡ latest_of (moment_of subscriber.old) packets.now) }
     ensures destination { OnOk result (subscriber.new.destination ≡ subscriber.old.destination) }
 {
-    let mut replayed = Replayed::with_room(alloc, commands.len(), packets.len())?;
+    let mut replayed = Replayed::with_room(alloc, room, commands.len(), packets.len())?;
     let mut from = 0usize;
     let mut done = subscriber.commands();
     for placed in packets {
@@ -73,7 +75,7 @@ fn do_commands(
     alloc: Global,
     subscriber: &mut Subscriber,
     commands: &[&Command],
-    replayed: &mut Replayed<'_>,
+    replayed: &mut Replayed<'_, '_>,
 ) -> Result<(), NoMemory>
     requires { ∥ CanPlay subscriber.old replayed.old (length commands.now) ∥₁ }
 
@@ -94,7 +96,7 @@ fn do_command(
     alloc: Global,
     subscriber: &mut Subscriber,
     command: &Command,
-    replayed: &mut Replayed<'_>,
+    replayed: &mut Replayed<'_, '_>,
 ) -> Result<(), NoMemory>
     requires { ∥ CanPlay subscriber.old replayed.old 1 ∥₁ }
 
@@ -136,7 +138,7 @@ fn note_effects(
 fn do_packet<'a>(
     subscriber: &mut Subscriber,
     placed: &Placed<'a>,
-    replayed: &mut Replayed<'a>,
+    replayed: &mut Replayed<'a, '_>,
 ) -> Result<(), NoMemory>
     requires room { ∥ CanPlay subscriber.old replayed.old 1 ∥₁ }
     requires late { moment_of subscriber.old ≤ placed.now.packet.moment }

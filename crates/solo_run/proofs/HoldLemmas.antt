@@ -28,10 +28,10 @@ use Rattle.lawful_run.specs.Outcomes.{opens}
 use Rattle.lawful_run.specs.Telling.{counted}
 use Rattle.trace_run.specs.Entries.{open_for, opens_held}
 use Rattle.trace_run.proofs.OpenLemmas.{opens_are}
-use Rattle.record_codec.specs.Saved.{AreSaved, all_saved}
+use Rattle.record_codec.specs.Saved.{AreSaved, FileState, IsFile, all_saved}
 use Rattle.resume_run.specs.Answering.{Answers, Judges, without_rows}
 use Rattle.resume_run.specs.Gateway.{AnswersAs, Gateway, Told, admitting}
-use Rattle.resume_run.specs.Reports.{opens_from, opens_of}
+use Rattle.resume_run.specs.Reports.{IsGatewayOf, opens_from, opens_of}
 use Rattle.solo_run.specs.Holding.{AreWithin, Holds, IsWithin}
 use Rattle.solo_run.proofs.StoryLemmas.{later}
 
@@ -157,7 +157,7 @@ new_within lines latest slot destination = record {
   in_order = tt;
 }
 
-admitted_holds : (slices lines latest : ℕ) (whose : Whose) (old : Gateway) → Holds lines latest old
+pub admitted_holds : (slices lines latest : ℕ) (whose : Whose) (old : Gateway) → Holds lines latest old
     → Holds lines latest (admitting slices whose old)
 admitted_holds slices lines latest (Known slot) old holds = holds
 admitted_holds slices lines latest (New imsi) old holds =
@@ -251,10 +251,13 @@ saved_within moment first (imsi ∷ book) (one ∷ items) many saved = (
   saved_within moment (first + 1) book items (omega (arith, many)) saved.1,
 )
 
-pub saved_holds : (moment : ℕ) (book : List (List ℕ)) (items : List SubscriberState) → length items ≡ length book
-    → AreSaved moment 0 (all_saved book items) → Holds 0 moment (record { book = book; subscribers = items })
-saved_holds moment book items many saved =
-    record { places = many; each = saved_within moment 0 book items many saved }
+pub behind_holds : (file : FileState) (gateway : Gateway) → IsFile file → IsGatewayOf file gateway
+    → Holds 0 file.moment gateway
+behind_holds file gateway is has = record {
+  places = has.many;
+  each = saved_within file.moment 0 gateway.book gateway.subscribers has.many
+      (subst (AreSaved file.moment 0) has.saved is.subscribers);
+}
 
 -- the open counters of subscribers, by slot
 pub opens_same : (lines latest first : ℕ) (items : List SubscriberState) → AreWithin lines latest first items

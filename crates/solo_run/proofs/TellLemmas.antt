@@ -34,7 +34,7 @@ use Rattle.solo_run.specs.Gathering.{AddsEffects, AddsRows, CausedBelow, ClosedB
 use Rattle.solo_run.specs.Holding.{Holds, Tells, Waits, gateway_of, told_closing}
 use Rattle.solo_run.specs.Holding as holding
 use Rattle.solo_run.specs.Report.{slices}
-use Rattle.solo_run.proofs.HoldLemmas.{at_slot, has_room}
+use Rattle.solo_run.proofs.HoldLemmas.{admitted_holds, at_slot, has_room}
 use Rattle.solo_run.proofs.StoryLemmas.{later}
 
 -- entries that are all of one slot
@@ -235,6 +235,17 @@ tells_command old new mid number slot place command one next reply effects rows 
           (waits_command old.gathered mid new.gathered (length old.book) slot one.version.number _ effects rows open_
           waits within adds more);
     }
+
+-- a new subscriber has room too
+pub room_admitted : (old mid : Solo) (imsi : List ℕ) → holding.HasRoom old
+    → gateway_of mid ≡ admitting slices (New imsi) (gateway_of old) → holding.HasRoom mid
+room_admitted old mid imsi room admits = record {
+  lines = room.lines;
+  latest = room.latest;
+  holds = subst (Holds room.lines room.latest) (sym admits)
+      (admitted_holds slices room.lines room.latest (New imsi) (gateway_of old) room.holds);
+  few = room.few;
+}
 
 -- or of a new IMSI
 pub tells_admitted : (old mid new : Solo) (number slot : ℕ) (imsi : List ℕ) (command : CommandKind)

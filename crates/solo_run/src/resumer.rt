@@ -30,6 +30,7 @@ impl Resumer {
         ensures first { HasTold (gateway_of result.solo) result.solo 0 file.moment [] [] [] [] }
         ensures nothing { SaysEpochs (Gives slices (gateway_of result.solo)) false [] [] }
     {
+        file.known();
         let lines = file.lines;
         Resumer {
             solo: Solo::behind(alloc, file),

@@ -9,6 +9,7 @@ ghost use Rattle.demux.specs.Trace.{Meaning, note as noted, command as commanded
 ghost use Rattle.lawful_run.specs.Merging.{Histories};
 ghost use Rattle.lawful_run.specs.Outcomes.{opens};
 ghost use Rattle.lawful_run.specs.Run.{by_slot, no_events};
+ghost use Rattle.resume_run.specs.Answering.{IsValid};
 ghost use Rattle.resume_run.specs.Gateway.{Told, admitting, no_subscribers};
 ghost use Rattle.resume_run.specs.Reports.{IsGatewayOf, opens_from};
 ghost use Rattle.trace_lines.specs.Line.{Line};
@@ -60,7 +61,6 @@ impl Solo {
     /// The gateway that a state file has.
     pub fn behind(alloc: Global, file: StateFile) -> Solo
         ensures gateway { IsGatewayOf file (gateway_of result) }
-        ensures holds { Holds 0 file.moment (gateway_of result) }
         ensures waits { (slots : ℕ) → Waits result.gathered slots [] }
     {
         let StateFile {
@@ -253,6 +253,7 @@ impl Solo {
         let subscriber = &mut self.subscribers[place];
         let count = subscriber.commands();
         let (reply, effects) = subscriber.command(alloc, command)?;
+        valid(subscriber);
         push_answer(report, number, slot, count, &reply)?;
         self.gathered.add_effects(slot, count, effects)?;
         self.gathered.add_rows(slot, subscriber.take_closed())?;
@@ -276,4 +277,12 @@ impl Solo {
         self.subscribers.push(Subscriber::new(alloc, slot, home)?)?;
         Ok(slot)
     }
+}
+
+// The ranges that each subscriber keeps.
+fn valid(subscriber: &Subscriber)
+    ensures { IsValid subscriber.now }
+{
+    subscriber.session.known();
+    let _bearers = subscriber.version.bearers();
 }

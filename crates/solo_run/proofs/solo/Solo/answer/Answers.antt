@@ -66,7 +66,7 @@ returns-clause-tells c =
     c.args.report.now c.push_answer.new.report c.requires.room.holds.places c.requires.known c.slot.view_is
     c.index_mut-subscriber.ensures.value
     (record {
-      left = c.command-reply.new.self;
+      left = c.command.new.self;
       commanded = record {
         session = did.stepped;
         version = did.versioned;
@@ -74,12 +74,12 @@ returns-clause-tells c =
         packets = did.counted.1;
         destination = did.destination;
       };
-      valid = c.known-valid;
+      valid = c.valid.ensures;
       reply_is = did.answered;
       effects_are = did.brings;
       rows_are = c.take_closed.ensures.closed;
       taken = c.take_closed.ensures.same
-          ∙ ap (λ counters. record c.command-reply.new.self { counters = counters }) c.take_closed.ensures.left;
+          ∙ ap (λ counters. record c.command.new.self { counters = counters }) c.take_closed.ensures.left;
     })
     refl refl
     (subst (λ n. AddsEffects c.args.self.now.gathered c.add_effects.new.self c.args.slot

@@ -1,4 +1,3 @@
-use Rattle.solo_run.proofs.HoldLemmas.{saved_holds}
 use Rattle.solo_run.proofs.TellLemmas.{waits_nothing}
 use Rattle.solo_run.proofs.solo.Solo.behind.Goals as goal
 

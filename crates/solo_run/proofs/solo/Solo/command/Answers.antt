@@ -4,9 +4,13 @@ use Rattle.demux.specs.Trace.{command as commanded}
 use Rattle.demux.specs.declared.decision.Decision.TheVariants as decision
 use Rattle.solo_run.specs.Holding.{Tells}
 use Rattle.solo_run.proofs.Answered.{on_ok}
-use Rattle.solo_run.proofs.TellLemmas.{tells_admitted}
+use Rattle.solo_run.proofs.TellLemmas.{room_admitted, tells_admitted}
 use Rattle.solo_run.specs.Standing.{Stands, entry_line, with_book, with_meaning}
 use Rattle.solo_run.proofs.solo.Solo.command.Goals as goal
+
+pub answer-requires-in-New-clause-room : goal.answer-requires-in-New-clause-room
+answer-requires-in-New-clause-room c =
+    room_admitted c.args.self.now c.admit.new.self c.in-New.imsi c.requires.room c.in_ok-slot-in-New.ensures.admits
 
 pub returns-in_ok-slot-in-New-clause-told : goal.returns-in_ok-slot-in-New-clause-told
 returns-in_ok-slot-in-New-clause-told c = λ story stands numbered.
@@ -31,7 +35,7 @@ pub returns-in_ok-slot-in-New-clause-tells : goal.returns-in_ok-slot-in-New-clau
 returns-in_ok-slot-in-New-clause-tells c =
     on_ok c.answer-in-New.result
     (λ tells. subst (λ w. Tells c.args.number (decision.Command w c.args.command.now) c.args.self.now
-    c.answer-in-New.new.self c.args.report.now c.answer-in-New.new.report) c.in-New.is
+    c.answer-in-New.new.self c.args.report.now c.answer-in-New.new.report) (sym c.in-New.is)
     (tells_admitted c.args.self.now c.admit.new.self c.answer-in-New.new.self c.args.number c.in_ok-slot-in-New.slot
     c.in-New.imsi c.args.command.now c.args.report.now c.answer-in-New.new.report c.in_ok-slot-in-New.ensures.admits
     c.in_ok-slot-in-New.ensures.next c.in_ok-slot-in-New.ensures.waits tells))
