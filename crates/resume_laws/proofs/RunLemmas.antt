@@ -5,6 +5,7 @@ use Rattle.std.specs.List.{flat_map, join_with_byte, slice_split}
 use Rattle.std.proofs.lemmas.Bool.Decides.{nat_tests}
 use Rattle.std.proofs.lemmas.List.{take_all}
 use Rattle.std.proofs.lemmas.List.Splits.{join_with_byte-slice_split}
+use Rattle.pc_outside.specs.Faults.{Rises}
 use Rattle.pc_outside.specs.Limits.{input_max, line_max, newline}
 use Rattle.text_fields.specs.Fields.{is_empty}
 use Rattle.audit_reading.specs.Texts.{Text, Texts, after_lines, ended, texts_of, texts_within}
@@ -161,7 +162,7 @@ one_ahead octets ahead next room room_next done few read read_next =
 -- ---- a run by its status
 
 -- the status that tells all of an input which stops so
-told_as : Stop → Status
+abbrev pub told_as : Stop → Status
 told_as (input.bad number why) = status.BadLine
 told_as (input.long number) = status.LineLong
 told_as input.big = status.TooLong
@@ -237,7 +238,7 @@ resumed_of ending source_failed octets left text found tells (inl stopped) =
     absurd (not_stopped ending octets left found tells stopped.0)
 
 -- what is said behind the state that was found is what the second part says
-behind_state : (octets behind : List ℕ) (room : ℕ) (lines : List Text) → length octets < 2 ^ 40
+pub behind_state : (octets behind : List ℕ) (room : ℕ) (lines : List Text) → length octets < 2 ^ 40
     → HasRead octets behind room lines → (found : HasState octets) → found.texts ≡ lines
     → (number least : ℕ)
     → input_within found.room number least found.ahead ≡ input_within room number least behind
@@ -267,9 +268,9 @@ behind_state octets behind room lines few read found same_texts number least = e
 ]
 
 pub runs_go_on : TextsSayTheirStates → LinesSayOneState → ResumedTextsGoOn → ResumedRunsGoOn
-runs_go_on say one go_on may_have octets behind saved file first ending resumed_ending source_failed
-    resumed_source_failed whole left resumed resumed_left given fenced short saved_short left_so small written first_has
-    tells reports resumed_tells resumes =
+runs_go_on say one go_on octets behind saved file first ending resumed_ending faults more_faults faults_too
+    more_faults_too whole left resumed resumed_left fenced short saved_short left_so small written gives tells reports
+    resumed_tells resumes =
     let room = 2 ^ 40 - length saved in
     let read = say file saved behind left_so.kept small written (omega arith) in
     let lengths : length (saved ++ behind) ≡ length saved + length behind = length-append saved behind in
@@ -281,7 +282,7 @@ runs_go_on say one go_on may_have octets behind saved file first ending resumed_
       read = inl read.1;
       says = read.2;
     } in
-    let run = resumed_of resumed_ending resumed_source_failed (saved ++ behind) resumed_left resumed state_there
+    let run = resumed_of resumed_ending (Rises faults_too more_faults_too) (saved ++ behind) resumed_left resumed state_there
     resumed_tells resumes in
     let found = run.state in
     let same = one_state one (saved ++ behind) found state_there in
@@ -291,17 +292,13 @@ runs_go_on say one go_on may_have octets behind saved file first ending resumed_
     found.file.moment
     ∙ ap (λ (f : FileState). input_within room (f.lines + 1) f.moment behind) same.1 in
     let told = has_told (begins_at found.file found.room) (IsResumed 64 found.file) resumed_ending
-    resumed_source_failed found.ahead resumed_left resumed resumed_tells run.report in
-    let all = has_told whole_input may_have ending source_failed (octets ++ behind) left whole tells reports in
+    (Rises faults_too more_faults_too) found.ahead resumed_left resumed resumed_tells run.report in
+    let all = has_told whole_input (Gives 64 no_subscribers) ending (Rises faults more_faults) (octets ++ behind) left
+    whole tells reports in
     let resumed_is : IsText (IsResumed 64 file) false (input_within room (file.lines + 1) file.moment behind) resumed =
     subst (λ (f : FileState). IsText (IsResumed 64 f) false (input_within room (file.lines + 1) file.moment behind)
     resumed) same.1
     (subst (λ (i : Input). IsText (IsResumed 64 found.file) false i resumed) said told.text_is) in
-    let whole_is : IsText (Gives 64 no_subscribers) false (input_of (octets ++ behind)) whole = record {
-      report = all.text_is.report;
-      allowed = given (input_of (octets ++ behind)) all.text_is.report all.text_is.allowed;
-      written = all.text_is.written;
-    } in
     let lines = (input_of octets).lines in
     let next_is : input_within room (file.lines + 1) file.moment behind
     ≡ input_within room (length lines + 1) (latest_behind 0 lines) behind =
@@ -312,5 +309,5 @@ runs_go_on say one go_on may_have octets behind saved file first ending resumed_
     ∙ sym (ap (λ (i : Input). i.stop) (said ∙ next_is)) in (
       all.ending_is ∙ ap told_as stops ∙ sym told.ending_is,
       go_on octets behind saved file first whole resumed fenced short saved_short left_so written
-          (given (input_of octets) first first_has) whole_is resumed_is,
+          gives all.text_is resumed_is,
     )

@@ -1,6 +1,7 @@
 -- An input has one state before its trace, or none.
 use Rattle.std.proofs.Common.{◌≡◌, ◌≢◌, ℕ, cond, List, [], ◌∷◌, ◌++◌, ◌⊎◌, inl, inr, Option, Some, None, refl, sym, ap, ◌∙◌, subst, append-nil}
 use Rattle.std.specs.Option.{is_some}
+use Rattle.pc_outside.specs.Faults.{Rises}
 use Rattle.audit_reading.specs.Texts.{Text, Texts, after_lines, big, ended, long, texts_of}
 use Rattle.audit_reading.specs.Texts as texts
 use Rattle.state_run.specs.Front.{others_in, piece_in}
@@ -21,7 +22,7 @@ begins_so octets found = elim found.read [
     (texts.texts_within found.room found.ahead).lines,
     ap (λ (os : List ℕ). (texts_of os).lines) read.parts ∙ ap (λ (t : Texts). t.lines) (read.says found.ahead),
   )
-  | inr all ↦ ([], all.1.0 ∙ sym (append-nil found.texts))
+  | inr all ↦ ([], all.1 ∙ sym (append-nil found.texts))
 ]
 
 -- a line that is none of a state is so whatever comes behind
@@ -123,10 +124,10 @@ found_told ending source_failed octets left text resumed is =
     (subst (λ (e : Status). Resumed e source_failed octets left text) is resumed).report
 
 pub told_exactly : StatesAreToldExactly
-told_exactly ending source_failed octets left text (inl stopped) =
+told_exactly ending before after octets left text (inl stopped) =
     stopped_told ending octets left text stopped.0 stopped.1
-told_exactly ending source_failed octets left text (inr resumed) = record {
-  bad = λ is. absurd (found_told ending source_failed octets left text resumed is);
+told_exactly ending before after octets left text (inr resumed) = record {
+  bad = λ is. absurd (found_told ending (Rises before after) octets left text resumed is);
   bad_is_told = λ bad. absurd (none_bad octets resumed.state bad);
   long_is_told = λ is. absurd (none_stopped octets long resumed.state is);
   big_is_told = λ is. absurd (none_stopped octets big resumed.state is);

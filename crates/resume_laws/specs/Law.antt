@@ -1,8 +1,9 @@
 -- A trace that is cut behind a FENCE, saved and resumed, has the report of the whole.
 use Rattle.std.specs.Prelude.{◌≡◌, ℕ, ◌<◌, ◌^◌, ◌+◌, ◌-◌, false, List, [], ◌∷◌, ◌++◌, length, flat_map, All}
-use Rattle.trace_lines.specs.Input.{Input, Stop, ended, input_of, input_within}
+use Rattle.trace_lines.specs.Input.{Stop, ended, input_of, input_within}
 use Rattle.trace_lines.specs.Line.{Line}
 use Rattle.trace_lines.specs.declared.line.LineKind.TheVariants.{Fence}
+use Rattle.pc_outside.specs.Faults.{Rises}
 use Rattle.pc_outside.specs.Limits.{newline}
 use Rattle.lawful_run.specs.Cut.{IsCut}
 use Rattle.lawful_run.specs.Report.{Report, epoch_entries, texts_of}
@@ -64,21 +65,16 @@ TellsAll status.BadCapture = ⊥
 TellsAll status.BadState = ⊥
 TellsAll status.BadReport = ⊥
 
--- what a gateway gives by what its subscribers hold, among whatever else is said of reports
-abbrev pub AreGiven : (Input → Report → Type 0) → Type 0
-AreGiven may_have =
-    (input : Input) (report : Report) → may_have input report → Gives 64 no_subscribers input report
-
--- The same of runs: of one that answers both parts from no subscribers, and one of `resume`, which reads the saved state
--- of the first part and the second behind it. Both told all, and so with one status.
+-- The same of runs: of one that answers both parts from no subscribers, and one of `resume`, which reads the saved
+-- state of the first part and the second behind it. Both told all, and so with one status.
 abbrev pub ResumedRunsGoOn : Type 0
-ResumedRunsGoOn = (may_have : Input → Report → Type 0) (octets behind saved : List ℕ) (file : FileState)
-    (first : Report) (ending resumed_ending : Status) (source_failed resumed_source_failed : Type 0)
-    (whole left resumed resumed_left : List ℕ) → AreGiven may_have → EndWithFence octets
+ResumedRunsGoOn = (octets behind saved : List ℕ) (file : FileState) (first : Report)
+    (ending resumed_ending : Status) (faults more_faults faults_too more_faults_too : ℕ)
+    (whole left resumed resumed_left : List ℕ) → EndWithFence octets
     → length octets + length behind < 2 ^ 40 → length saved + length behind < 2 ^ 40
     → IsLeft 64 (input_of octets).lines file → All (λ octet. octet < 256) (state file) → IsStateText (state file) saved
-    → may_have (input_of octets) first
-    → TellsAll ending → Reports may_have false ending source_failed (octets ++ behind) left whole
+    → Gives 64 no_subscribers (input_of octets) first → TellsAll ending
+    → Reports (Gives 64 no_subscribers) false ending (Rises faults more_faults) (octets ++ behind) left whole
     → TellsAll resumed_ending
-    → ResumesAs resumed_ending resumed_source_failed (saved ++ behind) resumed_left resumed
+    → ResumesAs resumed_ending (Rises faults_too more_faults_too) (saved ++ behind) resumed_left resumed
     → (ending ≡ resumed_ending) × (whole ≡ texts_of false (flat_map epoch_entries first.epochs) ++ resumed)

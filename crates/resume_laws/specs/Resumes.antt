@@ -1,6 +1,7 @@
 -- What a run of `resume` did, by its status.
 use Rattle.std.specs.Prelude.{◌≡◌, ℕ, ◌⊎◌, false, List, [], Option, Some}
 use Rattle.std.specs.Io.KnownBytes.{Appends}
+use Rattle.pc_outside.specs.Faults.{Rises}
 use Rattle.pc_outside.specs.WhereTold.{WhereTold}
 use Rattle.trace_lines.specs.Input.{ended}
 use Rattle.audit_reading.specs.Progress.{IsTaken}
@@ -75,8 +76,8 @@ pub record StatesAreTold (ending : Status) (octets left text : List ℕ) : Type 
       → (ending ≡ status.TooLong) ⊎ ((ending ≡ status.ReadFault) ⊎ (ending ≡ status.NoMemory))
 
 abbrev pub StatesAreToldExactly : Type 0
-StatesAreToldExactly = (ending : Status) (source_failed : Type 0) (octets left text : List ℕ)
-    → ResumesAs ending source_failed octets left text → StatesAreTold ending octets left text
+StatesAreToldExactly = (ending : Status) (before after : ℕ) (octets left text : List ℕ)
+    → ResumesAs ending (Rises before after) octets left text → StatesAreTold ending octets left text
 
 -- An input has one state before its trace, or none.
 abbrev pub StatesAreOne : Type 0
