@@ -62,7 +62,7 @@ fn whole_lines(octets: &[u8]) -> &[u8] {
 }
 
 // What is due where a read fails behind so many octets: of a trace the answer to its whole lines, of a capture that to
-// all octets, of an audit and of planned moves nothing.
+// all octets, of an audit, of planned moves and of a state nothing.
 fn due<R: Threads + Wait + Sync>(
     rt: &R,
     alloc: Global,
@@ -73,7 +73,7 @@ fn due<R: Threads + Wait + Sync>(
 ) -> Result<Vec<u8>, AllocError> {
     let taken = input.get(..octets).unwrap_or(input);
     let given = match row.word(3) {
-        b"audit" | b"balance" => return Ok(Vec::new(alloc)),
+        b"audit" | b"balance" | b"save" => return Ok(Vec::new(alloc)),
         b"import" => taken,
         _ => whole_lines(taken),
     };

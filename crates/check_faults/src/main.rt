@@ -17,12 +17,13 @@ use std::sync::Wait;
 use std::thread::Threads;
 
 // The inputs that rows name.
-const NAMES: [&str; 5] = [
+const NAMES: [&str; 6] = [
     "whole.trace",
     "whole.pcap",
     "whole.audit",
     "two-records.pcap",
     "entries.txt",
+    "resumed.trace",
 ];
 
 /// The files of these names.

@@ -2,5 +2,4 @@ pub mod Entries
 pub mod Keeping
 pub mod Ready
 pub mod Taking
-pub mod Turning
 pub mod Words

@@ -1,12 +1,12 @@
 //! The front of an epoch.
 ghost use Rattle.std.specs.Prelude.{◌≡◌, ◌<◌, ◌≤◌, ◌+◌, ◌++◌, ◌∷◌, [], ◌^◌, map, OnOk, OnErr, IfOk};
 
-use crate::deciding::take_line;
 use crate::opening::{Opened, controls_of, flows_of};
 use crate::taken::{Open, Taken};
+use crate::taking::take;
 use crate::{NoMemory, Took};
 use address_book::AddressBook;
-use at_rest::AtRest;
+use at_rest::{AtRest, decide_line};
 use flow_migration::FlowSide;
 use front_halves::Halves;
 use front_sides::BothSides;
@@ -172,15 +172,20 @@ impl Front {
     {
         self.halves.pump(rt);
         self.entries.reserve(1)?;
-        let open = take_line(
-            rt,
+        let meant = decide_line(
             self.alloc,
             self.slices,
-            self.lines + 1,
             &mut self.book,
             &mut self.subscribers,
-            &mut self.halves,
             line,
+        )?;
+        let open = take(
+            rt,
+            self.alloc,
+            self.lines + 1,
+            meant,
+            self.subscribers.as_mut_slice(),
+            &mut self.halves,
             patience,
         )?;
         let took = open.took();

@@ -3,7 +3,6 @@
 //! turns the workers meanwhile, and in which threads, is left to the caller.
 #![tactic(auto)]
 
-mod deciding;
 mod front;
 mod opening;
 mod taken;

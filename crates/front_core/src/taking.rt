@@ -95,8 +95,7 @@ fn take_command<R: Wait>(
     }
 }
 
-/// The same of a packet of a subscriber.
-pub(crate) fn take_packet<R: Wait>(
+fn take_packet<R: Wait>(
     rt: &R,
     alloc: Global,
     line: u64,

@@ -1,6 +1,7 @@
 -- What a run of `resume` wrote, by its status.
-use Rattle.std.proofs.Common.{◌≡◌, ℕ, ◌++◌, ◌⊎◌, inl, inr, Bool, false, List, [], Option, None, Some, refl, subst}
+use Rattle.std.proofs.Common.{◌≡◌, ℕ, ◌≤◌, ◌++◌, ◌⊎◌, arith, inl, inr, Bool, false, List, [], Option, None, Some, refl, subst}
 use Rattle.std.proofs.KnownBytes.{Appends-nil}
+use Rattle.pc_outside.specs.Faults.{Rises}
 use Rattle.pc_outside.specs.WhereTold.{WhereTold}
 use Rattle.pc_outside.proofs.ToldLemmas.{told_map, told_then}
 use Rattle.trace_lines.specs.Input.{Input, ended}
@@ -11,7 +12,7 @@ use Rattle.state_run.specs.Reading.{HasFound}
 use Rattle.audit_reading.specs.Texts as texts
 use Rattle.trace_run.specs.declared.status.Status.{Status}
 use Rattle.trace_run.specs.declared.status.Status.TheVariants as status
-use Rattle.trace_run.specs.Beginnings.{Beginning, input_from}
+use Rattle.trace_run.specs.Beginnings.{Beginning, behind, input_from}
 use Rattle.trace_run.specs.Report.{IsCutText, IsDone, IsEpochsText, IsFaultText, IsText, ReportsFrom, RunsFrom}
 use Rattle.trace_run.proofs.EndingLemmas.{complete}
 use Rattle.resume_run.specs.Reports.{IsResumed}
@@ -91,6 +92,20 @@ module _ (may more : Input → Report → Type 0) (wider : (input : Input) (repo
   }
 
 -- ---- a run of `resume`
+
+-- a count that rose in a later call rose from before
+pub rises_later : (before mid now : ℕ) → before ≤ mid → Rises mid now → Rises before now
+rises_later before mid now later (inl rose) = inl (omega (arith, later, rose))
+rises_later before mid now later (inr full) = inr full
+
+-- behind the lines and the moment of a file
+pub runs_behind : (may : Input → Report → Type 0) (places : Bool) (file : FileState) (room lines moment : ℕ)
+    (ending : Status) (failed : Type 0) (start left old new : Option (List ℕ)) → lines ≡ file.lines
+    → moment ≡ file.moment → RunsFrom (behind room lines moment) may places ending failed start left old new
+    → RunsFrom (begins_at file room) may places ending failed start left old new
+runs_behind may places file room lines moment ending failed start left old new lines_are moment_is runs =
+    subst (λ n. RunsFrom (behind room n file.moment) may places ending failed start left old new) lines_are
+    (subst (λ m. RunsFrom (behind room lines m) may places ending failed start left old new) moment_is runs)
 
 -- memory ran out before anything was read
 pub nothing_resumed : (failed : Type 0) (start sink : Option (List ℕ))

@@ -1,19 +1,20 @@
 -- An epoch of no lines changes nothing, and is lawful.
-use Rattle.std.proofs.Common.{◌≡◌, ℕ, ◌≤◌, List, [], ◌∷◌, ◌++◌, Option, drop, flat_map, length, map, refl, sym, ap, subst, ◌∙◌, arith, append-nil}
+use Rattle.std.proofs.Common.{◌≡◌, ℕ, ◌≤◌, List, [], ◌∷◌, ◌++◌, Option, drop, flat_map, get_or, length, map, refl, sym, ap, subst, ◌∙◌, arith, append-nil}
 use Rattle.std.proofs.lemmas.List.{drop_all}
 use Rattle.trace_lines.specs.Line.{Line}
 use Rattle.trace_lines.specs.declared.bad.LineBad.{LineBad}
 use Rattle.gate_model.specs.SlotPast.{records_after}
+use Rattle.subscriber.specs.Standing.{Represents}
 use Rattle.report_lines.specs.declared.entry.ChargeEntry.TheVariants.{R}
 use Rattle.lawful_run.specs.Merging.{Histories, behind}
 use Rattle.lawful_run.specs.Outcomes as made_of
 use Rattle.lawful_run.specs.Report.{EpochReport}
-use Rattle.lawful_run.specs.Run.{IsEpochRun, by_slot}
+use Rattle.lawful_run.specs.Run.{IsEpochRun}
 use Rattle.lawful_run.specs.Setup.{Setup}
 use Rattle.lawful_run.specs.Telling.{counted}
 use Rattle.at_rest.specs.Rest.{IsBehind, RepresentsAll, Rest}
 use Rattle.front_close.specs.Closing.{Closes}
-use Rattle.trace_run.specs.Entries.{closing_text, lines_text}
+use Rattle.trace_run.specs.Entries.{lines_text}
 use Rattle.trace_run.specs.Noted.{noted}
 use Rattle.replay_run.specs.Standing.{Replayed, ReplayedOn, setup_of}
 use Rattle.replay_run.specs.declared.replay.Replay.{Replay}
@@ -54,9 +55,10 @@ no_lines_lawful setup slots first before = record {
 represents_still : (rest : Rest) (before : Histories) → RepresentsAll rest before
     → RepresentsAll rest (behind before [])
 represents_still rest before all = record {
-  each = λ slot none within. rw (append-nil (before slot)) (all.each slot none within);
+  each = λ slot none within. subst (λ events. Represents (get_or rest.subscribers slot none) slot events)
+      (sym (append-nil (before slot))) (all.each slot none within);
   beyond = λ slot out. append-nil (before slot) ∙ all.beyond slot out;
-  few = λ slot. rw (append-nil (before slot)) (all.few slot);
+  few = λ slot. subst (λ events. length events ≤ rest.lines) (sym (append-nil (before slot))) (all.few slot);
 }
 
 closes_no_lines : (rest : Rest) → Closes rest [] rest nothing_told
@@ -71,7 +73,7 @@ closes_no_lines rest = record {
 pub notes_on : (first now : Replay) (done : List Line) (latest : ℕ) (closed : List (List Line))
     (sent waiting : List ℕ) (bad : Option LineBad) (n : ℕ) (text : List ℕ)
     → Replayed first now done latest closed [] sent waiting
-    → text ≡ waiting ++ (lines_text first.places (noted bad n) ++ closing_text first.places nothing_told)
+    → text ≡ waiting ++ lines_text first.places (noted bad n)
     → ReplayedOn first now now done latest closed [] sent bad n text
 notes_on first now done latest closed sent waiting bad n text so_far said =
     let setup = setup_of first in
@@ -95,6 +97,6 @@ notes_on first now done latest closed sent waiting bad n text so_far said =
       emptied = so_far.kept;
       places = so_far.places;
       latest_is = so_far.latest_is;
-      said = said ∙ ap (λ w. w ++ (lines_text first.places (noted bad n) ++ closing_text first.places nothing_told))
-          so_far.waits;
+      said = said ∙ ap (λ w. w ++ lines_text first.places (noted bad n)) so_far.waits
+          ∙ sym (append-nil (lines_text first.places (noted bad n)));
     }

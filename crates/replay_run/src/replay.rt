@@ -17,7 +17,7 @@ use std::sync::Wait;
 use std::thread::Threads;
 use text_fields::Text;
 use trace_lines::{LineBad, TraceLine};
-use trace_run::{push_closing, push_opens};
+use trace_run::{push_noted, push_opens};
 
 /// The gateway at rest, the lines of the open epoch, and how an epoch is run and told.
 #[derive(Drop)]
@@ -111,10 +111,17 @@ impl Replay {
         if self.is_done(bad) {
             return Ok(());
         }
-        if self.lines.is_empty() {
-            return push_closing(text, bad, number, &[], &[]);
+        if self.is_closed() {
+            return push_noted(text, bad, number);
         }
         self.run(rt, bad, number, text)
+    }
+
+    // Whether no epoch is open.
+    fn is_closed(&self) -> bool
+        ensures { MatchBool result (self.now.lines.items ≡ []) (self.now.lines.items ≡ [] → ⊥) }
+    {
+        self.lines.is_empty()
     }
 
     // Whether no epoch is open, and no bad line is to be noted.

@@ -20,7 +20,8 @@ use Rattle.solo_run.specs.declared.solo.Solo.{Solo}
 use Rattle.solo_run.specs.Places.{HasAt}
 use Rattle.solo_run.specs.Standing.{SlotStands, Stands, story_of}
 use Rattle.save_run.specs.Known.{IsKnown}
-use Rattle.save_run.specs.Left.{histories}
+use Rattle.save_run.specs.Left.{HasTaken, histories}
+use Rattle.save_run.specs.declared.saver.Saver.{Saver}
 use Rattle.save_run.proofs.Kept.{IsLeftAt, rests, saved_is}
 use Rattle.save_run.proofs.LineEvents.{line_events_are}
 
@@ -110,11 +111,24 @@ pub record LeavesFile (solo : Solo) (done : List Line) (latest : ℕ) : Type 0 w
   pub imsis : All IsImsi solo.book
   pub known : All IsKnown solo.subscribers.items
 
+pub leaves_file : (saver : Saver) (done : List Line) (latest : ℕ) → HasTaken saver done latest
+    → length done ≤ 2 ^ 39 → IsBook saver.solo.book → All IsImsi saver.solo.book
+    → All IsKnown saver.solo.subscribers.items → LeavesFile saver.solo done latest
+leaves_file saver done latest taken few book imsis known = record {
+  stands = taken.stands;
+  valid = taken.valid;
+  latest_is = taken.latest_is;
+  few = few;
+  book = book;
+  imsis = imsis;
+  known = known;
+}
+
 early : (solo : Solo) (done : List Line) (latest : ℕ) → LeavesFile solo done latest → latest < 2 ^ 50
 early solo done latest leaves =
     subst (λ (n : ℕ). n < 2 ^ 50) (sym leaves.latest_is) (early_behind 0 done (omega arith) leaves.valid)
 
-places : (solo : Solo) (done : List Line) (latest : ℕ) → LeavesFile solo done latest
+pub places : (solo : Solo) (done : List Line) (latest : ℕ) → LeavesFile solo done latest
     → length solo.subscribers.items ≡ length solo.book
 places solo done latest leaves =
     leaves.stands.places ∙ ap (λ (book : List (List ℕ)). length book) (sym leaves.stands.same_book)

@@ -100,6 +100,31 @@ saves_whole ending start left old new lines reached wrote = record {
 pub never_usage : (lines : List Line) (old new : Option (List ℕ)) → Wrote status.Usage lines old new → ⊥
 never_usage lines old new wrote = wrote.said
 
+pub never_read : (lines : List Line) (old new : Option (List ℕ)) → Wrote status.ReadFault lines old new → ⊥
+never_read lines old new wrote = wrote.said
+
+-- what the status of an ending is
+pub usage_never : (ending : Ending) → status_at ending ≡ status.Usage → ⊥
+usage_never Ended is = cc
+usage_never ReadFault is = cc
+usage_never (BadLine why) is = cc
+usage_never LineLong is = cc
+usage_never TooLong is = cc
+
+pub write_never : (ending : Ending) → status_at ending ≡ status.WriteFault → ⊥
+write_never Ended is = cc
+write_never ReadFault is = cc
+write_never (BadLine why) is = cc
+write_never LineLong is = cc
+write_never TooLong is = cc
+
+pub at_read : (ending : Ending) → status_at ending ≡ status.ReadFault → ending ≡ ReadFault
+at_read Ended is = absurd (cc)
+at_read ReadFault is = refl
+at_read (BadLine why) is = absurd (cc)
+at_read LineLong is = absurd (cc)
+at_read TooLong is = absurd (cc)
+
 -- lines that weren't
 stopped_so : (ending : Ending) (octets left : List ℕ) (lines : List Line) → (ending ≡ Ended → ⊥)
     → Reached ending octets left lines → SavesAs (status_at ending) octets left []

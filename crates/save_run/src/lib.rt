@@ -5,7 +5,7 @@
 
 mod keeping;
 mod known;
-mod save;
+mod run;
 mod saver;
 
-pub use save::save;
+pub use run::save;

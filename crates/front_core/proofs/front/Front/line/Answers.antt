@@ -16,29 +16,35 @@ use Rattle.front_core.proofs.LineDone.{line_done, taken_more, takes_as}
 use Rattle.front_core.proofs.Sides.{takes_sides}
 use Rattle.front_core.proofs.front.Front.line.Goals as goal
 
-pub take_line-requires-may : goal.take_line-requires-may
-take_line-requires-may g c = λ now book_now turned turns.
+pub take-requires : goal.take-requires
+take-requires g c =
     let old = c.args.self.now in
-    line_may old.opened.value old.slices old.lane old.lines old.latest old.book book_now old.subscribers.items turned
-    old.halves c.pump.new.self old.entries.items c.args.line.now now c.requires.whole c.pump.ensures.settles turns
+    subst (λ (subs : List SubscriberState). MayTake (meaning_of c.in_ok-meant.meant) subs c.pump.new.self)
+    (sym c.as_mut_slice.ensures.value)
+    (line_may old.opened.value old.slices old.lane old.lines old.latest old.book c.decide_line.new.book
+    old.subscribers.items c.decide_line.new.subscribers.items old.halves c.pump.new.self old.entries.items
+    c.args.line.now c.in_ok-meant.meant c.requires.whole c.pump.ensures.settles c.in_ok-meant.ensures)
 
 pub returns-clause-whole : goal.returns-clause-whole
 returns-clause-whole g c =
     let old = c.args.self.now in
-    let does = c.in_ok-open.ensures.takes in
-    let turned = does.turned in
-    let it = does.now in
+    let turned = c.decide_line.new.subscribers.items in
+    let it = c.in_ok-meant.meant in
     let open_ = c.in_ok-open.open in
-    let new = c.take_line.new.halves in
-    let now = c.take_line.new.subscribers.items in
+    let new = c.take.new.halves in
+    let now = (with_items c.decide_line.new.subscribers c.take.new.subscribers).items in
+    let now_is : now ≡ c.take.new.subscribers =
+    with_items_is c.decide_line.new.subscribers c.take.new.subscribers
+    (omega (arith, c.take.auto.subscribers, c.as_mut_slice.ensures.len)) in
     let takes : Takes (old.lines + 1) (c.args.patience + 1) (meaning_of it) open_ turned now c.pump.new.self new =
-    does.takes in
+    takes_as (old.lines + 1) (c.args.patience + 1) it open_ turned c.as_mut_slice.result.now c.take.new.subscribers now
+    c.pump.new.self new c.as_mut_slice.ensures.value now_is c.in_ok-open.ensures.takes in
     let taken : Taken = record { line = c.of.result; «open» = open_ } in
     let moment : c.line-inside.inside.0.1.0.0 ≡ c.args.line.now.moment = search rules in
     line_done old.opened.value old.slices old.lane old.lines old.latest (c.args.patience + 1) old.book
-    c.take_line.new.book old.subscribers.items turned now old.halves c.pump.new.self new old.entries.items
+    c.decide_line.new.book old.subscribers.items turned now old.halves c.pump.new.self new old.entries.items
     c.push_reserved.new.self.items taken c.args.line.now it c.line-inside.inside.0.1.0.0 c.requires.whole c.requires.few
-    c.requires.late c.pump.ensures.settles does.turns takes c.of.ensures moment
+    c.requires.late c.pump.ensures.settles c.in_ok-meant.ensures takes c.of.ensures moment
     (c.push_reserved.ensures.items ∙ ap (λ (e : List Taken). e ++ taken ∷ []) c.reserve.ensures.items)
 
 pub returns-clause-taken : goal.returns-clause-taken
@@ -54,14 +60,17 @@ returns-clause-counts g c =
 pub returns-clause-lanes : goal.returns-clause-lanes
 returns-clause-lanes g c =
     let old = c.args.self.now in
-    let does = c.in_ok-open.ensures.takes in
-    let turned = does.turned in
-    let it = does.now in
+    let turned = c.decide_line.new.subscribers.items in
+    let it = c.in_ok-meant.meant in
     let open_ = c.in_ok-open.open in
-    let new = c.take_line.new.halves in
-    let now = c.take_line.new.subscribers.items in
+    let new = c.take.new.halves in
+    let now = (with_items c.decide_line.new.subscribers c.take.new.subscribers).items in
+    let now_is : now ≡ c.take.new.subscribers =
+    with_items_is c.decide_line.new.subscribers c.take.new.subscribers
+    (omega (arith, c.take.auto.subscribers, c.as_mut_slice.ensures.len)) in
     let takes : Takes (old.lines + 1) (c.args.patience + 1) (meaning_of it) open_ turned now c.pump.new.self new =
-    does.takes in
+    takes_as (old.lines + 1) (c.args.patience + 1) it open_ turned c.as_mut_slice.result.now c.take.new.subscribers now
+    c.pump.new.self new c.as_mut_slice.ensures.value now_is c.in_ok-open.ensures.takes in
     let sides = sides_then old.halves c.pump.new.self new c.pump.ensures.settles.sides
     (takes_sides (old.lines + 1) (c.args.patience + 1) (meaning_of it) open_ turned now c.pump.new.self new takes) in
     (sides.control_lanes, sides.flow_lanes)
@@ -69,14 +78,17 @@ returns-clause-lanes g c =
 pub returns-clause-takes : goal.returns-clause-takes
 returns-clause-takes g c =
     let old = c.args.self.now in
-    let does = c.in_ok-open.ensures.takes in
-    let turned = does.turned in
-    let it = does.now in
+    let turned = c.decide_line.new.subscribers.items in
+    let it = c.in_ok-meant.meant in
     let open_ = c.in_ok-open.open in
-    let new = c.take_line.new.halves in
-    let now = c.take_line.new.subscribers.items in
+    let new = c.take.new.halves in
+    let now = (with_items c.decide_line.new.subscribers c.take.new.subscribers).items in
+    let now_is : now ≡ c.take.new.subscribers =
+    with_items_is c.decide_line.new.subscribers c.take.new.subscribers
+    (omega (arith, c.take.auto.subscribers, c.as_mut_slice.ensures.len)) in
     let takes : Takes (old.lines + 1) (c.args.patience + 1) (meaning_of it) open_ turned now c.pump.new.self new =
-    does.takes in
+    takes_as (old.lines + 1) (c.args.patience + 1) it open_ turned c.as_mut_slice.result.now c.take.new.subscribers now
+    c.pump.new.self new c.as_mut_slice.ensures.value now_is c.in_ok-open.ensures.takes in
     let one : Taken = record { line = c.of.result; «open» = open_ } in
     record {
       taken = one;
@@ -87,38 +99,44 @@ returns-clause-takes g c =
       pumps = c.pump.ensures.settles;
       now = it;
       turned = turned;
-      turns = does.turns;
+      turns = c.in_ok-meant.ensures;
       takes = takes;
     }
 
 pub returns-clause-means : goal.returns-clause-means
 returns-clause-means g c = λ prior behind.
     let old = c.args.self.now in
-    let does = c.in_ok-open.ensures.takes in
-    let turned = does.turned in
-    let it = does.now in
+    let turned = c.decide_line.new.subscribers.items in
+    let it = c.in_ok-meant.meant in
     let open_ = c.in_ok-open.open in
-    let new = c.take_line.new.halves in
-    let now = c.take_line.new.subscribers.items in
+    let new = c.take.new.halves in
+    let now = (with_items c.decide_line.new.subscribers c.take.new.subscribers).items in
+    let now_is : now ≡ c.take.new.subscribers =
+    with_items_is c.decide_line.new.subscribers c.take.new.subscribers
+    (omega (arith, c.take.auto.subscribers, c.as_mut_slice.ensures.len)) in
     let takes : Takes (old.lines + 1) (c.args.patience + 1) (meaning_of it) open_ turned now c.pump.new.self new =
-    does.takes in
+    takes_as (old.lines + 1) (c.args.patience + 1) it open_ turned c.as_mut_slice.result.now c.take.new.subscribers now
+    c.pump.new.self new c.as_mut_slice.ensures.value now_is c.in_ok-open.ensures.takes in
     subst (λ (took : Took). MayBecome (meant_next old.opened.value.slices (prior ++ lines_of old.entries.items)
     c.args.line.now) took) (sym c.took-took.ensures)
     (becomes old.opened.value old.slices old.lane old.lines old.latest (old.lines + 1) (c.args.patience + 1) old.book
-    c.take_line.new.book old.subscribers.items turned now old.halves c.pump.new.self new old.entries.items
-    c.args.line.now it open_ c.requires.whole does.turns takes prior behind)
+    c.decide_line.new.book old.subscribers.items turned now old.halves c.pump.new.self new old.entries.items
+    c.args.line.now it open_ c.requires.whole c.in_ok-meant.ensures takes prior behind)
 
 pub returns-clause-full : goal.returns-clause-full
 returns-clause-full g c = λ full.
     let old = c.args.self.now in
-    let does = c.in_ok-open.ensures.takes in
-    let turned = does.turned in
-    let it = does.now in
+    let turned = c.decide_line.new.subscribers.items in
+    let it = c.in_ok-meant.meant in
     let open_ = c.in_ok-open.open in
-    let new = c.take_line.new.halves in
-    let now = c.take_line.new.subscribers.items in
+    let new = c.take.new.halves in
+    let now = (with_items c.decide_line.new.subscribers c.take.new.subscribers).items in
+    let now_is : now ≡ c.take.new.subscribers =
+    with_items_is c.decide_line.new.subscribers c.take.new.subscribers
+    (omega (arith, c.take.auto.subscribers, c.as_mut_slice.ensures.len)) in
     let takes : Takes (old.lines + 1) (c.args.patience + 1) (meaning_of it) open_ turned now c.pump.new.self new =
-    does.takes in
+    takes_as (old.lines + 1) (c.args.patience + 1) it open_ turned c.as_mut_slice.result.now c.take.new.subscribers now
+    c.pump.new.self new c.as_mut_slice.ensures.value now_is c.in_ok-open.ensures.takes in
     subst (λ (k : ℕ). RisesBy (c.args.patience + 1) k new.fulls) c.pump.ensures.fulls
     (refused_so (old.lines + 1) (c.args.patience + 1) (meaning_of it) open_ turned now c.pump.new.self new takes
     (sym c.took-took.ensures ∙ full))

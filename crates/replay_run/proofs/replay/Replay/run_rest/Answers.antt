@@ -17,19 +17,19 @@ returns-then-is_done g c = λ first done latest closed open_ sent so_far counted
     (none_so first now done latest closed sent c.args.text.now
     (subst (λ (lines : List Line). Replayed first now done latest closed lines sent c.args.text.now) empty so_far)))
 
-pub returns-then-is_empty : goal.returns-then-is_empty
-returns-then-is_empty g c = λ first done latest closed open_ sent so_far counted.
+pub returns-then-is_closed : goal.returns-then-is_closed
+returns-then-is_closed g c = λ first done latest closed open_ sent so_far counted.
     let now = c.args.self.now in
-    let text = c.push_closing.new.report in
-    let empty = sym so_far.kept ∙ c.if-is_empty.true in
-    subst (λ (lines : List Line). OnOk c.push_closing.result
+    let text = c.push_noted.new.report in
+    let empty = sym so_far.kept ∙ c.if-is_closed.ensures in
+    subst (λ (lines : List Line). OnOk c.push_noted.result
     (ReplayedAll first now done closed lines c.args.bad (sent ++ text))) (sym empty)
-    (on_ok c.push_closing.result
+    (on_ok c.push_noted.result
     (λ said. all_so first now now done latest closed [] sent c.args.bad c.args.number text counted
-    (λ none bad. c.if-is_done.ensures c.if-is_empty.true bad)
+    (λ none bad. c.if-is_done.ensures c.if-is_closed.ensures bad)
     (notes_on first now done latest closed sent c.args.text.now c.args.bad c.args.number text
     (subst (λ (lines : List Line). Replayed first now done latest closed lines sent c.args.text.now) empty so_far) said))
-    (c.push_closing.ensures first.places))
+    (c.push_noted.ensures first.places))
 
 pub returns : goal.returns
 returns g c = λ first done latest closed open_ sent so_far counted.
