@@ -45,8 +45,8 @@ pub record AreRunsOfParts (octets behind saved first whole resumed : List ℕ) (
   pub resumed_tells : TellsAll resumed_ending
   pub resumed_run : ResumeRan resumed_ending (saved ++ behind) resumed
 
--- Both have one status. What `solo` wrote of the first part is the text of epochs and the open counters behind them; what
--- it wrote of both is that of these epochs, then what `resume` wrote.
+-- Both have one status. What `solo` wrote of the first part is the text of epochs and the open counters behind them;
+-- what it wrote of both is that of these epochs, then what `resume` wrote.
 pub record HasGoneOn (octets first whole resumed : List ℕ) (ending resumed_ending : Status) : Type 0 where
   pub report : Report
   pub has : Gives 64 no_subscribers (input_of octets) report
