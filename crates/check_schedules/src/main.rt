@@ -5,6 +5,7 @@ mod case;
 mod plans;
 mod telling;
 
+use bumpalo::Bump;
 use case::{Case, read_row};
 use schedule_run::schedule;
 use std::alloc::{AllocError, Global};
@@ -18,8 +19,10 @@ fn push_answer(alloc: Global, text: &mut Text, row: Case) -> Result<(), AllocErr
         return text.extend_from_slice(b"no such slices");
     }
     let mut turns = row.turns.of(alloc, row.slices)?;
+    let room = Bump::new(alloc);
     let scheduled = schedule(
         alloc,
+        &room,
         row.rooms,
         row.slices,
         &row.bounds,

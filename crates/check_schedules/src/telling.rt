@@ -35,7 +35,7 @@ fn push_digits(text: &mut Text, number: u64) -> Result<(), AllocError> {
     Ok(())
 }
 
-fn push_slot(text: &mut Text, slot: u32, scheduled: &Scheduled) -> Result<(), AllocError> {
+fn push_slot(text: &mut Text, slot: u32, scheduled: &Scheduled<'_>) -> Result<(), AllocError> {
     text.extend_from_slice(b" |")?;
     text.push_number(u64::from(slot))?;
     for number in 0..scheduled.met_count(slot) {
@@ -47,7 +47,7 @@ fn push_slot(text: &mut Text, slot: u32, scheduled: &Scheduled) -> Result<(), Al
 /// The text of a schedule of the slots below this one.
 pub fn push_schedule(
     text: &mut Text,
-    scheduled: &Scheduled,
+    scheduled: &Scheduled<'_>,
     slots: u32,
     turns: &Turns,
 ) -> Result<(), AllocError> {

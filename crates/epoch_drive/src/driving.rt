@@ -39,24 +39,49 @@ pub fn do_lines<'a>(
     ensures short { IfOk result (λ epoch. AreShort epoch.lines.items) }
     ensures turns { OnOk result (turns.new ≡ turns_behind turns.old (vec_len lines.now.asks)) }
 {
+    let room = Bump::new(*subscribers.allocator());
+    do_lines_in(&room, rooms, slices, book, subscribers, count, lines, turns)
+}
+
+// The same, with an arena for the lists of the epoch.
+fn do_lines_in<'a, 'b>(
+    room: &'b Bump,
+    rooms: Rooms,
+    slices: u8,
+    book: &AddressBook,
+    subscribers: &mut Vec<Subscriber>,
+    count: u64,
+    lines: &'a EpochLines,
+    turns: &mut Turns,
+) -> Result<Epoch<'a>, AllocError>
+    requires slices { (1 ≤ slices) × (slices ≤ 64) }
+    requires workers { AreWorkers slices turns.old }
+    requires may { MayDo slices count lines.now book.now subscribers.old.items }
+
+    ensures does { (first_book : List (List ℕ)) (first : List SubscriberState) (taken : List Line)
+        → AreTaken slices first_book first taken lines.now book.now subscribers.old.items
+        → IfOk result (λ epoch. DoesLines rooms slices (count + 1) (turns_told turns.old slices (length taken))
+        first_book first taken book.now subscribers.new.items epoch) }
+    ensures short { IfOk result (λ epoch. AreShort epoch.lines.items) }
+    ensures turns { OnOk result (turns.new ≡ turns_behind turns.old (vec_len lines.now.asks)) }
+{
     let alloc = *subscribers.allocator();
     let bounds = lines.bounds.as_slice();
     let asks = lines.asks.as_slice();
-    let room = Bump::new(alloc);
-    let scheduled = schedule(alloc, rooms, slices, bounds, asks, turns)?;
+    let scheduled = schedule(alloc, room, rooms, slices, bounds, asks, turns)?;
     let kept = lines.lines.as_slice();
     let octets = lines.octets.as_slice();
     let slots = book.len();
     let shares = shares_of(
         alloc,
-        &room,
+        room,
         slots,
         subscribers.as_slice(),
         &scheduled,
         kept,
         octets,
     )?;
-    let replays = replay_all(alloc, &room, slots, subscribers, shares.as_slice())?;
+    let replays = replay_all(alloc, room, slots, subscribers, shares.as_slice())?;
     drop(shares);
     let Replays {
         mut answers,

@@ -38,7 +38,7 @@ pub fn shares_of<'a, 'b>(
     room: &'b Bump,
     slots: u32,
     subscribers: &[Subscriber],
-    scheduled: &Scheduled,
+    scheduled: &Scheduled<'_>,
     kept: &'a [Kept],
     octets: &'a [u8],
 ) -> Result<Vec<Share<'a, 'b>>, AllocError>
@@ -73,7 +73,7 @@ fn empty_shares<'a, 'b>(
     alloc: Global,
     room: &'b Bump,
     slots: u32,
-    scheduled: &Scheduled,
+    scheduled: &Scheduled<'_>,
 ) -> Result<Vec<Share<'a, 'b>>, AllocError>
     ensures many { IfOk result (λ shares. vec_len shares ≡ slots) }
     ensures empty { IfOk result (λ shares. All IsEmpty shares.items) }
@@ -93,7 +93,7 @@ fn empty_shares<'a, 'b>(
 fn share_line<'a, 'b>(
     shares: &mut Vec<Share<'a, 'b>>,
     subscribers: &[Subscriber],
-    scheduled: &Scheduled,
+    scheduled: &Scheduled<'_>,
     octets: &'a [u8],
     now: &'a Kept,
     outcome: Outcome,
@@ -147,7 +147,7 @@ fn give_command<'a, 'b>(
 fn give_packet<'a, 'b>(
     shares: &mut Vec<Share<'a, 'b>>,
     subscribers: &[Subscriber],
-    scheduled: &Scheduled,
+    scheduled: &Scheduled<'_>,
     slot: Slot,
     packet: LentPacket<'a>,
 ) -> Result<(), AllocError>

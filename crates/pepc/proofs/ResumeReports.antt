@@ -8,7 +8,7 @@ use Rattle.trace_lines.specs.Input.{Input, ended}
 use Rattle.lawful_run.specs.Report.{Report}
 use Rattle.record_codec.specs.Saved.{FileState}
 use Rattle.state_run.specs.Laws.{LinesSayOneState}
-use Rattle.state_run.specs.Reading.{HasFound}
+use Rattle.state_run.specs.Reading.{HasFound, IsBadState}
 use Rattle.audit_reading.specs.Texts as texts
 use Rattle.trace_run.specs.declared.status.Status.{Status}
 use Rattle.trace_run.specs.declared.status.Status.TheVariants as status
@@ -18,7 +18,7 @@ use Rattle.trace_run.proofs.EndingLemmas.{complete}
 use Rattle.resume_run.specs.Reports.{IsResumed}
 use Rattle.resume_laws.specs.Resumes.{CompletesResume, HasState, Resumed, Resumes, ResumesAs, StoppedFirst, begins_at}
 use Rattle.pepc.proofs.OneTrace.{ends_alike}
-use Rattle.resume_laws.proofs.StateLemmas.{none_bad, none_stopped}
+use Rattle.resume_laws.proofs.StateLemmas.{none_stopped, told_exactly}
 
 -- ---- reports that are allowed by one relation are allowed by a wider one, and a failure is one of more calls
 
@@ -154,6 +154,17 @@ resumes_behind file room ending failed after start ahead left old new fails foun
 }
 
 -- ---- where nothing failed and the trace behind the state ends, memory alone can run out
+
+-- a state was found, so that the input begins with none can't be told
+none_bad : (octets : List ℕ) → HasState octets → IsBadState octets → ⊥
+none_bad octets found bad =
+    clash ((told_exactly status.Usage 0 0 octets [] [] (inr (record { state = found; report = refl }))).bad_is_told bad)
+  where
+    clash : (status.Usage ≡ status.BadState)
+        ⊎ ((status.Usage ≡ status.ReadFault) ⊎ (status.Usage ≡ status.NoMemory)) → ⊥
+    clash (inl same) = cc
+    clash (inr (inl same)) = cc
+    clash (inr (inr same)) = cc
 
 stopped_done : (ending : Status) (source_failed : Type 0) (octets left : List ℕ) → HasState octets
     → (source_failed → ⊥) → (ending ≡ status.ReadFault → source_failed) → StoppedFirst ending octets left

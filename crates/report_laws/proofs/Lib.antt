@@ -9,3 +9,4 @@ mod EventsIn
 mod EntriesIn
 mod OctetsConfirmed
 mod RunConfirmed
+mod CutRuns

@@ -4,3 +4,4 @@ pub mod Held
 pub mod Octets
 pub mod Ranges
 pub mod Running
+pub mod Resuming

@@ -41,7 +41,7 @@ fn is_nearer(roster: &Roster, nearest: Option<usize>, slot: usize) -> bool
 /// The nearest half behind the last one of those so far and that of a slot, unless that is passed.
 fn nearer(
     roster: &Roster,
-    slots: &[SlotNumbers],
+    slots: &[SlotNumbers<'_>],
     last: Option<usize>,
     nearest: Option<usize>,
     slot: usize,
@@ -71,7 +71,7 @@ fn nearer(
 /// The slot of the next half behind the last one whose turn may change something.
 pub fn next_busy(
     roster: &Roster,
-    slots: &[SlotNumbers],
+    slots: &[SlotNumbers<'_>],
     owing: &[usize],
     last: Option<usize>,
 ) -> Option<usize>

@@ -1,17 +1,18 @@
 //! How many commands the accepted packets of a slot wait for.
 ghost use Rattle.std.specs.Prelude.{◌≡◌, ◌++◌, ◌∷◌, [], OnOk, length, get_or};
 
-use std::alloc::{AllocError, Global};
+use bumpalo::Bump;
+use std::alloc::AllocError;
 use std::marker::Model;
 
 /// In the order of the packets. Those before the first one that waits for a command are counted alone.
 #[derive(Drop)]
-pub struct Floors {
+pub struct Floors<'b> {
     free: u32,
-    others: Vec<usize>,
+    others: Vec<usize, &'b Bump>,
 }
 
-impl Model for Floors {
+impl<'b> Model for Floors<'b> {
     ghost use Rattle.std.specs.Prelude.{ℕ, List, ◌++◌, replicate};
 
     ghost Value = { List ℕ };
@@ -19,13 +20,13 @@ impl Model for Floors {
     ghost view = { λ floors. replicate floors.free 0 ++ floors.others.items };
 }
 
-impl Floors {
-    pub fn new(alloc: Global) -> Floors
+impl<'b> Floors<'b> {
+    pub fn new(room: &'b Bump) -> Floors<'b>
         ensures { result ≡ [] }
     {
         Floors {
             free: 0,
-            others: Vec::new(alloc),
+            others: Vec::new(room),
         }
     }
 

@@ -39,7 +39,7 @@ fn back(standing: Standing) -> Standing
     }
 }
 
-fn control_back(numbers: &mut Numbers, slot: usize) -> Result<(), AllocError>
+fn control_back(numbers: &mut Numbers<'_>, slot: usize) -> Result<(), AllocError>
     ensures { OnOk result (world_of numbers.new ≡ front.control_back (world_of numbers.old) slot) }
 {
     let standing = back(control_of(numbers, slot));
@@ -48,7 +48,7 @@ fn control_back(numbers: &mut Numbers, slot: usize) -> Result<(), AllocError>
 
 /// The control half of a slot is home: it may owe an order.
 fn control_at_home(
-    numbers: &mut Numbers,
+    numbers: &mut Numbers<'_>,
     owing: &mut Vec<usize>,
     slot: usize,
 ) -> Result<(), AllocError>
@@ -60,7 +60,7 @@ fn control_at_home(
     mark(numbers, owing, slot)
 }
 
-fn flow_back(numbers: &mut Numbers, slot: usize) -> Result<(), AllocError>
+fn flow_back(numbers: &mut Numbers<'_>, slot: usize) -> Result<(), AllocError>
     ensures { OnOk result (world_of numbers.new ≡ front.flow_back (world_of numbers.old) slot) }
 {
     let standing = back(flow_of(numbers, slot));
@@ -69,7 +69,7 @@ fn flow_back(numbers: &mut Numbers, slot: usize) -> Result<(), AllocError>
 
 /// The counter half of a slot is home: it may owe an order.
 fn flow_at_home(
-    numbers: &mut Numbers,
+    numbers: &mut Numbers<'_>,
     owing: &mut Vec<usize>,
     slot: usize,
 ) -> Result<(), AllocError>
@@ -84,7 +84,7 @@ fn flow_at_home(
 /// Takes the control halves home that a slice sent, where any stands there.
 #[inline(never)]
 fn take_control_home(
-    numbers: &mut Numbers,
+    numbers: &mut Numbers<'_>,
     owing: &mut Vec<usize>,
     slice: usize,
 ) -> Result<(), AllocError>
@@ -103,7 +103,7 @@ fn take_control_home(
 
 /// Takes the control halves home that a slice sent.
 fn control_home(
-    numbers: &mut Numbers,
+    numbers: &mut Numbers<'_>,
     owing: &mut Vec<usize>,
     slice: usize,
 ) -> Result<(), AllocError>
@@ -120,7 +120,7 @@ fn control_home(
 /// Takes the counter halves home that a slice sent, where any stands there.
 #[inline(never)]
 fn take_flow_home(
-    numbers: &mut Numbers,
+    numbers: &mut Numbers<'_>,
     owing: &mut Vec<usize>,
     slice: usize,
 ) -> Result<(), AllocError>
@@ -138,7 +138,11 @@ fn take_flow_home(
 }
 
 /// Takes the counter halves home that a slice sent.
-fn flow_home(numbers: &mut Numbers, owing: &mut Vec<usize>, slice: usize) -> Result<(), AllocError>
+fn flow_home(
+    numbers: &mut Numbers<'_>,
+    owing: &mut Vec<usize>,
+    slice: usize,
+) -> Result<(), AllocError>
     requires { IsOwing owing.old.items (world_of numbers.old) }
     ensures world { OnOk result (world_of numbers.new ≡ front.flow_home (world_of numbers.old) slice) }
     ensures owing { OnOk result (IsOwing owing.new.items (world_of numbers.new)) }
@@ -151,7 +155,7 @@ fn flow_home(numbers: &mut Numbers, owing: &mut Vec<usize>, slice: usize) -> Res
 
 /// Offers an order to a control worker.
 fn control_ordered(
-    numbers: &mut Numbers,
+    numbers: &mut Numbers<'_>,
     slice: usize,
     slot: usize,
     order: ControlOrder,
@@ -169,7 +173,11 @@ fn control_ordered(
 
 /// Offers what the control half of a slot owes.
 #[inline(never)]
-fn control_offer(numbers: &mut Numbers, setup: &Setup<'_>, slot: usize) -> Result<(), AllocError>
+fn control_offer(
+    numbers: &mut Numbers<'_>,
+    setup: &Setup<'_>,
+    slot: usize,
+) -> Result<(), AllocError>
     ensures { OnOk result (world_of numbers.new
         ≡ front.control_offer (bounds_of setup.now) (world_of numbers.old) slot) }
 {
@@ -202,7 +210,7 @@ fn control_offer(numbers: &mut Numbers, setup: &Setup<'_>, slot: usize) -> Resul
 
 /// Offers an order to a slice's lane.
 fn flow_ordered(
-    numbers: &mut Numbers,
+    numbers: &mut Numbers<'_>,
     setup: &Setup<'_>,
     slice: usize,
     slot: usize,
@@ -221,7 +229,7 @@ fn flow_ordered(
 
 /// Offers what the counter half of a slot owes.
 #[inline(never)]
-fn flow_offer(numbers: &mut Numbers, setup: &Setup<'_>, slot: usize) -> Result<(), AllocError>
+fn flow_offer(numbers: &mut Numbers<'_>, setup: &Setup<'_>, slot: usize) -> Result<(), AllocError>
     ensures { OnOk result (world_of numbers.new
         ≡ front.flow_offer setup.now.rooms (bounds_of setup.now) (world_of numbers.old) slot) }
 {
@@ -255,7 +263,7 @@ fn flow_offer(numbers: &mut Numbers, setup: &Setup<'_>, slot: usize) -> Result<(
 
 /// Packets that wait go into the lane of this slice, as many as there is room for.
 fn drain_on(
-    numbers: &mut Numbers,
+    numbers: &mut Numbers<'_>,
     setup: &Setup<'_>,
     slot: usize,
     slice: usize,
@@ -272,7 +280,7 @@ fn drain_on(
 }
 
 #[inline(never)]
-fn drain(numbers: &mut Numbers, setup: &Setup<'_>, slot: usize) -> Result<(), AllocError>
+fn drain(numbers: &mut Numbers<'_>, setup: &Setup<'_>, slot: usize) -> Result<(), AllocError>
     ensures { OnOk result (world_of numbers.new ≡ front.drain setup.now.rooms (world_of numbers.old) slot) }
 {
     match flow_of(numbers, slot) {
@@ -284,7 +292,7 @@ fn drain(numbers: &mut Numbers, setup: &Setup<'_>, slot: usize) -> Result<(), Al
     }
 }
 
-fn controls_home(numbers: &mut Numbers, owing: &mut Vec<usize>) -> Result<(), AllocError>
+fn controls_home(numbers: &mut Numbers<'_>, owing: &mut Vec<usize>) -> Result<(), AllocError>
     requires { IsOwing owing.old.items (world_of numbers.old) }
     ensures world { OnOk result (world_of numbers.new ≡ front.controls_home (world_of numbers.old)) }
     ensures owing { OnOk result (IsOwing owing.new.items (world_of numbers.new)) }
@@ -299,7 +307,7 @@ fn controls_home(numbers: &mut Numbers, owing: &mut Vec<usize>) -> Result<(), Al
 }
 
 fn controls_offered(
-    numbers: &mut Numbers,
+    numbers: &mut Numbers<'_>,
     setup: &Setup<'_>,
     owing: &[usize],
 ) -> Result<(), AllocError>
@@ -314,7 +322,7 @@ fn controls_offered(
     Ok(())
 }
 
-fn flows_home(numbers: &mut Numbers, owing: &mut Vec<usize>) -> Result<(), AllocError>
+fn flows_home(numbers: &mut Numbers<'_>, owing: &mut Vec<usize>) -> Result<(), AllocError>
     requires { IsOwing owing.old.items (world_of numbers.old) }
     ensures world { OnOk result (world_of numbers.new ≡ front.flows_home (world_of numbers.old)) }
     ensures owing { OnOk result (IsOwing owing.new.items (world_of numbers.new)) }
@@ -329,7 +337,7 @@ fn flows_home(numbers: &mut Numbers, owing: &mut Vec<usize>) -> Result<(), Alloc
 }
 
 fn flows_offered(
-    numbers: &mut Numbers,
+    numbers: &mut Numbers<'_>,
     setup: &Setup<'_>,
     owing: &[usize],
 ) -> Result<(), AllocError>
@@ -344,7 +352,11 @@ fn flows_offered(
     Ok(())
 }
 
-fn all_drained(numbers: &mut Numbers, setup: &Setup<'_>, owing: &[usize]) -> Result<(), AllocError>
+fn all_drained(
+    numbers: &mut Numbers<'_>,
+    setup: &Setup<'_>,
+    owing: &[usize],
+) -> Result<(), AllocError>
     requires { IsOwing owing.now (world_of numbers.old) }
     ensures world { OnOk result (world_of numbers.new
         ≡ front.all_drained setup.now.rooms (world_of numbers.old)) }
@@ -358,7 +370,7 @@ fn all_drained(numbers: &mut Numbers, setup: &Setup<'_>, owing: &[usize]) -> Res
 
 /// Before each line: the control side, then the data side. Slots that owe nothing are passed.
 pub fn pump(
-    numbers: &mut Numbers,
+    numbers: &mut Numbers<'_>,
     owing: &mut Vec<usize>,
     setup: &Setup<'_>,
 ) -> Result<(), AllocError>
@@ -380,7 +392,7 @@ pub fn pump(
 }
 
 /// Makes the halves of a slot.
-fn make(numbers: &mut Numbers, setup: &Setup<'_>, slot: usize) -> Result<(), AllocError>
+fn make(numbers: &mut Numbers<'_>, setup: &Setup<'_>, slot: usize) -> Result<(), AllocError>
     ensures { OnOk result (world_of numbers.new
         ≡ front.made setup.now.rooms (bounds_of setup.now) (world_of numbers.old) slot) }
 {
@@ -398,7 +410,7 @@ fn is_placed(standing: Standing) -> bool
 }
 
 /// A slot's first command or packet makes its halves.
-fn admit(numbers: &mut Numbers, setup: &Setup<'_>, slot: usize) -> Result<(), AllocError>
+fn admit(numbers: &mut Numbers<'_>, setup: &Setup<'_>, slot: usize) -> Result<(), AllocError>
     ensures { OnOk result (world_of numbers.new
         ≡ front.admitted setup.now.rooms (bounds_of setup.now) (world_of numbers.old) slot) }
 {
@@ -427,7 +439,7 @@ const REFUSED: Outcome = Outcome {
 };
 
 fn offer_command(
-    numbers: &mut Numbers,
+    numbers: &mut Numbers<'_>,
     setup: &Setup<'_>,
     slot: usize,
 ) -> Result<Outcome, AllocError>
@@ -442,7 +454,11 @@ fn offer_command(
     }
 }
 
-fn park_packet(numbers: &mut Numbers, setup: &Setup<'_>, slot: usize) -> Result<Outcome, AllocError>
+fn park_packet(
+    numbers: &mut Numbers<'_>,
+    setup: &Setup<'_>,
+    slot: usize,
+) -> Result<Outcome, AllocError>
     ensures { IfOk result (λ outcome. record { world = world_of numbers.new; outcome = outcome }
         ≡ front.park_packet setup.now.rooms (world_of numbers.old) slot) }
 {
@@ -457,7 +473,7 @@ fn park_packet(numbers: &mut Numbers, setup: &Setup<'_>, slot: usize) -> Result<
 /// A packet goes into the lane of this slice.
 #[inline(always)]
 fn send_on(
-    numbers: &mut Numbers,
+    numbers: &mut Numbers<'_>,
     setup: &Setup<'_>,
     slot: usize,
     slice: usize,
@@ -475,7 +491,11 @@ fn send_on(
 }
 
 #[inline(always)]
-fn send_packet(numbers: &mut Numbers, setup: &Setup<'_>, slot: usize) -> Result<Outcome, AllocError>
+fn send_packet(
+    numbers: &mut Numbers<'_>,
+    setup: &Setup<'_>,
+    slot: usize,
+) -> Result<Outcome, AllocError>
     ensures { IfOk result (λ outcome. record { world = world_of numbers.new; outcome = outcome }
         ≡ front.send_packet setup.now.rooms (world_of numbers.old) slot) }
 {
@@ -489,7 +509,7 @@ fn send_packet(numbers: &mut Numbers, setup: &Setup<'_>, slot: usize) -> Result<
 }
 
 /// A half that is still at the front is offered once more.
-fn arrive_first(numbers: &mut Numbers, setup: &Setup<'_>, slot: usize) -> Result<(), AllocError>
+fn arrive_first(numbers: &mut Numbers<'_>, setup: &Setup<'_>, slot: usize) -> Result<(), AllocError>
     ensures { OnOk result (world_of numbers.new
         ≡ front.arrived_first setup.now.rooms (bounds_of setup.now) (world_of numbers.old) slot) }
 {
@@ -500,7 +520,7 @@ fn arrive_first(numbers: &mut Numbers, setup: &Setup<'_>, slot: usize) -> Result
 }
 
 fn offer_packet(
-    numbers: &mut Numbers,
+    numbers: &mut Numbers<'_>,
     setup: &Setup<'_>,
     slot: usize,
 ) -> Result<Outcome, AllocError>
@@ -515,7 +535,11 @@ fn offer_packet(
     }
 }
 
-fn recall_control(numbers: &mut Numbers, setup: &Setup<'_>, slot: usize) -> Result<(), AllocError>
+fn recall_control(
+    numbers: &mut Numbers<'_>,
+    setup: &Setup<'_>,
+    slot: usize,
+) -> Result<(), AllocError>
     ensures { OnOk result (world_of numbers.new
         ≡ front.control_recalled (bounds_of setup.now) (world_of numbers.old) slot) }
 {
@@ -526,7 +550,7 @@ fn recall_control(numbers: &mut Numbers, setup: &Setup<'_>, slot: usize) -> Resu
     Ok(())
 }
 
-fn recall_flow(numbers: &mut Numbers, setup: &Setup<'_>, slot: usize) -> Result<(), AllocError>
+fn recall_flow(numbers: &mut Numbers<'_>, setup: &Setup<'_>, slot: usize) -> Result<(), AllocError>
     ensures { OnOk result (world_of numbers.new
         ≡ front.flow_recalled setup.now.rooms (bounds_of setup.now) (world_of numbers.old) slot) }
 {
@@ -538,7 +562,7 @@ fn recall_flow(numbers: &mut Numbers, setup: &Setup<'_>, slot: usize) -> Result<
 }
 
 fn move_slot(
-    numbers: &mut Numbers,
+    numbers: &mut Numbers<'_>,
     setup: &Setup<'_>,
     slot: usize,
     slice: u8,
@@ -552,7 +576,7 @@ fn move_slot(
 }
 
 /// What becomes of a line, behind the pump.
-fn line_asked(numbers: &mut Numbers, setup: &Setup<'_>, ask: Ask) -> Result<Outcome, AllocError>
+fn line_asked(numbers: &mut Numbers<'_>, setup: &Setup<'_>, ask: Ask) -> Result<Outcome, AllocError>
     ensures { IfOk result (λ outcome. record { world = world_of numbers.new; outcome = outcome }
         ≡ front.line_done setup.now.rooms (bounds_of setup.now) (world_of numbers.old) (asked ask)) }
 {
@@ -576,7 +600,7 @@ fn line_asked(numbers: &mut Numbers, setup: &Setup<'_>, ask: Ask) -> Result<Outc
 /// The same of any line.
 #[inline(never)]
 fn any_line(
-    numbers: &mut Numbers,
+    numbers: &mut Numbers<'_>,
     owing: &mut Vec<usize>,
     setup: &Setup<'_>,
     ask: Ask,
@@ -592,7 +616,7 @@ fn any_line(
 }
 
 /// The slot of a packet that goes into the lane of its slice at once: its half is there, and no other waits.
-fn slot_sent(numbers: &Numbers, ask: Ask) -> Option<usize>
+fn slot_sent(numbers: &Numbers<'_>, ask: Ask) -> Option<usize>
     ensures { IfSome result (λ slot. (rooms : world.Rooms) → (bounds : ℕ → ℕ)
         → front.line_done rooms bounds (world_of numbers.now) (asked ask)
         ≡ front.send_packet rooms (world_of numbers.now) slot) }
@@ -612,7 +636,7 @@ fn slot_sent(numbers: &Numbers, ask: Ask) -> Option<usize>
 
 /// What becomes of a line, behind the pump; its slot may owe something then, but for a packet that is sent at once.
 pub fn line_done(
-    numbers: &mut Numbers,
+    numbers: &mut Numbers<'_>,
     owing: &mut Vec<usize>,
     setup: &Setup<'_>,
     ask: Ask,

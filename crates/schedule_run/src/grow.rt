@@ -6,12 +6,13 @@ ghost use Rattle.schedule_run.specs.Growing.{Reached};
 
 use crate::slot::SlotNumbers;
 use crate::workers::{ControlNumbers, FlowNumbers};
+use bumpalo::Bump;
 use std::alloc::{AllocError, Global};
 
 /// Makes the list long enough for this slot.
-pub fn reach_slot(
-    slots: &mut Vec<SlotNumbers>,
-    alloc: Global,
+pub fn reach_slot<'b>(
+    slots: &mut Vec<SlotNumbers<'b>>,
+    room: &'b Bump,
     slot: usize,
 ) -> Result<(), AllocError>
     ensures { OnOk result (Reached fresh_slot slots.old.items slots.new.items slot) }
@@ -19,15 +20,19 @@ pub fn reach_slot(
     if slot < slots.len() {
         return Ok(());
     }
-    grow_slot(slots, alloc, slot)
+    grow_slot(slots, room, slot)
 }
 
 #[inline(never)]
-fn grow_slot(slots: &mut Vec<SlotNumbers>, alloc: Global, slot: usize) -> Result<(), AllocError>
+fn grow_slot<'b>(
+    slots: &mut Vec<SlotNumbers<'b>>,
+    room: &'b Bump,
+    slot: usize,
+) -> Result<(), AllocError>
     ensures { OnOk result (Reached fresh_slot slots.old.items slots.new.items slot) }
 {
     while slots.len() <= slot {
-        slots.push(SlotNumbers::new(alloc))?;
+        slots.push(SlotNumbers::new(room))?;
     }
     Ok(())
 }

@@ -11,6 +11,7 @@ use crate::Met;
 use crate::met::SlotMets;
 use crate::slot::SlotNumbers;
 use crate::standing::{CommandTags, Standing};
+use bumpalo::Bump;
 use pc_base::Place;
 use std::alloc::AllocError;
 use std::collections::VecDeque;
@@ -66,7 +67,7 @@ fn taken_behind(applied: usize, batch: usize, commands: usize) -> usize
 
 /// Sends a batch of so many commands; what isn't sent is kept.
 fn send(
-    sent: &mut VecDeque<usize>,
+    sent: &mut VecDeque<usize, &Bump>,
     unsent: Option<usize>,
     room: usize,
     batch: usize,
@@ -104,7 +105,7 @@ fn floor_at(commands: &[CommandTags], number: usize) -> usize
     }
 }
 
-impl SlotNumbers {
+impl SlotNumbers<'_> {
     fn next_batch(&self) -> usize
         ensures batch { result ≡ halves.next_batch self.now }
         ensures few { self.now.applied + result ≤ length self.now.commands }
@@ -282,7 +283,7 @@ fn learn_all(commands: &[CommandTags], learnt: usize, handled: usize) -> usize
 fn close_rest(
     commands: &[CommandTags],
     learnt: usize,
-    met: &mut SlotMets,
+    met: &mut SlotMets<'_>,
     rest: usize,
 ) -> Result<(), AllocError>
     requires { learnt ≤ length commands.now }

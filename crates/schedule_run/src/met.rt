@@ -2,8 +2,9 @@
 ghost use Rattle.std.specs.Prelude.{◌≡◌, ◌<◌, [], ◌∷◌, ◌++◌, OnOk, length, get_or};
 ghost use Rattle.std.specs.Bool.{OnTrue};
 
+use bumpalo::Bump;
 use pc_base::Place;
-use std::alloc::{AllocError, Global};
+use std::alloc::AllocError;
 use std::marker::Model;
 
 /// What becomes of a line: whether it is taken or refused, and whether its packet is parked.
@@ -50,14 +51,14 @@ fn is_same(one: &Met, other: &Met) -> bool
 /// What the packets of a slot meet, in their order. Those at the front that meet the same are counted alone, but for
 /// many packets, which are listed at once.
 #[derive(Drop)]
-pub struct SlotMets {
+pub struct SlotMets<'b> {
     first: Met,
     same: u32,
     listed: bool,
-    others: Vec<Met>,
+    others: Vec<Met, &'b Bump>,
 }
 
-impl Model for SlotMets {
+impl<'b> Model for SlotMets<'b> {
     ghost use Rattle.std.specs.Prelude.{List, ◌++◌, replicate};
     ghost use Rattle.slice_schedule.specs.Slots as slots;
 
@@ -66,8 +67,8 @@ impl Model for SlotMets {
     ghost view = { λ met. replicate met.same met.first ++ met.others.items };
 }
 
-impl SlotMets {
-    pub fn new(alloc: Global) -> SlotMets
+impl<'b> SlotMets<'b> {
+    pub fn new(room: &'b Bump) -> SlotMets<'b>
         ensures { result ≡ [] }
     {
         SlotMets {
@@ -77,7 +78,7 @@ impl SlotMets {
             },
             same: 0,
             listed: false,
-            others: Vec::new(alloc),
+            others: Vec::new(room),
         }
     }
 

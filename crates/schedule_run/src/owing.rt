@@ -16,7 +16,7 @@ use crate::world::Numbers;
 use std::alloc::AllocError;
 
 /// Whether a slot owes nothing, and a turn of its control half changes nothing.
-pub fn is_quiet_in(slots: &[SlotNumbers], slot: usize) -> bool
+pub fn is_quiet_in(slots: &[SlotNumbers<'_>], slot: usize) -> bool
     ensures quiet { OnTrue result (IsQuiet (value_at fresh_slot slots.now slot)) }
     ensures within { OnFalse result (slot < length slots.now) }
 {
@@ -28,7 +28,7 @@ pub fn is_quiet_in(slots: &[SlotNumbers], slot: usize) -> bool
     }
 }
 
-fn is_quiet(numbers: &Numbers, slot: usize) -> bool
+fn is_quiet(numbers: &Numbers<'_>, slot: usize) -> bool
     ensures quiet { OnTrue result (IsQuiet (world.slot_at (world_of numbers.now) slot)) }
     ensures within { OnFalse result (slot < length (world_of numbers.now).slots) }
 {
@@ -72,7 +72,7 @@ fn insert(owing: &mut Vec<usize>, slot: usize) -> Result<(), AllocError>
 
 /// Takes up a slot, if it owes anything.
 #[inline(never)]
-pub fn mark(numbers: &Numbers, owing: &mut Vec<usize>, slot: usize) -> Result<(), AllocError>
+pub fn mark(numbers: &Numbers<'_>, owing: &mut Vec<usize>, slot: usize) -> Result<(), AllocError>
     requires { MayOwe slot owing.old.items (world_of numbers.now) }
     ensures { OnOk result (IsOwing owing.new.items (world_of numbers.now)) }
 {
@@ -83,7 +83,7 @@ pub fn mark(numbers: &Numbers, owing: &mut Vec<usize>, slot: usize) -> Result<()
 }
 
 /// Takes up the slot of a line, behind the line.
-pub fn mark_asked(numbers: &Numbers, owing: &mut Vec<usize>, ask: Ask) -> Result<(), AllocError>
+pub fn mark_asked(numbers: &Numbers<'_>, owing: &mut Vec<usize>, ask: Ask) -> Result<(), AllocError>
     requires { MayOweBy (slot_asked (asked ask)) owing.old.items (world_of numbers.now) }
     ensures { OnOk result (IsOwing owing.new.items (world_of numbers.now)) }
 {
@@ -97,7 +97,7 @@ pub fn mark_asked(numbers: &Numbers, owing: &mut Vec<usize>, ask: Ask) -> Result
 
 /// Leaves out the slots that owe nothing any more.
 #[inline(never)]
-pub fn settle(numbers: &Numbers, owing: &mut Vec<usize>)
+pub fn settle(numbers: &Numbers<'_>, owing: &mut Vec<usize>)
     requires { IsOwing owing.old.items (world_of numbers.now) }
     ensures { IsOwing owing.new.items (world_of numbers.now) }
 {

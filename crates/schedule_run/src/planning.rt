@@ -19,17 +19,18 @@ use crate::slot::SlotNumbers;
 use crate::turning::{turn, turn_all};
 use crate::world::Numbers;
 use crate::{Ask, Met, Outcome, Rooms, Turns};
+use bumpalo::Bump;
 use std::alloc::{AllocError, Global};
 use std::marker::Model;
 
 /// What becomes of each line, and what the packets of each slot meet.
 #[derive(Drop)]
-pub struct Scheduled {
+pub struct Scheduled<'b> {
     outcomes: Vec<Outcome>,
-    slots: Vec<SlotNumbers>,
+    slots: Vec<SlotNumbers<'b>>,
 }
 
-impl Model for Scheduled {
+impl<'b> Model for Scheduled<'b> {
     ghost use Rattle.std.specs.Prelude.{map};
     ghost use Rattle.slice_schedule.specs.Slots.{SlotNow};
     ghost use Rattle.schedule_run.specs.Plan.{Plan};
@@ -42,7 +43,7 @@ impl Model for Scheduled {
     } };
 }
 
-impl Scheduled {
+impl Scheduled<'_> {
     /// By line.
     pub fn outcomes(&self) -> &[Outcome]
         ensures { result.now ≡ self.now.outcomes }
@@ -93,7 +94,7 @@ fn drawn(limit: u64, state: u64) -> u32
 
 /// Draws so many workers, of which each has its turn, and returns the state behind them.
 fn draw_turns(
-    numbers: &mut Numbers,
+    numbers: &mut Numbers<'_>,
     owing: &[usize],
     setup: &Setup<'_>,
     slices: u8,
@@ -119,7 +120,7 @@ fn draw_turns(
 
 /// The turns behind a line.
 fn turn_behind(
-    numbers: &mut Numbers,
+    numbers: &mut Numbers<'_>,
     owing: &[usize],
     setup: &Setup<'_>,
     slices: u8,
@@ -144,7 +145,7 @@ fn turn_behind(
 
 /// A line, and the turns behind it.
 fn line(
-    numbers: &mut Numbers,
+    numbers: &mut Numbers<'_>,
     owing: &mut Vec<usize>,
     setup: &Setup<'_>,
     slices: u8,
@@ -169,7 +170,7 @@ fn line(
 
 /// All lines.
 fn lines(
-    numbers: &mut Numbers,
+    numbers: &mut Numbers<'_>,
     owing: &mut Vec<usize>,
     setup: &Setup<'_>,
     slices: u8,
@@ -207,7 +208,7 @@ fn count_packets(alloc: Global, asks: &[Ask]) -> Result<Vec<usize>, AllocError> 
 }
 
 /// The epoch closes: of each slot the packets that are left are handled.
-fn close_all(slots: &mut Vec<SlotNumbers>) -> Result<(), AllocError>
+fn close_all(slots: &mut Vec<SlotNumbers<'_>>) -> Result<(), AllocError>
     ensures { OnOk result (map (λ (slot : SlotNow). slot.met) slots.new.items
         ≡ map (λ (slot : SlotNow). (closed slot).met) slots.old.items) }
 {
@@ -221,14 +222,15 @@ fn close_all(slots: &mut Vec<SlotNumbers>) -> Result<(), AllocError>
 /// The schedule of an epoch: by the rooms of its queues, how many slices it has, where each slot is bound for as it
 /// begins (a slot without a bound for its home slice, its number modulo the slices), and what its lines ask, under
 /// these turns.
-pub fn schedule(
+pub fn schedule<'b>(
     alloc: Global,
+    room: &'b Bump,
     rooms: Rooms,
     slices: u8,
     bounds: &[u8],
     asks: &[Ask],
     turns: &mut Turns,
-) -> Result<Scheduled, AllocError>
+) -> Result<Scheduled<'b>, AllocError>
     requires slices { (1 ≤ slices) × (slices ≤ 64) }
     requires workers { AreWorkers slices turns.old }
 
@@ -244,6 +246,7 @@ pub fn schedule(
     let setup = Setup::new(rooms, slices, bounds, packets.as_slice());
     let mut numbers = Numbers {
         alloc,
+        room,
         slots: Vec::with_capacity(alloc, packets.len())?,
         controls: Vec::new(alloc),
         flows: Vec::new(alloc),

@@ -403,7 +403,7 @@ fn still_once(halves: &[Option<HeldControl>], index: &[usize], once: bool, slot:
 }
 
 /// Whether a control half stays on its slice.
-pub fn stays(slots: &[SlotNumbers], half: &HeldControl) -> bool
+pub fn stays(slots: &[SlotNumbers<'_>], half: &HeldControl) -> bool
     ensures { result ≡ control.stays (record { slots = slots.now; controls = []; flows = [] }) half.now }
 {
     match half.until {
@@ -414,7 +414,7 @@ pub fn stays(slots: &[SlotNumbers], half: &HeldControl) -> bool
 
 /// The lower one of the index of a half that is done and another index.
 fn earlier_done(
-    slots: &[SlotNumbers],
+    slots: &[SlotNumbers<'_>],
     halves: &[Option<HeldControl>],
     first: usize,
     index: usize,
@@ -434,7 +434,7 @@ fn earlier_done(
 }
 
 /// The index of the first half that goes home, or how many indices there are.
-fn first_done(slots: &[SlotNumbers], halves: &[Option<HeldControl>], called: &[usize]) -> usize
+fn first_done(slots: &[SlotNumbers<'_>], halves: &[Option<HeldControl>], called: &[usize]) -> usize
     requires { roster.OnlyCalled halves.now called.now }
     ensures first { roster.FirstDone (record { slots = slots.now; controls = []; flows = [] }) halves.now result }
     ensures place { control.place_done (record { slots = slots.now; controls = []; flows = [] })
@@ -448,7 +448,7 @@ fn first_done(slots: &[SlotNumbers], halves: &[Option<HeldControl>], called: &[u
 }
 
 /// Whether a half is done.
-fn is_any_done(slots: &[SlotNumbers], halves: &[Option<HeldControl>], called: &[usize]) -> bool
+fn is_any_done(slots: &[SlotNumbers<'_>], halves: &[Option<HeldControl>], called: &[usize]) -> bool
     requires { roster.OnlyCalled halves.now called.now }
     ensures { result ≡ nat_lt (control.place_done (record { slots = slots.now; controls = []; flows = [] })
         (roster.present halves.now)) (length (roster.present halves.now)) }
@@ -671,7 +671,7 @@ impl Roster {
     }
 
     /// Whether a half is done.
-    pub fn has_done(&self, slots: &[SlotNumbers]) -> bool
+    pub fn has_done(&self, slots: &[SlotNumbers<'_>]) -> bool
         ensures { result ≡ nat_lt
             (control.place_done (record { slots = slots.now; controls = []; flows = [] }) self.now.held)
             (length self.now.held) }
@@ -680,7 +680,7 @@ impl Roster {
     }
 
     /// The first half that is done leaves.
-    pub fn take_done(&mut self, slots: &[SlotNumbers]) -> usize
+    pub fn take_done(&mut self, slots: &[SlotNumbers<'_>]) -> usize
         requires { control.place_done (record { slots = slots.now; controls = []; flows = [] }) self.old.held
             < length self.old.held }
         ensures slot { result ≡ (control.held_at self.old.held
@@ -738,13 +738,22 @@ impl Roster {
         Ok(fresh)
     }
 
-    /// Leaves out the holes, where they are many.
+    /// Leaves out the holes, where they are many: mostly they are few.
+    #[inline(always)]
     pub fn tidy(&mut self, alloc: Global) -> Result<(), AllocError>
         ensures { OnOk result (self.new ≡ self.old) }
     {
         if self.is_sparse() {
-            *self = self.packed(alloc)?;
+            return self.pack(alloc);
         }
+        Ok(())
+    }
+
+    #[inline(never)]
+    fn pack(&mut self, alloc: Global) -> Result<(), AllocError>
+        ensures { OnOk result (self.new ≡ self.old) }
+    {
+        *self = self.packed(alloc)?;
         Ok(())
     }
 }

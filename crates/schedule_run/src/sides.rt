@@ -19,7 +19,7 @@ use crate::world::Numbers;
 use std::alloc::AllocError;
 
 /// How many orders of a control worker wait.
-pub fn orders_of(numbers: &Numbers, slice: usize) -> usize
+pub fn orders_of(numbers: &Numbers<'_>, slice: usize) -> usize
     ensures { result ≡ length (world.control_at (world_of numbers.now) slice).orders }
 {
     if slice < numbers.controls.len() {
@@ -31,7 +31,7 @@ pub fn orders_of(numbers: &Numbers, slice: usize) -> usize
 }
 
 /// How many orders wait in a slice's lane.
-pub fn lane_of(numbers: &Numbers, slice: usize) -> usize
+pub fn lane_of(numbers: &Numbers<'_>, slice: usize) -> usize
     ensures { result ≡ length (world.flow_at (world_of numbers.now) slice).orders }
 {
     if slice < numbers.flows.len() {
@@ -43,7 +43,7 @@ pub fn lane_of(numbers: &Numbers, slice: usize) -> usize
 }
 
 /// The halves that a control worker sent home.
-pub fn control_sent(numbers: &Numbers, slice: usize) -> &[usize]
+pub fn control_sent<'n>(numbers: &'n Numbers<'_>, slice: usize) -> &'n [usize]
     ensures { result.now ≡ (world.control_at (world_of numbers.now) slice).home }
 {
     if slice < numbers.controls.len() {
@@ -55,7 +55,7 @@ pub fn control_sent(numbers: &Numbers, slice: usize) -> &[usize]
 }
 
 /// The halves that a data worker sent home.
-pub fn flow_sent(numbers: &Numbers, slice: usize) -> &[usize]
+pub fn flow_sent<'n>(numbers: &'n Numbers<'_>, slice: usize) -> &'n [usize]
     ensures { result.now ≡ (world.flow_at (world_of numbers.now) slice).home }
 {
     if slice < numbers.flows.len() {
@@ -67,7 +67,7 @@ pub fn flow_sent(numbers: &Numbers, slice: usize) -> &[usize]
 }
 
 /// Whether a control worker is there, and sent no half home.
-pub fn is_control_home_empty(numbers: &Numbers, slice: usize) -> bool
+pub fn is_control_home_empty(numbers: &Numbers<'_>, slice: usize) -> bool
     ensures { OnTrue result (front.control_home (world_of numbers.now) slice ≡ world_of numbers.now) }
 {
     if slice < numbers.controls.len() {
@@ -79,7 +79,7 @@ pub fn is_control_home_empty(numbers: &Numbers, slice: usize) -> bool
 }
 
 /// Whether a data worker is there, and sent no half home.
-pub fn is_flow_home_empty(numbers: &Numbers, slice: usize) -> bool
+pub fn is_flow_home_empty(numbers: &Numbers<'_>, slice: usize) -> bool
     ensures { OnTrue result (front.flow_home (world_of numbers.now) slice ≡ world_of numbers.now) }
 {
     if slice < numbers.flows.len() {
@@ -117,7 +117,7 @@ pub fn are_flow_homes_empty(flows: &[FlowNumbers]) -> bool
 }
 
 /// How many halves a control worker holds.
-pub fn control_count(numbers: &Numbers, slice: usize) -> usize
+pub fn control_count(numbers: &Numbers<'_>, slice: usize) -> usize
     ensures { result ≡ length (world.control_at (world_of numbers.now) slice).held }
 {
     if slice < numbers.controls.len() {
@@ -129,7 +129,7 @@ pub fn control_count(numbers: &Numbers, slice: usize) -> usize
 }
 
 /// The place of the control half whose turn is next.
-pub fn control_cursor(numbers: &Numbers, slice: usize) -> usize
+pub fn control_cursor(numbers: &Numbers<'_>, slice: usize) -> usize
     ensures { result ≡ (world.control_at (world_of numbers.now) slice).cursor }
 {
     if slice < numbers.controls.len() {
@@ -142,7 +142,7 @@ pub fn control_cursor(numbers: &Numbers, slice: usize) -> usize
 
 /// Whether a half of a control worker has its turn next, and each surely is of a slot of its own, and of one that had a
 /// line.
-pub fn is_orderly(numbers: &Numbers, slice: usize) -> bool
+pub fn is_orderly(numbers: &Numbers<'_>, slice: usize) -> bool
     ensures { OnTrue result (IsOrderly (length (world_of numbers.now).slots) (roster_at (world_of numbers.now) slice)) }
 {
     if slice < numbers.controls.len() {
@@ -154,7 +154,7 @@ pub fn is_orderly(numbers: &Numbers, slice: usize) -> bool
 }
 
 /// The slot of the half of a place.
-pub fn slot_held(numbers: &Numbers, slice: usize, place: usize) -> usize
+pub fn slot_held(numbers: &Numbers<'_>, slice: usize, place: usize) -> usize
     ensures { result ≡ control.slot_held (world_of numbers.now) slice place }
 {
     if slice < numbers.controls.len() {
@@ -166,7 +166,7 @@ pub fn slot_held(numbers: &Numbers, slice: usize, place: usize) -> usize
 }
 
 /// The half that waits to go home.
-pub fn flow_waiting(numbers: &Numbers, slice: usize) -> Option<usize>
+pub fn flow_waiting(numbers: &Numbers<'_>, slice: usize) -> Option<usize>
     ensures { result ≡ (world.flow_at (world_of numbers.now) slice).waiting }
 {
     if slice < numbers.flows.len() {
@@ -178,7 +178,7 @@ pub fn flow_waiting(numbers: &Numbers, slice: usize) -> Option<usize>
 }
 
 pub fn order_control(
-    numbers: &mut Numbers,
+    numbers: &mut Numbers<'_>,
     slice: usize,
     order: ControlOrder,
 ) -> Result<(), AllocError>
@@ -191,7 +191,11 @@ pub fn order_control(
 }
 
 #[inline(always)]
-pub fn order_flow(numbers: &mut Numbers, slice: usize, order: FlowOrder) -> Result<(), AllocError>
+pub fn order_flow(
+    numbers: &mut Numbers<'_>,
+    slice: usize,
+    order: FlowOrder,
+) -> Result<(), AllocError>
     ensures { OnOk result (world_of numbers.new ≡ world.on_flow (world_of numbers.old) slice
         (λ worker. record worker { orders = worker.orders ++ flow_order order ∷ [] })) }
 {
@@ -201,7 +205,7 @@ pub fn order_flow(numbers: &mut Numbers, slice: usize, order: FlowOrder) -> Resu
 }
 
 pub fn order_items(
-    numbers: &mut Numbers,
+    numbers: &mut Numbers<'_>,
     slice: usize,
     slot: usize,
     count: usize,
@@ -214,7 +218,7 @@ pub fn order_items(
     worker.order_items(slot, count)
 }
 
-pub fn clear_control_home(numbers: &mut Numbers, slice: usize) -> Result<(), AllocError>
+pub fn clear_control_home(numbers: &mut Numbers<'_>, slice: usize) -> Result<(), AllocError>
     ensures { OnOk result (world_of numbers.new ≡ world.on_control (world_of numbers.old) slice
         (λ worker. record worker { home = [] })) }
 {
@@ -224,7 +228,7 @@ pub fn clear_control_home(numbers: &mut Numbers, slice: usize) -> Result<(), All
     Ok(())
 }
 
-pub fn clear_flow_home(numbers: &mut Numbers, slice: usize) -> Result<(), AllocError>
+pub fn clear_flow_home(numbers: &mut Numbers<'_>, slice: usize) -> Result<(), AllocError>
     ensures { OnOk result (world_of numbers.new ≡ world.on_flow (world_of numbers.old) slice
         (λ worker. record worker { home = [] })) }
 {
@@ -235,7 +239,7 @@ pub fn clear_flow_home(numbers: &mut Numbers, slice: usize) -> Result<(), AllocE
 }
 
 /// A control half comes.
-pub fn hold_control(numbers: &mut Numbers, slice: usize, slot: usize) -> Result<(), AllocError>
+pub fn hold_control(numbers: &mut Numbers<'_>, slice: usize, slot: usize) -> Result<(), AllocError>
     ensures { OnOk result (world_of numbers.new ≡ world.on_control (world_of numbers.old) slice
         (λ worker. control.behind_order worker (world.come slot))) }
 {
@@ -247,7 +251,7 @@ pub fn hold_control(numbers: &mut Numbers, slice: usize, slot: usize) -> Result<
 
 /// A control half is marked.
 pub fn mark_control(
-    numbers: &mut Numbers,
+    numbers: &mut Numbers<'_>,
     slice: usize,
     slot: usize,
     until: usize,
@@ -261,7 +265,7 @@ pub fn mark_control(
 }
 
 /// Whether a half of a control worker is done, and there is room to send it home.
-pub fn may_send(numbers: &Numbers, slice: usize) -> bool
+pub fn may_send(numbers: &Numbers<'_>, slice: usize) -> bool
     ensures { result ≡ (nat_lt (length (world.control_at (world_of numbers.now) slice).home) 64 && nat_lt
         (control.place_done (world_of numbers.now) (world.control_at (world_of numbers.now) slice).held)
         (length (world.control_at (world_of numbers.now) slice).held)) }
@@ -276,7 +280,7 @@ pub fn may_send(numbers: &Numbers, slice: usize) -> bool
 
 /// The first half of a control worker that is done goes home.
 #[inline(never)]
-pub fn send_done(numbers: &mut Numbers, slice: usize) -> Result<(), AllocError>
+pub fn send_done(numbers: &mut Numbers<'_>, slice: usize) -> Result<(), AllocError>
     requires { control.place_done (world_of numbers.old) (world.control_at (world_of numbers.old) slice).held
         < length (world.control_at (world_of numbers.old) slice).held }
     ensures { OnOk result (world_of numbers.new ≡ world.on_control (world_of numbers.old) slice
@@ -288,7 +292,11 @@ pub fn send_done(numbers: &mut Numbers, slice: usize) -> Result<(), AllocError>
 }
 
 /// The turn of the control half behind that of a place.
-pub fn set_behind_place(numbers: &mut Numbers, slice: usize, place: usize) -> Result<(), AllocError>
+pub fn set_behind_place(
+    numbers: &mut Numbers<'_>,
+    slice: usize,
+    place: usize,
+) -> Result<(), AllocError>
     ensures { OnOk result (world_of numbers.new
         ≡ control.cursor_at (world_of numbers.old) slice (control.next_place (world_of numbers.old) slice place)) }
 {
@@ -299,7 +307,7 @@ pub fn set_behind_place(numbers: &mut Numbers, slice: usize, place: usize) -> Re
 }
 
 /// The turn of the control half behind that of a slot.
-pub fn set_behind(numbers: &mut Numbers, slice: usize, slot: usize) -> Result<(), AllocError>
+pub fn set_behind(numbers: &mut Numbers<'_>, slice: usize, slot: usize) -> Result<(), AllocError>
     ensures { OnOk result (world_of numbers.new
         ≡ control.cursor_at (world_of numbers.old) slice (control.next_place (world_of numbers.old) slice
         (place_held slot (world.control_at (world_of numbers.old) slice).held))) }
@@ -311,7 +319,7 @@ pub fn set_behind(numbers: &mut Numbers, slice: usize, slot: usize) -> Result<()
 }
 
 /// Takes the first order of a control worker.
-pub fn take_control(numbers: &mut Numbers, slice: usize) -> Option<ControlOrder>
+pub fn take_control(numbers: &mut Numbers<'_>, slice: usize) -> Option<ControlOrder>
     ensures none { IfNone result ((world_of numbers.new ≡ world_of numbers.old)
         × ((world.control_at (world_of numbers.old) slice).orders ≡ [])) }
     ensures order { IfSome result (λ order. (world.control_at (world_of numbers.old) slice).orders
@@ -331,7 +339,7 @@ pub fn take_control(numbers: &mut Numbers, slice: usize) -> Option<ControlOrder>
 }
 
 /// Takes the next order of a data worker: a kept packet comes first.
-pub fn take_next(numbers: &mut Numbers, slice: usize) -> Option<FlowOrder>
+pub fn take_next(numbers: &mut Numbers<'_>, slice: usize) -> Option<FlowOrder>
     ensures none { IfNone result (flow.doing (world_of numbers.new) flow.round
         ≡ flow.next_order slice (world_of numbers.old) (world.flow_at (world_of numbers.old) slice).kept
         (world.flow_at (world_of numbers.old) slice).orders) }
@@ -351,7 +359,7 @@ pub fn take_next(numbers: &mut Numbers, slice: usize) -> Option<FlowOrder>
 }
 
 /// A data worker keeps the packet of a slot.
-pub fn keep(numbers: &mut Numbers, slice: usize, slot: usize) -> Result<(), AllocError>
+pub fn keep(numbers: &mut Numbers<'_>, slice: usize, slot: usize) -> Result<(), AllocError>
     ensures { OnOk result (world_of numbers.new ≡ world.on_flow (world_of numbers.old) slice
         (λ worker. record worker { kept = Some slot })) }
 {
@@ -363,7 +371,7 @@ pub fn keep(numbers: &mut Numbers, slice: usize, slot: usize) -> Result<(), Allo
 
 /// A counter half arrives.
 #[inline(never)]
-pub fn hold_flow(numbers: &mut Numbers, slice: usize, slot: usize) -> Result<(), AllocError>
+pub fn hold_flow(numbers: &mut Numbers<'_>, slice: usize, slot: usize) -> Result<(), AllocError>
     ensures { OnOk result (world_of numbers.new ≡ world.on_flow (world_of numbers.old) slice
         (λ worker. record worker { held = worker.held ++ slot ∷ [] })) }
 {
@@ -375,7 +383,7 @@ pub fn hold_flow(numbers: &mut Numbers, slice: usize, slot: usize) -> Result<(),
 
 /// A counter half leaves, and waits.
 #[inline(never)]
-pub fn let_go(numbers: &mut Numbers, slice: usize, slot: usize) -> Result<(), AllocError>
+pub fn let_go(numbers: &mut Numbers<'_>, slice: usize, slot: usize) -> Result<(), AllocError>
     ensures { OnOk result (world_of numbers.new ≡ world.on_flow (world_of numbers.old) slice
         (λ worker. flow.left worker slot)) }
 {
@@ -387,7 +395,7 @@ pub fn let_go(numbers: &mut Numbers, slice: usize, slot: usize) -> Result<(), Al
 
 /// A counter half goes home.
 #[inline(never)]
-pub fn send_flow(numbers: &mut Numbers, slice: usize, slot: usize) -> Result<(), AllocError>
+pub fn send_flow(numbers: &mut Numbers<'_>, slice: usize, slot: usize) -> Result<(), AllocError>
     ensures { OnOk result (world_of numbers.new ≡ world.on_flow (world_of numbers.old) slice
         (λ worker. record worker { home = worker.home ++ slot ∷ []; waiting = None })) }
 {
@@ -397,7 +405,7 @@ pub fn send_flow(numbers: &mut Numbers, slice: usize, slot: usize) -> Result<(),
 }
 
 /// The slot of the counter half whose turn is next, if there is one; then that of the one behind it.
-pub fn go_round(numbers: &mut Numbers, slice: usize) -> Option<usize>
+pub fn go_round(numbers: &mut Numbers<'_>, slice: usize) -> Option<usize>
     ensures none { IfNone result ((world_of numbers.new ≡ world_of numbers.old)
         × ((world.flow_at (world_of numbers.old) slice).held ≡ [])) }
     ensures some { IfSome result (λ slot. 0 < length (world.flow_at (world_of numbers.old) slice).held) }

@@ -12,17 +12,18 @@ use crate::Met;
 use crate::floors::Floors;
 use crate::met::SlotMets;
 use crate::standing::{CommandTags, Standing};
+use bumpalo::Bump;
 use pc_base::Place;
-use std::alloc::{AllocError, Global};
+use std::alloc::AllocError;
 use std::collections::VecDeque;
 use std::marker::Model;
 
 /// A slot in an epoch: what was accepted, and cut points in that.
 #[derive(Drop)]
-pub struct SlotNumbers {
-    pub(crate) moves: Vec<u8>,
-    pub(crate) commands: Vec<CommandTags>,
-    pub(crate) packets: Floors,
+pub struct SlotNumbers<'b> {
+    pub(crate) moves: Vec<u8, &'b Bump>,
+    pub(crate) commands: Vec<CommandTags, &'b Bump>,
+    pub(crate) packets: Floors<'b>,
     pub(crate) commands_before: usize,
     pub(crate) packets_before: usize,
     pub(crate) control: Standing,
@@ -30,15 +31,15 @@ pub struct SlotNumbers {
     pub(crate) taken: usize,
     pub(crate) applied: usize,
     pub(crate) unsent: Option<usize>,
-    pub(crate) sent: VecDeque<usize>,
+    pub(crate) sent: VecDeque<usize, &'b Bump>,
     pub(crate) flow: Standing,
     pub(crate) batch: Option<usize>,
     pub(crate) learnt: usize,
-    pub(crate) met: SlotMets,
+    pub(crate) met: SlotMets<'b>,
     pub(crate) queued: usize,
 }
 
-impl Model for SlotNumbers {
+impl<'b> Model for SlotNumbers<'b> {
     ghost use Rattle.std.specs.Prelude.{length};
     ghost use Rattle.slice_schedule.specs.Slots.{SlotNow};
     ghost use Rattle.slice_schedule.specs.Fits.{Sizes};
@@ -83,15 +84,15 @@ pub fn is_front(standing: Standing) -> bool
     matches!(standing, Standing::Front)
 }
 
-impl SlotNumbers {
+impl<'b> SlotNumbers<'b> {
     /// A slot without a line.
-    pub fn new(alloc: Global) -> SlotNumbers
+    pub fn new(room: &'b Bump) -> SlotNumbers<'b>
         ensures { result ≡ fresh_slot }
     {
         SlotNumbers {
-            moves: Vec::new(alloc),
-            commands: Vec::new(alloc),
-            packets: Floors::new(alloc),
+            moves: Vec::new(room),
+            commands: Vec::new(room),
+            packets: Floors::new(room),
             commands_before: 0,
             packets_before: 0,
             control: Standing::Absent,
@@ -99,11 +100,11 @@ impl SlotNumbers {
             taken: 0,
             applied: 0,
             unsent: None,
-            sent: VecDeque::new(alloc),
+            sent: VecDeque::new(room),
             flow: Standing::Absent,
             batch: None,
             learnt: 0,
-            met: SlotMets::new(alloc),
+            met: SlotMets::new(room),
             queued: 0,
         }
     }

@@ -34,7 +34,7 @@ fn cursor_next(place: usize, count: usize) -> usize
 }
 
 /// The place behind this one.
-fn next_place(numbers: &Numbers, slice: usize, place: usize) -> usize
+fn next_place(numbers: &Numbers<'_>, slice: usize, place: usize) -> usize
     ensures { result ≡ control.next_place (world_of numbers.now) slice place }
 {
     cursor_next(place, control_count(numbers, slice))
@@ -43,7 +43,7 @@ fn next_place(numbers: &Numbers, slice: usize, place: usize) -> usize
 /// Turns control halves round the list until one works.
 #[inline(never)]
 fn work_round(
-    numbers: &mut Numbers,
+    numbers: &mut Numbers<'_>,
     setup: &Setup<'_>,
     slice: usize,
     first: usize,
@@ -67,7 +67,12 @@ fn work_round(
 }
 
 /// The slot of the next control half behind the last one whose turn may change something.
-fn next_half(numbers: &Numbers, owing: &[usize], slice: usize, last: Option<usize>) -> Option<usize>
+fn next_half(
+    numbers: &Numbers<'_>,
+    owing: &[usize],
+    slice: usize,
+    last: Option<usize>,
+) -> Option<usize>
     requires owing { IsOwing owing.now (world_of numbers.now) }
     requires orderly { IsOrderly (length (world_of numbers.now).slots) (roster_at (world_of numbers.now) slice) }
     requires last { IsHeld (roster_at (world_of numbers.now) slice) last }
@@ -86,7 +91,7 @@ fn next_half(numbers: &Numbers, owing: &[usize], slice: usize, last: Option<usiz
 /// Turns the control halves whose turn may change something until one works.
 #[inline(never)]
 fn work_busy(
-    numbers: &mut Numbers,
+    numbers: &mut Numbers<'_>,
     owing: &[usize],
     setup: &Setup<'_>,
     slice: usize,
@@ -108,7 +113,7 @@ fn work_busy(
 }
 
 fn work_all(
-    numbers: &mut Numbers,
+    numbers: &mut Numbers<'_>,
     owing: &[usize],
     setup: &Setup<'_>,
     slice: usize,
@@ -129,7 +134,7 @@ fn work_all(
 
 /// A control half goes home, if one is done and there is room; else the halves are turned.
 fn go_or_work(
-    numbers: &mut Numbers,
+    numbers: &mut Numbers<'_>,
     owing: &[usize],
     setup: &Setup<'_>,
     slice: usize,
@@ -145,7 +150,7 @@ fn go_or_work(
 
 /// Does an order of a control worker.
 #[inline(never)]
-fn tell(numbers: &mut Numbers, slice: usize, order: ControlOrder) -> Result<(), AllocError>
+fn tell(numbers: &mut Numbers<'_>, slice: usize, order: ControlOrder) -> Result<(), AllocError>
     ensures { OnOk result (world_of numbers.new ≡ world.on_control (world_of numbers.old) slice
         (λ worker. control.behind_order worker (control_order order))) }
 {
@@ -157,7 +162,7 @@ fn tell(numbers: &mut Numbers, slice: usize, order: ControlOrder) -> Result<(), 
 
 /// A turn of the control worker of a slice.
 fn control_turn(
-    numbers: &mut Numbers,
+    numbers: &mut Numbers<'_>,
     owing: &[usize],
     setup: &Setup<'_>,
     slice: usize,
@@ -175,7 +180,7 @@ fn control_turn(
 }
 
 /// The half that waits goes home.
-fn go_home(numbers: &mut Numbers, slice: usize) -> Result<Going, AllocError>
+fn go_home(numbers: &mut Numbers<'_>, slice: usize) -> Result<Going, AllocError>
     ensures { IfOk result (λ going. flow.doing (world_of numbers.new) (going_of going)
         ≡ flow.go_home slice (world_of numbers.old) (world.flow_at (world_of numbers.old) slice).waiting) }
 {
@@ -192,7 +197,7 @@ fn go_home(numbers: &mut Numbers, slice: usize) -> Result<Going, AllocError>
 }
 
 /// A packet is handled, or kept.
-fn handle_or_keep(numbers: &mut Numbers, slice: usize, slot: usize) -> Result<Going, AllocError>
+fn handle_or_keep(numbers: &mut Numbers<'_>, slice: usize, slot: usize) -> Result<Going, AllocError>
     requires { slice ≤ 63 }
     ensures { IfOk result (λ going. flow.doing (world_of numbers.new) (going_of going)
         ≡ flow.handled slice (world_of numbers.old) slot) }
@@ -207,7 +212,7 @@ fn handle_or_keep(numbers: &mut Numbers, slice: usize, slot: usize) -> Result<Go
 }
 
 /// Does an order of a slice's lane.
-fn obey(numbers: &mut Numbers, slice: usize, order: FlowOrder) -> Result<Going, AllocError>
+fn obey(numbers: &mut Numbers<'_>, slice: usize, order: FlowOrder) -> Result<Going, AllocError>
     requires { slice ≤ 63 }
     ensures { IfOk result (λ going. flow.doing (world_of numbers.new) (going_of going)
         ≡ flow.obeyed slice (world_of numbers.old) (flow_order order)) }
@@ -229,7 +234,7 @@ fn obey(numbers: &mut Numbers, slice: usize, order: FlowOrder) -> Result<Going, 
 }
 
 /// Does the next order, if there is one.
-fn next_order(numbers: &mut Numbers, slice: usize) -> Result<Going, AllocError>
+fn next_order(numbers: &mut Numbers<'_>, slice: usize) -> Result<Going, AllocError>
     requires { slice ≤ 63 }
     ensures { IfOk result (λ going. flow.doing (world_of numbers.new) (going_of going)
         ≡ flow.next_order slice (world_of numbers.old) (world.flow_at (world_of numbers.old) slice).kept
@@ -241,7 +246,7 @@ fn next_order(numbers: &mut Numbers, slice: usize) -> Result<Going, AllocError>
     }
 }
 
-fn order_step(numbers: &mut Numbers, slice: usize, going: Going) -> Result<Going, AllocError>
+fn order_step(numbers: &mut Numbers<'_>, slice: usize, going: Going) -> Result<Going, AllocError>
     requires { slice ≤ 63 }
     ensures { IfOk result (λ next. flow.doing (world_of numbers.new) (going_of next)
         ≡ flow.order_step slice (flow.doing (world_of numbers.old) (going_of going))) }
@@ -266,7 +271,7 @@ fn goes_on(going: Going) -> bool
 }
 
 /// Does at most eight orders.
-fn take_orders(numbers: &mut Numbers, slice: usize, first: Going) -> Result<Going, AllocError>
+fn take_orders(numbers: &mut Numbers<'_>, slice: usize, first: Going) -> Result<Going, AllocError>
     requires { slice ≤ 63 }
     ensures { IfOk result (λ next. flow.doing (world_of numbers.new) (going_of next)
         ≡ flow.take_orders slice (flow.doing (world_of numbers.old) (going_of first))) }
@@ -282,7 +287,7 @@ fn take_orders(numbers: &mut Numbers, slice: usize, first: Going) -> Result<Goin
 }
 
 /// The half whose turn is next learns.
-fn learn_next(numbers: &mut Numbers, slice: usize) -> Result<(), AllocError>
+fn learn_next(numbers: &mut Numbers<'_>, slice: usize) -> Result<(), AllocError>
     ensures { OnOk result (world_of numbers.new ≡ flow.learn_next slice (world_of numbers.old)
         (world.flow_at (world_of numbers.old) slice).held) }
 {
@@ -292,7 +297,7 @@ fn learn_next(numbers: &mut Numbers, slice: usize) -> Result<(), AllocError>
     }
 }
 
-fn end_turn(numbers: &mut Numbers, slice: usize, going: Going) -> Result<(), AllocError>
+fn end_turn(numbers: &mut Numbers<'_>, slice: usize, going: Going) -> Result<(), AllocError>
     ensures { OnOk result (world_of numbers.new
         ≡ flow.ended slice (flow.doing (world_of numbers.old) (going_of going))) }
 {
@@ -304,7 +309,7 @@ fn end_turn(numbers: &mut Numbers, slice: usize, going: Going) -> Result<(), All
 }
 
 /// A turn of the data worker of a slice.
-fn flow_turn(numbers: &mut Numbers, slice: usize) -> Result<(), AllocError>
+fn flow_turn(numbers: &mut Numbers<'_>, slice: usize) -> Result<(), AllocError>
     requires { slice ≤ 63 }
     ensures { OnOk result (world_of numbers.new ≡ flow.flow_turn slice (world_of numbers.old)) }
 {
@@ -316,7 +321,7 @@ fn flow_turn(numbers: &mut Numbers, slice: usize) -> Result<(), AllocError>
 /// A worker's turn: of control, or of data.
 #[inline(always)]
 pub fn turn(
-    numbers: &mut Numbers,
+    numbers: &mut Numbers<'_>,
     owing: &[usize],
     setup: &Setup<'_>,
     worker: u32,
@@ -336,7 +341,7 @@ pub fn turn(
 
 /// The turns of these workers.
 pub fn turn_all(
-    numbers: &mut Numbers,
+    numbers: &mut Numbers<'_>,
     owing: &[usize],
     setup: &Setup<'_>,
     workers: &[u32],

@@ -125,7 +125,7 @@ impl ControlNumbers {
     }
 
     /// Whether a half is done, and there is room to send it home.
-    pub fn may_send(&self, slots: &[SlotNumbers]) -> bool
+    pub fn may_send(&self, slots: &[SlotNumbers<'_>]) -> bool
         ensures { result ≡ (nat_lt (length self.now.home) 64 && nat_lt
             (control.place_done (record { slots = slots.now; controls = []; flows = [] }) self.now.held)
             (length self.now.held)) }
@@ -134,7 +134,7 @@ impl ControlNumbers {
     }
 
     /// The first half that is done goes home.
-    pub fn send_done(&mut self, slots: &[SlotNumbers]) -> Result<(), AllocError>
+    pub fn send_done(&mut self, slots: &[SlotNumbers<'_>]) -> Result<(), AllocError>
         requires { control.place_done (record { slots = slots.now; controls = []; flows = [] }) self.old.held
             < length self.old.held }
         ensures { OnOk result (self.new ≡ control.sent_home self.old

@@ -16,20 +16,22 @@ use crate::setup::Setup;
 use crate::slot::SlotNumbers;
 use crate::standing::Standing;
 use crate::workers::{ControlNumbers, FlowNumbers};
+use bumpalo::Bump;
 use pc_base::{Place, SliceNo};
 use std::alloc::{AllocError, Global};
 
 /// By slot, and by slice.
 #[derive(Drop)]
-pub struct Numbers {
+pub struct Numbers<'b> {
     pub alloc: Global,
-    pub slots: Vec<SlotNumbers>,
+    pub room: &'b Bump,
+    pub slots: Vec<SlotNumbers<'b>>,
     pub controls: Vec<ControlNumbers>,
     pub flows: Vec<FlowNumbers>,
 }
 
 /// Where the control half of a slot is.
-pub fn control_of(numbers: &Numbers, slot: usize) -> Standing
+pub fn control_of(numbers: &Numbers<'_>, slot: usize) -> Standing
     ensures { standing_of result ≡ (world.slot_at (world_of numbers.now) slot).control }
 {
     if slot < numbers.slots.len() {
@@ -41,7 +43,7 @@ pub fn control_of(numbers: &Numbers, slot: usize) -> Standing
 }
 
 /// Where the counter half of a slot is.
-pub fn flow_of(numbers: &Numbers, slot: usize) -> Standing
+pub fn flow_of(numbers: &Numbers<'_>, slot: usize) -> Standing
     ensures { standing_of result ≡ (world.slot_at (world_of numbers.now) slot).flow }
 {
     if slot < numbers.slots.len() {
@@ -53,7 +55,7 @@ pub fn flow_of(numbers: &Numbers, slot: usize) -> Standing
 }
 
 /// How many packets of a slot wait at the front.
-pub fn queued_of(numbers: &Numbers, slot: usize) -> usize
+pub fn queued_of(numbers: &Numbers<'_>, slot: usize) -> usize
     ensures { result ≡ (world.slot_at (world_of numbers.now) slot).queued }
 {
     if slot < numbers.slots.len() {
@@ -65,7 +67,7 @@ pub fn queued_of(numbers: &Numbers, slot: usize) -> usize
 }
 
 /// Whether the next packet of a slot waits at the front.
-pub fn parks_at(numbers: &Numbers, slot: usize) -> bool
+pub fn parks_at(numbers: &Numbers<'_>, slot: usize) -> bool
     ensures { result ≡ front.parks (world.slot_at (world_of numbers.now) slot) }
 {
     if slot < numbers.slots.len() {
@@ -77,7 +79,7 @@ pub fn parks_at(numbers: &Numbers, slot: usize) -> bool
 }
 
 /// Whether the next packet of a slot goes into the lane of its slice at once.
-pub fn is_settled(numbers: &Numbers, slot: usize) -> bool
+pub fn is_settled(numbers: &Numbers<'_>, slot: usize) -> bool
     ensures made { OnTrue result (is_absent (world.slot_at (world_of numbers.now) slot).control ≡ false) }
     ensures parks { OnTrue result (front.parks (world.slot_at (world_of numbers.now) slot) ≡ false) }
     ensures gone { OnTrue result (front.is_front (world.slot_at (world_of numbers.now) slot).flow ≡ false) }
@@ -91,7 +93,7 @@ pub fn is_settled(numbers: &Numbers, slot: usize) -> bool
 }
 
 /// Whether the counter half of a slot has nothing to learn.
-fn has_learnt(numbers: &Numbers, slot: usize) -> bool
+fn has_learnt(numbers: &Numbers<'_>, slot: usize) -> bool
     ensures { OnTrue result (world.on_slot (world_of numbers.now) slot halves.learn ≡ world_of numbers.now) }
 {
     if slot < numbers.slots.len() {
@@ -103,7 +105,7 @@ fn has_learnt(numbers: &Numbers, slot: usize) -> bool
 }
 
 /// How many commands of a slot are applied.
-pub fn applied_of(slots: &[SlotNumbers], slot: usize) -> usize
+pub fn applied_of(slots: &[SlotNumbers<'_>], slot: usize) -> usize
     ensures { result ≡ (world.slot_at (record { slots = slots.now; controls = []; flows = [] }) slot).applied }
 {
     if slot < slots.len() {
@@ -115,7 +117,7 @@ pub fn applied_of(slots: &[SlotNumbers], slot: usize) -> usize
 }
 
 /// Whether a command of a slot may be taken.
-pub fn has_room(numbers: &Numbers, slot: usize, room: usize) -> bool
+pub fn has_room(numbers: &Numbers<'_>, slot: usize, room: usize) -> bool
     ensures { result ≡ nat_lt (length (world.slot_at (world_of numbers.now) slot).commands
         - (world.slot_at (world_of numbers.now) slot).taken) room }
 {
@@ -128,7 +130,7 @@ pub fn has_room(numbers: &Numbers, slot: usize, room: usize) -> bool
 }
 
 /// Whether the next packet of a slot may be handled.
-pub fn may_handle(numbers: &Numbers, slot: usize) -> bool
+pub fn may_handle(numbers: &Numbers<'_>, slot: usize) -> bool
     ensures { result ≡ halves.may_handle (world.slot_at (world_of numbers.now) slot) }
 {
     if slot < numbers.slots.len() {
@@ -140,7 +142,7 @@ pub fn may_handle(numbers: &Numbers, slot: usize) -> bool
 }
 
 /// Where a slot is bound for.
-pub fn bound_for(numbers: &Numbers, setup: &Setup<'_>, slot: usize) -> usize
+pub fn bound_for(numbers: &Numbers<'_>, setup: &Setup<'_>, slot: usize) -> usize
     ensures { result ≡ destination (bounds_of setup.now) slot (world.slot_at (world_of numbers.now) slot) }
 {
     if slot >= numbers.slots.len() {
@@ -153,48 +155,60 @@ pub fn bound_for(numbers: &Numbers, setup: &Setup<'_>, slot: usize) -> usize
     }
 }
 
-pub fn set_control(numbers: &mut Numbers, slot: usize, standing: Standing) -> Result<(), AllocError>
+pub fn set_control(
+    numbers: &mut Numbers<'_>,
+    slot: usize,
+    standing: Standing,
+) -> Result<(), AllocError>
     ensures { OnOk result (world_of numbers.new ≡ world.on_slot (world_of numbers.old) slot
         (λ one. record one { control = standing_of standing })) }
 {
-    reach_slot(&mut numbers.slots, numbers.alloc, slot)?;
+    reach_slot(&mut numbers.slots, numbers.room, slot)?;
     let one = &mut numbers.slots[slot];
     one.set_control(standing);
     Ok(())
 }
 
-pub fn set_flow(numbers: &mut Numbers, slot: usize, standing: Standing) -> Result<(), AllocError>
+pub fn set_flow(
+    numbers: &mut Numbers<'_>,
+    slot: usize,
+    standing: Standing,
+) -> Result<(), AllocError>
     ensures { OnOk result (world_of numbers.new ≡ world.on_slot (world_of numbers.old) slot
         (λ one. record one { flow = standing_of standing })) }
 {
-    reach_slot(&mut numbers.slots, numbers.alloc, slot)?;
+    reach_slot(&mut numbers.slots, numbers.room, slot)?;
     let one = &mut numbers.slots[slot];
     one.set_flow(standing);
     Ok(())
 }
 
-pub fn set_queued(numbers: &mut Numbers, slot: usize, queued: usize) -> Result<(), AllocError>
+pub fn set_queued(numbers: &mut Numbers<'_>, slot: usize, queued: usize) -> Result<(), AllocError>
     ensures { OnOk result (world_of numbers.new ≡ world.on_slot (world_of numbers.old) slot
         (λ one. record one { queued = queued })) }
 {
-    reach_slot(&mut numbers.slots, numbers.alloc, slot)?;
+    reach_slot(&mut numbers.slots, numbers.room, slot)?;
     let one = &mut numbers.slots[slot];
     one.set_queued(queued);
     Ok(())
 }
 
-pub fn tell_moves(numbers: &mut Numbers, slot: usize) -> Result<(), AllocError>
+pub fn tell_moves(numbers: &mut Numbers<'_>, slot: usize) -> Result<(), AllocError>
     ensures { OnOk result (world_of numbers.new ≡ world.on_slot (world_of numbers.old) slot
         (λ one. record one { arrived = one.hop })) }
 {
-    reach_slot(&mut numbers.slots, numbers.alloc, slot)?;
+    reach_slot(&mut numbers.slots, numbers.room, slot)?;
     let one = &mut numbers.slots[slot];
     one.tell_moves();
     Ok(())
 }
 
 /// Makes room for the packets of a slot.
-pub fn make_room(numbers: &mut Numbers, setup: &Setup<'_>, slot: usize) -> Result<(), AllocError>
+pub fn make_room(
+    numbers: &mut Numbers<'_>,
+    setup: &Setup<'_>,
+    slot: usize,
+) -> Result<(), AllocError>
     ensures { OnOk result (world_of numbers.new ≡ world_of numbers.old) }
 {
     if slot < numbers.slots.len() {
@@ -205,79 +219,83 @@ pub fn make_room(numbers: &mut Numbers, setup: &Setup<'_>, slot: usize) -> Resul
     }
 }
 
-pub fn add_command(numbers: &mut Numbers, slot: usize) -> Result<(), AllocError>
+pub fn add_command(numbers: &mut Numbers<'_>, slot: usize) -> Result<(), AllocError>
     ensures { OnOk result (world_of numbers.new ≡ world.on_slot (world_of numbers.old) slot front.with_command) }
 {
-    reach_slot(&mut numbers.slots, numbers.alloc, slot)?;
+    reach_slot(&mut numbers.slots, numbers.room, slot)?;
     let one = &mut numbers.slots[slot];
     one.add_command()?;
     Ok(())
 }
 
 #[inline(always)]
-pub fn add_packet(numbers: &mut Numbers, slot: usize) -> Result<(), AllocError>
+pub fn add_packet(numbers: &mut Numbers<'_>, slot: usize) -> Result<(), AllocError>
     ensures { OnOk result (world_of numbers.new ≡ world.on_slot (world_of numbers.old) slot front.with_packet) }
 {
-    reach_slot(&mut numbers.slots, numbers.alloc, slot)?;
+    reach_slot(&mut numbers.slots, numbers.room, slot)?;
     let one = &mut numbers.slots[slot];
     one.add_packet()?;
     Ok(())
 }
 
 /// A packet waits at the front.
-pub fn park(numbers: &mut Numbers, slot: usize) -> Result<(), AllocError>
+pub fn park(numbers: &mut Numbers<'_>, slot: usize) -> Result<(), AllocError>
     requires { (world.slot_at (world_of numbers.old) slot).queued < 2 ^ 32 }
     ensures { OnOk result (world_of numbers.new ≡ world.on_slot (world_of numbers.old) slot
         (λ one. record (front.with_packet one) { queued = one.queued + 1 })) }
 {
-    reach_slot(&mut numbers.slots, numbers.alloc, slot)?;
+    reach_slot(&mut numbers.slots, numbers.room, slot)?;
     let one = &mut numbers.slots[slot];
     one.park()
 }
 
-pub fn move_on(numbers: &mut Numbers, slot: usize, slice: u8) -> Result<(), AllocError>
+pub fn move_on(numbers: &mut Numbers<'_>, slot: usize, slice: u8) -> Result<(), AllocError>
     ensures { OnOk result (world_of numbers.new ≡ world.on_slot (world_of numbers.old) slot (front.moved slice)) }
 {
-    reach_slot(&mut numbers.slots, numbers.alloc, slot)?;
+    reach_slot(&mut numbers.slots, numbers.room, slot)?;
     let one = &mut numbers.slots[slot];
     one.go(slice)?;
     Ok(())
 }
 
-pub fn call_control(numbers: &mut Numbers, slot: usize) -> Result<(), AllocError>
+pub fn call_control(numbers: &mut Numbers<'_>, slot: usize) -> Result<(), AllocError>
     ensures { OnOk result (world_of numbers.new ≡ world.on_slot (world_of numbers.old) slot
         (λ one. record one { control = front.control_called one.control (length one.commands) })) }
 {
-    reach_slot(&mut numbers.slots, numbers.alloc, slot)?;
+    reach_slot(&mut numbers.slots, numbers.room, slot)?;
     let one = &mut numbers.slots[slot];
     one.call_control();
     Ok(())
 }
 
-pub fn call_flow(numbers: &mut Numbers, slot: usize) -> Result<(), AllocError>
+pub fn call_flow(numbers: &mut Numbers<'_>, slot: usize) -> Result<(), AllocError>
     ensures { OnOk result (world_of numbers.new ≡ world.on_slot (world_of numbers.old) slot
         (λ one. record one { flow = front.control_called one.flow 0 })) }
 {
-    reach_slot(&mut numbers.slots, numbers.alloc, slot)?;
+    reach_slot(&mut numbers.slots, numbers.room, slot)?;
     let one = &mut numbers.slots[slot];
     one.call_flow();
     Ok(())
 }
 
 /// The control half of a slot has a turn. Whether that works.
-pub fn turn_half(numbers: &mut Numbers, setup: &Setup<'_>, slot: usize) -> Result<bool, AllocError>
+pub fn turn_half(
+    numbers: &mut Numbers<'_>,
+    setup: &Setup<'_>,
+    slot: usize,
+) -> Result<bool, AllocError>
     ensures world { OnOk result (world_of numbers.new ≡ turn.half_turned setup.now.rooms (world_of numbers.old) slot) }
     ensures worked { IfOk result (λ worked. worked ≡ turn.has_worked setup.now.rooms (world_of numbers.old) slot) }
 {
     let room = setup.room();
-    reach_slot(&mut numbers.slots, numbers.alloc, slot)?;
+    reach_slot(&mut numbers.slots, numbers.room, slot)?;
     let one = &mut numbers.slots[slot];
     one.control_work(room)
 }
 
 /// The counter half of a slot learns what it may.
 #[inline(always)]
-pub fn learn(numbers: &mut Numbers, slot: usize) -> Result<(), AllocError>
+pub fn learn(numbers: &mut Numbers<'_>, slot: usize) -> Result<(), AllocError>
     ensures { OnOk result (world_of numbers.new ≡ world.on_slot (world_of numbers.old) slot halves.learn) }
 {
     if has_learnt(numbers, slot) {
@@ -287,22 +305,22 @@ pub fn learn(numbers: &mut Numbers, slot: usize) -> Result<(), AllocError>
 }
 
 #[inline(never)]
-fn learn_more(numbers: &mut Numbers, slot: usize) -> Result<(), AllocError>
+fn learn_more(numbers: &mut Numbers<'_>, slot: usize) -> Result<(), AllocError>
     ensures { OnOk result (world_of numbers.new ≡ world.on_slot (world_of numbers.old) slot halves.learn) }
 {
-    reach_slot(&mut numbers.slots, numbers.alloc, slot)?;
+    reach_slot(&mut numbers.slots, numbers.room, slot)?;
     let one = &mut numbers.slots[slot];
     one.learn();
     Ok(())
 }
 
 /// The next packet of a slot is handled on a slice.
-pub fn handle(numbers: &mut Numbers, slot: usize, slice: usize) -> Result<(), AllocError>
+pub fn handle(numbers: &mut Numbers<'_>, slot: usize, slice: usize) -> Result<(), AllocError>
     requires { slice ≤ 63 }
     ensures { OnOk result (world_of numbers.new ≡ world.on_slot (world_of numbers.old) slot
         (halves.handle (place.At slice))) }
 {
-    reach_slot(&mut numbers.slots, numbers.alloc, slot)?;
+    reach_slot(&mut numbers.slots, numbers.room, slot)?;
     let one = &mut numbers.slots[slot];
     one.handle(Place::At(SliceNo(slice as u8)))?;
     Ok(())

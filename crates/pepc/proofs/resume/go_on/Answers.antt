@@ -10,6 +10,6 @@ returns-clause-runs g c =
     (ap (λ (f : FileState). f.lines) c.file.view_is) (ap (λ (f : FileState). f.moment) c.file.view_is)
     (runs_wider _ (IsResumed 64 c.args.file) (λ input report gives. record {
       gateway = _;
-      has_state = c.behind.ensures.gateway;
+      has_state = c.behind-resumer.ensures.gateway;
       gives = gives;
     }) _ _ _ _ _ _ _ _ c.run_report_behind.ensures.runs)

@@ -2,10 +2,10 @@ use Rattle.std.proofs.Common.{rules, [], ◌∷◌, ◌++◌, ap, ◌∙◌}
 use Rattle.schedule_run.proofs.Grown.{grows_more, reached}
 use Rattle.schedule_run.proofs.grow.grow_slot.Goals as goal
 
-pub loop-alloc-preserved : goal.loop-alloc-preserved
-loop-alloc-preserved c =
-    grows_more _ _ c.loop-alloc.slots.items _ _ (search rules)
-    (c.in_ok-push.ensures.items ∙ ap (λ x. c.loop-alloc.slots.items ++ x ∷ []) c.new.ensures) c.loop-alloc.invariant
+pub loop-slots-preserved : goal.loop-slots-preserved
+loop-slots-preserved c =
+    grows_more _ _ c.loop-slots.slots.items _ _ (search rules)
+    (c.in_ok-push.ensures.items ∙ ap (λ x. c.loop-slots.slots.items ++ x ∷ []) c.new.ensures) c.loop-slots.invariant
 
 pub returns : goal.returns
-returns c = reached _ _ _ _ (search rules) c.loop-alloc.invariant
+returns c = reached _ _ _ _ (search rules) c.loop-slots.invariant

@@ -19,7 +19,7 @@ use Rattle.epoch_drive.specs.declared.sharing.Share.{Share}
 use Rattle.epoch_drive.proofs.Drives.{Planned, are_met, planned_so}
 use Rattle.epoch_drive.proofs.Ends.{all_can, length-moments}
 use Rattle.epoch_drive.proofs.Keeping.{all_within_any, length-kept, mean_lent, placed_lent}
-use Rattle.epoch_drive.proofs.driving.do_lines.Goals as goal
+use Rattle.epoch_drive.proofs.driving.do_lines_in.Goals as goal
 
 pub shares_of-requires-clause-slots : goal.shares_of-requires-clause-slots
 shares_of-requires-clause-slots c =
