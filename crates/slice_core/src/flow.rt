@@ -4,14 +4,13 @@ ghost use Rattle.slice_core.specs.Seats.{flow_seat, flow_end_seat};
 ghost use Rattle.slice_core.specs.Threads.{flow_in};
 
 use crate::gate::Gate;
+use crate::posts::Post;
 use crate::promises::{FlowEnded, FlowOf};
 use crate::serving::{DataWorker, serve_data};
-use crate::stops::Stop;
 use counter_half::FlowHalf;
 use flow_core::FlowEnd;
 use std::snapshot::Snapshot;
 use std::sync::Wait;
-use std::sync::atomic::Ordering;
 use std::thread::{PromisedHandle, Scope, Threads};
 
 /// A worker that was given to a thread; or its end, where no thread could be started.
@@ -22,24 +21,24 @@ pub enum FlowThread {
 }
 
 impl FlowThread {
-    // Gives the worker to a thread. Where none can be started its flag is set, so its end comes behind the
-    // gate, without a turn.
+    // Gives the worker to a thread. Where none can be started its post says stop, so its end comes behind
+    // the gate, without a turn.
     fn start<'s, E, G: Gate, R: Wait + Sync>(
         scope: &Scope<'s, E>,
         rt: &'s R,
         worker: DataWorker,
-        stop: &'s Stop,
+        post: &'s Post,
         gate: &'s G,
     ) -> FlowThread
         ensures { flow_in result ≡ flow_seat worker }
     {
         let same = Snapshot::of(&worker);
         let promise = FlowOf(Snapshot::of(&worker));
-        let turns = move || serve_data(rt, worker, stop, gate);
+        let turns = move || serve_data(rt, worker, post, gate);
         match scope.spawn_with(promise, turns) {
             Ok(handle) => FlowThread::Running(handle),
             Err(refused) => {
-                stop.store(true, Ordering::SeqCst);
+                post.stop();
                 let end = (refused.value)();
                 FlowThread::Refused(FlowEnded { end, worker: same })
             }
@@ -57,29 +56,29 @@ impl FlowThread {
     }
 }
 
-/// Gives each worker to a thread of its own, with the flag at its index. Memory for the threads is handed in, empty.
+/// Gives each worker to a thread of its own, with the post at its index. Memory for the threads is handed in, empty.
 pub fn start_flows<'s, E, G: Gate, R: Wait + Sync>(
     scope: &Scope<'s, E>,
     rt: &'s R,
     workers: Vec<DataWorker>,
-    stops: &'s [Stop],
+    posts: &'s [Post],
     gate: &'s G,
     mut threads: Vec<FlowThread>,
 ) -> Vec<FlowThread>
-    requires stops { vec_len workers ≤ length stops.now }
+    requires posts { vec_len workers ≤ length posts.now }
     requires room { vec_len workers ≤ vec_capacity threads }
     requires empty { threads.items ≡ [] }
 
     ensures seats { map flow_in result.items ≡ map flow_seat workers.items }
 {
     for worker in workers {
-        let stop = &stops[threads.len()];
-        threads.push_reserved(FlowThread::start(scope, rt, worker, stop, gate));
+        let post = &posts[threads.len()];
+        threads.push_reserved(FlowThread::start(scope, rt, worker, post, gate));
     }
     threads
 }
 
-/// Waits for the end of each thread; the flags are to be set before. Memory for the ends is handed in, empty.
+/// Waits for the end of each thread; all are to be told to stop before. Memory for the ends is handed in, empty.
 pub fn join_flows<R: Threads>(
     rt: &R,
     threads: Vec<FlowThread>,

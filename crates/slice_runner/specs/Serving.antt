@@ -7,7 +7,7 @@ use Rattle.flow_core.specs.Workers as flow_worker
 use Rattle.front_core.specs.declared.opening.Opened.{Opened}
 use Rattle.front_core.specs.Words.{IsWhole, latest_in, lines_in}
 use Rattle.slice_runner.specs.declared.served.Places.{Places}
-use Rattle.slice_runner.specs.declared.served.Stops.{Stops}
+use Rattle.slice_runner.specs.declared.served.Posts.{Posts}
 use Rattle.slice_runner.specs.declared.served.Served.{Served}
 use Rattle.slice_runner.specs.Lines.{TakesAll}
 
@@ -20,14 +20,19 @@ pub record HasRoomFor (controls flows : ℕ) (places : Places) : Type 0 where
   pub no_threads : (places.controls.items ≡ []) × (places.flows.items ≡ [])
   pub no_ends : (places.control_ends.items ≡ []) × (places.flow_ends.items ≡ [])
 
--- a front and its workers, with memory and flags for their threads, and the lines that are to come
-pub record AreServed (opened : Opened) (places : Places) (stops : Stops) (lines : List Line) : Type 0 where
+-- posts for the threads of so many workers of each kind, and calls for as many slices
+pub record AreFor (controls flows : ℕ) (posts : Posts) : Type 0 where
+  pub control_posts : vec_len posts.controls ≡ controls
+  pub flow_posts : vec_len posts.flows ≡ flows
+  pub calls : vec_len posts.calls ≡ controls
+
+-- a front and its workers, with memory and posts for their threads, and the lines that are to come
+pub record AreServed (opened : Opened) (places : Places) (posts : Posts) (lines : List Line) : Type 0 where
   pub whole : IsWhole opened.front
   pub few : lines_in opened.front + length lines ≤ 2 ^ 39
   pub later : AreLater (latest_in opened.front) lines
   pub room : HasRoomFor (vec_len opened.controls) (vec_len opened.flows) places
-  pub control_stops : vec_len stops.controls ≡ vec_len opened.controls
-  pub flow_stops : vec_len stops.flows ≡ vec_len opened.flows
+  pub posts : AreFor (vec_len opened.controls) (vec_len opened.flows) posts
 
 -- The ends are those of the workers; and where the front had memory, it took all lines.
 pub record Serves (opened : Opened) (tries : ℕ) (lines : List Line) (served : Served) : Type 0 where

@@ -11,7 +11,7 @@ ghost use Rattle.front_close.specs.Filled.{told_by};
 ghost use Rattle.slice_runner.specs.Serving.{AreServed, Serves};
 
 use crate::NoMemory;
-use crate::served::{Pace, Places, Served, Stops, serve};
+use crate::served::{Pace, Places, Posts, Served, serve};
 use at_rest::AtRest;
 use front_close::{Ended, close};
 use front_core::Front;
@@ -22,8 +22,8 @@ use std::thread::{self, Threads};
 use trace_lines::TraceLine;
 
 /// Runs an epoch of these lines over the gateway's slices, each with two threads of its own. A command or packet that
-/// finds its queue or lane full is tried again as often as `patience` says. Behind the last line the front pumps as
-/// often as `linger` says, so that workers get on before they are stopped. A worker whose thread can't be started, or
+/// finds its queue or lane full is tried again as often as `patience` says. Behind the last line the front pumps until
+/// workers find nothing more to do, at most as often as `linger` says, before they are stopped. A worker whose thread can't be started, or
 /// runs out of memory, stops early, and what it left is done when the epoch is closed. Out of memory at the front the
 /// gateway is given up.
 pub fn run_epoch<G: Gate, R: Threads + Wait + Sync>(
@@ -53,16 +53,16 @@ pub fn run_epoch<G: Gate, R: Threads + Wait + Sync>(
     let opened = Front::open(alloc, rest)?;
     let (controls, flows) = (opened.controls.len(), opened.flows.len());
     let places = Places::new(alloc, controls, flows)?;
-    let stops = Stops::new(alloc, controls, flows)?;
+    let posts = Posts::new(alloc, controls, flows)?;
     let pace = Pace { patience, linger };
-    let flags = &stops;
+    let shared = &posts;
     let served = thread::scope(
         thread::scope_env(),
         rt,
         |scope| -> Served
-            requires { AreServed opened places flags.now lines.now }
+            requires { AreServed opened places shared.now lines.now }
             ensures { Serves opened (pace.patience + 1) lines.entry.now result }
-        { serve(scope, rt, opened, places, flags, lines, pace, gate) },
+        { serve(scope, rt, alloc, opened, places, shared, lines, pace, gate) },
     );
     close(rt, served.front?, served.controls, served.flows)
 }

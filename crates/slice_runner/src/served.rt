@@ -1,9 +1,9 @@
 //! The threads of an epoch.
-ghost use Rattle.std.specs.Prelude.{◌≡◌, ◌+◌, ◌≤◌, ◌^◌, length, vec_len, IfOk};
+ghost use Rattle.std.specs.Prelude.{◌≡◌, ◌+◌, ◌≤◌, ◌^◌, length, IfOk};
 ghost use Rattle.front_core.specs.Words.{IsWhole, latest_in, lines_in};
 ghost use Rattle.at_rest.specs.Coming.{AreLater};
 ghost use Rattle.slice_runner.specs.Lines.{TakesAll};
-ghost use Rattle.slice_runner.specs.Serving.{AreServed, HasRoomFor, Serves};
+ghost use Rattle.slice_runner.specs.Serving.{AreFor, AreServed, HasRoomFor, Serves};
 
 use crate::NoMemory;
 use crate::lines::{linger_on, take_lines};
@@ -12,8 +12,8 @@ use counter_half::FlowHalf;
 use flow_core::FlowEnd;
 use front_core::{Front, Opened};
 use slice_core::{
-    ControlThread, FlowThread, Gate, Stop, join_controls, join_flows, set_all, start_controls,
-    start_flows, stops_of,
+    Calls, ControlThread, FlowThread, Gate, Post, calls_of, join_controls, join_flows, posts_of,
+    start_controls, start_flows, stop_all,
 };
 use std::alloc::Global;
 use std::sync::Wait;
@@ -30,11 +30,12 @@ pub(crate) struct Places {
     pub(crate) flow_ends: Vec<FlowEnd<FlowHalf>>,
 }
 
-/// The flags of the threads of each kind.
+/// The posts of the threads of each kind, and the calls of each slice.
 #[derive(Drop)]
-pub(crate) struct Stops {
-    pub(crate) controls: Vec<Stop>,
-    pub(crate) flows: Vec<Stop>,
+pub(crate) struct Posts {
+    pub(crate) controls: Vec<Post>,
+    pub(crate) flows: Vec<Post>,
+    pub(crate) calls: Vec<Calls>,
 }
 
 /// The front behind the lines, if it had memory for them, and the ends of its workers.
@@ -65,39 +66,50 @@ impl Places {
     }
 }
 
-impl Stops {
-    pub(crate) fn new(alloc: Global, controls: usize, flows: usize) -> Result<Stops, NoMemory>
-        ensures { IfOk result (λ stops. (vec_len stops.controls ≡ controls) × (vec_len stops.flows ≡ flows)) }
+impl Posts {
+    pub(crate) fn new(alloc: Global, controls: usize, flows: usize) -> Result<Posts, NoMemory>
+        ensures { IfOk result (λ posts. AreFor controls flows posts) }
     {
-        Ok(Stops {
-            controls: stops_of(alloc, controls)?,
-            flows: stops_of(alloc, flows)?,
+        Ok(Posts {
+            controls: posts_of(alloc, controls)?,
+            flows: posts_of(alloc, flows)?,
+            calls: calls_of(alloc, controls)?,
         })
     }
 }
 
-/// Starts the threads, takes the lines, lingers, sets the flags and waits for the ends. The flags are set whatever
-/// became of the lines, since a thread whose flag isn't set never ends.
+/// Starts the threads, takes the lines, lingers, tells the threads to stop and waits for the ends. They are told whatever
+/// became of the lines, since a thread that isn't told never ends.
 pub(crate) fn serve<'s, E, G: Gate, R: Threads + Wait + Sync>(
     scope: &Scope<'s, E>,
     rt: &'s R,
+    alloc: Global,
     opened: Opened,
     places: Places,
-    stops: &'s Stops,
+    posts: &'s Posts,
     lines: &[TraceLine],
     pace: Pace,
     gate: &'s G,
 ) -> Served
-    requires { AreServed opened places stops.now lines.now }
+    requires { AreServed opened places posts.now lines.now }
     ensures { Serves opened (pace.patience + 1) lines.now result }
 {
-    let control_stops = stops.controls.as_slice();
-    let flow_stops = stops.flows.as_slice();
-    let controls = start_controls(scope, rt, opened.controls, control_stops, places.controls);
-    let flows = start_flows(scope, rt, opened.flows, flow_stops, gate, places.flows);
-    let front = front_work(rt, opened.front, lines, pace);
-    set_all(control_stops);
-    set_all(flow_stops);
+    let control_posts = posts.controls.as_slice();
+    let flow_posts = posts.flows.as_slice();
+    let calls = posts.calls.as_slice();
+    let controls = start_controls(
+        scope,
+        rt,
+        alloc,
+        opened.controls,
+        control_posts,
+        calls,
+        places.controls,
+    );
+    let flows = start_flows(scope, rt, opened.flows, flow_posts, gate, places.flows);
+    let front = front_work(rt, opened.front, lines, posts, pace);
+    stop_all(control_posts);
+    stop_all(flow_posts);
     Served {
         front,
         controls: join_controls(rt, controls, places.control_ends),
@@ -110,6 +122,7 @@ fn front_work<R: Wait>(
     rt: &R,
     front: Front,
     lines: &[TraceLine],
+    posts: &Posts,
     pace: Pace,
 ) -> Result<Front, NoMemory>
     requires whole { IsWhole front }
@@ -117,7 +130,7 @@ fn front_work<R: Wait>(
     requires later { AreLater (latest_in front) lines.now }
     ensures { IfOk result (λ now. TakesAll (pace.patience + 1) lines.now front now) }
 {
-    let mut front = take_lines(rt, front, lines, pace.patience)?;
-    linger_on(rt, &mut front, pace.linger);
+    let mut front = take_lines(rt, front, lines, pace.patience, posts.calls.as_slice())?;
+    linger_on(rt, &mut front, posts, pace.linger);
     Ok(front)
 }
