@@ -32,5 +32,5 @@ pub record TurnedOne {H E : Type 0} (slot_at turns works : H → ℕ) (turned_at
     pub within : at < length old
     pub of_slot : (none : H) → slot_at (slice_index_or old at none) ≡ slot
     pub turned : AreTurned turns turned_at place at (at + 1) old new
-    pub works : count_at works new at ≡ works_after result (count_at works old at)
+    pub counted : count_at works new at ≡ works_after result (count_at works old at)
     pub answered : IfOk result (λ did. AnswersAt came_to did at old new)
