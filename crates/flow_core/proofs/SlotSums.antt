@@ -1,13 +1,10 @@
 -- What numbers of the halves of one slot add up to.
 use Rattle.std.proofs.Common.{◌≡◌, ◌≢◌, ℕ, ◌+◌, ◌<◌, ◌≤◌, Bool, true, false, true≢false, cond, List, [], ◌∷◌, ◌++◌}
-use Rattle.std.proofs.Common.{length, set, get_or, Option, Some, None, refl, sym, ap, ◌∙◌, arith}
-use Rattle.std.specs.Prelude.{nat_eq, ◌||◌, IfSome, IsNone}
-use Rattle.std.specs.List.{sum_by, remove, list_any, position, position_from}
-use Rattle.std.proofs.lemmas.Option.{none-some}
-use Rattle.std.proofs.lemmas.List.Quantifiers.{position-Some}
-use Rattle.std.proofs.lemmas.Iterator.Adapters.{position_from-zero}
+use Rattle.std.proofs.Common.{length, set, get_or, refl, sym, ap, ◌∙◌, arith}
+use Rattle.std.specs.Prelude.{nat_eq, ◌||◌}
+use Rattle.std.specs.List.{sum_by, remove, list_any}
 use Rattle.std.proofs.lemmas.List.Sums.{sum_by-cons, sum_by_push, sum_by-remove, sum_by-set}
-use Rattle.std.proofs.lemmas.Bool.{eqb-true, eq-eqb, ne_eqb}
+use Rattle.std.proofs.lemmas.Bool.{eq-eqb, ne_eqb}
 use Rattle.flow_core.specs.Picks.{lists_of, slot_sum}
 
 module _ {H : Type 0} (slot : H → ℕ) (s : ℕ) where
@@ -113,38 +110,3 @@ module _ {H I : Type 0} (slot : H → ℕ) (handled : H → List I) (s : ℕ) wh
             let d = sum_by-cons h (handled x) (lists_of slot handled s xs) in omega arith
         | false ↦ λ e. let c : on slot s g x ≡ 0 = ap (λ t. cond t (h (handled x)) 0) e in omega arith
       ] refl
-
--- where a search finds none, none passes
-from_none : {X : Type 0} (p : X → Bool) (i : ℕ) (xs : List X) → position_from p i xs ≡ None → list_any p xs ≡ false
-from_none p i [] e = refl
-from_none p i (x ∷ xs) e = elim (p x) as (λ b. cond b (Some i) (position_from p (i + 1) xs) ≡ None
-    → (b || list_any p xs) ≡ false) [
-      | true ↦ λ e. absurd (none-some i (sym e))
-      | false ↦ λ e. from_none p (i + 1) xs e
-    ] e
-
-pub none_positioned : {X : Type 0} (p : X → Bool) (xs : List X) → position p xs ≡ None → list_any p xs ≡ false
-none_positioned p xs e = from_none p 0 xs (sym (position_from-zero p xs) ∙ e)
-
--- the first that a search finds
-pub found_positioned : {H : Type 0} (slot : H → ℕ) (s : ℕ) (xs : List H) (k : ℕ)
-    → position (λ half. nat_eq (slot half) s) xs ≡ Some k
-    → (k < length xs) × ((none : H) → slot (get_or xs k none) ≡ s)
-found_positioned slot s [] k e = absurd (none-some k e)
-found_positioned {H} slot s (x ∷ xs) k e =
-    let test : H → Bool = λ half. nat_eq (slot half) s in (
-      (position-Some test (x ∷ xs) k x e).0,
-      λ none. eqb-true (slot (get_or (x ∷ xs) k none)) s (position-Some test (x ∷ xs) k none e).1,
-    )
-
-pub if_found : {H : Type 0} (slot : H → ℕ) (s : ℕ) (xs : List H) (o : Option ℕ)
-    → o ≡ position (λ half. nat_eq (slot half) s) xs
-    → IfSome o (λ k. (k < length xs) × ((none : H) → slot (get_or xs k none) ≡ s))
-if_found slot s xs None e = tt
-if_found slot s xs (Some k) e = found_positioned slot s xs k (sym e)
-
-pub if_none : {H : Type 0} (slot : H → ℕ) (s : ℕ) (xs : List H) (o : Option ℕ)
-    → o ≡ position (λ half. nat_eq (slot half) s) xs
-    → IsNone o → list_any (λ half. nat_eq (slot half) s) xs ≡ false
-if_none slot s xs None e none = none_positioned (λ half. nat_eq (slot half) s) xs (sym e)
-if_none slot s xs (Some k) e none = absurd (true≢false none)

@@ -3,10 +3,10 @@
 //! an item is left to the half.
 #![tactic(auto)]
 
+mod finding;
 mod flow;
 mod order;
 mod pairing;
-mod seen;
 mod serving;
 mod worker;
 

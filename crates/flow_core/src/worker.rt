@@ -7,7 +7,7 @@ ghost use Rattle.flow_core.specs.declared.serving.Tried.{Tried};
 ghost use Rattle.flow_core.specs.Places.{brought};
 ghost use Rattle.flow_core.specs.Stays.{NamesKept, Holds, Sends, KeptStands};
 
-use crate::seen::Seen;
+use crate::finding::{find, moved_up};
 use crate::serving::{
     Sent, Served, Step, Took, Tried, answer, cursor_left, hand_at, learn_at, wrap,
 };
@@ -16,6 +16,7 @@ use lane_core::{Did, Full, NoMemory, Receiver, Sender};
 use pc_base::SliceNo;
 use std::alloc::Global;
 use std::sync::Wait;
+use worker_core::Seen;
 
 /// How many orders a turn does, at most.
 const ORDERS: usize = 8;
@@ -237,7 +238,7 @@ impl<H: Flow> FlowWorker<H> {
             FlowOrder::Arrive(half) => {
                 let slot = half.slot();
                 self.held.push_reserved(half);
-                self.seen.note(slot, self.held.len() - 1)?;
+                self.seen.note(slot, self.held.len() - 1);
                 Ok(Took::Arrived)
             }
             FlowOrder::Item(item) => {
@@ -245,12 +246,12 @@ impl<H: Flow> FlowWorker<H> {
                 Ok(Took::Kept)
             }
             FlowOrder::Leave(slot) => {
-                let Some(at) = self.seen.find(&self.held, slot) else {
+                let Some(at) = find(&self.seen, &self.held, slot) else {
                     unreachable!()
                 };
                 self.waiting = Some(self.held.remove(at));
                 self.cursor = cursor_left(self.cursor, at, self.held.len());
-                self.seen.moved_up(&self.held, at);
+                moved_up(&mut self.seen, &self.held, at);
                 Ok(Took::Left)
             }
         }
@@ -270,7 +271,7 @@ impl<H: Flow> FlowWorker<H> {
         let Some(item) = self.kept.take() else {
             unreachable!()
         };
-        let Some(at) = self.seen.find(&self.held, H::slot_of(&item)) else {
+        let Some(at) = find(&self.seen, &self.held, H::slot_of(&item)) else {
             unreachable!()
         };
         match hand_at(rt, &mut self.held, at, self.place, &item) {

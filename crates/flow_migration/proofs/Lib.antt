@@ -11,3 +11,4 @@ pub mod Shortened
 pub mod Sides
 pub mod Slots
 pub mod Tables
+pub mod Untouched

@@ -105,6 +105,11 @@ module _ {H I : Type 0} where
   is_busy None = false
   is_busy (Some place) = not (is_placed place.state) || not (nat_eq (length place.queue.items) 0)
 
+  -- items wait for a half that is placed
+  abbrev pub is_draining : Option (FlowPlace H I) → Bool
+  is_draining None = false
+  is_draining (Some place) = is_placed place.state && not (nat_eq (length place.queue.items) 0)
+
   abbrev pub waits_at : Option (FlowPlace H I) → Option ℕ
   waits_at None = None
   waits_at (Some place) = waits_for place.state

@@ -1,14 +1,14 @@
 //! Steps at one slot: an order is offered, an item is accepted, and a half comes home.
 ghost use Rattle.std.specs.Prelude.{◌≡◌, ◌≤◌, ◌<◌, ◌+◌, ◌^◌, true, false, ◌∷◌};
 ghost use Rattle.std.specs.Prelude.{◌++◌, ℕ, Some, None, length, vec_len, slice_set, OnOk, OnErr};
-ghost use Rattle.std.specs.Prelude.{IfErr};
+ghost use Rattle.std.specs.Prelude.{IfErr, is_some};
 ghost use Rattle.std.specs.List.{sum_by, All};
 ghost use Rattle.flow_core.specs.declared.order.FlowOrder.TheVariants.{Arrive, Item, Leave};
 ghost use Rattle.flow_core.specs.Orders.{MayFollow, stands};
 ghost use Rattle.flow_migration.specs.declared.place.FlowState.TheVariants.{Placed};
 ghost use Rattle.worker_core.specs.Desks.{Given, Refused, order_count, sent_at};
-ghost use Rattle.flow_migration.specs.Places.{at_end, to_end, is_placed, is_settled};
-ghost use Rattle.flow_migration.specs.Places.{parks_at, is_busy, place_at, is_admitted, Fits};
+ghost use Rattle.flow_migration.specs.Places.{at_end, to_end, is_placed, is_settled, waits_for, waits_at};
+ghost use Rattle.flow_migration.specs.Places.{parks_at, is_busy, is_draining, place_at, is_admitted, Fits};
 ghost use Rattle.flow_migration.specs.Places.{accepted_by};
 ghost use Rattle.flow_migration.specs.Keeps.{MayGive, IsReady};
 ghost use Rattle.flow_migration.specs.Sides.{is_lost};
@@ -328,7 +328,29 @@ fn serve<H: Flow, R: Wait>(
     });
 }
 
-// The same at the place of a slot.
+// Whether a half waits to be sent, or to be told to leave.
+fn waits<H>(state: &FlowState<H>) -> bool
+    ensures { result ≡ is_some (waits_for state.now) }
+{
+    match state {
+        FlowState::Front { .. } => true,
+        FlowState::Placed { .. } => false,
+        FlowState::Recall { .. } => true,
+        FlowState::Leaving { .. } => false,
+    }
+}
+
+// Whether an order waits at the place of a slot.
+fn is_waiting<H: Flow>(places: &[Option<FlowPlace<H>>], slot: Slot) -> bool
+    ensures { result ≡ is_some (waits_at (place_at places.now slot)) }
+{
+    match places.get(slot.0 as usize) {
+        Some(Some(place)) => waits(&place.state),
+        _ => false,
+    }
+}
+
+// The same at the place of a slot. One without an order is left where it lies.
 pub fn serve_at<H: Flow, R: Wait>(
     rt: &R,
     desks: &mut Vec<FlowDesk<H>>,
@@ -341,6 +363,9 @@ pub fn serve_at<H: Flow, R: Wait>(
     ensures { AtSlot (Served (λ half. H.slot_at (H.name half)) H.item_slot H.handled slot) slot
         places.old.items places.new.items desks.old.items desks.new.items }
 {
+    if !is_waiting(places, slot) {
+        return;
+    }
     serve(rt, desks, &mut places[slot.0 as usize], slot)
 }
 
@@ -375,7 +400,23 @@ fn drain<H: Flow, R: Wait>(
     });
 }
 
-// The same at the place of a slot.
+// Whether items wait at the place of a slot, whose half is placed.
+fn is_draining<H: Flow>(places: &[Option<FlowPlace<H>>], slot: Slot) -> bool
+    ensures { result ≡ is_draining (place_at places.now slot) }
+{
+    match places.get(slot.0 as usize) {
+        Some(Some(place)) => drains(place),
+        _ => false,
+    }
+}
+
+fn drains<H: Flow>(place: &FlowPlace<H>) -> bool
+    ensures { result ≡ is_draining (Some place.now) }
+{
+    placed(&place.state) && !place.queue.is_empty()
+}
+
+// The same at the place of a slot. One that has nothing to send is left where it lies.
 pub fn drain_at<H: Flow, R: Wait>(
     rt: &R,
     desks: &mut Vec<FlowDesk<H>>,
@@ -388,6 +429,9 @@ pub fn drain_at<H: Flow, R: Wait>(
     ensures { AtSlot (Drained (λ half. H.slot_at (H.name half)) H.item_slot H.handled slot) slot
         places.old.items places.new.items desks.old.items desks.new.items }
 {
+    if !is_draining(places, slot) {
+        return;
+    }
     drain(rt, desks, &mut places[slot.0 as usize], slot)
 }
 

@@ -1,5 +1,6 @@
 -- The open entries of the lines that were taken.
-use Rattle.std.specs.Prelude.{ℕ, ◌+◌, true, false, List, [], ◌∷◌, map}
+use Rattle.std.specs.Prelude.{◌≡◌, ℕ, ◌+◌, ◌-◌, true, false, List, [], ◌∷◌, map, length, slice_get}
+use Rattle.std.specs.Prelude.{Option, Some, None}
 use Rattle.trace_lines.specs.Line.{Line}
 use Rattle.report_lines.specs.declared.entry.LineEntry.{LineEntry}
 use Rattle.report_lines.specs.declared.entry.LineEntry.TheVariants as line
@@ -31,3 +32,15 @@ took_of (entry.Note text) = answer.Answered
 took_of (entry.Command slot) = answer.Accepted false
 took_of (entry.Packet slot parked) = answer.Accepted parked
 took_of (entry.Full slot packet) = answer.Full
+
+-- the slot of a command that was accepted
+abbrev pub commanded_by : Open → Option ℕ
+commanded_by (entry.Note text) = None
+commanded_by (entry.Command slot) = Some slot
+commanded_by (entry.Packet slot parked) = None
+commanded_by (entry.Full slot packet) = None
+
+-- the last of these lines is a command of a slot that was accepted
+abbrev pub IsLastCommand : ℕ → List Taken → Type 0
+IsLastCommand slot entries = (taken : Taken) × (slice_get entries (length entries - 1) ≡ Some taken)
+    × (commanded_by taken.open ≡ Some slot)

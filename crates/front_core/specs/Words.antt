@@ -43,6 +43,10 @@ latest_in front = front.latest
 abbrev pub fulls_in : Front → ℕ
 fulls_in front = front.halves.fulls
 
+-- the slots whose control half may be on its way
+abbrev pub moving_in : Front → List ℕ
+moving_in front = front.halves.sides.moving.items
+
 -- the lanes of the desks of both sides, by slice
 abbrev pub control_lanes : Front → List Lanes
 control_lanes front = lanes_of (both front.halves).control_desks

@@ -1,5 +1,5 @@
 //! The front of an epoch.
-ghost use Rattle.std.specs.Prelude.{◌≡◌, ◌<◌, ◌≤◌, ◌+◌, ◌++◌, ◌∷◌, [], ◌^◌, map, OnOk, OnErr, IfOk};
+ghost use Rattle.std.specs.Prelude.{◌≡◌, ◌<◌, ◌≤◌, ◌+◌, ◌++◌, ◌∷◌, [], ◌^◌, map, length, OnOk, OnErr, IfOk, IfSome};
 
 use crate::opening::{Opened, controls_of, flows_of};
 use crate::taken::{Open, Taken};
@@ -11,6 +11,7 @@ use flow_migration::FlowSide;
 use front_halves::Halves;
 use front_sides::BothSides;
 use migration::Side;
+use pc_base::{SliceNo, Slot};
 use std::alloc::Global;
 use std::snapshot::Snapshot;
 use std::sync::Wait;
@@ -62,7 +63,8 @@ impl Front {
     ghost use Rattle.front_core.specs.declared.took.Took.TheVariants.{Full};
     ghost use Rattle.front_core.specs.Keeping.{FrontKeeps};
     ghost use Rattle.front_core.specs.Words.{IsWhole, opened_of, entries_in, taken_by, lines_in, latest_in, fulls_in};
-    ghost use Rattle.front_core.specs.Words.{control_lanes, flow_lanes, TakesLine};
+    ghost use Rattle.front_core.specs.Words.{control_lanes, flow_lanes, moving_in, TakesLine};
+    ghost use Rattle.front_core.specs.Entries.{IsLastCommand};
     ghost use Rattle.front_core.specs.Taking.{MayBecome};
     ghost use Rattle.front_halves.specs.Views.{both};
     ghost use Rattle.worker_core.specs.Desks.{lanes_of};
@@ -196,6 +198,36 @@ impl Front {
         self.lines += 1;
         self.latest = line.moment.0;
         Ok(took)
+    }
+
+    /// Takes memory for the entries of so many lines more, so that none of them moves the others. Out of memory all
+    /// stays as it was.
+    pub fn expect(&mut self, lines: usize) -> Result<(), NoMemory>
+        ensures whole { IsWhole self.old → IsWhole self.new }
+        ensures same { (opened_of self.new ≡ opened_of self.old) × (entries_in self.new ≡ entries_in self.old) }
+        ensures counts { (lines_in self.new ≡ lines_in self.old) × (latest_in self.new ≡ latest_in self.old)
+            × (fulls_in self.new ≡ fulls_in self.old) }
+        ensures lanes { (control_lanes self.new ≡ control_lanes self.old)
+            × (flow_lanes self.new ≡ flow_lanes self.old) }
+    {
+        self.entries.reserve(lines)
+    }
+
+    /// Where the last line is a command that was accepted: its slot, and the slice that its control half was sent
+    /// to and isn't known to have left. The half may be elsewhere meanwhile.
+    pub fn called(&self) -> Option<(SliceNo, Slot)>
+        ensures { IfSome result (λ called. IsLastCommand called.1 (entries_in self.now)) }
+    {
+        let slot = self.entries.last()?.open.commanded()?;
+        let slice = self.halves.sides.controls.slice_of(slot)?;
+        Some((slice, slot))
+    }
+
+    /// How many slots are kept as moving: the control half of each may be on its way.
+    pub fn on_their_way(&self) -> usize
+        ensures { result ≡ length (moving_in self.now) }
+    {
+        self.halves.sides.moving.len()
     }
 
     /// How many lines the run had, those of this epoch too.

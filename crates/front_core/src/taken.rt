@@ -1,6 +1,6 @@
 //! What is kept of a line that was taken, until the epoch closes.
 ghost use Rattle.std.specs.Prelude.{◌≡◌};
-ghost use Rattle.front_core.specs.Entries.{took_of};
+ghost use Rattle.front_core.specs.Entries.{commanded_by, took_of};
 
 use crate::Took;
 use pc_base::{Octets, Slot};
@@ -26,6 +26,18 @@ impl Open {
             Open::Command(_) => Took::Accepted { parked: false },
             Open::Packet { parked, .. } => Took::Accepted { parked: *parked },
             Open::Full { .. } => Took::Full,
+        }
+    }
+
+    /// The slot of a command that was accepted.
+    pub(crate) fn commanded(&self) -> Option<Slot>
+        ensures { result ≡ commanded_by self.now }
+    {
+        match self {
+            Open::Command(slot) => Some(*slot),
+            Open::Note(_) => None,
+            Open::Packet { .. } => None,
+            Open::Full { .. } => None,
         }
     }
 }

@@ -15,8 +15,7 @@ use worker_core::Traveller;
 pub struct BothSides<H: Traveller, F: Flow> {
     pub controls: Side<H>,
     pub flows: FlowSide<F>,
-    /// Slots whose control half may be on its way, the latest last. All others' were sent, and nothing is asked
-    /// of them.
+    /// Slots whose control half may be on its way. All others' were sent, and nothing is asked of them.
     pub moving: Vec<Slot>,
 }
 
@@ -122,13 +121,7 @@ fn pump_controls<H: Traveller, R: Wait>(rt: &R, controls: &mut Side<H>, moving: 
     settle(controls, moving);
 }
 
-// Forgets the latest of those that moved, as far as their halves were sent.
+// Forgets those whose halves were sent.
 fn settle<H: Traveller>(controls: &Side<H>, moving: &mut Vec<Slot>) {
-    for _ in 0..moving.len() {
-        match moving.last() {
-            Some(slot) if controls.settled(*slot) => {}
-            _ => return,
-        }
-        let _settled = moving.pop();
-    }
+    moving.retain(|slot| !controls.settled(*slot));
 }

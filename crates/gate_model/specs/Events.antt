@@ -26,7 +26,7 @@ packets_of events = filter_map as_packet events
 abbrev pub FewEvents : ℕ → Type 0
 FewEvents count = count < 2 ^ 40
 
--- Counts may rise once more where they are below this: those of a saved state are below 2^50, two of them together below
--- 2^51, and few events follow.
+-- Counts may rise once more where they are below this: those of a saved state are below 2^50, two of them together
+-- below 2^51, and few events follow.
 abbrev pub MayRise : ℕ → Type 0
 MayRise count = count < 2 ^ 52

@@ -31,6 +31,17 @@ module _ {H : Type 0} where
   is_placed_at None = false
   is_placed_at (Some place) = is_placed place.state
 
+  -- the slice that the half was sent to and isn't known to have left
+  abbrev pub sent_to : State H → Option ℕ
+  sent_to (Front _ _) = None
+  sent_to (Placed at) = Some at
+  sent_to (Recall at _ _) = Some at
+  sent_to (Leaving from _) = Some from
+
+  abbrev pub slice_at : Option (Place H) → Option ℕ
+  slice_at None = None
+  slice_at (Some place) = sent_to place.state
+
   -- the slice whose lane of orders the next order waits for
   abbrev pub waits_for : State H → Option ℕ
   waits_for (Front _ to) = Some to

@@ -51,7 +51,7 @@ pub struct SideEnd<H: Traveller> {
 
 impl<H: Traveller> Side<H> {
     ghost use Rattle.worker_core.specs.Desks.{lanes_of, homes_of, fulls_at};
-    ghost use Rattle.migration.specs.Places.{place_at, is_admitted, is_placed_at};
+    ghost use Rattle.migration.specs.Places.{place_at, is_admitted, is_placed_at, slice_at};
     ghost use Rattle.migration.specs.Steps.{Admits, MovesAt};
     ghost use Rattle.worker_core.specs.BySlot.{Grown};
     ghost use Rattle.migration.specs.Sides.{AllMetFull};
@@ -162,6 +162,16 @@ impl<H: Traveller> Side<H> {
         match self.places.get(slot.0 as usize) {
             Some(Some(place)) => steps::placed(&place.state),
             _ => false,
+        }
+    }
+
+    /// The slice that the half of the slot was sent to and isn't known to have left; none where it is at the front.
+    pub fn slice_of(&self, slot: Slot) -> Option<SliceNo>
+        ensures { result ≡ slice_at (place_at (places_of self.now) slot) }
+    {
+        match self.places.get(slot.0 as usize) {
+            Some(Some(place)) => steps::sent_to(&place.state),
+            _ => None,
         }
     }
 

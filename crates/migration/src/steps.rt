@@ -5,7 +5,7 @@ ghost use Rattle.std.specs.List.{sum_by};
 ghost use Rattle.std.specs.List.Sorted.{IsNonDecreasing};
 ghost use Rattle.worker_core.specs.Desks.{order_count};
 ghost use Rattle.migration.specs.Places.{place_at, PlaceFits, slices_fit, is_admitted, is_placed, is_waiting};
-ghost use Rattle.migration.specs.Places.{is_waiting_at};
+ghost use Rattle.migration.specs.Places.{is_waiting_at, sent_to};
 ghost use Rattle.migration.specs.Steps.{Sends, Recalls, Serves, PlaceServed, ServedAt, Goes, Moves, MovesAt};
 ghost use Rattle.migration.specs.Steps.{NewlyWaits};
 ghost use Rattle.migration.specs.Steps.{Homes, Welcomes, WelcomesAt};
@@ -81,6 +81,18 @@ pub fn placed<H>(state: &State<H>) -> bool
         State::Placed { .. } => true,
         State::Recall { .. } => false,
         State::Leaving { .. } => false,
+    }
+}
+
+// The slice that the half was sent to and isn't known to have left.
+pub fn sent_to<H>(state: &State<H>) -> Option<SliceNo>
+    ensures { result ≡ sent_to state.now }
+{
+    match state {
+        State::Front { .. } => None,
+        State::Placed { at } => Some(*at),
+        State::Recall { at, .. } => Some(*at),
+        State::Leaving { from, .. } => Some(*from),
     }
 }
 

@@ -8,7 +8,8 @@ use Rattle.gate_model.specs.SlotPast.{past_of, session_after}
 use Rattle.gate_model.specs.declared.event.Event.{Event}
 use Rattle.gate_model.specs.declared.event.Event.TheVariants as event
 use Rattle.demux.specs.Trace.{meaning}
-use Rattle.past_ranges.specs.Ranges.{EventAsksOnce, EventIn, HappeningIn, IsShortAnswer, MeaningAsksOnce, OpenIn, PastIn}
+use Rattle.past_ranges.specs.Ranges.{EventAsksOnce, EventIn, HappeningIn, IsShortAnswer, MeaningAsksOnce, OpenIn}
+use Rattle.past_ranges.specs.Ranges.{PastIn}
 
 -- what is remembered behind them is in range
 abbrev pub EventsLeadInRange : Type 0

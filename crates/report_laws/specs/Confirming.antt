@@ -21,8 +21,8 @@ lines_of report = map (λ (told : Entry). entry_text (shown false told)) (entrie
 abbrev pub AreHeld : Setup → Setup → Type 0
 AreHeld under setup = (under ≡ setup) ⊎ ((under ≡ solo) × (slices_of setup ≡ 64))
 
--- A trace of fewer than 2^40 lines, none of which is the one that ends it, and a lawful report of it. The trace stops at
--- the first of the lines that is a bad one.
+-- A trace of fewer than 2^40 lines, none of which is the one that ends it, and a lawful report of it. The trace stops
+-- at the first of the lines that is a bad one.
 pub record IsOwnReport (under : Setup) (trace : List Text) (report : Report) : Type 0 where
   pub unmarked : All (λ (text : Text). bytes_eq text marker ≡ false) trace
   pub few : length trace + 2 < 2 ^ 40

@@ -39,9 +39,9 @@ pub record IsOwnRun (may_have : Input → Report → Type 0) (octets text : List
   pub wrote : Reports may_have false status.Ok (Unit {0}) octets left text
   pub read : (texts_of (audited_octets octets text)).stop ≡ ended
 
--- Where no count of faults rises, a run of `audit` over it has status 0, unless memory runs out: of the same slices, room
--- and lanes; or of what one thread wrote of one thread, or of 64 slices with any room and lanes; whether or not it is
--- asked where a report is refuted.
+-- Where no count of faults rises, a run of `audit` over it has status 0, unless memory runs out: of the same slices,
+-- room and lanes; or of what one thread wrote of one thread, or of 64 slices with any room and lanes; whether or not it
+-- is asked where a report is refuted.
 abbrev pub RunIsConfirmed : Setup → (Input → Report → Type 0) → Type 0
 RunIsConfirmed under may_have = (octets text : List ℕ) (alone why : Bool) (slices room lane : ℕ) (ending : Status)
     → AreHeld under (audit_setup alone slices room lane) → IsOwnRun may_have octets text

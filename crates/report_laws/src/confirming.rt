@@ -5,8 +5,9 @@ ghost use Rattle.report_laws.specs.Running.{EachIsLawful, OwnRunIsConfirmed, Own
 
 use drive_run::driven_reports_are_lawful;
 
-/// An audit finds nothing to refute in a lawful report of a trace, without its places: held against the same slices, room
-/// and lanes; and in one that one thread made, held against one thread, or against 64 slices with any room and lanes.
+/// An audit finds nothing to refute in a lawful report of a trace, without its places: held against the same slices,
+/// room and lanes; and in one that one thread made, held against one thread, or against 64 slices with any room and
+/// lanes.
 pub fn own_report_is_confirmed()
     ensures yes { OwnReportIsConfirmed }
     ensures only { OwnReportIsNeverRefuted }

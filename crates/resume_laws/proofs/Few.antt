@@ -1,8 +1,6 @@
 -- How much an event charges, and how many packets are held behind it.
-use Rattle.std.proofs.Common.{◌≡◌, ℕ, ◌+◌, ◌-◌, ◌==◌, ◌<◌, ◌≤◌, ◌&&◌, nat_le, nat_lt, Bool, true, false, not, cond, if◌then◌else◌, List, [], ◌∷◌, ◌++◌, map, length, fold, Option, Some, None, unwrap_or, refl, sym, ap, ◌∙◌, subst, arith, length-append, filter}
+use Rattle.std.proofs.Common.{◌≡◌, ℕ, ◌+◌, ◌-◌, ◌==◌, ◌≤◌, ◌&&◌, nat_le, nat_lt, Bool, true, false, if◌then◌else◌, List, [], ◌∷◌, length, fold, Option, Some, None, unwrap_or, refl, arith, length-append}
 use Rattle.std.specs.List.{AllByRecursion}
-use Rattle.std.proofs.lemmas.Bool.Decides.{nat_tests}
-use Rattle.std.proofs.lemmas.List.{length-map}
 use Rattle.pc_base.specs.Addresses.{addr_of}
 use Rattle.pc_base.specs.declared.packet.Packet.{Packet}
 use Rattle.pc_base.specs.declared.packet.Peer.{Peer}
@@ -11,8 +9,6 @@ use Rattle.pc_base.specs.declared.packet.Way.TheVariants.{Up, Down}
 use Rattle.ipv4_packet.specs.Fields.{source_of}
 use Rattle.rate_policer.specs.Buckets.{BucketState}
 use Rattle.charging_book.specs.declared.records.Piece.{Piece}
-use Rattle.charging_book.specs.declared.records.Why.TheVariants.{Qos, Gone}
-use Rattle.charging_book.specs.Happenings.{closed, started}
 use Rattle.bearer_state.specs.Bearer.{EachPair}
 use Rattle.bearer_state.specs.declared.version.ActiveBearer.{ActiveBearer}
 use Rattle.bearer_state.specs.Version.{IsActiveBearer, IsActiveBefore, IsVersion, VersionState, bearer_at}
@@ -25,7 +21,7 @@ use Rattle.packet_steps.specs.Standing.{CountersState}
 use Rattle.packet_steps.specs.Verdicts.{bearer_for, is_packet, message_for}
 use Rattle.packet_steps.specs.Running.{Brought, brought, brought_at, brought_through, brought_to, brought_with, charge_of, charged_by, held_behind, left_for, planned, planned_by_way, planned_down, planned_into, planned_through, planned_to, planned_up, planned_waiting}
 use Rattle.packet_steps.specs.Change as change
-use Rattle.gate_model.proofs.FewCharges.{few_marks, filter_few, is_short}
+use Rattle.gate_model.proofs.FewCharges.{few_marks, is_short}
 use Rattle.parts_laws.specs.Charging.{AreWithin}
 
 -- no count is above a higher number either

@@ -1,5 +1,5 @@
 -- A line leaves gateways alike that were so, and both answer it alike.
-use Rattle.std.proofs.Common.{◌≡◌, ℕ, zero, suc, ◌+◌, ◌-◌, ◌*◌, ◌^◌, ◌<◌, ◌≤◌, false, List, [], ◌∷◌, ◌++◌, length, map, set, slice_get, Option, Some, None, refl, sym, ap, ◌∙◌, subst, arith, length-append, length-set, lit<}
+use Rattle.std.proofs.Common.{◌≡◌, ℕ, zero, suc, ◌+◌, ◌-◌, ◌*◌, ◌^◌, ◌≤◌, List, [], ◌∷◌, ◌++◌, length, set, slice_get, Some, None, refl, sym, ap, ◌∙◌, subst, arith, length-append, length-set, lit<}
 use Rattle.std.proofs.lemmas.Bool.{false≢true}
 use Rattle.pc_base.specs.declared.effect.Effect.{Effect}
 use Rattle.pc_base.specs.declared.packet.Verdict.{Verdict}
@@ -19,10 +19,9 @@ use Rattle.demux.specs.Resolved.{decided, slot_of}
 use Rattle.demux.specs.Texts.{move_note}
 use Rattle.subscriber.specs.Standing.{SubscriberState, commands_met, new_subscriber}
 use Rattle.gate_model.proofs.Members.{in_contains}
-use Rattle.parts_laws.specs.Subscribers.{AreSubscribersAlike}
-use Rattle.resume_run.specs.Answering.{Answers, Judges}
+use Rattle.resume_run.specs.Answering.{Judges}
 use Rattle.resume_run.specs.Gateway.{AnswersAs, AnswersLine, AnswersLines, Bound, Carried, Commanded, Gateway, Told, admitting, answered, judged, noted}
-use Rattle.resume_laws.proofs.Steps.{AnswersAlike, AreOne, IsGoing, JudgesAlike, answers_alike, judges_alike, more_are_one, step}
+use Rattle.resume_laws.proofs.Steps.{AnswersAlike, AreOne, JudgesAlike, answers_alike, judges_alike, more_are_one, step}
 
 -- subscribers, one for one
 abbrev pub AreAllOne : List SubscriberState → List SubscriberState → ℕ → Type 0

@@ -1,5 +1,5 @@
 -- A trace that is cut behind whole epochs, saved and resumed, has the report of the whole.
-use Rattle.std.proofs.Common.{◌≡◌, ℕ, ◌+◌, ◌-◌, ◌*◌, ◌^◌, ◌<◌, ◌≤◌, ◌==◌, Bool, true, false, cond, List, [], ◌∷◌, ◌++◌, length, map, Option, Some, None, refl, sym, ap, ◌∙◌, subst, arith, append-nil, length-append}
+use Rattle.std.proofs.Common.{◌≡◌, ℕ, ◌+◌, ◌*◌, ◌==◌, Bool, true, false, cond, List, [], ◌∷◌, ◌++◌, length, map, Option, Some, refl, sym, ap, ◌∙◌, subst, arith, append-nil}
 use Rattle.std.specs.List.{find, flat_map}
 use Rattle.std.specs.Option.{option_map}
 use Rattle.charging_book.specs.Parts.{counts_in}
@@ -18,12 +18,12 @@ use Rattle.subscriber.specs.Standing.{SubscriberState}
 use Rattle.parts_laws.specs.Subscribers.{AreSubscribersAlike}
 use Rattle.record_codec.specs.Saved.{all_saved}
 use Rattle.trace_run.specs.Entries.{open_entry, open_for}
-use Rattle.resume_run.specs.Gateway.{AnswersLines, Gateway, Told, no_subscribers}
+use Rattle.resume_run.specs.Gateway.{AnswersLines, no_subscribers}
 use Rattle.resume_run.specs.Reports.{AnswersEpochs, opens_from, opens_of, stop_told}
 use Rattle.resume_laws.specs.Law.{ResumedReportsGoOn}
 use Rattle.resume_laws.proofs.Steps.{AreOne, step}
 use Rattle.resume_laws.proofs.Gateways.{AreAllOne, AreGatewaysOne, LinesAlike, lines_one}
-use Rattle.resume_laws.proofs.Splits.{AreWhole, ReportsAlike, Split, all_lines, all_one, epochs_one, split}
+use Rattle.resume_laws.proofs.Splits.{ReportsAlike, Split, all_lines, all_one, epochs_one, split}
 use Rattle.resume_laws.proofs.SavedAlike.{all_saved_alike, all_saved_same}
 
 -- ---- open counters

@@ -1,8 +1,7 @@
 -- The same of octets that end with a FENCE.
-use Rattle.std.proofs.Common.{◌≡◌, ℕ, ◌+◌, ◌-◌, ◌^◌, ◌<◌, ◌≤◌, ◌==◌, ◌≢◌, ◌||◌, Bool, true, false, All, List, [], ◌∷◌, ◌++◌, length, map, take, Result, Ok, Err, refl, sym, ap, ◌∙◌, subst, arith, append-nil, append_assoc, length-append, length-take}
+use Rattle.std.proofs.Common.{◌≡◌, ℕ, ◌+◌, ◌-◌, ◌^◌, ◌<◌, ◌≤◌, ◌==◌, ◌≢◌, ◌||◌, Bool, true, false, List, [], ◌∷◌, ◌++◌, length, map, take, Result, Ok, Err, refl, sym, ap, ◌∙◌, subst, arith, append-nil, append_assoc, length-take}
 use Rattle.std.specs.Prelude.{if◌then◌else◌, nat_le, nat_lt}
 use Rattle.std.specs.List.{flat_map, slice_split}
-use Rattle.std.proofs.lemmas.Bool.{cases_Bool}
 use Rattle.std.proofs.lemmas.Bool.Decides.{nat_tests}
 use Rattle.std.proofs.lemmas.List.{take_all}
 use Rattle.std.proofs.lemmas.List.Concat.{flat_map-append}
@@ -13,11 +12,10 @@ use Rattle.pc_outside.specs.Limits.{input_max, line_max, newline}
 use Rattle.text_fields.specs.Fields.{is_empty}
 use Rattle.trace_lines.specs.Epochs.{ends_epoch, is_fence, octets_in}
 use Rattle.trace_lines.specs.Text.{line_text}
-use Rattle.trace_lines.specs.Input.{Input, Stop, after_lines, big, ended, input_of, input_within, line_then, long, pieces_meaning, rest_meaning, stopped}
+use Rattle.trace_lines.specs.Input.{Input, after_lines, big, ended, input_of, input_within, line_then, long, pieces_meaning, stopped}
 use Rattle.trace_lines.specs.Line.{Line}
 use Rattle.trace_lines.specs.Meaning.{line_meaning}
 use Rattle.trace_lines.specs.declared.bad.LineBad.{LineBad}
-use Rattle.trace_lines.specs.declared.line.LineKind.{LineKind}
 use Rattle.trace_lines.proofs.InputLemmas.{at_end}
 use Rattle.report_lines.specs.Text.{entry_text, shown}
 use Rattle.report_lines.specs.declared.entry.Entry.{Entry}
@@ -25,12 +23,10 @@ use Rattle.report_lines.specs.declared.entry.Entry.TheVariants as entry
 use Rattle.lawful_run.specs.Cut.{IsCut}
 use Rattle.lawful_run.specs.Report.{EpochReport, Report, entries_of, epoch_entries, texts_of}
 use Rattle.lawful_run.proofs.CutLines.{cut_nothing, cut_open, cut_whole}
-use Rattle.record_codec.specs.Saved.{FileState}
 use Rattle.trace_run.specs.Report.{input_with}
-use Rattle.resume_run.specs.Gateway.{Gateway, no_subscribers}
+use Rattle.resume_run.specs.Gateway.{no_subscribers}
 use Rattle.resume_run.specs.Reports.{Gives, IsResumed}
 use Rattle.resume_laws.specs.Law.{EndWithFence, ResumedTextsGoOn}
-use Rattle.resume_run.specs.Left.{IsLeft}
 use Rattle.resume_laws.proofs.LawLemmas.{reports_go_on}
 use Rattle.resume_laws.proofs.Octets.{Say, all_said, ends_at_last}
 use Rattle.at_rest.specs.Coming.{latest_behind}

@@ -1,13 +1,12 @@
 -- A run of `resume` on a saved state and a trace behind it.
-use Rattle.std.proofs.Common.{◌≡◌, ◌≢◌, ℕ, ◌+◌, ◌-◌, ◌^◌, ◌<◌, ◌≤◌, ◌==◌, Bool, true, false, cond, All, List, [], ◌∷◌, ◌++◌, ◌⊎◌, length, inl, inr, refl, sym, ap, ◌∙◌, subst, arith, append-nil, append_assoc, length-append, take}
+use Rattle.std.proofs.Common.{◌≡◌, ℕ, ◌+◌, ◌-◌, ◌^◌, ◌<◌, ◌==◌, Bool, true, false, List, [], ◌∷◌, ◌++◌, ◌⊎◌, length, inl, inr, refl, sym, ap, ◌∙◌, subst, arith, append-nil, length-append, take}
 use Rattle.std.specs.Prelude.{if◌then◌else◌, nat_le, nat_lt}
-use Rattle.std.specs.List.{flat_map, join_with_byte, slice_split}
+use Rattle.std.specs.List.{join_with_byte, slice_split}
 use Rattle.std.proofs.lemmas.Bool.Decides.{nat_tests}
 use Rattle.std.proofs.lemmas.List.{take_all}
 use Rattle.std.proofs.lemmas.List.Splits.{join_with_byte-slice_split}
 use Rattle.pc_outside.specs.Faults.{Rises}
-use Rattle.pc_outside.specs.Limits.{input_max, line_max, newline}
-use Rattle.text_fields.specs.Fields.{is_empty}
+use Rattle.pc_outside.specs.Limits.{line_max, newline}
 use Rattle.audit_reading.specs.Texts.{Text, Texts, after_lines, ended, texts_of, texts_within}
 use Rattle.audit_reading.specs.Texts as texts
 use Rattle.audit_reading.specs.Progress.{HasRead}
@@ -17,10 +16,7 @@ use Rattle.trace_lines.specs.Input as input
 use Rattle.trace_lines.proofs.InputLemmas as input_lemmas
 use Rattle.at_rest.specs.Coming.{latest_behind}
 use Rattle.record_codec.specs.Saved.{FileState}
-use Rattle.record_codec.specs.Spelling.{state}
-use Rattle.state_run.specs.Front.{SaysState}
 use Rattle.state_run.specs.Laws.{LinesSayOneState, TextsSayTheirStates}
-use Rattle.state_run.specs.Text.{IsStateText}
 use Rattle.trace_run.specs.Beginnings.{Beginning, input_from, whole_input}
 use Rattle.trace_run.specs.Report.{IsBad, IsLong, IsText, ReportsFrom}
 use Rattle.trace_run.specs.declared.status.Status.{Status}

@@ -1,24 +1,22 @@
 -- Subscribers that are alike are saved alike, and those that are saved alike are so.
-use Rattle.std.proofs.Common.{◌≡◌, ℕ, ◌==◌, ◌≤◌, Bool, true, false, cond, IsTrue, arith, List, [], ◌∷◌, ◌++◌, length, map, Option, Some, None, refl, sym, ap, ◌∙◌, subst, inl, inr, eq-eqb}
-use Rattle.std.specs.List.{AllByRecursion, Contains, cons_option, filter_map, find, flat_map}
-use Rattle.std.proofs.lemmas.Bool.{eqb-true, false≢true}
+use Rattle.std.proofs.Common.{◌≡◌, ℕ, ◌==◌, Bool, true, false, cond, arith, List, [], ◌∷◌, ◌++◌, length, map, Option, Some, None, refl, sym, ap, ◌∙◌, subst, inl, inr}
+use Rattle.std.specs.List.{AllByRecursion, Contains, cons_option, filter_map, flat_map}
+use Rattle.std.proofs.lemmas.Bool.{eqb-true}
 use Rattle.rate_policer.specs.Buckets.{BucketState}
-use Rattle.charging_book.specs.Accounts.{Accounts, AreDistinct}
-use Rattle.charging_book.specs.Parts.{ArePiecesOf, counts_in, moments_in}
+use Rattle.charging_book.specs.Accounts.{AreDistinct}
+use Rattle.charging_book.specs.Parts.{ArePiecesOf}
 use Rattle.charging_book.specs.Posted.{is_of}
 use Rattle.charging_book.specs.declared.records.Piece.{Piece}
 use Rattle.bearer_state.specs.Qos.{is_guaranteed}
 use Rattle.bearer_state.specs.Session.{SessionState}
 use Rattle.bearer_state.specs.Version.{VersionState, version_of}
 use Rattle.bearer_state.specs.declared.version.ActiveBearer.{ActiveBearer}
-use Rattle.packet_steps.specs.Change.{has_life}
 use Rattle.packet_steps.specs.Meters.{own_meter}
 use Rattle.packet_steps.specs.Parts.{IsMadeOf, PartsState, buckets_in, own_buckets}
-use Rattle.packet_steps.specs.Rows.{HeldRow}
 use Rattle.packet_steps.specs.declared.meters.Meter.{Meter}
 use Rattle.packet_steps.specs.declared.meters.Meters.{Meters}
 use Rattle.subscriber.specs.Standing.{SubscriberState}
-use Rattle.gate_model.proofs.Members.{In, in_contains, in_any, contains_in, in_map, of_any, of_find, of_map}
+use Rattle.gate_model.proofs.Members.{In, contains_in, in_map, of_any, of_find}
 use Rattle.parts_laws.specs.Alike.{AreAlike, ArePiecesAlike, life_of}
 use Rattle.parts_laws.specs.Alike as alike
 use Rattle.parts_laws.specs.Charging.{AreOpen}

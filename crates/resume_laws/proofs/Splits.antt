@@ -1,11 +1,11 @@
 -- The epochs of two parts, and of the first alone.
-use Rattle.std.proofs.Common.{◌≡◌, ℕ, ◌+◌, ◌-◌, ◌*◌, ◌^◌, ◌≤◌, Bool, true, false, All, List, [], ◌∷◌, ◌++◌, length, map, refl, sym, ap, ◌∙◌, subst, arith, append_assoc, length-append}
+use Rattle.std.proofs.Common.{◌≡◌, ℕ, ◌+◌, ◌-◌, ◌*◌, ◌^◌, ◌≤◌, Bool, true, All, List, [], ◌∷◌, ◌++◌, length, refl, sym, ap, ◌∙◌, subst, arith, length-append}
 use Rattle.std.proofs.lemmas.List.Elements.{All-head, All-tail}
 use Rattle.trace_lines.specs.Line.{Line}
 use Rattle.lawful_run.specs.Cut.{lines_in}
 use Rattle.lawful_run.specs.Report.{EpochReport}
 use Rattle.lawful_run.specs.Trace.{is_whole}
-use Rattle.resume_run.specs.Gateway.{AnswersLine, AnswersLines, Gateway, Told}
+use Rattle.resume_run.specs.Gateway.{AnswersLines, Gateway, Told}
 use Rattle.resume_run.specs.Reports.{AnswersAll, AnswersEpochs, own_told, reports_of, told_epoch, with_stop}
 use Rattle.resume_run.proofs.LineLemmas.{lines_then}
 use Rattle.resume_laws.proofs.Steps.{step}

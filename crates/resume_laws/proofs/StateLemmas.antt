@@ -12,7 +12,7 @@ use Rattle.state_run.specs.Laws.{LinesSayOneState}
 use Rattle.state_run.proofs.SavedLemmas.{one_front}
 use Rattle.trace_run.specs.declared.status.Status.{Status}
 use Rattle.trace_run.specs.declared.status.Status.TheVariants as status
-use Rattle.resume_laws.specs.Resumes.{HasState, Resumed, ResumesAs, StatesAreOne, StatesAreTold, StatesAreToldExactly, StoppedFirst}
+use Rattle.resume_laws.specs.Resumes.{HasState, Resumed, StatesAreOne, StatesAreTold, StatesAreToldExactly, StoppedFirst}
 
 -- the lines of an input begin with those of its state
 pub begins_so : (octets : List ℕ) (found : HasState octets)

@@ -1,5 +1,5 @@
 -- An event leaves subscribers alike that were so, and both answer it alike.
-use Rattle.std.proofs.Common.{◌≡◌, ℕ, ◌+◌, ◌-◌, ◌^◌, ◌≤◌, List, [], ◌++◌, length, filter, refl, sym, ap, ◌∙◌, subst, arith}
+use Rattle.std.proofs.Common.{◌≡◌, ℕ, ◌+◌, ◌-◌, ◌^◌, ◌≤◌, List, [], ◌++◌, length, refl, sym, ap, ◌∙◌, subst, arith}
 use Rattle.pc_base.specs.declared.effect.Effect.{Effect}
 use Rattle.pc_base.specs.declared.packet.Packet.{Packet}
 use Rattle.pc_base.specs.declared.packet.Verdict.{Verdict}
@@ -15,10 +15,9 @@ use Rattle.control_steps.specs.Table.{controlled}
 use Rattle.packet_steps.specs.Change.{waits}
 use Rattle.packet_steps.specs.Plans.{verdict_by}
 use Rattle.packet_steps.specs.Rows.{HeldRow}
-use Rattle.packet_steps.specs.Running.{brought, charged_by, held_behind, planned}
+use Rattle.packet_steps.specs.Running.{brought, charged_by, planned}
 use Rattle.packet_steps.specs.declared.plan.Plan.{Plan}
 use Rattle.subscriber.specs.Standing.{SubscriberState, commands_met}
-use Rattle.parts_laws.specs.Alike.{AreAlike, ArePiecesAlike}
 use Rattle.parts_laws.specs.Charging.{AreOpen, AreWithin, MayBeCharged}
 use Rattle.parts_laws.specs.Subscribers.{AreSubscribersAlike, CommandIsAlike, PacketIsAlike}
 use Rattle.parts_laws.proofs.ChargeLemmas.{packets_charged, versions_charged}

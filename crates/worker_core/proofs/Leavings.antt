@@ -15,6 +15,7 @@ use borrow.Author.Tests.{eqb-true, leb-true}
 use Rattle.worker_core.specs.declared.order.Order.{Order}
 use Rattle.worker_core.specs.declared.order.Order.TheVariants.{Leave}
 use Rattle.worker_core.specs.declared.worker.Leaving.{Leaving}
+use Rattle.worker_core.proofs.Seeks.{none_passes}
 use Rattle.worker_core.specs.Leaves.{is_leave, IsOrdered, IsTold, is_met, is_due, is_held, IsNoted, SameElsewhere}
 
 module _ {H : Type 0} where
@@ -181,6 +182,14 @@ pub forgotten : (slot : ℕ) (leaving : List Leaving) → SameElsewhere slot lea
 forgotten slot leaving other done apart =
     any_filter (is_met other done) (λ (x : Leaving). not (nat_eq x.slot slot)) leaving
     (λ x dropped. other_fails_at slot other done x apart (not_false_true (nat_eq x.slot slot) dropped))
+
+-- where nothing is noted, none is due
+pub none_noted : {H : Type 0} (slot_at done : H → ℕ) (leaving : List Leaving) (held : List H)
+    → nat_eq (length leaving) 0 ≡ true → None ≡ position (λ half. is_due leaving (slot_at half) (done half)) held
+none_noted slot_at done [] held none =
+    sym (none_passes (λ half. is_due [] (slot_at half) (done half)) held (λ half. refl))
+none_noted slot_at done (x ∷ xs) held none =
+    absurd (let e = eqb-true (length (x ∷ xs)) 0 none in omega arith)
 
 module _ {H N : Type 0} (name : H → N) (slot_of : N → ℕ) (done : H → ℕ) where
   abbrev pub due_at : List H → List Leaving → Option ℕ

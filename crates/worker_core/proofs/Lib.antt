@@ -5,5 +5,6 @@ pub mod Homes
 pub mod Leavings
 pub mod Rising
 pub mod Rounds
+pub mod Seeks
 pub mod Views
 mod Walks

@@ -141,6 +141,13 @@ module _ {H : Type 0} (works : H → ℕ) where
     others = λ k apart. count-set_other works old i k turned apart ∙ so_far k;
   }
 
+  -- the half at i counts its turn, whatever it came to
+  pub counts_here : (after : ℕ → ℕ) (i : ℕ) (held : List H) (half turned : H) → i < length held
+      → half ≡ get_or held i half → works turned ≡ after (works half)
+      → count_at works (set held i turned) i ≡ after (count_at works held i)
+  counts_here after i held half turned within is work =
+      count-set_same works held i turned within ∙ work ∙ ap after (sym (count_here works held i half within is))
+
   -- a half works after others that didn't
   pub worked_later : (at : ℕ) (first mid new : List H) → NoneWorked works first mid → length mid ≡ length first
       → WorkedAlone works at mid new
@@ -295,6 +302,14 @@ module _ {H : Type 0} (came_to : Did → H → H → Type 0) where
       let was : half ≡ get_or first i none = is ∙ get_any old i half none within ∙ same none in
       let now : turned ≡ get_or (set old i turned) i none = sym (get_or-set_same old i turned none within) in
       subst (λ (p : H × H). came_to did p.0 p.1) (λ j. (was j, now j)) came
+
+  -- and so it did, whatever its turn came to
+  pub answers_so : {E : Type 0} (result : Result Did E) (i : ℕ) (held : List H) (half turned : H) → i < length held
+      → half ≡ get_or held i half → IfOk result (λ did. came_to did half turned)
+      → IfOk result (λ did. AnswersAt came_to did i held (set held i turned))
+  answers_so (Ok did) i held half turned within is came =
+      answers_here did i held held half turned (λ none. refl) within is came
+  answers_so (Err e) i held half turned within is came = tt
 
   -- those before it rest as they did
   pub rest_still : (from i : ℕ) (first old : List H) (turned : H) → AllRest came_to from i first old

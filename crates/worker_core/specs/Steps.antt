@@ -3,6 +3,8 @@ use Rattle.std.specs.Prelude.{◌≡◌, ℕ, ◌+◌, ◌-◌, ◌==◌, if◌t
 use Rattle.std.specs.Prelude.{◌∷◌, ◌++◌, length, map, slice_get}
 use Rattle.std.specs.List.{position, remove, filter}
 use Rattle.lane_core.specs.declared.did.Did.{Did}
+use Rattle.worker_core.specs.declared.attended.Attended.{Attended}
+use Rattle.worker_core.specs.declared.attended.Attended.TheVariants.{Nothing, Came, Told, Went}
 use Rattle.worker_core.specs.declared.order.Order.{Order}
 use Rattle.worker_core.specs.declared.order.Order.TheVariants.{Arrive, Leave}
 use Rattle.worker_core.specs.declared.worker.Leaving.{Leaving}
@@ -57,6 +59,15 @@ pub record WentHome {H : Type 0} (slot_at done : H → ℕ) (old new : View H) :
   pub noted : SameElsewhere (slot_at half) old.leaving new.leaving
   pub forgotten : new.leaving ≡ filter (λ leaving. not (leaving.slot == slot_at half)) old.leaving
   pub cursor : new.cursor ≡ cursor_without old.cursor at (length new.held)
+
+-- what attending did: nothing at all, or it took an order, to arrive or to leave, or a half went home
+abbrev pub Attends : {H : Type 0} → (H → ℕ) → (H → ℕ) → Attended → View H → View H → Type 0
+Attends slot_at done Nothing old new = new ≡ old
+Attends {H} slot_at done (Came slot) old new =
+    (took : TookOrder slot_at old new) × (half : H) × (took.order ≡ Arrive half) × (slot_at half ≡ slot)
+Attends slot_at done (Told slot) old new =
+    (took : TookOrder slot_at old new) × (until : ℕ) × (took.order ≡ Leave slot until)
+Attends slot_at done (Went slot) old new = (went : WentHome slot_at done old new) × (slot_at went.half ≡ slot)
 
 -- from the cursor round halves were turned until one worked, as they tell, and the cursor stands behind that one
 pub record Turned {H N : Type 0} (name : H → N) (turns works : H → ℕ) (turned_at : H → ℕ

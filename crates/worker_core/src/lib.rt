@@ -5,6 +5,7 @@
 //! a lane home.
 #![tactic(auto)]
 
+mod attended;
 mod by_slot;
 mod closing;
 mod desks;
@@ -12,10 +13,12 @@ mod home_lane;
 mod log;
 mod order;
 mod pairing;
+mod seen;
 mod traveller;
 mod turning;
 mod worker;
 
+pub use attended::Attended;
 pub use by_slot::{grow, widen};
 pub use closing::close_home;
 pub use desks::{Desk, LaneDesk, offer, take_home};
@@ -23,5 +26,6 @@ pub use home_lane::HomeLane;
 pub use log::Log;
 pub use order::Order;
 pub use pairing::pair;
+pub use seen::Seen;
 pub use traveller::Traveller;
 pub use worker::{Worker, WorkerEnd};

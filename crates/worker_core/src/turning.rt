@@ -1,16 +1,17 @@
 //! The halves that a worker holds: which are told to leave, which is due, and a turn of each.
 ghost use Rattle.std.specs.Prelude.{◌≡◌, ◌≤◌, ◌<◌, ◌+◌, ◌==◌, not, All, List, length, map, vec_len};
-ghost use Rattle.std.specs.Prelude.{vec_capacity, IsNone, IfSome, IfOk};
+ghost use Rattle.std.specs.Prelude.{false, vec_capacity, slice_index_or, IsNone, IfSome, IfOk};
 ghost use Rattle.std.specs.List.{insert, position, filter};
 ghost use Rattle.worker_core.specs.declared.order.Order.{Order};
 ghost use Rattle.worker_core.specs.Leaves.{IsOrdered, IsTold, IsNoted, is_held, is_due};
 ghost use Rattle.worker_core.specs.declared.order.Order.TheVariants.{Leave};
 ghost use Rattle.worker_core.specs.Turns.{AreTurned, AllTurned, NoneWorked, WorkedAlone, WorkedRound};
+ghost use Rattle.worker_core.specs.Turns.{count_at, works_after};
 ghost use Rattle.worker_core.specs.Answered.{AnswersAt, AllRest, AnswersRound};
 ghost use Rattle.lane_core.specs.declared.did.Did.TheVariants as answers;
 
-use crate::Traveller;
 use crate::worker::Leaving;
+use crate::{Seen, Traveller};
 use lane_core::{Did, NoMemory};
 use pc_base::{SliceNo, Slot};
 use std::sync::Wait;
@@ -69,8 +70,50 @@ fn is_due_home(leaving: &[Leaving], slot: Slot, done: u64) -> bool
 pub fn find_due<H: Traveller>(held: &[H], leaving: &[Leaving]) -> Option<usize>
     ensures { result ≡ position (λ half. is_due leaving.now (H.slot_of (H.name half)) (H.done_of half)) held.now }
 {
+    if leaving.is_empty() {
+        return None;
+    }
     held.iter()
         .position(|half| is_due_home(leaving, half.slot(), half.done()))
+}
+
+// Where the half of a slot stands: where it was seen last, or else the first of that slot.
+pub fn find<H: Traveller>(seen: &Seen, held: &[H], slot: Slot) -> Option<usize>
+    ensures found { IfSome result (λ k. (k < length held.now)
+        × ((none : H) → H.slot_of (H.name (slice_index_or held.now k none)) ≡ slot)) }
+    ensures none { IsNone result → is_held (λ half. H.slot_of (H.name half)) slot held.now ≡ false }
+{
+    match guess(seen, held, slot) {
+        Some(at) => Some(at),
+        None => first(held, slot),
+    }
+}
+
+// Where the half of a slot was seen last, if it stands there.
+fn guess<H: Traveller>(seen: &Seen, held: &[H], slot: Slot) -> Option<usize>
+    ensures { IfSome result (λ k. (k < length held.now)
+        × ((none : H) → H.slot_of (H.name (slice_index_or held.now k none)) ≡ slot)) }
+{
+    let at = seen.noted(slot)?;
+    if at < held.len() && held[at].slot() == slot {
+        Some(at)
+    } else {
+        None
+    }
+}
+
+// The first half of a slot.
+fn first<H: Traveller>(held: &[H], slot: Slot) -> Option<usize>
+    ensures { result ≡ position (λ half. H.slot_of (H.name half) == slot) held.now }
+{
+    held.iter().position(|half| half.slot() == slot)
+}
+
+// A half that stood at an index left: those behind it stand one further to the front.
+pub fn moved_up<H: Traveller>(seen: &mut Seen, held: &[H], from: usize) {
+    for index in from..held.len() {
+        seen.note(held[index].slot(), index);
+    }
 }
 
 // A half that was taken out of the list stands again where it stood.
@@ -83,6 +126,23 @@ pub fn put_back<H: Traveller>(held: &mut Vec<H>, at: usize, half: H)
     let Ok(()) = held.insert(at, half) else {
         unreachable!()
     };
+}
+
+// Turns the half at an index.
+pub fn turn_at<H: Traveller, R: Wait>(
+    rt: &R,
+    held: &mut Vec<H>,
+    at: usize,
+    place: SliceNo,
+) -> Result<Did, NoMemory>
+    requires { at < vec_len held.old }
+    ensures names { map H.name held.new.items ≡ map H.name held.old.items }
+    ensures len { vec_len held.new ≡ vec_len held.old }
+    ensures turned { AreTurned H.turns H.turned_at place at (at + 1) held.old.items held.new.items }
+    ensures works { count_at H.works held.new.items at ≡ works_after result (count_at H.works held.old.items at) }
+    ensures answered { IfOk result (λ did. AnswersAt (H.came_to 8) did at held.old.items held.new.items) }
+{
+    held[at].turn(rt, place, GRAIN)
 }
 
 // Turns the halves from the cursor to the last, and then from the first to the cursor, until one has

@@ -1,16 +1,16 @@
 //! A worker: the halves that it holds, and the ends of its two lanes.
 ghost use Rattle.std.specs.Prelude.{◌≡◌, ◌≤◌, ◌<◌, ◌+◌, ◌⊎◌, [], All, length, vec_len};
-ghost use Rattle.std.specs.Prelude.{vec_capacity, IsTrue, IsFalse, IsSome, OnErr};
+ghost use Rattle.std.specs.Prelude.{vec_capacity, true, false, IsSome, IfOk, OnErr};
 ghost use Rattle.lane_core.specs.Ends.{sent, taken, full_answers, empty_answers, raised};
 ghost use Rattle.worker_core.specs.Names.{Kept};
-ghost use Rattle.worker_core.specs.Leaves.{IsTold};
+ghost use Rattle.worker_core.specs.Leaves.{IsTold, is_held};
 ghost use Rattle.worker_core.specs.Turns.{AllTurned};
-ghost use Rattle.worker_core.specs.Answered.{AllRest};
+ghost use Rattle.worker_core.specs.Answered.{AllRest, TurnedOne};
 ghost use Rattle.worker_core.specs.Steps.{TookOrder, WentHome, Turned, SameButHalves, first_due, wrapped};
-ghost use Rattle.worker_core.specs.Steps.{cursor_without};
+ghost use Rattle.worker_core.specs.Steps.{cursor_without, Attends};
 
-use crate::turning::{find_due, forget, mark, put_back, turn_round};
-use crate::{Order, Traveller};
+use crate::turning::{find, find_due, forget, mark, moved_up, put_back, turn_at, turn_round};
+use crate::{Attended, Order, Seen, Traveller};
 use lane_core::{Did, Full, NoMemory, Receiver, Sender};
 use pc_base::{SliceNo, Slot};
 use std::alloc::Global;
@@ -33,6 +33,8 @@ pub struct Worker<H: Traveller> {
     leaving: Vec<Leaving>,
     /// Where the next turn begins.
     cursor: usize,
+    /// Where to look first for the half of a slot.
+    seen: Seen,
     orders: Receiver<Order<H>>,
     home: Sender<H>,
     pub ghost kept: { Kept H.name (taken orders) held.items (sent home) },
@@ -71,6 +73,7 @@ impl<H: Traveller> Worker<H> {
             held: Vec::new(alloc),
             leaving: Vec::new(alloc),
             cursor: 0,
+            seen: Seen::new(alloc),
             orders,
             home,
         }
@@ -112,62 +115,111 @@ impl<H: Traveller> Worker<H> {
         // Where memory runs out nothing changes but what a half did.
         ensures err { OnErr result (SameButHalves H.name (view_of self.old) (view_of self.new)) }
     {
-        self.held.reserve(1)?;
-        self.leaving.reserve(1)?;
-        if self.take_order(rt) {
+        let Attended::Nothing = self.attend(rt)? else {
             return Ok(Did::Worked);
-        }
-        if self.send_home(rt) {
-            return Ok(Did::Worked);
-        }
+        };
         self.turn_halves(rt)
     }
 
-    // Whether an order was there, and was taken.
-    fn take_order<R: Wait>(&mut self, rt: &R) -> bool
+    /// Takes an order, or else sends home the first half that is due. It turns none.
+    pub fn attend<R: Wait>(&mut self, rt: &R) -> Result<Attended, NoMemory>
+        ensures lanes { worker_lanes self.new ≡ worker_lanes self.old }
+        ensures place { place_of self.new ≡ place_of self.old }
+        ensures home { (sent (home_of self.new) ≡ sent (home_of self.old))
+            ⊎ GoesHome H.name H.slot_of H.done_of (taken (orders_of self.new)) (sent (home_of self.old))
+            (sent (home_of self.new)) }
+
+        // What it answers is what was done, and of which slot. Nothing: all is as it was.
+        ensures attended { IfOk result (λ attended. Attends (λ half. H.slot_of (H.name half)) H.done_of attended
+            (view_of self.old) (view_of self.new)) }
+
+        // Nothing comes only where no order was there, and, if a half was due home, the lane home was full.
+        ensures nothing_orders { result ≡ Ok Attended.Nothing
+            → empty_answers (orders_of self.new) ≡ raised (empty_answers (orders_of self.old)) }
+        ensures nothing_home { result ≡ Ok Attended.Nothing → IsSome
+            (first_due (λ half. H.slot_of (H.name half)) H.done_of (view_of self.old))
+            → full_answers (home_of self.new) ≡ raised (full_answers (home_of self.old)) }
+
+        // Where memory runs out all is as it was.
+        ensures err { OnErr result (view_of self.new ≡ view_of self.old) }
+    {
+        self.held.reserve(1)?;
+        self.leaving.reserve(1)?;
+        let took = self.take_order(rt);
+        let Attended::Nothing = took else {
+            return Ok(took);
+        };
+        Ok(self.send_home(rt))
+    }
+
+    /// Turns the half of a slot once, with at most 8 items, and no other one; it answers as the half does.
+    /// Where no half of the slot is held it answers `Idle`.
+    pub fn turn_one<R: Wait>(&mut self, rt: &R, slot: Slot) -> Result<Did, NoMemory>
+        ensures lanes { worker_lanes self.new ≡ worker_lanes self.old }
+        ensures place { place_of self.new ≡ place_of self.old }
+        ensures orders { orders_of self.new ≡ orders_of self.old }
+        ensures home { home_of self.new ≡ home_of self.old }
+
+        // One half of the slot was turned, out of memory too, and no other one was touched.
+        ensures one { is_held (λ half. H.slot_of (H.name half)) slot (held_of self.old) ≡ true
+            → TurnedOne (λ half. H.slot_of (H.name half)) H.turns H.works H.turned_at (H.came_to 8) result
+            (place_of self.old) slot (held_of self.old) (held_of self.new) }
+        ensures same { SameButHalves H.name (view_of self.old) (view_of self.new) }
+
+        ensures none { is_held (λ half. H.slot_of (H.name half)) slot (held_of self.old) ≡ false
+            → (result ≡ Ok Did.Idle) × (view_of self.new ≡ view_of self.old) }
+    {
+        let Some(at) = find(&self.seen, &self.held, slot) else {
+            return Ok(Did::Idle);
+        };
+        turn_at(rt, &mut self.held, at, self.place)
+    }
+
+    // Takes an order, if one is there.
+    fn take_order<R: Wait>(&mut self, rt: &R) -> Attended
         requires held { vec_len self.old.held < vec_capacity self.old.held }
         requires leaving { vec_len self.old.leaving < vec_capacity self.old.leaving }
         ensures lanes { worker_lanes self.new ≡ worker_lanes self.old }
         ensures place { place_of self.new ≡ place_of self.old }
         ensures home { home_of self.new ≡ home_of self.old }
-        ensures order { IsTrue result → TookOrder (λ half. H.slot_of (H.name half)) (view_of self.old)
+        ensures attended { Attends (λ half. H.slot_of (H.name half)) H.done_of result (view_of self.old)
             (view_of self.new) }
-        ensures none { IsFalse result → view_of self.new ≡ view_of self.old }
-        ensures empty { IsFalse result → empty_answers (orders_of self.new)
+        ensures empty { result ≡ Attended.Nothing → empty_answers (orders_of self.new)
             ≡ raised (empty_answers (orders_of self.old)) }
     {
         let Some(order) = self.orders.take(rt) else {
-            return false;
+            return Attended::Nothing;
         };
         match order {
             Order::Arrive(half) => {
+                let slot = half.slot();
                 self.held.push_reserved(half);
-                true
+                self.seen.note(slot, self.held.len() - 1);
+                Attended::Came(slot)
             }
             Order::Leave { slot, until } => {
                 mark(&self.held, &mut self.leaving, slot, until);
-                true
+                Attended::Told(slot)
             }
         }
     }
 
-    // Whether a half was due home, and went.
-    fn send_home<R: Wait>(&mut self, rt: &R) -> bool
+    // Sends home the first half that is due, if one is.
+    fn send_home<R: Wait>(&mut self, rt: &R) -> Attended
         ensures lanes { worker_lanes self.new ≡ worker_lanes self.old }
         ensures place { place_of self.new ≡ place_of self.old }
         ensures orders { orders_of self.new ≡ orders_of self.old }
-        ensures gone { IsTrue result
-            → GoesHome H.name H.slot_of H.done_of (taken (orders_of self.old)) (sent (home_of self.old))
+        ensures home { (sent (home_of self.new) ≡ sent (home_of self.old))
+            ⊎ GoesHome H.name H.slot_of H.done_of (taken (orders_of self.old)) (sent (home_of self.old))
             (sent (home_of self.new)) }
-        ensures went { IsTrue result
-            → WentHome (λ half. H.slot_of (H.name half)) H.done_of (view_of self.old) (view_of self.new) }
-        ensures none { IsFalse result → view_of self.new ≡ view_of self.old }
-        ensures full { IsFalse result → IsSome (first_due (λ half. H.slot_of (H.name half)) H.done_of
+        ensures attended { Attends (λ half. H.slot_of (H.name half)) H.done_of result (view_of self.old)
+            (view_of self.new) }
+        ensures full { result ≡ Attended.Nothing → IsSome (first_due (λ half. H.slot_of (H.name half)) H.done_of
             (view_of self.old))
             → full_answers (home_of self.new) ≡ raised (full_answers (home_of self.old)) }
     {
         let Some(at) = find_due(&self.held, &self.leaving) else {
-            return false;
+            return Attended::Nothing;
         };
         let half = self.held.remove(at);
         let slot = half.slot();
@@ -175,11 +227,12 @@ impl<H: Traveller> Worker<H> {
             Ok(()) => {
                 forget(&mut self.leaving, slot);
                 self.cursor = cursor_left(self.cursor, at, self.held.len());
-                true
+                moved_up(&mut self.seen, &self.held, at);
+                Attended::Went(slot)
             }
             Err(Full(half)) => {
                 put_back(&mut self.held, at, half);
-                false
+                Attended::Nothing
             }
         }
     }
@@ -221,6 +274,7 @@ impl<H: Traveller> Worker<H> {
             held,
             leaving: _,
             cursor: _,
+            seen: _,
             orders,
             home,
         } = self;

@@ -1,7 +1,9 @@
-use Rattle.std.proofs.Common.{rules, ◌≡◌, ◌∙◌, None, get_or, sym, subst}
+use Rattle.std.proofs.Common.{rules, ◌≡◌, ◌∙◌, None, get_or, sym, ap, subst}
 use Rattle.flow_migration.specs.Keeps.{IsReady}
+use Rattle.flow_migration.specs.Places.{is_draining, place_at}
 use Rattle.flow_migration.specs.Steps.{Drained}
 use Rattle.flow_migration.proofs.Sides.{same_default}
+use Rattle.flow_migration.proofs.Untouched.{drained_same}
 use Rattle.flow_migration.proofs.steps.drain_at.Goals as goal
 
 pub drain-requires-clause-ready : goal.drain-requires-clause-ready
@@ -28,3 +30,10 @@ returns g c =
           c.args.slot p c.drain.new.place
           c.args.desks.now.items c.drain.new.desks.items) is c.drain.ensures,
     )
+
+pub returns-then-not-is_draining : goal.returns-then-not-is_draining
+returns-then-not-is_draining g c =
+    drained_same (λ half. g.H.Flow.slot_at (g.H.Flow.name half)) g.H.Flow.item_slot g.H.Flow.handled c.args.slot
+    c.args.desks.now.items c.args.places.now.items c.requires.within c.requires.ready
+    (ap (λ l. is_draining (place_at l c.args.slot)) (sym c.deref.ensures.value) ∙ sym c.is_draining.ensures
+    ∙ c.if-not-is_draining.true)

@@ -1,4 +1,4 @@
-use Rattle.std.proofs.Common.{rules, ℕ, List, refl, subst, sym, ap, ◌∙◌, arith}
+use Rattle.std.proofs.Common.{rules, ℕ, inr, List, refl, subst, sym, ap, ◌∙◌, arith}
 use Rattle.std.specs.Prelude.{not, nat_eq}
 use Rattle.std.specs.List.{All, filter}
 use Rattle.std.proofs.lemmas.Option.{slice_get_read}
@@ -7,6 +7,7 @@ use Rattle.worker_core.specs.declared.worker.Leaving.{Leaving}
 use Rattle.worker_core.specs.Names.{Kept}
 use Rattle.worker_core.specs.Leaves.{IsTold, SameElsewhere}
 use Rattle.worker_core.proofs.Arrivals.{home_few, kept_home}
+use Rattle.worker_core.proofs.Views.{cursor_within}
 use Rattle.worker_core.proofs.Leavings.{none_due, due_here, due_within, goes_home, picked_all, forgotten}
 use Rattle.worker_core.proofs.worker.Worker.send_home.Goals as goal
 
@@ -42,38 +43,42 @@ invariant_of-self-in-Ok g c =
           (picked_all (IsTold (taken c.args.self.now.orders))
           (λ (x : Leaving). not (nat_eq x.slot c.slot-slot.result)) c.args.self.now.leaving.items
           c.args.self.now.told);
-      within = search rules;
+      within =
+          let w = cursor_within c.args.self.now.cursor c.in-Some.at c.len.result in
+          let e = c.cursor_left-self.ensures in omega arith;
     }
 
-pub returns-in-Ok-clause-gone : goal.returns-in-Ok-clause-gone
-returns-in-Ok-clause-gone g c = λ _.
+pub returns-in-Ok-clause-home : goal.returns-in-Ok-clause-home
+returns-in-Ok-clause-home g c =
     let found = due_here g.H.Traveller.name g.H.Traveller.slot_of g.H.Traveller.done_of _ _ _ _ c.in-Some.at
     c.deref.ensures.value c.deref-2.ensures.value c.in-Some.ensures in
-    goes_home g.H.Traveller.name g.H.Traveller.slot_of g.H.Traveller.done_of _ _ _ c.in-Some.at c.remove-half.result _ _
-    found c.remove-half.ensures.value c.args.self.now.told c.in-Ok.ensures.ok.0
+    inr (goes_home g.H.Traveller.name g.H.Traveller.slot_of g.H.Traveller.done_of _ _ _ c.in-Some.at
+    c.remove-half.result _ _ found c.remove-half.ensures.value c.args.self.now.told c.in-Ok.ensures.ok.0)
 
-pub returns-in-Ok-clause-went : goal.returns-in-Ok-clause-went
-returns-in-Ok-clause-went g c = λ _.
+pub returns-in-Ok-clause-attended : goal.returns-in-Ok-clause-attended
+returns-in-Ok-clause-attended g c =
     let found = due_here g.H.Traveller.name g.H.Traveller.slot_of g.H.Traveller.done_of _ _ _ _ c.in-Some.at
     c.deref.ensures.value c.deref-2.ensures.value c.in-Some.ensures in
     let here = due_within g.H.Traveller.name g.H.Traveller.slot_of g.H.Traveller.done_of _ _ _ c.remove-half.result
-    found in
-    record {
-      at = c.in-Some.at;
-      half = c.remove-half.result;
-      first = found;
-      there = slice_get_read _ _ _ _ refl here c.remove-half.ensures.value;
-      took = search rules;
-      gone = c.in-Ok.ensures.ok.0;
-      held = c.remove-half.ensures.items;
-      noted = subst (λ (l : List Leaving). SameElsewhere
-          (g.H.Traveller.slot_of (g.H.Traveller.name c.remove-half.result)) c.args.self.now.leaving.items l)
-          (sym c.forget.ensures)
-          (subst (λ (slot : ℕ). SameElsewhere slot c.args.self.now.leaving.items
-          (filter (λ (x : Leaving). not (nat_eq x.slot c.slot-slot.result)) c.args.self.now.leaving.items))
-          c.slot-slot.ensures
-          (forgotten c.slot-slot.result c.args.self.now.leaving.items));
-      forgotten = c.forget.ensures ∙ ap (λ (slot : ℕ). filter (λ (x : Leaving). not (nat_eq x.slot slot))
-          c.args.self.now.leaving.items) c.slot-slot.ensures;
-      cursor = search rules;
-    }
+    found in (
+      record {
+        at = c.in-Some.at;
+        half = c.remove-half.result;
+        first = found;
+        there = slice_get_read _ _ _ _ refl here c.remove-half.ensures.value;
+        took = search rules;
+        gone = c.in-Ok.ensures.ok.0;
+        held = c.remove-half.ensures.items;
+        noted = subst (λ (l : List Leaving). SameElsewhere
+            (g.H.Traveller.slot_of (g.H.Traveller.name c.remove-half.result)) c.args.self.now.leaving.items l)
+            (sym c.forget.ensures)
+            (subst (λ (slot : ℕ). SameElsewhere slot c.args.self.now.leaving.items
+            (filter (λ (x : Leaving). not (nat_eq x.slot c.slot-slot.result)) c.args.self.now.leaving.items))
+            c.slot-slot.ensures
+            (forgotten c.slot-slot.result c.args.self.now.leaving.items));
+        forgotten = c.forget.ensures ∙ ap (λ (slot : ℕ). filter (λ (x : Leaving). not (nat_eq x.slot slot))
+            c.args.self.now.leaving.items) c.slot-slot.ensures;
+        cursor = search rules;
+      },
+      sym c.slot-slot.ensures,
+    )

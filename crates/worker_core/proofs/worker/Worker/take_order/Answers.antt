@@ -1,4 +1,4 @@
-use Rattle.std.proofs.Common.{rules, ◌≡◌, ◌++◌, ◌∷◌, [], List, subst, sym, ap, ◌∙◌}
+use Rattle.std.proofs.Common.{rules, ◌≡◌, ◌++◌, ◌∷◌, [], List, refl, subst, sym, ap, ◌∙◌}
 use Rattle.std.specs.List.{All}
 use Rattle.lane_core.specs.Ends.{sent, taken}
 use Rattle.worker_core.specs.declared.order.Order.{Order}
@@ -55,15 +55,35 @@ invariant_of-self-in-Leave g c =
       within = search rules;
     }
 
-pub returns-in-Leave-clause-order : goal.returns-in-Leave-clause-order
-returns-in-Leave-clause-order g c = λ _. record {
-  order = Leave c.in-Leave.slot c.in-Leave.until;
-  took = c.in-Some.ensures.next.0
-      ∙ ap (λ (o : Order g.row.H.Denot). taken c.args.self.now.orders ++ o ∷ []) c.in-Leave.is;
-  gone = search rules;
-  held = search rules;
-  noted = subst (λ (l : List g.row.H.Denot). IsNoted (λ half. g.H.Traveller.slot_of (g.H.Traveller.name half)) l
-      (Leave c.in-Leave.slot c.in-Leave.until) c.args.self.now.leaving.items c.mark.new.leaving.items)
-      c.deref.ensures.value c.mark.ensures.noted;
-  cursor = search rules;
-}
+pub returns-in-Arrive-clause-attended : goal.returns-in-Arrive-clause-attended
+returns-in-Arrive-clause-attended g c = (
+  record {
+    order = Arrive c.in-Arrive.half;
+    took = c.in-Some.ensures.next.0
+        ∙ ap (λ (o : Order g.row.H.Denot). taken c.args.self.now.orders ++ o ∷ []) c.in-Arrive.is;
+    gone = search rules;
+    held = c.push_reserved.ensures.items;
+    noted = search rules;
+    cursor = search rules;
+  },
+  c.in-Arrive.half,
+  refl,
+  sym c.slot-slot.ensures,
+)
+
+pub returns-in-Leave-clause-attended : goal.returns-in-Leave-clause-attended
+returns-in-Leave-clause-attended g c = (
+  record {
+    order = Leave c.in-Leave.slot c.in-Leave.until;
+    took = c.in-Some.ensures.next.0
+        ∙ ap (λ (o : Order g.row.H.Denot). taken c.args.self.now.orders ++ o ∷ []) c.in-Leave.is;
+    gone = search rules;
+    held = search rules;
+    noted = subst (λ (l : List g.row.H.Denot). IsNoted (λ half. g.H.Traveller.slot_of (g.H.Traveller.name half)) l
+        (Leave c.in-Leave.slot c.in-Leave.until) c.args.self.now.leaving.items c.mark.new.leaving.items)
+        c.deref.ensures.value c.mark.ensures.noted;
+    cursor = search rules;
+  },
+  c.in-Leave.until,
+  refl,
+)

@@ -1,5 +1,5 @@
-use Rattle.flow_core.proofs.SlotSums.{if_found, if_none}
-use Rattle.flow_core.proofs.seen.Seen.find.Goals as goal
+use Rattle.worker_core.proofs.Seeks.{if_found, if_none}
+use Rattle.flow_core.proofs.finding.find.Goals as goal
 
 pub returns-in-None-clause-none : goal.returns-in-None-clause-none
 returns-in-None-clause-none g c = if_none g.H.FlowKind.slot_of_half c.args.slot c.args.held.now c.first.result
