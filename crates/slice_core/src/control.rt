@@ -22,7 +22,8 @@ pub enum ControlThread {
 }
 
 impl ControlThread {
-    // Gives the worker to a thread. Where none can be started its post says stop: its end comes at once, without a turn.
+    // Gives the worker to a thread. Where none can be started its post says stop: its end comes at once, without a
+    // turn.
     fn start<'s, E, R: Wait + Sync>(
         scope: &Scope<'s, E>,
         rt: &'s R,

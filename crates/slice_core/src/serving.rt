@@ -143,11 +143,11 @@ fn serve_flow<H: Flow, R: Wait>(rt: &R, mut worker: FlowWorker<H>, post: &Post) 
     worker.into_end()
 }
 
-/// Serves the worker until its post says stop, at which it looks before each round, or until it runs out of memory; then
-/// gives its end, with the worker's place and lanes and all that it holds. A round takes an order or sends a half home;
-/// else it turns a half that was called, and one that had something left to do. Where a call found no place, and behind
-/// 4,096 rounds in a row that found nothing, all halves are turned until none has worked. Behind a round that found
-/// nothing other threads may go first.
+/// Serves the worker until its post says stop, at which it looks before each round, or until it runs out of memory;
+/// then gives its end, with the worker's place and lanes and all that it holds. A round takes an order or sends a half
+/// home; else it turns a half that was called, and one that had something left to do. Where a call found no place, and
+/// behind 4,096 rounds in a row that found nothing, all halves are turned until none has worked. Behind a round that
+/// found nothing other threads may go first.
 ///
 /// No clause speaks of calls: they say which halves to turn first, all are turned where one is missed, and what no
 /// thread did is done as the epoch is closed.
@@ -164,8 +164,9 @@ pub fn serve_control<R: Wait>(
     serve_travelling(rt, alloc, worker, post, calls)
 }
 
-/// Turns the data worker, once it passed the gate, until its post says stop, at which it looks before each turn, or until
-/// a turn runs out of memory; then gives its end. Behind a turn that found nothing to do other threads may go first.
+/// Turns the data worker, once it passed the gate, until its post says stop, at which it looks before each turn, or
+/// until a turn runs out of memory; then gives its end. Behind a turn that found nothing to do other threads may go
+/// first.
 pub fn serve_data<G: Gate, R: Wait>(
     rt: &R,
     worker: DataWorker,

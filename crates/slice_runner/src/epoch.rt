@@ -23,9 +23,9 @@ use trace_lines::TraceLine;
 
 /// Runs an epoch of these lines over the gateway's slices, each with two threads of its own. A command or packet that
 /// finds its queue or lane full is tried again as often as `patience` says. Behind the last line the front pumps until
-/// workers find nothing more to do, at most as often as `linger` says, before they are stopped. A worker whose thread can't be started, or
-/// runs out of memory, stops early, and what it left is done when the epoch is closed. Out of memory at the front the
-/// gateway is given up.
+/// workers find nothing more to do, at most as often as `linger` says, before they are stopped. A worker whose thread
+/// can't be started, or runs out of memory, stops early, and what it left is done when the epoch is closed. Out of
+/// memory at the front the gateway is given up.
 pub fn run_epoch<G: Gate, R: Threads + Wait + Sync>(
     rt: &R,
     alloc: Global,

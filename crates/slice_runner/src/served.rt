@@ -78,8 +78,8 @@ impl Posts {
     }
 }
 
-/// Starts the threads, takes the lines, lingers, tells the threads to stop and waits for the ends. They are told whatever
-/// became of the lines, since a thread that isn't told never ends.
+/// Starts the threads, takes the lines, lingers, tells the threads to stop and waits for the ends. They are told
+/// whatever became of the lines, since a thread that isn't told never ends.
 pub(crate) fn serve<'s, E, G: Gate, R: Threads + Wait + Sync>(
     scope: &Scope<'s, E>,
     rt: &'s R,
