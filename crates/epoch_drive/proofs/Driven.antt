@@ -1,10 +1,9 @@
 -- The epoch is the driven one.
-use Rattle.std.proofs.Common.{◌≡◌, ℕ, zero, suc, ◌+◌, ◌-◌, ◌<◌, ◌≤◌, List, [], ◌∷◌, ◌++◌, map, length, take, drop, get_or, refl, sym, ap, subst, ◌∙◌, inl, inr, arith, append-nil}
+use Rattle.std.proofs.Common.{◌≡◌, ℕ, zero, suc, ◌+◌, ◌-◌, ◌<◌, ◌≤◌, List, [], ◌∷◌, ◌++◌, map, length, take, get_or, refl, sym, ap, subst, ◌∙◌, inl, inr, arith, append-nil}
 use Rattle.std.proofs.lemmas.Bool.{cases_lt}
-use Rattle.std.proofs.lemmas.List.{drop_all, get_or-map, get_or_past, length-map, take_all}
+use Rattle.std.proofs.lemmas.List.{get_or-map, get_or_past, length-map, take_all}
 use Rattle.demux.specs.Trace.{Meaning}
 use Rattle.gate_model.specs.Events.{commands_of, packets_of}
-use Rattle.gate_model.specs.SlotPast.{records_after}
 use Rattle.gate_model.specs.declared.event.Event.{Event}
 use Rattle.report_lines.specs.declared.entry.ChargeEntry.TheVariants.{R}
 use Rattle.report_lines.specs.declared.entry.LineEntry.{LineEntry}
@@ -44,7 +43,7 @@ use Rattle.epoch_drive.specs.declared.replays.Answers.{Answers}
 use Rattle.epoch_drive.specs.declared.replays.Replays.{Replays}
 use Rattle.epoch_drive.specs.declared.sharing.Share.{Share}
 use Rattle.epoch_drive.proofs.Events.{mets_list, opened_lines, packets_counted, replies_list, with_none}
-use Rattle.epoch_drive.proofs.Replaying.{by_slot-next, counts_so}
+use Rattle.epoch_drive.proofs.Replaying.{by_slot-next, counts_so, no_rows}
 use Rattle.epoch_drive.proofs.Scheduled.{as_many, counts_at, each, entries, tell}
 
 -- a value of a list, at a place within it
@@ -57,11 +56,6 @@ some_at (x ∷ xs) (suc i) low = some_at xs i (omega (arith, low))
 no_mets : (base next : ℕ) (mets : List Met) → there.met_list base next mets [] ≡ []
 no_mets base next [] = refl
 no_mets base next (m ∷ mets) = refl
-
-no_rows : (slot : ℕ) (before : List Event) → made_of.rows slot before [] ≡ []
-no_rows slot before =
-    ap (map (R slot)) (ap (λ es. drop (length (records_after slot before)) (records_after slot es)) (append-nil before)
-    ∙ drop_all (length (records_after slot before)) (records_after slot before) (omega arith))
 
 -- slots that have nothing
 more_slots : {X : Type 0} (has : ℕ → List X) (n d : ℕ) → ((slot : ℕ) → n ≤ slot → has slot ≡ [])

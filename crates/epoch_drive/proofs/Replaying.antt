@@ -1,9 +1,11 @@
 -- Subscribers that do their shares, one slot after another.
-use Rattle.std.proofs.Common.{◌≡◌, ◌≢◌, ℕ, zero, suc, ◌+◌, ◌<◌, List, [], ◌∷◌, ◌++◌, map, length, get_or, set, get_or-set_same, get_or-set_other, length-set, refl, sym, ap, subst, ◌∙◌, inl, inr, arith, length-append, append_assoc, append-nil, flat_map}
+use Rattle.std.proofs.Common.{◌≡◌, ◌≢◌, ℕ, zero, suc, ◌+◌, ◌<◌, List, [], ◌∷◌, ◌++◌, map, length, drop, get_or, set, get_or-set_same, get_or-set_other, length-set, refl, sym, ap, subst, ◌∙◌, inl, inr, arith, length-append, append_assoc, append-nil, flat_map}
+use Rattle.std.specs.Prelude.{Result, Ok, Err, OnOk}
 use Rattle.std.specs.List.{All}
 use Rattle.std.proofs.lemmas.Bool.{cases_lt}
-use Rattle.std.proofs.lemmas.List.{get_or-map, get_or_append_left, get_or_at, get_or_default}
+use Rattle.std.proofs.lemmas.List.{drop_all, get_or-map, get_or_append_left, get_or_at, get_or_default}
 use Rattle.std.proofs.lemmas.List.Elements.{All-push}
+use Rattle.gate_model.specs.SlotPast.{records_after}
 use Rattle.gate_model.specs.declared.event.Event.{Event}
 use Rattle.report_lines.specs.Records.{Effected}
 use Rattle.report_lines.specs.declared.entry.ChargeEntry.{ChargeEntry}
@@ -13,10 +15,11 @@ use Rattle.lawful_run.specs.Outcomes as made_of
 use Rattle.lawful_run.specs.Run.{by_slot}
 use Rattle.lawful_run.specs.Telling.{counted}
 use Rattle.subscriber.specs.Standing.{SubscriberState, Represents}
-use Rattle.slot_replay.specs.Replaying.{counts_of, effects_told, events_of, latest_of, moment_of, placed_lent, places_of}
+use Rattle.slot_replay.specs.Replaying.{AreShort, counts_in, counts_of, effects_told, events_of, latest_of, moment_of, numbers_in, packet_numbers_in}
+use Rattle.slot_replay.specs.Replaying.{placed_lent, places_in, places_of, replies_in, verdicts_in}
 use Rattle.slot_replay.specs.declared.placed.Placed.{Placed}
 use Rattle.slot_replay.specs.declared.replayed.Replayed.{Replayed}
-use Rattle.epoch_drive.specs.Replays.{AreShortAnswers, DoesShare, HasDone, HaveDone, IsTold, commands_at, commands_shared, events_shared, packets_at, packets_shared}
+use Rattle.epoch_drive.specs.Replays.{AddsShare, AreShortAnswers, DoesShare, DoesWith, HasDone, HaveDone, IsTold, commands_at, commands_shared, events_shared, packets_at, packets_shared}
 use Rattle.slot_replay.specs.Replaying.{rows_told}
 use Rattle.epoch_drive.specs.declared.replays.Answers.{Answers}
 use Rattle.epoch_drive.specs.declared.replays.Replays.{Replays}
@@ -40,12 +43,56 @@ by_slot-next has n =
     let at : 0 + n ≡ n = omega arith in
     ap (λ k. flat_map has (counted 0 k)) more ∙ flat_next has 0 n ∙ ap (λ k. by_slot n has ++ has k) at
 
-pub record AddsReplayed (replays after : Replays) (slot : ℕ) (replayed : Replayed) : Type 0 where
-  pub answers : after.answers.items ≡ replays.answers.items
-      ++ record { replies = replayed.replies; packets = replayed.packets } ∷ []
-  pub effects : effects_told after.effects.items ≡ effects_told replays.effects.items
-      ++ effects_told replayed.effects.items
-  pub rows : rows_told after.rows.items ≡ rows_told replays.rows.items ++ map (R slot) replayed.rows.items
+pub adds_share : {T E : Type 0} (result : Result T E) (old new : SubscriberState) (share : Share)
+    (replays after : Replays) (slot : ℕ) (replayed : Replayed) → DoesShare old new share replayed
+    → OnOk result (after.answers.items ≡ replays.answers.items
+    ++ record { replies = replayed.replies; packets = replayed.packets } ∷ [])
+    → OnOk result (effects_told after.effects.items ≡ effects_told replays.effects.items
+    ++ effects_told replayed.effects.items)
+    → OnOk result (rows_told after.rows.items ≡ rows_told replays.rows.items ++ map (R slot) replayed.rows.items)
+    → OnOk result (AddsShare old new share replays after slot)
+adds_share (Ok v) old new share replays after slot replayed does answers effects rows = record {
+  replayed = replayed;
+  does = does;
+  adds = record { answers = answers; effects = effects; rows = rows };
+}
+adds_share (Err e) old new share replays after slot replayed does answers effects rows = tt
+
+-- nothing is made of no events
+pub no_rows : (slot : ℕ) (before : List Event) → made_of.rows slot before [] ≡ []
+no_rows slot before =
+    ap (map (R slot)) (ap (λ es. drop (length (records_after slot before)) (records_after slot es)) (append-nil before)
+    ∙ drop_all (length (records_after slot before)) (records_after slot before) (omega arith))
+
+-- a share of no commands and packets
+does_nothing : (subscriber : SubscriberState) (replayed : Replayed) → replayed.replies.items ≡ []
+    → replayed.packets.items ≡ [] → replayed.effects.items ≡ [] → replayed.rows.items ≡ []
+    → DoesWith subscriber subscriber [] [] replayed
+does_nothing subscriber replayed replies packets effects rows = record {
+  led = λ slot before represents. record {
+    replies = ap replies_in replies;
+    verdicts = ap verdicts_in packets;
+    effects = ap effects_told effects;
+    numbers = ap numbers_in replies;
+    packet_numbers = ap packet_numbers_in packets;
+  };
+  rows = λ slot before represents. ap (map (R slot)) rows ∙ sym (no_rows slot before);
+  counts = ap counts_in packets;
+  places = ap places_in packets;
+  short = subst AreShort (sym packets) (λ k judged low. absurd (omega (arith, low)));
+  represents = λ slot before represents. subst (Represents subscriber slot) (sym (append-nil before)) represents;
+  last = refl;
+  destination = refl;
+}
+
+pub untouched_does : (subscriber : SubscriberState) (share : Share) (replayed : Replayed)
+    → share.commands.items ≡ [] → share.packets.items ≡ [] → replayed.replies.items ≡ []
+    → replayed.packets.items ≡ [] → replayed.effects.items ≡ [] → replayed.rows.items ≡ []
+    → DoesShare subscriber subscriber share replayed
+untouched_does subscriber share replayed no_commands no_packets replies packets effects rows =
+    subst (λ cs. DoesWith subscriber subscriber cs share.packets.items replayed) (sym no_commands)
+    (subst (λ ps. DoesWith subscriber subscriber [] ps replayed) (sym no_packets)
+    (does_nothing subscriber replayed replies packets effects rows))
 
 pub counts_so : (packets : List Placed) → counts_of packets
     ≡ map (λ (p : accepted.Placed). p.commands) (placed_lent packets)
@@ -93,12 +140,15 @@ done_share old new shares share replayed slot low is does =
     }
 
 pub more_done : (old now new : List SubscriberState) (shares : List Share) (replays after : Replays) (i : ℕ)
-    (subscriber did : SubscriberState) (share : Share) (replayed : Replayed)
+    (subscriber did : SubscriberState) (share : Share)
     → HaveDone old now shares replays i → i < length old → length shares ≡ length old
     → subscriber ≡ get_or now i subscriber → new ≡ set now i did → share ≡ get_or shares i share
-    → DoesShare subscriber did share replayed → AddsReplayed replays after i replayed
+    → AddsShare subscriber did share replays after i
     → HaveDone old new shares after (i + 1)
-more_done old now new shares replays after i subscriber did share replayed have low many is new_is share_is does adds =
+more_done old now new shares replays after i subscriber did share have low many is new_is share_is did_it =
+    let replayed = did_it.replayed in
+    let does = did_it.does in
+    let adds = did_it.adds in
     let answer : Answers = record { replies = replayed.replies; packets = replayed.packets } in
     let within : i < length now = omega (arith, low, have.many) in
     let done = done_share subscriber did shares share replayed i (omega (arith, low, many)) share_is does in

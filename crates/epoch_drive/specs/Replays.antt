@@ -1,5 +1,5 @@
 -- What the subscribers make of their shares.
-use Rattle.std.specs.Prelude.{◌≡◌, ℕ, ◌+◌, ◌≤◌, ◌<◌, List, [], ◌++◌, All, length, map, get_or}
+use Rattle.std.specs.Prelude.{◌≡◌, ℕ, ◌+◌, ◌≤◌, ◌<◌, List, [], ◌∷◌, ◌++◌, All, length, map, get_or}
 use Rattle.std.specs.Borrow.{Bor}
 use Rattle.control_steps.specs.declared.command.CommandKind.{CommandKind}
 use Rattle.gate_model.specs.Events.{commands_of, packets_of}
@@ -79,6 +79,19 @@ pub record DoesWith (old new : SubscriberState) (commands : List (Bor CommandKin
 -- .. with a share
 abbrev pub DoesShare : (old new : SubscriberState) → Share → Replayed → Type 0
 DoesShare old new share replayed = DoesWith old new share.commands.items share.packets.items replayed
+
+-- what a slot's share led to stands behind what is told of those before
+pub record AddsReplayed (replays after : Replays) (slot : ℕ) (replayed : Replayed) : Type 0 where
+  pub answers : after.answers.items ≡ replays.answers.items
+      ++ record { replies = replayed.replies; packets = replayed.packets } ∷ []
+  pub effects : effects_told after.effects.items ≡ effects_told replays.effects.items
+      ++ effects_told replayed.effects.items
+  pub rows : rows_told after.rows.items ≡ rows_told replays.rows.items ++ map (R slot) replayed.rows.items
+
+pub record AddsShare (old new : SubscriberState) (share : Share) (replays after : Replays) (slot : ℕ) : Type 0 where
+  pub replayed : Replayed
+  pub does : DoesShare old new share replayed
+  pub adds : AddsReplayed replays after slot replayed
 
 -- verdicts on packets are short
 abbrev pub AreShortAnswers : Answers → Type 0

@@ -2,7 +2,7 @@
 ghost use Rattle.std.specs.Prelude.{◌≡◌, ◌≤◌, ◌++◌, ◌∷◌, [], length, map, vec_len, IfOk, OnOk};
 ghost use Rattle.slot_replay.specs.Replaying.{effects_told, rows_told};
 ghost use Rattle.report_lines.specs.declared.entry.ChargeEntry.TheVariants.{R};
-ghost use Rattle.epoch_drive.specs.Replays.{AllCanDo, CanDo, DoesShare, HaveDone};
+ghost use Rattle.epoch_drive.specs.Replays.{AddsShare, AllCanDo, CanDo, HaveDone};
 
 use crate::sharing::Share;
 use bumpalo::Bump;
@@ -51,31 +51,42 @@ pub fn replay_all<'a, 'b>(
     };
     for i in 0..slots {
         let place = i as usize;
-        let replayed = replay_share(alloc, room, &mut subscribers[place], &shares[place])?;
-        add_replayed(&mut replays, Slot(i), replayed)?;
+        do_share(
+            alloc,
+            room,
+            Slot(i),
+            &mut subscribers[place],
+            &shares[place],
+            &mut replays,
+        )?;
     }
     Ok(replays)
 }
 
 // A subscriber does its share. One that has none is not touched, so that short epochs cost little.
-fn replay_share<'a, 'b>(
+#[inline(always)]
+fn do_share<'a, 'b>(
     alloc: Global,
     room: &'b Bump,
+    slot: Slot,
     subscriber: &mut Subscriber,
     share: &Share<'a, '_>,
-) -> Result<Replayed<'a, 'b>, AllocError>
+    replays: &mut Replays<'a, 'b>,
+) -> Result<(), AllocError>
     requires { CanDo subscriber.old share.now }
-    ensures { IfOk result (DoesShare subscriber.old subscriber.new share.now) }
+    ensures { OnOk result (AddsShare subscriber.old subscriber.new share.now replays.old replays.new slot) }
 {
     let commands = share.commands.as_slice();
     let packets = share.packets.as_slice();
     if commands.is_empty() && packets.is_empty() {
-        return Ok(nothing(alloc, room));
+        return add_replayed(replays, slot, nothing(alloc, room));
     }
-    Ok(replay(alloc, room, subscriber, commands, packets)?)
+    let replayed = replay(alloc, room, subscriber, commands, packets)?;
+    add_replayed(replays, slot, replayed)
 }
 
 // What no commands and packets lead to.
+#[inline(always)]
 fn nothing<'a, 'b>(alloc: Global, room: &'b Bump) -> Replayed<'a, 'b>
     ensures replies { result.replies.items ≡ [] }
     ensures packets { result.packets.items ≡ [] }
@@ -91,6 +102,7 @@ fn nothing<'a, 'b>(alloc: Global, room: &'b Bump) -> Replayed<'a, 'b>
 }
 
 // What the next slot's share led to.
+#[inline(always)]
 fn add_replayed<'a, 'b>(
     replays: &mut Replays<'a, 'b>,
     slot: Slot,
@@ -115,6 +127,7 @@ fn add_replayed<'a, 'b>(
 }
 
 // The charging records of a slot, where it has some.
+#[inline(always)]
 fn add_rows(all: &mut Vec<Closed>, slot: Slot, rows: Vec<ChargeRow>) -> Result<(), AllocError>
     ensures { OnOk result (rows_told all.new.items ≡ rows_told all.old.items ++ map (R slot) rows.items) }
 {
@@ -125,6 +138,7 @@ fn add_rows(all: &mut Vec<Closed>, slot: Slot, rows: Vec<ChargeRow>) -> Result<(
     Ok(())
 }
 
+#[inline(always)]
 fn add_effects(all: &mut Vec<Caused>, effects: Vec<Caused>) -> Result<(), AllocError>
     ensures { OnOk result (effects_told all.new.items
         ≡ effects_told all.old.items ++ effects_told effects.items) }

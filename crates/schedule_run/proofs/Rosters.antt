@@ -117,7 +117,7 @@ pub roster_push : (halves new : List (Option HeldControl)) (index grown indices 
     (holes next : ℕ) (called more : List ℕ) (half : HeldControl)
     → IsRoster halves index once holes next called → new ≡ halves ++ Some half ∷ []
     → ((s : ℕ) → get_or grown s 0 ≡ get_or index s 0) → length index ≤ length grown → half.slot < length grown
-    → indices ≡ set grown half.slot (length halves)
+    → (still ≡ true → indices ≡ set grown half.slot (length halves))
     → (still ≡ true → (once ≡ true) × Lacks halves half.slot)
     → OnlyCalled halves more → (is_in more (length halves) ≡ false → half.until ≡ None)
     → IsRoster new indices still holes next more
@@ -132,7 +132,7 @@ roster_push halves new index grown indices once still holes next called more hal
       few = omega (arith, few, total);
       indexed = λ yes.
           subst (λ hs. Indexed hs indices) (sym is)
-          (subst (Indexed (halves ++ Some half ∷ [])) (sym set_is)
+          (subst (Indexed (halves ++ Some half ∷ [])) (sym (set_is yes))
           (indexed_push halves index grown half same long within (known yes).1 (roster.indexed (known yes).0)));
       only = subst (λ hs. OnlyCalled hs more) (sym is) (called_push halves more half own only);
     }

@@ -1,5 +1,6 @@
 //! What the front does: it takes halves home, offers orders, and accepts or refuses.
 ghost use Rattle.std.specs.Prelude.{◌≡◌, ℕ, ◌-◌, OnOk, IfOk, IfSome, length, min};
+ghost use Rattle.std.specs.Bool.{OnFalse};
 ghost use Rattle.slice_schedule.specs.World as world;
 ghost use Rattle.slice_schedule.specs.Slots as slots;
 ghost use Rattle.slice_schedule.specs.Front as front;
@@ -154,6 +155,7 @@ fn flow_home(
 }
 
 /// Offers an order to a control worker.
+#[inline(always)]
 fn control_ordered(
     numbers: &mut Numbers<'_>,
     slice: usize,
@@ -171,9 +173,9 @@ fn control_ordered(
     Ok(())
 }
 
-/// Offers what the control half of a slot owes.
+/// Offers what the control half of a slot owes, where it may owe an order.
 #[inline(never)]
-fn control_offer(
+fn offer_control(
     numbers: &mut Numbers<'_>,
     setup: &Setup<'_>,
     slot: usize,
@@ -208,6 +210,36 @@ fn control_offer(
     }
 }
 
+/// Whether the control half of a slot may owe an order.
+fn owes_control(numbers: &Numbers<'_>, slot: usize) -> bool
+    ensures { OnFalse result ((bounds : ℕ → ℕ)
+        → front.control_offer bounds (world_of numbers.now) slot ≡ world_of numbers.now) }
+{
+    match control_of(numbers, slot) {
+        Standing::Absent => false,
+        Standing::Front => true,
+        Standing::Placed(_) => false,
+        Standing::Recalled(_, _) => true,
+        Standing::Leaving => false,
+    }
+}
+
+/// Offers what the control half of a slot owes: mostly it owes nothing.
+#[inline(always)]
+fn control_offer(
+    numbers: &mut Numbers<'_>,
+    setup: &Setup<'_>,
+    slot: usize,
+) -> Result<(), AllocError>
+    ensures { OnOk result (world_of numbers.new
+        ≡ front.control_offer (bounds_of setup.now) (world_of numbers.old) slot) }
+{
+    if owes_control(numbers, slot) {
+        return offer_control(numbers, setup, slot);
+    }
+    Ok(())
+}
+
 /// Offers an order to a slice's lane.
 fn flow_ordered(
     numbers: &mut Numbers<'_>,
@@ -227,9 +259,9 @@ fn flow_ordered(
     Ok(())
 }
 
-/// Offers what the counter half of a slot owes.
+/// Offers what the counter half of a slot owes, where it may owe an order.
 #[inline(never)]
-fn flow_offer(numbers: &mut Numbers<'_>, setup: &Setup<'_>, slot: usize) -> Result<(), AllocError>
+fn offer_flow(numbers: &mut Numbers<'_>, setup: &Setup<'_>, slot: usize) -> Result<(), AllocError>
     ensures { OnOk result (world_of numbers.new
         ≡ front.flow_offer setup.now.rooms (bounds_of setup.now) (world_of numbers.old) slot) }
 {
@@ -259,6 +291,32 @@ fn flow_offer(numbers: &mut Numbers<'_>, setup: &Setup<'_>, slot: usize) -> Resu
         }
         Standing::Leaving => Ok(()),
     }
+}
+
+/// Whether the counter half of a slot may owe an order.
+fn owes_flow(numbers: &Numbers<'_>, slot: usize) -> bool
+    ensures { OnFalse result ((rooms : world.Rooms) → (bounds : ℕ → ℕ)
+        → front.flow_offer rooms bounds (world_of numbers.now) slot ≡ world_of numbers.now) }
+{
+    match flow_of(numbers, slot) {
+        Standing::Absent => false,
+        Standing::Front => true,
+        Standing::Placed(_) => false,
+        Standing::Recalled(_, _) => true,
+        Standing::Leaving => false,
+    }
+}
+
+/// Offers what the counter half of a slot owes: mostly it owes nothing.
+#[inline(always)]
+fn flow_offer(numbers: &mut Numbers<'_>, setup: &Setup<'_>, slot: usize) -> Result<(), AllocError>
+    ensures { OnOk result (world_of numbers.new
+        ≡ front.flow_offer setup.now.rooms (bounds_of setup.now) (world_of numbers.old) slot) }
+{
+    if owes_flow(numbers, slot) {
+        return offer_flow(numbers, setup, slot);
+    }
+    Ok(())
 }
 
 /// Packets that wait go into the lane of this slice, as many as there is room for.
@@ -397,10 +455,10 @@ fn make(numbers: &mut Numbers<'_>, setup: &Setup<'_>, slot: usize) -> Result<(),
         ≡ front.made setup.now.rooms (bounds_of setup.now) (world_of numbers.old) slot) }
 {
     set_control(numbers, slot, Standing::Front)?;
-    control_offer(numbers, setup, slot)?;
+    offer_control(numbers, setup, slot)?;
     set_flow(numbers, slot, Standing::Front)?;
     make_room(numbers, setup, slot)?;
-    flow_offer(numbers, setup, slot)
+    offer_flow(numbers, setup, slot)
 }
 
 fn is_placed(standing: Standing) -> bool

@@ -194,9 +194,9 @@ fn lines(
     Ok(outcomes)
 }
 
-/// How many packets are asked of each slot.
-fn count_packets(alloc: Global, asks: &[Ask]) -> Result<Vec<usize>, AllocError> {
-    let mut counts = Vec::new(alloc);
+/// How many packets are asked of each slot, mostly of so many.
+fn count_packets(alloc: Global, slots: usize, asks: &[Ask]) -> Result<Vec<u32>, AllocError> {
+    let mut counts = Vec::with_capacity(alloc, slots)?;
     for ask in asks {
         if let Ask::Packet(slot) = ask {
             let slot = *slot as usize;
@@ -242,7 +242,7 @@ pub fn schedule<'b>(
         (driven_by (map asked asks.now) (turns_told turns.old slices (length asks.now))) slot) }
     ensures turns { OnOk result (turns.new ≡ turns_behind turns.old (length asks.now)) }
 {
-    let packets = count_packets(alloc, asks)?;
+    let packets = count_packets(alloc, bounds.len(), asks)?;
     let setup = Setup::new(rooms, slices, bounds, packets.as_slice());
     let mut numbers = Numbers {
         alloc,

@@ -1,5 +1,5 @@
 //! The halves that a worker holds.
-ghost use Rattle.std.specs.Prelude.{◌≡◌, ℕ, ◌+◌, ◌<◌, ◌≤◌, ◌==◌, List, ◌++◌, ◌∷◌, [], Option, Some, None};
+ghost use Rattle.std.specs.Prelude.{◌≡◌, ℕ, ◌+◌, ◌<◌, ◌≤◌, ◌==◌, ◌^◌, List, ◌++◌, ◌∷◌, [], Option, Some, None};
 ghost use Rattle.std.specs.Prelude.{true, false, map};
 ghost use Rattle.std.specs.Prelude.{OnOk, IfOk, IfNone, IfSome, length, nat_lt, take, set, get_or, is_some};
 ghost use Rattle.std.specs.Bool.{OnTrue, OnFalse};
@@ -64,7 +64,7 @@ fn search(halves: &[Option<HeldControl>], slot: usize) -> Option<usize>
 }
 
 /// The index of the half of a slot, where each half is of a slot of its own.
-fn by_slot(halves: &[Option<HeldControl>], index: &[usize], slot: usize) -> Option<usize>
+fn by_slot(halves: &[Option<HeldControl>], index: &[u32], slot: usize) -> Option<usize>
     requires { roster.Indexed halves.now index.now }
     ensures found { IfSome result (λ index. roster.StandsAt halves.now slot index) }
     ensures none { IfNone result (roster.Lacks halves.now slot) }
@@ -72,7 +72,7 @@ fn by_slot(halves: &[Option<HeldControl>], index: &[usize], slot: usize) -> Opti
     if slot >= index.len() {
         return None;
     }
-    let own = index[slot];
+    let own = index[slot] as usize;
     if is_there(halves, own, slot) {
         Some(own)
     } else {
@@ -81,12 +81,7 @@ fn by_slot(halves: &[Option<HeldControl>], index: &[usize], slot: usize) -> Opti
 }
 
 /// The index of the first half of a slot, by its slot while each half is of a slot of its own.
-fn index_of(
-    halves: &[Option<HeldControl>],
-    index: &[usize],
-    once: bool,
-    slot: usize,
-) -> Option<usize>
+fn index_of(halves: &[Option<HeldControl>], index: &[u32], once: bool, slot: usize) -> Option<usize>
     requires { once ≡ true → roster.Indexed halves.now index.now }
     ensures found { IfSome result (λ index. roster.StandsAt halves.now slot index) }
     ensures none { IfNone result (roster.Lacks halves.now slot) }
@@ -178,7 +173,7 @@ fn turns_first(halves: &[Option<HeldControl>], next: usize, one: usize, other: u
 /// The same by slots whose halves are there.
 fn is_first(
     halves: &[Option<HeldControl>],
-    index: &[usize],
+    index: &[u32],
     once: bool,
     next: usize,
     one: usize,
@@ -203,7 +198,7 @@ fn is_first(
 }
 
 /// Whether a half of a slot is there.
-fn has_half(halves: &[Option<HeldControl>], index: &[usize], once: bool, slot: usize) -> bool
+fn has_half(halves: &[Option<HeldControl>], index: &[u32], once: bool, slot: usize) -> bool
     requires { once ≡ true → roster.Indexed halves.now index.now }
     ensures { result ≡ nat_lt (rounds.place_held slot (roster.present halves.now))
         (length (roster.present halves.now)) }
@@ -245,7 +240,7 @@ fn behind_place(halves: &[Option<HeldControl>], place: usize) -> usize
 }
 
 /// Where the cursor stands behind the turn of the half of a slot.
-fn behind_slot(halves: &[Option<HeldControl>], index: &[usize], once: bool, slot: usize) -> usize
+fn behind_slot(halves: &[Option<HeldControl>], index: &[u32], once: bool, slot: usize) -> usize
     requires { once ≡ true → roster.Indexed halves.now index.now }
     ensures place { roster.place_at halves.now result ≡ world.cursor_next
         (rounds.place_held slot (roster.present halves.now)) (length (roster.present halves.now)) }
@@ -318,7 +313,7 @@ fn count_before(halves: &[Option<HeldControl>], index: usize) -> usize
 }
 
 /// Makes the list long enough for a slot.
-pub fn reach(index: &mut Vec<usize>, slot: usize) -> Result<(), AllocError>
+pub fn reach(index: &mut Vec<u32>, slot: usize) -> Result<(), AllocError>
     ensures same { (s : ℕ) → get_or index.new.items s 0 ≡ get_or index.old.items s 0 }
     ensures more { length index.old.items ≤ length index.new.items }
     ensures within { OnOk result (slot < length index.new.items) }
@@ -331,7 +326,7 @@ pub fn reach(index: &mut Vec<usize>, slot: usize) -> Result<(), AllocError>
 
 /// The same of one that is too short.
 #[inline(never)]
-fn grow_index(index: &mut Vec<usize>, slot: usize) -> Result<(), AllocError>
+fn grow_index(index: &mut Vec<u32>, slot: usize) -> Result<(), AllocError>
     requires { length index.old.items ≤ slot }
     ensures same { (s : ℕ) → get_or index.new.items s 0 ≡ get_or index.old.items s 0 }
     ensures more { length index.old.items ≤ length index.new.items }
@@ -388,12 +383,26 @@ fn note_called(called: &mut Vec<usize>, half: &HeldControl, index: usize) -> Res
     Ok(())
 }
 
-/// Whether each half surely is of a slot of its own, also where that of this slot comes.
-fn still_once(halves: &[Option<HeldControl>], index: &[usize], once: bool, slot: usize) -> bool
+/// An index as a roster keeps it: the same below 2^32.
+fn kept_index(index: usize) -> u32
+    ensures { index < 2 ^ 32 → result ≡ index }
+{
+    if index > u32::MAX as usize {
+        return 0;
+    }
+    index as u32
+}
+
+/// Whether each half surely is of a slot of its own, also where that of this slot comes, at an index below 2^32.
+fn still_once(halves: &[Option<HeldControl>], index: &[u32], once: bool, slot: usize) -> bool
     requires { once ≡ true → roster.Indexed halves.now index.now }
-    ensures { result ≡ true → (once ≡ true) × roster.Lacks halves.now slot }
+    ensures once { result ≡ true → (once ≡ true) × roster.Lacks halves.now slot }
+    ensures few { result ≡ true → length halves.now < 2 ^ 32 }
 {
     if !once {
+        return false;
+    }
+    if halves.len() > u32::MAX as usize {
         return false;
     }
     match index_of(halves, index, once, slot) {
@@ -487,7 +496,7 @@ fn leave_out(called: &mut Vec<usize>, index: usize)
 #[derive(Drop)]
 pub struct Roster {
     halves: Vec<Option<HeldControl>>,
-    index: Vec<usize>,
+    index: Vec<u32>,
     once: bool,
     holes: usize,
     next: usize,
@@ -615,17 +624,26 @@ impl Roster {
     }
 
     /// Makes room for the halves of so many slots, before the first one comes: for a part of them, and an index of all.
+    #[inline(always)]
     pub fn make_room(&mut self, slots: usize) -> Result<(), AllocError>
         ensures { OnOk result (self.new ≡ self.old) }
     {
         if self.halves.is_empty() {
-            self.halves.reserve_exact(slots / 4)?;
-            return self.index.reserve_exact(slots);
+            return self.reserve(slots);
         }
         Ok(())
     }
 
+    #[inline(never)]
+    fn reserve(&mut self, slots: usize) -> Result<(), AllocError>
+        ensures { OnOk result (self.new ≡ self.old) }
+    {
+        self.halves.reserve_exact(slots / 4)?;
+        self.index.reserve_exact(slots)
+    }
+
     /// A half comes.
+    #[inline(always)]
     pub fn push(&mut self, half: HeldControl) -> Result<(), AllocError>
         ensures { OnOk result (self.new ≡ record self.old { held = self.old.held ++ half ∷ [] }) }
     {
@@ -639,7 +657,7 @@ impl Roster {
         reach(&mut self.index, half.slot)?;
         note_called(&mut self.called, &half, index)?;
         self.halves.push(Some(half))?;
-        self.index[half.slot] = index;
+        self.index[half.slot] = kept_index(index);
         self.once = still;
         Ok(())
     }

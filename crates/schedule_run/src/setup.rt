@@ -11,7 +11,7 @@ pub struct Setup<'a> {
     rooms: Rooms,
     slices: u8,
     bounds: &'a [u8],
-    packets: &'a [usize],
+    packets: &'a [u32],
 }
 
 impl<'a> Model for Setup<'a> {
@@ -26,7 +26,7 @@ impl<'a> Model for Setup<'a> {
 }
 
 impl<'a> Setup<'a> {
-    pub fn new(rooms: Rooms, slices: u8, bounds: &'a [u8], packets: &'a [usize]) -> Setup<'a>
+    pub fn new(rooms: Rooms, slices: u8, bounds: &'a [u8], packets: &'a [u32]) -> Setup<'a>
         requires { 1 ≤ slices }
         ensures { result ≡ record { rooms = rooms; slices = slices; bounds = bounds.now } }
     {
@@ -58,7 +58,7 @@ impl<'a> Setup<'a> {
     /// How many packets are asked of a slot.
     pub fn packets(&self, slot: usize) -> usize {
         if slot < self.packets.len() {
-            self.packets[slot]
+            self.packets[slot] as usize
         } else {
             0
         }

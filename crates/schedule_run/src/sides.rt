@@ -177,6 +177,7 @@ pub fn flow_waiting(numbers: &Numbers<'_>, slice: usize) -> Option<usize>
     }
 }
 
+#[inline(always)]
 pub fn order_control(
     numbers: &mut Numbers<'_>,
     slice: usize,

@@ -155,6 +155,7 @@ pub fn bound_for(numbers: &Numbers<'_>, setup: &Setup<'_>, slot: usize) -> usize
     }
 }
 
+#[inline(always)]
 pub fn set_control(
     numbers: &mut Numbers<'_>,
     slot: usize,

@@ -7,12 +7,7 @@ loop-i-preserved c =
     let at = c.loop-i in
     let low : at.i < length c.args.subscribers.now.items =
     omega (arith, c.loop-i-test.true, c.requires.slots, c.args.subscribers.now.ok.0) in
-    more_done c.args.subscribers.now.items at.subscribers.items _ c.args.shares.now at.replays c.add_replayed.new.replays
-    at.i c.index_mut.result.now c.replay_share.new.subscriber c.index-shares-place.result c.in_ok-replayed.replayed
-    at.invariant low (omega (arith, c.requires.many, c.args.subscribers.now.ok.0)) c.index_mut.ensures.value refl
-    c.index-shares-place.is c.in_ok-replayed.ensures
-    (record {
-      answers = c.in_ok-add_replayed.ensures.answers;
-      effects = c.in_ok-add_replayed.ensures.effects;
-      rows = c.in_ok-add_replayed.ensures.rows;
-    })
+    more_done c.args.subscribers.now.items at.subscribers.items _ c.args.shares.now at.replays c.do_share.new.replays
+    at.i c.index_mut.result.now c.do_share.new.subscriber c.index-shares-place.result at.invariant low
+    (omega (arith, c.requires.many, c.args.subscribers.now.ok.0)) c.index_mut.ensures.value refl
+    c.index-shares-place.is c.in_ok-do_share.ensures

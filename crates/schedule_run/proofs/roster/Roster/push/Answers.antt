@@ -39,12 +39,16 @@ invariant_of-self-2 c =
     let slot-2 = ap (λ (h : HeldControl). h.slot) c.half-2.view_is in
     let within = c.in_ok-reach.ensures.within in
     roster_push own.halves.items c.push.new.self.items own.index.items grown
-    (set grown c.half-2.inside.slot c.len-index.result) own.once c.still_once-still.result own.holes own.next
+    (set grown c.half-2.inside.slot c.kept_index.result) own.once c.still_once-still.result own.holes own.next
     own.called.items c.note_called.new.called.items c.args.half c.self.invariant c.in_ok-push.ensures.items
     c.reach.ensures.same c.reach.ensures.more (omega (arith, within, slot))
-    (ap (λ s. set grown s c.len-index.result) slot-2 ∙ ap (set grown c.args.half.slot) at)
     (λ yes.
-    let got = c.still_once-still.ensures yes in
+    let few = c.still_once-still.ensures.few yes in
+    let many = ap length c.as_slice.ensures.value in
+    ap (λ s. set grown s c.kept_index.result) slot-2
+    ∙ ap (set grown c.args.half.slot) (c.kept_index.ensures (omega (arith, few, many, at)) ∙ at))
+    (λ yes.
+    let got = c.still_once-still.ensures.once yes in
     (got.0, lacks_same _ _ _ _ c.as_slice.ensures.value slot got.1))
     (c.note_called.ensures.kept own.halves.items c.self.invariant.only)
     (λ off. c.in_ok-note_called.ensures.own (ap (is_in c.note_called.new.called.items) at ∙ off))
