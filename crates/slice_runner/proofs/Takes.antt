@@ -52,6 +52,18 @@ takes_more tries xs line old mid new took before whole opened taken counts lanes
       (λ is. full (takes.took_is ∙ is));
 }
 
+pub pumps_again : (old mid new : Front) → Pumps old mid → Pumps mid new → Pumps old new
+pumps_again old mid new before pumps = record {
+  whole = λ whole. pumps.whole (before.whole whole);
+  opened = pumps.opened ∙ before.opened;
+  entries = pumps.entries ∙ before.entries;
+  count = pumps.count ∙ before.count;
+  latest = pumps.latest ∙ before.latest;
+  fulls = pumps.fulls ∙ before.fulls;
+  control = pumps.control ∙ before.control;
+  flow = pumps.flow ∙ before.flow;
+}
+
 -- behind the last line the front is only pumped
 pub takes_pumped : (tries : ℕ) (xs : List Line) (old mid new : Front) → TakesAll tries xs old mid → Pumps mid new
     → TakesAll tries xs old new

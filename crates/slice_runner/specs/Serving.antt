@@ -27,12 +27,12 @@ pub record AreFor (controls flows : ℕ) (posts : Posts) : Type 0 where
   pub calls : vec_len posts.calls ≡ controls
 
 -- a front and its workers, with memory and posts for their threads, and the lines that are to come
-pub record AreServed (opened : Opened) (places : Places) (posts : Posts) (lines : List Line) : Type 0 where
+pub record AreServed (opened : Opened) (places : Places) (shared : Posts) (lines : List Line) : Type 0 where
   pub whole : IsWhole opened.front
   pub few : lines_in opened.front + length lines ≤ 2 ^ 39
   pub later : AreLater (latest_in opened.front) lines
   pub room : HasRoomFor (vec_len opened.controls) (vec_len opened.flows) places
-  pub posts : AreFor (vec_len opened.controls) (vec_len opened.flows) posts
+  pub posts : AreFor (vec_len opened.controls) (vec_len opened.flows) shared
 
 -- The ends are those of the workers; and where the front had memory, it took all lines.
 pub record Serves (opened : Opened) (tries : ℕ) (lines : List Line) (served : Served) : Type 0 where

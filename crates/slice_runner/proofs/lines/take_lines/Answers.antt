@@ -4,14 +4,28 @@ use Rattle.trace_lines.specs.Line.{Line}
 use Rattle.at_rest.specs.Coming.{AreLater}
 use Rattle.front_core.specs.Words.{latest_in}
 use Rattle.slice_runner.specs.Lines.{TakesAll}
-use Rattle.slice_runner.proofs.Takes.{takes_more, takes_none}
+use Rattle.slice_runner.proofs.Takes.{takes_more, takes_none, takes_pumped}
 use Rattle.slice_runner.proofs.lines.take_lines.Goals as goal
 
 pub loop-line-init : goal.loop-line-init
-loop-line-init g c = record {
-  takes = takes_none (c.args.patience + 1) c.args.front c.requires.whole;
-  later = c.requires.later;
-}
+loop-line-init g c =
+    let tries = c.args.patience + 1 in
+    let old = c.args.front in
+    let kept = c.expect.ensures in
+    record {
+      takes = takes_pumped tries [] old old c.expect.new.self (takes_none tries old c.requires.whole)
+          (record {
+            whole = kept.whole;
+            opened = kept.same.0;
+            entries = kept.same.1;
+            count = kept.counts.0;
+            latest = kept.counts.1;
+            fulls = kept.counts.2;
+            control = kept.lanes.0;
+            flow = kept.lanes.1;
+          });
+      later = subst (λ n. AreLater n c.args.lines.now) (sym kept.counts.1) c.requires.later;
+    }
 
 pub loop-line-preserved : goal.loop-line-preserved
 loop-line-preserved g c =
@@ -19,7 +33,7 @@ loop-line-preserved g c =
     let k = c.loop-line.line-index in
     let line = c.line-item.result in
     let within = c.loop-line-test.true in
-    let known = c.in_ok-line.ensures in
+    let known = c.in_ok-took.ensures in
     let next : take (k + 1) lines ≡ take k lines ++ line ∷ [] =
     take_more lines k line within ∙ ap (λ (l : Line). take k lines ++ l ∷ []) (sym c.line-item.is) in
     let rest : drop k lines ≡ line ∷ drop (k + 1) lines =
@@ -27,7 +41,7 @@ loop-line-preserved g c =
     record {
       takes = subst (λ xs. TakesAll (c.args.patience + 1) xs c.args.front c.line.new.self) (sym next)
           (takes_more (c.args.patience + 1) (take k lines) line c.args.front c.loop-line.front c.line.new.self
-          c.in_ok-line.field-0 c.loop-line.invariant.takes known.whole known.opened known.taken known.counts known.lanes
+          c.in_ok-took.took c.loop-line.invariant.takes known.whole known.opened known.taken known.counts known.lanes
           known.takes known.full known.rises);
       later = subst (λ n. AreLater n (drop (k + 1) lines)) (sym known.counts.1)
           (subst (AreLater (latest_in c.loop-line.front)) rest c.loop-line.invariant.later).1;
