@@ -16,3 +16,4 @@ pub mod Places
 pub mod Indices
 pub mod Order
 pub mod Rosters
+pub mod Admitted

@@ -173,6 +173,27 @@ fn control_ordered(
     Ok(())
 }
 
+/// Offers the control half of a slot, which is at the front, to the slice that it is bound for.
+#[inline(always)]
+fn offer_control_front(
+    numbers: &mut Numbers<'_>,
+    setup: &Setup<'_>,
+    slot: usize,
+) -> Result<(), AllocError>
+    ensures { OnOk result (world_of numbers.new
+        ≡ front.control_offer_at (bounds_of setup.now) (world_of numbers.old) slot slots.front) }
+{
+    let slice = bound_for(numbers, setup, slot);
+    tell_moves(numbers, slot)?;
+    control_ordered(
+        numbers,
+        slice,
+        slot,
+        ControlOrder::Come(slot),
+        Standing::Placed(slice),
+    )
+}
+
 /// Offers what the control half of a slot owes, where it may owe an order.
 #[inline(never)]
 fn offer_control(
@@ -185,17 +206,7 @@ fn offer_control(
 {
     match control_of(numbers, slot) {
         Standing::Absent => Ok(()),
-        Standing::Front => {
-            let slice = bound_for(numbers, setup, slot);
-            tell_moves(numbers, slot)?;
-            control_ordered(
-                numbers,
-                slice,
-                slot,
-                ControlOrder::Come(slot),
-                Standing::Placed(slice),
-            )
-        }
+        Standing::Front => offer_control_front(numbers, setup, slot),
         Standing::Placed(_) => Ok(()),
         Standing::Recalled(slice, until) => {
             control_ordered(
@@ -259,6 +270,27 @@ fn flow_ordered(
     Ok(())
 }
 
+/// Offers the counter half of a slot, which is at the front, to the slice that it is bound for.
+#[inline(always)]
+fn offer_flow_front(
+    numbers: &mut Numbers<'_>,
+    setup: &Setup<'_>,
+    slot: usize,
+) -> Result<(), AllocError>
+    ensures { OnOk result (world_of numbers.new
+        ≡ front.flow_offer_at setup.now.rooms (bounds_of setup.now) (world_of numbers.old) slot slots.front) }
+{
+    let slice = bound_for(numbers, setup, slot);
+    flow_ordered(
+        numbers,
+        setup,
+        slice,
+        slot,
+        FlowOrder::Arrive(slot),
+        Standing::Placed(slice),
+    )
+}
+
 /// Offers what the counter half of a slot owes, where it may owe an order.
 #[inline(never)]
 fn offer_flow(numbers: &mut Numbers<'_>, setup: &Setup<'_>, slot: usize) -> Result<(), AllocError>
@@ -267,17 +299,7 @@ fn offer_flow(numbers: &mut Numbers<'_>, setup: &Setup<'_>, slot: usize) -> Resu
 {
     match flow_of(numbers, slot) {
         Standing::Absent => Ok(()),
-        Standing::Front => {
-            let slice = bound_for(numbers, setup, slot);
-            flow_ordered(
-                numbers,
-                setup,
-                slice,
-                slot,
-                FlowOrder::Arrive(slot),
-                Standing::Placed(slice),
-            )
-        }
+        Standing::Front => offer_flow_front(numbers, setup, slot),
         Standing::Placed(_) => Ok(()),
         Standing::Recalled(slice, _) => {
             flow_ordered(
@@ -455,10 +477,10 @@ fn make(numbers: &mut Numbers<'_>, setup: &Setup<'_>, slot: usize) -> Result<(),
         ≡ front.made setup.now.rooms (bounds_of setup.now) (world_of numbers.old) slot) }
 {
     set_control(numbers, slot, Standing::Front)?;
-    offer_control(numbers, setup, slot)?;
+    offer_control_front(numbers, setup, slot)?;
     set_flow(numbers, slot, Standing::Front)?;
     make_room(numbers, setup, slot)?;
-    offer_flow(numbers, setup, slot)
+    offer_flow_front(numbers, setup, slot)
 }
 
 fn is_placed(standing: Standing) -> bool

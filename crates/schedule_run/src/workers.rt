@@ -63,7 +63,6 @@ impl ControlNumbers {
         self.orders.len()
     }
 
-    #[inline(always)]
     pub fn order(&mut self, order: ControlOrder) -> Result<(), AllocError>
         ensures { OnOk result (self.new ≡ record self.old { orders = self.old.orders ++ control_order order ∷ [] }) }
     {
