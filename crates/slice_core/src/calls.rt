@@ -42,9 +42,17 @@ impl Calls {
         self.slots.pop(rt)
     }
 
-    /// Whether a call found no place since this was asked last.
-    pub(crate) fn take_missed(&self) -> bool {
-        self.missed.load(Ordering::SeqCst) && self.missed.swap(false, Ordering::SeqCst)
+    /// Whether a call found no place since this was asked last. Then those that wait are let go: all halves are to be
+    /// turned.
+    pub(crate) fn take_missed<R: Wait>(&self, rt: &R) -> bool {
+        let missed = self.missed.load(Ordering::SeqCst);
+        if missed {
+            self.missed.store(false, Ordering::SeqCst);
+            for _ in 0..PLACES {
+                let _slot = self.slots.pop(rt);
+            }
+        }
+        missed
     }
 }
 

@@ -44,7 +44,7 @@ fn serve_travelling<H: Traveller, R: Wait>(
         if post.is_stopped() {
             break;
         }
-        if calls.take_missed() || quiet >= QUIET {
+        if calls.take_missed(rt) || quiet >= QUIET {
             (whole, quiet) = (true, 0);
         }
         let did = if whole {
