@@ -23,7 +23,7 @@ pub enum Job {
     },
     /// `replay`: replay a trace over slices in threads, with the places of packets in the report or without. A line
     /// whose queue or lane is full is tried so often again (0 to 1,000,000) before it is refused, and behind an epoch's
-    /// last line the front pumps so often (0 to 1,000,000).
+    /// last line the front pumps at most so often (0 to 1,000,000).
     Replay {
         lanes: Lanes,
         patience: u32,

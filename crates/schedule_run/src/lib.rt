@@ -4,6 +4,7 @@
 
 mod ask;
 mod busy;
+mod copying;
 mod floors;
 mod front;
 mod grow;

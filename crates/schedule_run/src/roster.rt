@@ -10,6 +10,7 @@ ghost use Rattle.schedule_run.specs.Owing.{is_in};
 ghost use Rattle.schedule_run.specs.Rosters as roster;
 ghost use Rattle.schedule_run.specs.Rounds as rounds;
 
+use crate::copying::copy_part;
 use crate::slot::SlotNumbers;
 use crate::standing::HeldControl;
 use crate::world::applied_of;
@@ -17,7 +18,7 @@ use std::alloc::{AllocError, Global};
 use std::marker::Model;
 
 /// What stands at an index.
-fn half_at(halves: &[Option<HeldControl>], index: usize) -> Option<HeldControl>
+pub fn half_at(halves: &[Option<HeldControl>], index: usize) -> Option<HeldControl>
     ensures { result ≡ roster.entry halves.now index }
 {
     if index < halves.len() {
@@ -773,40 +774,5 @@ impl Roster {
     {
         *self = self.packed(alloc)?;
         Ok(())
-    }
-}
-
-/// Puts the halves between two indices behind those before them.
-fn copy_part(
-    halves: &[Option<HeldControl>],
-    from: usize,
-    to: usize,
-    fresh: &mut Roster,
-) -> Result<(), AllocError>
-    requires few { from ≤ to }
-    requires before { fresh.old.held ≡ roster.present (take from halves.now) }
-    ensures { OnOk result (fresh.new ≡ record fresh.old { held = roster.present (take to halves.now) }) }
-{
-    for index in from..to {
-        copy_one(halves, index, fresh)?;
-    }
-    Ok(())
-}
-
-/// Puts the half at an index, if one stands there, behind those before it.
-fn copy_one(
-    halves: &[Option<HeldControl>],
-    index: usize,
-    fresh: &mut Roster,
-) -> Result<(), AllocError>
-    requires { fresh.old.held ≡ roster.present (take index halves.now) }
-    ensures { OnOk result (fresh.new ≡ record fresh.old { held = roster.present (take (index + 1) halves.now) }) }
-{
-    match half_at(halves, index) {
-        None => Ok(()),
-        Some(half) => {
-            fresh.push(half)?;
-            Ok(())
-        }
     }
 }

@@ -1,5 +1,5 @@
 //! An epoch over slices, in threads: the front takes the lines, while each slice has a thread for its control halves
-//! and one for its counter halves. Threads share lanes and stop flags, and nothing else.
+//! and one for its counter halves. Threads share lanes, posts and calls, and nothing else.
 #![tactic(auto)]
 
 mod epoch;

@@ -1,6 +1,6 @@
 use Rattle.std.proofs.Common.{sym, ◌∙◌}
 use Rattle.schedule_run.proofs.Rosters.{copied_none, copied_some}
-use Rattle.schedule_run.proofs.roster.copy_one.Goals as goal
+use Rattle.schedule_run.proofs.copying.copy_one.Goals as goal
 
 pub returns-in-None : goal.returns-in-None
 returns-in-None c =
