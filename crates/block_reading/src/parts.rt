@@ -11,8 +11,8 @@ use std::alloc::{AllocError, Global};
 use std::thread::{Threads, join};
 use trace_lines::{LineBad, TraceLine, read_line};
 
-/// How many octets are read by one thread at most: some three thousand lines.
-pub(crate) const PART_LEN: usize = 0xa_0000;
+/// How many octets are read by one thread at most: some five thousand lines.
+pub(crate) const PART_LEN: usize = 0x10_0000;
 
 /// What a line says, read apart from those before it: under the number 0, where each moment may come. And the length
 /// of its text.

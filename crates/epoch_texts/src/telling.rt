@@ -44,12 +44,12 @@ fn push_entry(report: &mut Text, told: &Entry, places: bool) -> Result<(), Alloc
     }
 }
 
-/// Appends the lines of entries, with places or without, and lets the entries go.
-pub fn push_entries(report: &mut Text, entries: Vec<Entry>, places: bool) -> Result<(), AllocError>
-    ensures { OnOk result (report.new ≡ report.old ++ lines_text places (map entry_told entries.items)) }
+/// Appends the lines of entries, with places or without.
+pub fn push_entries(report: &mut Text, entries: &[Entry], places: bool) -> Result<(), AllocError>
+    ensures { OnOk result (report.new ≡ report.old ++ lines_text places (map entry_told entries.now)) }
 {
     for entry in entries {
-        push_entry(report, &entry, places)?;
+        push_entry(report, entry, places)?;
     }
     Ok(())
 }

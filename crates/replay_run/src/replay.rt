@@ -26,6 +26,8 @@ pub(crate) struct Replay {
     lines: Vec<TraceLine>,
     pace: Pace,
     places: bool,
+    /// What texts of blocks are made in.
+    rooms: Vec<Text>,
 }
 
 impl Replay {
@@ -50,6 +52,7 @@ impl Replay {
             lines: Vec::new(alloc),
             pace,
             places,
+            rooms: Vec::new(alloc),
         }
     }
 
@@ -88,6 +91,7 @@ impl Replay {
             bad,
             number,
             self.places,
+            &mut self.rooms,
             text,
         )
     }
