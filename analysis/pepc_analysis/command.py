@@ -1,5 +1,6 @@
 """What the commands share: their command line, their end by a signal, and that no fault shows a traceback."""
 import argparse
+import importlib.util
 import signal
 import sys
 from typing import Callable, NoReturn
@@ -42,3 +43,9 @@ def run(name: str, main: Callable[[list[str]], int]) -> NoReturn:
         print(f"{name}: stopped", file=sys.stderr)
         status = STOPPED
     sys.exit(status)
+
+
+def needs(module: str, package: str) -> None:
+    """A module of a Debian package that isn't there is a fault, which names the package."""
+    if importlib.util.find_spec(module) is None:
+        raise Fault(USAGE, f"Debian's package {package} is missing: apt-get install --no-install-recommends {package}")
