@@ -1,4 +1,6 @@
 """The pictures of one trace, drawn from sums by matplotlib."""
+import os
+import pathlib
 import sqlite3
 
 import matplotlib
@@ -9,6 +11,7 @@ from matplotlib.lines import Line2D               # noqa: E402
 from matplotlib.patches import Patch              # noqa: E402
 
 from . import sums                                # noqa: E402
+from .faults import Fault, WRITE_FAULT            # noqa: E402
 from .sums import (Bars, FORWARDED, GBR, IDLE, LOST, OUTCOMES, POLICED, REFUSED, SENT, WAITING)   # noqa: E402
 
 # Okabe and Ito's colours, which the colour-blind tell apart; what was forwarded is quiet, what was lost is loud
@@ -23,6 +26,21 @@ HELD_AT_MOST = 16
 matplotlib.rcParams.update({"figure.dpi": 100, "font.size": 10, "axes.spines.top": False, "axes.spines.right": False,
                             "axes.grid": True, "grid.alpha": .3, "legend.frameon": False, "axes.axisbelow": True,
                             "svg.hashsalt": "pepc"})
+
+
+def save(figure: Figure, folder: str, name: str) -> None:
+    """Both files of a picture, each under another name until it is whole."""
+    for kind in ("png", "svg"):
+        path = f"{folder}/{name}.{kind}"
+        new = f"{path}.{os.getpid()}.new"
+        try:
+            os.makedirs(folder, exist_ok=True)
+            figure.savefig(new, format=kind, metadata={"Date": None} if kind == "svg" else {"Software": None})
+            os.replace(new, path)
+        except OSError as why:
+            raise Fault(WRITE_FAULT, f"{path}: {why.strerror or why}") from None
+        finally:
+            pathlib.Path(new).unlink(missing_ok=True)
 
 
 def width_of(step: int) -> str:
