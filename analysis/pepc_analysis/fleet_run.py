@@ -11,7 +11,6 @@ from .fleet_rows import Job, Rows
 
 ATTEMPTS = 3
 MEGA = 1_000_000
-AHEAD = 2                 # traces that a thread has at most, of which one waits: with more, a dead worker takes more along
 
 
 class Plan(NamedTuple):
@@ -63,7 +62,7 @@ class Fleet:
         best = None
         for name, host in hosts.items():
             mine = [out for out in self.out.values() if out.host == name]
-            free = host.threads * AHEAD - len(mine)
+            free = host.threads - len(mine)         # none waits at a worker, as one that dies would take it along
             fits = sum(out.need for out in mine) + need <= host.memory or not mine
             if free > 0 and fits and (best is None or free > best[0]):
                 best = (free, name)
