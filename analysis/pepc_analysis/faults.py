@@ -1,5 +1,6 @@
 """How the commands end: their statuses, and the one line that says why. The numbers are those of `pepc` where one
 fits; 1 and 130 are of the fleet."""
+import os
 
 WELL = 0
 NOT_WELL = 1          # fleet: some step of some trace isn't well
@@ -25,3 +26,11 @@ class Fault(Exception):
 def at(file: str, line: int, why: str, status: int) -> Fault:
     """The fault of a line of a file."""
     return Fault(status, f"{file} line {line}: {why}")
+
+
+def remove(path: str) -> None:
+    """A file goes, if it is there and can go."""
+    try:
+        os.unlink(path)
+    except OSError:
+        pass

@@ -1,10 +1,9 @@
 """The charges of all traces of a fleet in one table, and one picture of the fleet."""
 import os
-import pathlib
 import sqlite3
 
 from . import sums
-from .faults import BAD_REPORT, Fault, READ_FAULT, WRITE_FAULT
+from .faults import BAD_REPORT, Fault, READ_FAULT, WRITE_FAULT, remove
 from .schema import VERSION
 
 MOST_TRACES = 20
@@ -52,7 +51,7 @@ def merge(out: str) -> tuple[int, int]:
     except (OSError, sqlite3.Error) as why:
         raise Fault(WRITE_FAULT, f"{path}: {getattr(why, 'strerror', None) or why}") from None
     finally:
-        pathlib.Path(new).unlink(missing_ok=True)
+        remove(new)
 
 
 def opened(path: str) -> sqlite3.Connection:

@@ -3,6 +3,7 @@ follows from the commands and their outcomes by the control table (docs/GATEWAY.
 from . import wire
 from .wire import Peer
 
+MOST_RATE = 2**40 - 1
 GUARANTEED = range(1, 5)      # QCIs of a guaranteed rate: their own rate counts, and not the AMBR
 
 
@@ -75,7 +76,7 @@ class Lives:
             return
         elif kind == b"ATTACH":
             self.rate(None, int(fields[5]), int(fields[6]))
-            self.attach(own, 5, Peer(fields[3].decode(), int(fields[4], 16)))
+            self.attach(own, 5, Peer(fields[3].decode(), int.from_bytes(bytes.fromhex(fields[4].decode())[:4], "big")))
         elif kind == b"AMBR":
             self.rate(None, int(fields[3]), int(fields[4]))
         elif kind == b"BEARER":
@@ -118,6 +119,8 @@ class Lives:
 
     def rate(self, life: int | None, up: int, down: int) -> None:
         """A row of `rate` at this command."""
+        if max(up, down) > MOST_RATE:
+            raise ValueError("a rate above 2^40 - 1 kbps")
         self.rates.append((*self.place, life, up, down))
 
     def leave(self, own: Slot) -> None:

@@ -25,6 +25,7 @@ def make_tables(trace_path: str, report_path: str, out: str, octets: bool = Fals
         reading = Reading(trace, report, (trace_path, report_path), octets)
         store = Store(out, report_path)
         try:
+            store.begin()
             reading.run(store.take)
             sizes = (os.fstat(file.fileno()).st_size for file in (trace, report))
             store.end((schema.VERSION, os.path.basename(trace_path), os.path.basename(report_path), *sizes, reading.line,

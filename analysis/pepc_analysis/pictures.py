@@ -1,6 +1,5 @@
 """The pictures of one trace, drawn from sums by matplotlib."""
 import os
-import pathlib
 import sqlite3
 
 import matplotlib
@@ -11,7 +10,7 @@ from matplotlib.lines import Line2D               # noqa: E402
 from matplotlib.patches import Patch              # noqa: E402
 
 from . import sums                                # noqa: E402
-from .faults import Fault, WRITE_FAULT            # noqa: E402
+from .faults import Fault, WRITE_FAULT, remove    # noqa: E402
 from .sums import (Bars, FORWARDED, GBR, IDLE, LOST, OUTCOMES, POLICED, REFUSED, SENT, WAITING)   # noqa: E402
 
 # Okabe and Ito's colours, which the colour-blind tell apart; what was forwarded is quiet, what was lost is loud
@@ -40,7 +39,7 @@ def save(figure: Figure, folder: str, name: str) -> None:
         except OSError as why:
             raise Fault(WRITE_FAULT, f"{path}: {why.strerror or why}") from None
         finally:
-            pathlib.Path(new).unlink(missing_ok=True)
+            remove(new)
 
 
 def width_of(step: int) -> str:

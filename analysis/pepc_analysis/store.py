@@ -1,12 +1,11 @@
 """The SQLite file of the tables: made under another name, checked, and renamed at the end."""
 import csv
 import os
-import pathlib
 import sqlite3
 from typing import Iterator
 
 from . import schema
-from .faults import BAD_REPORT, Fault, WRITE_FAULT
+from .faults import BAD_REPORT, Fault, WRITE_FAULT, remove
 
 INSERTIONS = {table.name: schema.insertion_of(table) for table in schema.TABLES}
 
@@ -22,6 +21,10 @@ class Store:
     def __init__(self, path: str, report_name: str):
         self.path, self.report_name = path, report_name
         self.new = f"{path}.{os.getpid()}.new"
+        self.base: sqlite3.Connection | None = None
+
+    def begin(self) -> None:
+        """Makes the file, with its tables."""
         self.base = self.guarded(lambda: sqlite3.connect(self.new, isolation_level=None))
         self.run("PRAGMA page_size = 8192", "PRAGMA journal_mode = OFF", "PRAGMA synchronous = OFF",
                  "PRAGMA locking_mode = EXCLUSIVE", "PRAGMA cache_size = -32768")
@@ -82,10 +85,10 @@ class Store:
         self.guarded(lambda: os.replace(self.new, self.path))
 
     def drop(self) -> None:
-        """Leaves nothing."""
-        if hasattr(self, "base"):
+        """Leaves nothing under the other name."""
+        if self.base:
             self.base.close()
-        pathlib.Path(self.new).unlink(missing_ok=True)
+        remove(self.new)
 
 
 def write_sheets(base: sqlite3.Connection, folder: str) -> None:
@@ -107,4 +110,4 @@ def write_sheets(base: sqlite3.Connection, folder: str) -> None:
         raise write_fault(why, folder) from None
     finally:
         for new, _ in made:
-            pathlib.Path(new).unlink(missing_ok=True)
+            remove(new)
