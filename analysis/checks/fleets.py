@@ -39,9 +39,8 @@ def make_list(room: pathlib.Path) -> pathlib.Path:
         text = texts[number % 20]
         octets, report = len(text), None
         if number == WRONG:
-            wrong = re.sub(rb"^(P 20 .*)(..)\n", rb"\g<1>00\n", reports[number % 20], flags=re.M)
-            report = re.sub(rb"^O 0 0 5 9 (\d+) (\d+)", lambda told: b"O 0 0 5 9 %s %d" % (told[1], int(told[2]) + 1), wrong,
-                            flags=re.M)
+            wrong = re.sub(rb"^(P \d+ \d+ \d+ \d+ up \d+ [0-9a-f]+)..\n", rb"\g<1>ff\n", reports[number % 20], 1, re.M)
+            report = re.sub(rb"^(O 0 0 5 9 \d+) (\d+)", lambda told: b"%s %d" % (told[1], int(told[2]) + 1), wrong, 1, re.M)
         elif number == CUT:
             text = text[:-100]
         elif number == CHANGED:
@@ -159,9 +158,9 @@ def wanted_rows(check: Check, rows: list[tuple]) -> None:
     given = [row for row in well if row[0] != "solo"]
     wrong = found.pop(name_of(WRONG))
     check.same("fleet: a wrong report", [row[:2] for row in wrong], [("audit", "9"), ("balance", "0"), ("tables", "9"), ("why", "9")])
-    check.holds(f"fleet: where it is wrong: {wrong}", re.match(r"at 20 slot \d: P 20 .*; due P 20", wrong[3][2])
+    check.holds(f"fleet: where it is wrong: {wrong}", re.match(r"at (\d+) slot \d: P \1 .* up .*; due P \1 .* up", wrong[3][2])
                 and wrong[0][2] == "pepc: report refuted: no 4"
-                and "slot 0 life 0: charged less forwarded is up +0, down +1" in wrong[2][2])
+                and "slot 0 life 0: charged less forwarded is up +1, down +0" in wrong[2][2])
     for number, step, status in ((CUT, "find", "cut"), (CHANGED, "find", "changed"), (MISSING, "find", "missing"),
                                  (NO_REPORT, "find", "missing"), (KILLER, "run", "lost")):
         check.same(f"fleet: trace {number}", [row[:2] for row in found.pop(name_of(number))], [(step, status)])
@@ -341,9 +340,6 @@ def real(check: Check, room: pathlib.Path, wanted: list[tuple], tls: pathlib.Pat
     try:
         driver = Driver(room, "real", *words, f"tls://127.0.0.1:{cluster.port}")
         if check.holds("real cluster: it runs", driver.wait_for(20)):
-            look_at_listeners(check, "real cluster", [process.pid for process in cluster.processes], foreign)
-            check.command("a fleet with a foreign certificate", ["fleet", room / "list", room / "foreign", "--program",
-                          room / "killer", "--tls", foreign, "--scheduler", f"tls://127.0.0.1:{cluster.port}"], 3, env=SAFE)
             cluster.processes[0].kill()
             check.same("real cluster: status without its scheduler", driver.end(), 3)
             check.holds("real cluster: its line", driver.said.read_text().endswith(
@@ -355,6 +351,10 @@ def real(check: Check, room: pathlib.Path, wanted: list[tuple], tls: pathlib.Pat
     cluster = Cluster(room, tls)
     try:
         again = Driver(room, "real", *words, f"tls://127.0.0.1:{cluster.port}")
+        again.wait_for(done + 20)
+        look_at_listeners(check, "real cluster", [process.pid for process in cluster.processes], foreign)
+        check.command("a fleet with a foreign certificate", ["fleet", room / "list", room / "foreign-out", "--program",
+                      room / "killer", "--tls", foreign, "--scheduler", f"tls://127.0.0.1:{cluster.port}"], 3, env=SAFE)
         check.same("real cluster: status", again.end(), 1)
         check.same("real cluster: rows", rows_of(again.out), [row for row in wanted if row[3] not in ("balance", "tables")])
     finally:

@@ -8,7 +8,7 @@ import time
 from typing import Iterable, NamedTuple
 
 from .fleet_list import Listed
-from .faults import Fault, USAGE, WRITE_FAULT
+from .faults import Fault, USAGE, WRITE_FAULT, remove
 
 VERSION = 1
 AGAIN = ("lost", "fault")         # of these steps nothing is known: they are done again
@@ -61,8 +61,8 @@ class Rows:
             raise Fault(USAGE, f"{out}: another fleet is at work there") from None
         except OSError as why:
             raise Fault(WRITE_FAULT, f"{out}: {why.strerror}") from None
-        for left in pathlib.Path(out).rglob("*.new"):       # of programs that were killed
-            left.unlink(missing_ok=True)
+        self.out = out
+        self.sweep()
         try:
             self.base = sqlite3.connect(self.path)
             self.base.execute("PRAGMA journal_mode = WAL")
@@ -79,6 +79,11 @@ class Rows:
         if made_by != program:
             raise Fault(USAGE, f"{self.path}: made by another program (SHA-256 {made_by[:16]}.., and {path} has "
                                f"{program[:16]}..); give another OUT")
+
+    def sweep(self) -> None:
+        """Files of programs that were killed go."""
+        for left in pathlib.Path(self.out).rglob("*.new"):
+            remove(str(left))
 
     def done(self, steps: str) -> set[tuple[str, str, str]]:
         """Name, expectation and mark of the traces whose rows stand, by these steps."""

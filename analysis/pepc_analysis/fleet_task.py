@@ -26,9 +26,13 @@ def free_memory():
         return next(int(line.split()[1]) * 1024 for line in told if line.startswith("MemAvailable"))
 
 
-def most_memory(pid):
-    """The most octets that a program held so far, or 0 where it is gone."""
+def most_memory(pid, program):
+    """The most octets that a process held so far, or 0 where it isn't this program yet, or any more."""
     try:
+        with open(f"/proc/{pid}/cmdline", "rb") as told:
+            words = told.read().split(b"\0")
+        if words[0] == b"setpriv" or program.encode() not in words:
+            return 0
         with open(f"/proc/{pid}/status") as told:
             return next((int(line.split()[1]) * 1024 for line in told if line.startswith("VmHWM")), 0)
     except OSError:
@@ -43,9 +47,9 @@ def line_of(octets):
 class Feeder(threading.Thread):
     """Writes files and octets into a program, one behind another with a newline behind each, and looks at its memory."""
 
-    def __init__(self, process, pieces):
+    def __init__(self, process, program, pieces):
         super().__init__(daemon=True)
-        self.process, self.pieces = process, pieces
+        self.process, self.program, self.pieces = process, program, pieces
         self.memory = self.lines = 0
         self.ended = threading.Event()
 
@@ -56,8 +60,13 @@ class Feeder(threading.Thread):
                     self.feed(pipe, piece)
         except OSError:
             pass                              # the program ended before: its status tells
+        self.sample()
         while not self.ended.wait(SAMPLED):
-            self.memory = max(self.memory, most_memory(self.process.pid))
+            self.sample()
+
+    def sample(self):
+        """Looks at the program's memory."""
+        self.memory = max(self.memory, most_memory(self.process.pid, self.program))
 
     def feed(self, pipe, piece):
         """One piece."""
@@ -70,7 +79,7 @@ class Feeder(threading.Thread):
                 pipe.write(octets)
                 self.lines += octets.count(b"\n")
                 last = octets[-1:]
-                self.memory = max(self.memory, most_memory(self.process.pid))
+                self.sample()
         if last != b"\n":
             pipe.write(b"\n")
             self.lines += 1
@@ -88,10 +97,9 @@ def run_step(step, words, pieces, out, limit):
                                        stdout=sink, stderr=errors)
             late = threading.Timer(limit, process.kill)
             late.start()
-            feeder = Feeder(process, pieces)
+            feeder = Feeder(process, words[0], pieces)
             feeder.start()
-            _, status, used = os.wait4(process.pid, 0)
-            process.returncode = os.waitstatus_to_exitcode(status)
+            process.wait()
             in_time = late.is_alive()
             late.cancel()
             feeder.ended.set()
@@ -106,7 +114,7 @@ def run_step(step, words, pieces, out, limit):
             pass
         return row(step, "fault", str(why), time.monotonic() - begun), 0
     ended = str(process.returncode) if process.returncode >= 0 else f"signal {-process.returncode}" if in_time else "timeout"
-    return row(step, ended, said, time.monotonic() - begun, feeder.memory or used.ru_maxrss * 1024), feeder.lines
+    return row(step, ended, said, time.monotonic() - begun, feeder.memory), feeder.lines
 
 
 def found(job):

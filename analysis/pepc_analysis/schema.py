@@ -23,13 +23,11 @@ class Table(NamedTuple):
 
 
 LINE = Column("line", "INTEGER PRIMARY KEY", "line of the trace, from 1")
-EPOCH = Column("epoch", "INTEGER", "epoch of the line, from 0")
-MOMENT = Column("moment", "INTEGER", "moment of the line, microseconds")
-SLOT = Column("slot", "INTEGER", "number of the subscriber")
+EPOCH = Column("epoch", "INTEGER", "epoch of the line, command or record, from 0")
+MOMENT = Column("moment", "INTEGER", "moment of the line, or of the command of an effect, microseconds")
+SLOT = Column("slot", "INTEGER", "number of the subscriber, from 0")
 LIFE = Column("life", "INTEGER", "bearer of the slot, from 0")
 ENTRY = Column("entry", "INTEGER PRIMARY KEY", "line of the report, from 1")
-OF_COMMAND = [Column("epoch", "INTEGER", "epoch of the command"),
-              Column("moment", "INTEGER", "moment of the command, microseconds")]
 COUNTS = [Column("ebi", "INTEGER", "EPS bearer identity"), Column("qci", "INTEGER", "QoS class"),
           Column("up", "INTEGER", "octets up"), Column("down", "INTEGER", "octets down"),
           Column("pup", "INTEGER", "packets up"), Column("pdown", "INTEGER", "packets down")]
@@ -47,7 +45,7 @@ TABLES = [
         Column("unanswered_from", "INTEGER NULL", "first line of the trace without an entry"),
         Column("audit", "TEXT", "what `pepc audit` said (`yes`, `no 4`), or `not audited`")]),
     Table("subscriber", "a slot", [
-        Column("slot", "INTEGER PRIMARY KEY", "number of the subscriber, from 0"),
+        Column("slot", "INTEGER PRIMARY KEY", "number of the subscriber, in the order of first admission"),
         Column("imsi", "TEXT", "its IMSI, digits")]),
     Table("packet", "a P entry with its line", [
         LINE, EPOCH, MOMENT, SLOT,
@@ -84,7 +82,7 @@ TABLES = [
         LINE, EPOCH, MOMENT, SLOT,
         Column("what", "TEXT", "`command` or `packet`: its queue was full")]),
     Table("fate", "an H entry: what became of a held packet", [
-        ENTRY, *OF_COMMAND, SLOT,
+        ENTRY, EPOCH, MOMENT, SLOT,
         Column("packet", "INTEGER", "number of the slot's packet"),
         Column("command", "INTEGER", "number of the slot's command that ended the wait"),
         Column("fate", "TEXT", "`down`, `policed` or `gone`"), LIFE,
@@ -92,12 +90,12 @@ TABLES = [
         Column("enodeb", "TEXT NULL", "address that it went down to"),
         Column("data", "BLOB NULL", "octets of the G-PDU; with `--octets`")]),
     Table("end_marker", "an M entry: an End Marker to the eNodeB before", [
-        ENTRY, *OF_COMMAND, SLOT, LIFE,
+        ENTRY, EPOCH, MOMENT, SLOT, LIFE,
         Column("command", "INTEGER", "number of the slot's command that moved the bearer"),
         Column("enodeb", "TEXT", "address that it went to"),
         Column("message", "BLOB", "octets of the GTP-U message")]),
     Table("record", "an R entry: a finished piece of a life", [
-        ENTRY, Column("epoch", "INTEGER", "epoch that it was made in"), SLOT, LIFE,
+        ENTRY, EPOCH, SLOT, LIFE,
         Column("seq", "INTEGER", "number of the life's record, from 0"), *COUNTS,
         Column("first", "INTEGER NULL", "moment of the piece's first packet, microseconds"),
         Column("last", "INTEGER NULL", "moment of its last packet, microseconds"),
@@ -169,14 +167,18 @@ def insertion_of(table: Table) -> str:
     return f"INSERT INTO {table.name} VALUES ({','.join('?' * len(table.columns))})"
 
 
+SHARED = [LINE, EPOCH, MOMENT, SLOT, LIFE, ENTRY, *COUNTS]
+
+
 def page() -> str:
-    """The schema as it stands in docs/ANALYSIS.md."""
-    lines = []
+    """The schema as it stands in docs/ANALYSIS.md: columns that tables share once, then each table with its own."""
+    def row_of(name: str, column: Column) -> str:
+        return f"| {name}{column.name} | {column.type.replace(' PRIMARY KEY', ', key').replace(' NULL', ' or none')} | {column.says} |"
+    lines = ["| Column | Type | Says |", "|---|---|---|", *(row_of("", column) for column in SHARED if column not in COUNTS)]
+    lines.append(f"| {', '.join(column.name for column in COUNTS)} | INTEGER | {', '.join(column.says for column in COUNTS)} |")
     for table in TABLES:
-        lines += [f"**`{table.name}`**: {table.says}", "", "| Column | Type | Says |", "|---|---|---|"]
-        lines += [f"| {c.name} | {c.type.replace(' PRIMARY KEY', ', key').replace(' NULL', ' or none')} | {c.says} |"
-                  for c in table.columns]
-        lines.append("")
-    lines += ["| View | A row is |", "|---|---|"]
-    lines += [f"| `{name}` | {says} |" for name, (says, _) in VIEWS.items()]
+        shared = ", ".join(column.name for column in table.columns if column in SHARED)
+        lines.append(f"| **{table.name}** | {shared} | {table.says} |")
+        lines += [row_of(f"{table.name}.", column) for column in table.columns if column not in SHARED]
+    lines += [f"| view **{name}** | | {says} |" for name, (says, _) in VIEWS.items()]
     return "\n".join(lines) + "\n"
