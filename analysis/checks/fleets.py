@@ -197,19 +197,18 @@ def listeners_of(process: int) -> list[tuple[str, int]]:
     return sorted(set(found))
 
 
-def answer_of(port: int, context: ssl.SSLContext | None) -> bytes:
-    """What a listener answers to a request of HTTP, plainly or by TLS; nothing where it refuses."""
+def answer_of(port: int, context: ssl.SSLContext | None) -> str:
+    """What a listener answers to a request of HTTP, plainly or by TLS: its first line, or why it talks to nobody."""
     try:
         with socket.create_connection(("127.0.0.1", port), 5) as plain:
             talk = context.wrap_socket(plain) if context else plain
             talk.settimeout(3)
             talk.sendall(b"GET /info/main/workers.html HTTP/1.0\r\n\r\n")
-            found = b""
-            while part := talk.recv(4096):
-                found += part
-            return found
-    except OSError:
-        return b""
+            return talk.recv(4096).split(b"\r\n")[0].decode("latin-1") or "nothing"
+    except ssl.SSLError as why:
+        return str(why.reason)
+    except OSError as why:
+        return type(why).__name__
 
 
 def look_at_listeners(check: Check, what: str, processes: list[int], foreign: pathlib.Path) -> None:
@@ -222,12 +221,20 @@ def look_at_listeners(check: Check, what: str, processes: list[int], foreign: pa
     found = sorted({listener for process in processes for listener in listeners_of(process)})
     check.holds(f"{what}: it has listeners: {found}", len(found) >= 3)
     check.same(f"{what}: addresses of listeners", sorted({address for address, _ in found}), ["127.0.0.1"])
+    guarded = 0
     for _, port in found:
         answer = answer_of(port, None)
-        check.holds(f"{what}: port {port} serves nothing to HTTP: {answer[:200]!r}",
-                    not answer or b"404" in answer.split(b"\r\n")[0] or not answer.startswith(b"HTTP"))
-        for name, context in (("no", without), ("a foreign", other)):
-            check.same(f"{what}: port {port} to TLS with {name} certificate", answer_of(port, context), b"")
+        if answer.startswith("HTTP"):
+            check.same(f"{what}: port {port} to HTTP", answer, "HTTP/1.1 404 Not Found")
+            continue
+        guarded += 1
+        for name, context, wanted in (("no", without, "TLSV13_ALERT_CERTIFICATE_REQUIRED"),
+                                      ("a foreign", other, "TLSV1_ALERT_UNKNOWN_CA")):
+            told = [answer_of(port, context)]
+            while told[-1] != wanted and len(told) < 4:      # a connection may be reset before the reason is read
+                told.append(answer_of(port, context))
+            check.same(f"{what}: port {port} to TLS with {name} certificate", told[-1], wanted)
+    check.holds(f"{what}: {guarded} listeners ask for a certificate", guarded >= 2)
 
 
 def embedded(check: Check, room: pathlib.Path, foreign: pathlib.Path) -> list[tuple]:

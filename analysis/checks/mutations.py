@@ -2,15 +2,13 @@
 else, and no file left."""
 import collections
 import os
-import pathlib
 import random
 import re
-import sqlite3
 
 from pepc_analysis.faults import Fault
 from pepc_analysis.making import make_tables
 
-from .harness import Check, DEMO, Pair, nothing_left, stored_pairs
+from .harness import Check, nothing_left, stored_pairs
 
 PAIRS = 5_000
 REFUSALS = {3, 6, 7, 12}
@@ -87,7 +85,6 @@ def run(check: Check) -> None:
             if os.path.exists(out):
                 check.same(f"mutated pair {number}: a file is left", True, False)
         except (Exception, RecursionError) as why:
-            kept = pathlib.Path(f"{trace}.{number}"), pathlib.Path(f"{report}.{number}")
             check.same(f"mutated pair {number}", f"{type(why).__name__}: {why}", "tables or a refusal")
     nothing_left(check, "mutated pairs", folder)
     print(f"  of {PAIRS:,} mutated pairs: " + ", ".join(f"{count} {what if isinstance(what, str) else f'status {what}'}"

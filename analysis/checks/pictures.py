@@ -1,7 +1,6 @@
 """The pictures by what is drawn in them: bars, marks and steps against sums that are reckoned from the report's text."""
 import collections
 import math
-import sqlite3
 import xml.etree.ElementTree
 
 from pepc_analysis import pictures, sums

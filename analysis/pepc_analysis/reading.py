@@ -7,7 +7,7 @@ from functools import partial
 from typing import BinaryIO, Callable
 
 from . import entries, schema, wire
-from .faults import BAD_LINE, BAD_REPORT, Fault, READ_FAULT, TOO_LONG, at
+from .faults import BAD_LINE, BAD_REPORT, Fault, TOO_LONG, at
 from .lives import Lives, Misfit
 
 LONGEST = 132_000                 # octets of a line, without its newline
@@ -120,6 +120,13 @@ class Reading:
             raise self.fault("no entry: an odd number of hexadecimal digits")
         return len(digits) >> 1
 
+    def tunnelled(self, digits: bytes) -> int:
+        """How many octets the packet in a G-PDU has, behind its head of 8."""
+        size = self.size_of(digits) - 8
+        if size < 0:
+            raise self.fault("no entry: a G-PDU of fewer than 8 octets")
+        return size
+
     def octets_of(self, digits: bytes | None) -> bytes | None:
         """The octets of digits, or none of `-`."""
         if digits is None or digits == b"-":
@@ -142,7 +149,7 @@ class Reading:
         if up:
             verdict, life, octets, data = "up", int(up_life), self.size_of(up_data), up_data
         elif down:
-            verdict, life, octets, data = "down", int(down_life), self.size_of(down_data) - 8, down_data
+            verdict, life, octets, data = "down", int(down_life), self.tunnelled(down_data), down_data
             enodeb = self.address_of(address)
         else:
             octets = self.offered(words)
@@ -248,7 +255,7 @@ class Reading:
         if octets is None:
             raise self.fault(f"the fate of packet {packet} of slot {slot}, which isn't held")
         if down:
-            row = ("down", int(down_life), self.size_of(data) - 8, self.address_of(address),
+            row = ("down", int(down_life), self.tunnelled(data), self.address_of(address),
                    self.octets_of(data) if self.keep else None)
         else:
             row = (lost.decode(), int(lost_life), octets, None, None)
@@ -277,7 +284,8 @@ class Reading:
         moments = [None if word == b"-" else int(word) for word in found[9:11]]
         if any(moment is not None and moment > entries.MOST_MOMENT for moment in moments):
             raise self.fault("a moment above 2^50 - 1")
-        self.rows["record"].append((self.at, max(self.epoch, 0), *self.counts_of(found[:9]), *moments, found[11].decode()))
+        counts = self.counts_of(found[:9])
+        self.rows["record"].append((self.at, max(self.epoch, 0), *counts, *moments, found[11].decode()))
 
     def open_counter(self, found: tuple) -> None:
         """An O entry."""
@@ -319,7 +327,7 @@ class Reading:
         self.line = answered
 
 
-READERS = [(ord("P"), entries.PACKET, "packet"), (ord("C"), entries.COMMAND, "command"), (ord("N"), entries.NOTE, "note"),
-           (ord("F"), entries.REFUSED, "refused"), (ord("H"), entries.FATE, "fate"),
+READERS = [(ord("P"), entries.PACKET, "packet"), (ord("C"), entries.COMMAND, "command"),
+           (ord("N"), entries.NOTE, "note"), (ord("F"), entries.REFUSED, "refused"), (ord("H"), entries.FATE, "fate"),
            (ord("M"), entries.END_MARKER, "end_marker"), (ord("R"), entries.RECORD, "record"),
            (ord("O"), entries.OPEN_COUNTER, "open_counter")]
