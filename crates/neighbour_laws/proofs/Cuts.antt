@@ -47,11 +47,11 @@ no_more (b ∷ before) [] same = absurd (omega (arith, same))
 no_more (b ∷ before) (o ∷ other) same = ap (λ n. n ∷ []) same
 
 -- the first test of both, and the others
-head_of : Bool → List Bool → Bool
+abbrev head_of : Bool → List Bool → Bool
 head_of none [] = none
 head_of none (test ∷ tests) = test
 
-tail_of : List Bool → List Bool
+abbrev tail_of : List Bool → List Bool
 tail_of [] = []
 tail_of (test ∷ tests) = tests
 
@@ -90,7 +90,7 @@ cut_alike (line ∷ lines) (next ∷ others) before other same fence ends also =
     else epochs_behind (before ++ line ∷ []) lines)) (ends.0 ∙ counts)
     ∙ next_line test before other line next lines others same
     (subst (λ t. EndByCount (if t then [] else before ++ line ∷ []) lines) counts ends.1) also.1
-    (λ b o as ends also. cut_alike lines others b o as (ap tail_of fence) ends also)
+    (λ b o equal ends also. cut_alike lines others b o equal (ap tail_of fence) ends also)
     ∙ ap (λ t. lengths (if t then (other ++ next ∷ []) ∷ epochs_behind [] others
     else epochs_behind (other ++ next ∷ []) others)) (sym also.0)
     ∙ ap lengths (sym (by_line other next others))
@@ -138,11 +138,11 @@ alike_parts own (m ∷ made) (o ∷ other) more others same alike =
     let rest = alike_parts own made other more others (omega (arith, same)) alike.1 in
     ((alike.0, rest.0), rest.1)
 
-first_count : ℕ → List ℕ → ℕ
+abbrev first_count : ℕ → List ℕ → ℕ
 first_count none [] = none
 first_count none (n ∷ counts) = n
 
-other_counts : List ℕ → List ℕ
+abbrev other_counts : List ℕ → List ℕ
 other_counts [] = []
 other_counts (n ∷ counts) = counts
 

@@ -6,3 +6,4 @@ pub mod Same
 pub mod Cuts
 pub mod PartLemmas
 pub mod Lockstep
+pub mod SoloLemmas

@@ -59,13 +59,13 @@ module _ {X : Type 0} where
       → ((part : ℕ) → part < count → length parts ≤ length (told part))
       → ((part : ℕ) → part < count → those part parts whole ≡ those part parts (told part))
       → whole ≡ in_lockstep parts told
-  in_step count [] [] told as below long same = refl
-  in_step count [] (x ∷ whole) told as below long same = absurd (omega (arith, as))
-  in_step count (part ∷ parts) [] told as below long same = absurd (omega (arith, as))
-  in_step count (part ∷ parts) (x ∷ whole) told as below long same =
+  in_step count [] [] told counted below long same = refl
+  in_step count [] (x ∷ whole) told counted below long same = absurd (omega (arith, counted))
+  in_step count (part ∷ parts) [] told counted below long same = absurd (omega (arith, counted))
+  in_step count (part ∷ parts) (x ∷ whole) told counted below long same =
       let some : (k : ℕ) → k < count → 0 < length (told k) = λ k in_. omega (arith, long k in_) in
       let now = first_at part parts x whole (told part) (same part below.0) (some part below.0) in
-      let later = in_step count parts whole (λ k. others_of (told k)) (omega (arith, as)) below.1
+      let later = in_step count parts whole (λ k. others_of (told k)) (omega (arith, counted)) below.1
       (λ k in_. others_longer (length parts) (told k) (long k in_))
       (λ k in_. others_at k part parts x whole (told k) (same k in_) (some k in_)) in
       λ i. sym now i ++ later i

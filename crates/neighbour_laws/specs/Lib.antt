@@ -2,3 +2,4 @@ pub mod Told
 pub mod Lines
 pub mod Neighbours
 pub mod Parts
+pub mod Solo

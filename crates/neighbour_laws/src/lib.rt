@@ -4,6 +4,8 @@
 
 mod neighbours;
 mod parts;
+mod solo;
 
 pub use neighbours::{neighbours_change_nothing, others_may_be_replaced};
 pub use parts::parts_tell_all;
+pub use solo::solo_reports_share_nothing;
