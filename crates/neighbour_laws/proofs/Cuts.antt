@@ -1,22 +1,18 @@
 -- Where epochs end alike, the same is told of these slots epoch by epoch.
-use Rattle.std.proofs.Common.{◌≡◌, ℕ, suc, ◌+◌, ◌||◌, Bool, true, false, if◌then◌else◌, nat_le, List, [], ◌∷◌, ◌++◌, length, map, refl, sym, ap, subst, ◌∙◌, inl, inr, arith, append-nil, length-append}
-use Rattle.std.specs.List.{filter, flat_map}
-use Rattle.std.proofs.lemmas.List.{map-append}
+use Rattle.std.proofs.Common.{◌≡◌, ℕ, suc, ◌+◌, ◌||◌, Bool, true, false, if◌then◌else◌, nat_le, List, [], ◌∷◌, ◌++◌, length, map, refl, sym, ap, subst, ◌∙◌, arith, append-nil, length-append}
 use Rattle.trace_lines.specs.Epochs.{ends_epoch, epochs_behind, epochs_of, is_fence}
 use Rattle.trace_lines.specs.Input.{Input}
 use Rattle.trace_lines.specs.Line.{Line}
 use Rattle.demux.specs.Trace.{Meaning}
-use Rattle.lawful_run.specs.AnsweredRun.{answered_epoch, answered_from, behind_lines, brought, entries_from, events_after}
+use Rattle.lawful_run.specs.AnsweredRun.{answered_epoch, answered_from, behind_lines, brought, events_after}
 use Rattle.lawful_run.specs.Merging.{Histories}
-use Rattle.lawful_run.specs.Outcomes as made_of
-use Rattle.lawful_run.specs.Report.{EpochReport}
 use Rattle.lawful_run.specs.Run.{no_events}
-use Rattle.lawful_run.specs.Setup.{Setup, slices_of}
-use Rattle.lawful_run.specs.Trace.{answered_report, epochs_from, epochs_told, is_whole, meant_from, own_epoch, slots_of, stop_noted, with_noted}
+use Rattle.lawful_run.specs.Setup.{slices_of}
+use Rattle.lawful_run.specs.Trace.{epochs_from, epochs_told, is_whole, meant_from, slots_of, stop_noted, with_noted}
 use Rattle.lawful_run.proofs.CutLines.{length-meant_from}
-use Rattle.neighbour_laws.specs.Lines.{AreAlike, EndAlike, EndByCount, ends_by_count}
+use Rattle.neighbour_laws.specs.Lines.{EndByCount, ends_by_count}
 use Rattle.neighbour_laws.specs.Neighbours.{NorInAnyEpoch}
-use Rattle.neighbour_laws.specs.Told.{epoch_of, report_of}
+use Rattle.neighbour_laws.specs.Told.{epoch_of}
 use Rattle.neighbour_laws.proofs.Epochs.{flat}
 use Rattle.neighbour_laws.proofs.Inputs.{told_flat}
 use Rattle.neighbour_laws.proofs.LineLemmas.{all_alike}

@@ -1,10 +1,9 @@
 -- What is told of a slot over all epochs is what one epoch of all lines tells.
-use Rattle.std.proofs.Common.{◌≡◌, ◌≢◌, ℕ, zero, suc, ◌+◌, ◌<◌, ◌≤◌, ◌⊎◌, Bool, true, false, List, [], ◌∷◌, ◌++◌, length, map, cond, refl, sym, ap, ◌∙◌, inl, inr, arith, append-nil}
+use Rattle.std.proofs.Common.{◌≡◌, ◌≢◌, ℕ, zero, suc, ◌+◌, ◌≤◌, Bool, false, List, [], ◌∷◌, ◌++◌, length, map, cond, refl, sym, ap, ◌∙◌, inl, inr, arith, append-nil}
 use Rattle.std.specs.List.{filter, flat_map}
-use Rattle.std.proofs.lemmas.Bool.{cases_eq, ne_eqb}
+use Rattle.std.proofs.lemmas.Bool.{cases_eq}
 use Rattle.std.proofs.lemmas.List.{append_cancel_left}
 use Rattle.std.proofs.lemmas.List.Elements.{filter-append}
-use Rattle.pc_base.specs.declared.effect.Effect.{Effect}
 use Rattle.demux.specs.Trace.{Meaning}
 use Rattle.gate_model.specs.Events.{commands_of}
 use Rattle.gate_model.specs.SlotPast.{effects_after, records_after, records_made}
@@ -12,7 +11,6 @@ use Rattle.gate_model.specs.declared.event.Event.{Event}
 use Rattle.gate_model.specs.declared.event.Event.TheVariants as event
 use Rattle.gate_model.proofs.Charges.{records_added}
 use Rattle.report_lines.specs.Records.{Effected}
-use Rattle.report_lines.specs.declared.entry.ChargeEntry.{ChargeEntry}
 use Rattle.report_lines.specs.declared.entry.ChargeEntry.TheVariants.{R, O}
 use Rattle.lawful_run.specs.AnsweredRun.{answered_from, answered_epoch, entries_from, events_after, brought, behind_lines, behind_epochs}
 use Rattle.lawful_run.specs.Merging.{Histories}
@@ -94,11 +92,11 @@ module _ {X : Type 0} (test : X → Bool) where
 module _ {X : Type 0} (outcome : ℕ → List Event → List Event → List X)
     (nothing : (s : ℕ) (events : List Event) → outcome s events [] ≡ [])
     (append : (s : ℕ) (events now more : List Event)
-        → outcome s events (now ++ more) ≡ outcome s events now ++ outcome s (events ++ now) more)
+    → outcome s events (now ++ more) ≡ outcome s events now ++ outcome s (events ++ now) more)
     (told : EpochReport → List X)
     (is : (slots first : ℕ) (before : Histories) (made : List Meaning)
-        → told (answered_epoch slots first before made)
-        ≡ by_slot slots (λ s. outcome s (before s) (brought s (before s) made)))
+    → told (answered_epoch slots first before made)
+    ≡ by_slot slots (λ s. outcome s (before s) (brought s (before s) made)))
     (test : X → Bool) (slot : ℕ)
     (none : (s : ℕ) (events now : List Event) → s ≢ slot → filter test (outcome s events now) ≡ []) where
   two : (s : ℕ) (events : List Event) (made more : List Meaning)
@@ -178,7 +176,7 @@ opens_out own s events out = all_kept_out (is_charge_of own) (O s) (λ x. out) (
 -- no events make no records
 no_records : (s : ℕ) (events : List Event) → records_made s events [] ≡ []
 no_records s events = append_cancel_left (records_after s events) (records_made s events []) [] (
-  sym (records_added s events []) ∙ ap (records_after s) (append-nil events) ∙ sym (append-nil (records_after s events)))
+    sym (records_added s events []) ∙ ap (records_after s) (append-nil events) ∙ sym (append-nil (records_after s events)))
 
 no_rows : (s : ℕ) (events : List Event) → made_of.rows s events [] ≡ []
 no_rows s events = ap (map (R s)) (no_records s events)

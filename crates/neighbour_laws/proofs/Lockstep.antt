@@ -1,21 +1,20 @@
 -- The reports of parts in lockstep are the whole report.
-use Rattle.std.proofs.Common.{◌≡◌, ◌≢◌, ℕ, suc, ◌+◌, ◌<◌, ◌≤◌, ◌==◌, Bool, true, false, if◌then◌else◌, List, [], ◌∷◌, ◌++◌, length, cond, refl, sym, ap, subst, ◌∙◌, inl, inr, arith, append-nil, length-append}
+use Rattle.std.proofs.Common.{◌≡◌, ℕ, suc, ◌+◌, ◌<◌, ◌≤◌, ◌==◌, List, [], ◌∷◌, ◌++◌, length, cond, refl, sym, ap, ◌∙◌, inl, inr, arith, append-nil, length-append}
 use Rattle.std.proofs.lemmas.Bool.{cases_eq, eq-eqb, ne_eqb}
 use Rattle.trace_lines.specs.Input.{Input}
 use Rattle.trace_lines.specs.Line.{Line}
-use Rattle.demux.specs.Trace.{Meaning, book_of}
+use Rattle.demux.specs.Trace.{Meaning}
 use Rattle.demux.specs.Resolved.{book_after}
 use Rattle.report_lines.specs.declared.entry.LineEntry.{LineEntry}
-use Rattle.lawful_run.specs.AnsweredRun.{answered_run, behind_line, behind_lines, entries_from}
+use Rattle.lawful_run.specs.AnsweredRun.{behind_line, behind_lines, entries_from}
 use Rattle.lawful_run.specs.Merging.{Histories}
-use Rattle.lawful_run.specs.Report.{Report}
 use Rattle.lawful_run.specs.Run.{no_events}
 use Rattle.lawful_run.specs.Setup.{Setup, slices_of}
 use Rattle.lawful_run.specs.Trace.{answered_report, epochs_told, meant_from, slots_of, stop_noted}
 use Rattle.lawful_run.proofs.CutLines.{length-meant_from}
-use Rattle.neighbour_laws.specs.Parts.{AreFor, IsCutInto, IsPart, PartsTellAll, TellAll, bad_noted, in_lockstep, is_of, next_of, others_of}
+use Rattle.neighbour_laws.specs.Parts.{AreFor, IsCutInto, IsPart, PartsTellAll, bad_noted, in_lockstep, is_of, next_of, others_of}
 use Rattle.neighbour_laws.specs.Told.{TellTheSame, in_one, only}
-use Rattle.neighbour_laws.proofs.Epochs.{flat, lines_in_one}
+use Rattle.neighbour_laws.proofs.Epochs.{lines_in_one}
 use Rattle.neighbour_laws.proofs.Inputs.{entries_told, noted_anywhere}
 use Rattle.neighbour_laws.proofs.LineLemmas.{alike_to_fewer}
 use Rattle.neighbour_laws.proofs.PartLemmas.{AllBelow, part_alike, parts_below, those, those_same}
@@ -29,8 +28,8 @@ module _ {X : Type 0} where
   first_at part parts x xs (y ∷ told) same some =
       sym (ap next_of (sym (mine (x ∷ those part parts xs) (those part parts xs)) ∙ same
       ∙ mine (y ∷ those part parts told) (those part parts told))) where
-    mine : (a b : List X) → cond (part == part) a b ≡ a
-    mine a b = ap (λ t. cond t a b) (eq-eqb part part refl)
+        mine : (a b : List X) → cond (part == part) a b ≡ a
+        mine a b = ap (λ t. cond t a b) (eq-eqb part part refl)
 
   others_at : (part first : ℕ) (parts : List ℕ) (x : X) (xs told : List X)
       → those part (first ∷ parts) (x ∷ xs) ≡ those part (first ∷ parts) told → 0 < length told

@@ -1,24 +1,17 @@
 -- Two inputs whose lines are alike to some slots: the same is told of these.
-use Rattle.std.proofs.Common.{◌≡◌, ◌≢◌, ℕ, ◌+◌, ◌==◌, Bool, true, false, List, [], ◌∷◌, ◌++◌, length, map, refl, sym, ap, subst, ◌∙◌, inl, inr}
-use Rattle.std.specs.List.{filter, flat_map}
-use Rattle.std.specs.Prelude.{fold}
+use Rattle.std.proofs.Common.{◌≡◌, ◌≢◌, ℕ, Bool, true, false, [], length, refl, sym, ap, ◌∙◌, inl, inr}
+use Rattle.std.specs.List.{filter}
 use Rattle.std.proofs.lemmas.Bool.{cases_Bool, eqb-true, ne_eqb}
 use Rattle.trace_lines.specs.Input.{Input}
-use Rattle.demux.specs.Resolved.{book_after}
-use Rattle.demux.specs.Trace.{Meaning, book_of}
-use Rattle.gate_model.specs.declared.event.Event.{Event}
-use Rattle.report_lines.specs.Records.{Effected}
-use Rattle.report_lines.specs.declared.entry.ChargeEntry.{ChargeEntry}
-use Rattle.lawful_run.specs.AnsweredRun.{answered_epoch, answered_from, answered_run, entries_from, events_after, brought, behind_lines, behind_epochs}
+use Rattle.lawful_run.specs.AnsweredRun.{brought, behind_epochs}
 use Rattle.lawful_run.specs.Merging.{Histories}
 use Rattle.lawful_run.specs.Outcomes as made_of
-use Rattle.lawful_run.specs.Report.{EpochReport, Report}
 use Rattle.lawful_run.specs.Run.{by_slot, no_events}
 use Rattle.lawful_run.specs.Setup.{Setup, slices_of}
 use Rattle.lawful_run.specs.Trace.{answered_report, epochs_told, meant_from, slots_of}
 use Rattle.neighbour_laws.specs.Lines.{AreAlike}
 use Rattle.neighbour_laws.specs.Neighbours.{NeighboursChangeNothing}
-use Rattle.neighbour_laws.specs.Told.{epoch_of, in_one, is_charge_of, is_effect_of, only, opens_of, tells_of}
+use Rattle.neighbour_laws.specs.Told.{in_one, is_charge_of, is_effect_of, only, opens_of, tells_of}
 use Rattle.neighbour_laws.proofs.Epochs.{flat, kept_by_slot, lines_in_one, events_in_one, effects_in_one, rows_in_one, effects_out, rows_out, opens_out}
 use Rattle.neighbour_laws.proofs.Inputs.{brought_told, events_told, kept_told}
 use Rattle.neighbour_laws.proofs.LineLemmas.{all_alike, alike_to_fewer, one_book}

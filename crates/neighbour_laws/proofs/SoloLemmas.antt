@@ -1,13 +1,13 @@
 -- What `solo` wrote is the report of the sequential run.
-use Rattle.std.proofs.Common.{◌≡◌, ℕ, ◌<◌, Bool, List, [], ◌∷◌, ◌++◌, sym, ap, subst, ◌∙◌}
-use Rattle.trace_lines.specs.Input.{Input, input_of}
+use Rattle.std.proofs.Common.{◌≡◌, ℕ, ◌<◌, List, [], ◌∷◌, ◌++◌, sym, ap, subst, ◌∙◌}
+use Rattle.trace_lines.specs.Input.{input_of}
 use Rattle.report_lines.specs.declared.entry.LineEntry.{LineEntry}
 use Rattle.lawful_run.specs.Report.{Report}
 use Rattle.lawful_run.specs.Setup.{solo}
 use Rattle.lawful_run.specs.Trace.{answered_report, epochs_told, slots_of}
 use Rattle.lawful_run.proofs.OneRun.{run_is_one}
-use Rattle.solo_run.specs.Report.{IsSoloReport, slices}
-use Rattle.neighbour_laws.specs.Parts.{TellAll, bad_noted, in_lockstep, others_of, next_of}
+use Rattle.solo_run.specs.Report.{slices}
+use Rattle.neighbour_laws.specs.Parts.{bad_noted, in_lockstep, others_of, next_of}
 use Rattle.neighbour_laws.specs.Solo.{SoloWrote, SoloTellsTheSame, SoloInEachEpoch, SoloPartsTellAll}
 use Rattle.neighbour_laws.specs.Told.{TellTheSame, epoch_of, in_one, only, opens_of, report_of}
 use Rattle.neighbour_laws.proofs.Cuts.{nor_in_any_epoch}

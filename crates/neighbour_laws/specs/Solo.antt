@@ -1,6 +1,6 @@
 -- What `solo` wrote: the laws of neighbours and of parts, of its reports and their texts.
 use Rattle.std.specs.Prelude.{◌≡◌, ℕ, ◌<◌, Bool, false, List, []}
-use Rattle.trace_lines.specs.Input.{Input, input_of}
+use Rattle.trace_lines.specs.Input.{input_of}
 use Rattle.lawful_run.specs.Report.{Report, report_text}
 use Rattle.solo_run.specs.Report.{IsSoloReport, slices}
 use Rattle.neighbour_laws.specs.Lines.{AreAlike, EndAlike}
