@@ -8,6 +8,7 @@ import shutil
 import subprocess
 
 GATEWAY, ENODEBS, MMES = "192.0.2.1", ("192.0.2.2", "192.0.2.3"), ("192.0.2.4", "192.0.2.5")
+STRANGER = "192.0.2.6"  # sends what no peer should
 GATEWAY_SGI, HOST, NOBODY = "203.0.113.1", "203.0.113.9", "203.0.113.77"
 SUBSCRIBERS = "10.45.0.0/16"
 DEBIAN_PYTHON = "/usr/bin/python3"  # it alone has Debian's scapy
@@ -38,7 +39,7 @@ class Network:
             self.do(name, "sysctl", "-qw", "net.ipv6.conf.all.disable_ipv6=1", "net.ipv6.conf.default.disable_ipv6=1")
         do("ip", "link", "add", "s1", "netns", enb, "type", "veth", "peer", "name", "s1", "netns", gw)
         do("ip", "link", "add", "sgi", "netns", gw, "type", "veth", "peer", "name", "sgi", "netns", pdn)
-        for name, link, addresses in ((enb, "s1", (*ENODEBS, *MMES)), (gw, "s1", (GATEWAY,)), (gw, "sgi", (GATEWAY_SGI,)),
+        for name, link, addresses in ((enb, "s1", (*ENODEBS, *MMES, STRANGER)), (gw, "s1", (GATEWAY,)), (gw, "sgi", (GATEWAY_SGI,)),
                                       (pdn, "sgi", (HOST,))):
             for address in addresses:
                 self.do(name, "ip", "addr", "add", f"{address}/24", "dev", link)

@@ -189,8 +189,12 @@ class Operator(Edge):
         return self.socket.recvfrom(1 << 18)
 
     def put(self, octets: bytes, address: Any) -> None:
+        """Answers an operator; one that doesn't read loses answers, as packets don't wait for him."""
         if address:
-            self.socket.sendto(octets, address)
+            try:
+                self.socket.sendto(octets, address)
+            except BlockingIOError as fault:
+                raise OSError(errno.ENOBUFS, "the operator doesn't read") from fault
 
     def close(self) -> None:
         self.socket.close()

@@ -213,9 +213,9 @@ class Gateway:
         if self.record:
             self.record.close()
 
-    def state(self, chosen: int | None) -> dict[str, Any]:
+    def state(self, chosen: int | None, asked: str) -> dict[str, Any]:
         """What the page shows."""
         edges = {edge.kind.decode(): {**edge.counts, "waiting now": len(edge.waiting), "dropped by the kernel": edge.lost_by_kernel()}
                  for edge in self.edges.values()}
-        return {**self.tally.snapshot(chosen), "edges": edges, "times": self.times.told(),
+        return {**self.tally.snapshot(chosen, asked), "edges": edges, "times": self.times.told(),
                 "lines": self.line_count, "unanswered": len(self.answers.awaited), "homeless": self.answers.homeless}

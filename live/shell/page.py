@@ -12,17 +12,16 @@ PAGE = pathlib.Path(__file__).with_name("page.html")
 
 
 class Handler(http.server.BaseHTTPRequestHandler):
-    """Answers `/` and `/state.json`, with `?slot=N` for a subscriber's last entries."""
-
-    state: Callable[[int | None], dict[str, Any]]
+    """Answers `/` and `/state.json`: `slot=N` has a subscriber's last entries, `find=TEXT` those rows that have it."""
 
     def do_GET(self) -> None:
         asked = urllib.parse.urlsplit(self.path)
         if asked.path == "/":
             self.answer("text/html; charset=utf-8", PAGE.read_bytes())
         elif asked.path == "/state.json":
-            slot = urllib.parse.parse_qs(asked.query).get("slot", [""])[0]
-            state = self.server.state(int(slot) if slot.isdecimal() and len(slot) < 6 else None)
+            query = urllib.parse.parse_qs(asked.query)
+            slot = query.get("slot", [""])[0]
+            state = self.server.state(int(slot) if slot.isdecimal() and len(slot) < 6 else None, query.get("find", [""])[0])
             self.answer("application/json", json.dumps(state).encode())
         else:
             self.send_error(404)
@@ -43,7 +42,7 @@ class Server(http.server.ThreadingHTTPServer):
 
     daemon_threads = True
 
-    def __init__(self, port: int, state: Callable[[int | None], dict[str, Any]]) -> None:
+    def __init__(self, port: int, state: Callable[[int | None, str], dict[str, Any]]) -> None:
         self.state = state
         try:
             super().__init__(("127.0.0.1", port), Handler)

@@ -1,12 +1,13 @@
 """What the page shows: counts of what the core said, and what each subscriber was told last. It only looks on."""
 import collections
+import itertools
 import threading
-import time
 from typing import Any
 
 from shell.lines import FromMme, FromOperator
 
 SECONDS = 180  # of the plots
+MOST_ROWS = 500  # of the table
 LAST_ENTRIES = 12  # kept of each subscriber
 LONGEST_ENTRY = 160
 CREATE_SESSION_REQUEST, DELETE_SESSION_REQUEST = 32, 36
@@ -42,6 +43,9 @@ class Tally:
         """Counts one entry; the lock is the caller's."""
         kind = fields[0]
         if kind == b"N":
+            if fields[2] == b"fence":
+                self.kinds["batches"] += 1
+                return
             words = [word.decode() for word in fields[2:] if not word.isdigit()]
             hidden = words[:1] == ["s11"] or words[1:2] in (["echo"], ["unknown"])
             self.notes[" ".join(words[:2] if hidden else words)] += 1
@@ -92,15 +96,22 @@ class Tally:
             self.seconds.append({name: count - self.before.get(name, 0) for name, count in now.items()})
             self.before = now
 
-    def snapshot(self, chosen: int | None) -> dict[str, Any]:
-        """All of it, with the last entries of the subscriber that is chosen."""
+    def snapshot(self, chosen: int | None, asked: str) -> dict[str, Any]:
+        """All of it: subscribers whose IMSI or address has the text asked for, as many as a page shows, and the last
+        entries of the one that is chosen."""
         with self.lock:
-            rows = [{"slot": slot, "imsi": it.imsi, "address": f"10.45.{(slot + 2) >> 8}.{(slot + 2) & 255}",
-                     "attached": it.attached, "mme": it.mme, "up": it.up, "down": it.down, "verdicts": dict(it.verdicts)}
-                    for slot, it in sorted(self.subscribers.items())]
+            fitting = ((slot, it) for slot, it in sorted(self.subscribers.items()) if asked in it.imsi or asked in address_of(slot))
+            rows = [{"slot": slot, "imsi": it.imsi, "address": address_of(slot), "attached": it.attached, "mme": it.mme,
+                     "up": it.up, "down": it.down, "verdicts": dict(it.verdicts)}
+                    for slot, it in itertools.islice(fitting, MOST_ROWS)]
             last = [it.decode() for it in self.subscribers[chosen].last] if chosen in self.subscribers else []
-            return {"at": time.time(), "subscribers": rows, "verdicts": dict(self.verdicts), "notes": dict(self.notes),
-                    "kinds": dict(self.kinds), "seconds": list(self.seconds), "chosen": chosen, "last": last}
+            return {"subscribers": rows, "attached": sum(it.attached for it in self.subscribers.values()), "verdicts": dict(self.verdicts),
+                    "notes": dict(self.notes), "kinds": dict(self.kinds), "seconds": list(self.seconds), "chosen": chosen, "last": last}
+
+
+def address_of(slot: int) -> str:
+    """The subscriber's address (docs/WIRE.md, Identities and addresses)."""
+    return f"10.45.{(slot + 2) >> 8}.{(slot + 2) & 255}"
 
 
 def imsi_of(message: bytes) -> str:
