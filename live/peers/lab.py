@@ -11,6 +11,7 @@ from peers.network import ENODEBS, GATEWAY, HOST, MMES, Network
 
 HERE = pathlib.Path(__file__).resolve().parent
 LIVE = HERE.parent
+CAPTURE_SECONDS = 1.3  # in which a capture takes over what passed
 UP_INTERFACE = 1  # S1-U GTP-U of a serving gateway (TS 29.274, 8.22)
 
 
@@ -100,8 +101,8 @@ class Lab:
         return Mme(self.start("enb", str(HERE / "mme"), "--address", address, stdin=subprocess.PIPE, stdout=subprocess.PIPE))
 
     def capture(self, link: str, path: pathlib.Path) -> subprocess.Popen:
-        """tcpdump on a link of the gateway, at work when this returns."""
-        process = self.start("gw", "tcpdump", "-i", link, "--immediate-mode", "-s", "0", "-B", "65536", "-U", "-w", str(path), stderr=subprocess.PIPE)
+        """tcpdump on a link of the gateway, at work when this returns; it has what passed CAPTURE_SECONDS ago."""
+        process = self.start("gw", "tcpdump", "-i", link, "-s", "0", "-B", "65536", "-U", "-w", str(path), stderr=subprocess.PIPE)
         process.stderr.readline()
         return process
 

@@ -65,13 +65,18 @@ class Core:
         """Says that no line comes any more."""
         self.process.stdin.close()
 
+    def wait(self, seconds: float) -> int | None:
+        """The core's status; None where it doesn't end in time."""
+        try:
+            return self.process.wait(seconds)
+        except subprocess.TimeoutExpired:
+            return None
+
     def end(self) -> str:
         """How the core ended, in words; one that hasn't is ended."""
-        try:
-            status = self.process.wait(2)
-        except subprocess.TimeoutExpired:
+        status = self.wait(2)
+        if status is None:
             self.process.kill()
-            self.process.wait()
             return "it doesn't end, and was killed"
         return f"it ended with status {status}" if status >= 0 else f"it was ended by signal {-status}"
 

@@ -196,7 +196,7 @@ class Gateway:
             if not ready:
                 break
             self.act(self.core.read())
-        if self.core.process.wait(PATIENCE):
+        if self.core.wait(PATIENCE) != 0:
             raise CoreFault(f"the core was told to end: {self.core.end()}")
         if self.record:
             self.record.stop()

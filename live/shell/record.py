@@ -79,11 +79,11 @@ class Past:
         self.report_octets = end_of_entries(self.folder / "report")
         self.line_count = 0
         self.last_moment = 0
-        self.commands: dict[int, bytes] = {}  # all lines that bring no packet, by their numbers
+        self.commands: dict[int, bytes] = {}  # messages and instructions, by their lines' numbers
         with open(self.folder / "trace", "rb") as trace:
             for line in whole_lines(trace, self.trace_octets):
                 self.line_count += 1
-                if line.split(b" ", 2)[1] not in (lines.S1U, lines.SGI):
+                if line.split(b" ", 2)[1] in (lines.S11, *instructions.KINDS):
                     self.commands[self.line_count] = line
             if self.line_count:
                 self.last_moment = int(line.split(b" ", 1)[0])
