@@ -67,7 +67,9 @@ class Lab:
 
     def start(self, place: str, *words: str, **options: Any) -> subprocess.Popen:
         """Starts a process there; it is ended with the lab at the latest."""
-        process = subprocess.Popen(self.network.within(place, *words), text=True, **{"stdin": subprocess.DEVNULL, **options})
+        process = subprocess.Popen(
+            self.network.within(place, *words), text=True, **{"stdin": subprocess.DEVNULL, **options}
+        )
         self.processes.append(process)
         return process
 
@@ -87,7 +89,9 @@ class Lab:
 
     def gateway(self, *words: str) -> subprocess.Popen:
         """A gateway that is at work when this returns."""
-        process = self.start("gw", str(LIVE / "gateway"), "--core", self.core, *words, stdout=subprocess.PIPE, stderr=subprocess.PIPE)
+        process = self.start(
+            "gw", str(LIVE / "gateway"), "--core", self.core, *words, stdout=subprocess.PIPE, stderr=subprocess.PIPE
+        )
         said = process.stdout.readline()
         if "at work" not in said:
             raise RuntimeError(f"the gateway doesn't begin: {said}{process.stderr.read()}")
@@ -95,14 +99,22 @@ class Lab:
 
     def enodebs(self) -> Peer:
         words = [word for address in ENODEBS for word in ("--address", address)]
-        return Peer(self.start("enb", str(HERE / "enodeb"), "--gateway", GATEWAY, *words, stdin=subprocess.PIPE, stdout=subprocess.PIPE))
+        return Peer(
+            self.start(
+                "enb", str(HERE / "enodeb"), "--gateway", GATEWAY, *words, stdin=subprocess.PIPE, stdout=subprocess.PIPE
+            )
+        )
 
     def mme(self, address: str = MMES[0]) -> Mme:
-        return Mme(self.start("enb", str(HERE / "mme"), "--address", address, stdin=subprocess.PIPE, stdout=subprocess.PIPE))
+        return Mme(
+            self.start("enb", str(HERE / "mme"), "--address", address, stdin=subprocess.PIPE, stdout=subprocess.PIPE)
+        )
 
     def capture(self, link: str, path: pathlib.Path) -> subprocess.Popen:
         """tcpdump on a link of the gateway, at work when this returns; it has what passed CAPTURE_SECONDS ago."""
-        process = self.start("gw", "tcpdump", "-i", link, "-s", "0", "-B", "65536", "-U", "-w", str(path), stderr=subprocess.PIPE)
+        process = self.start(
+            "gw", "tcpdump", "-i", link, "-s", "0", "-B", "65536", "-U", "-w", str(path), stderr=subprocess.PIPE
+        )
         process.stderr.readline()
         return process
 
@@ -117,13 +129,21 @@ class Lab:
         return json.loads(ran.stdout)
 
 
-def attach(mme: Mme, enodebs: Peer, imsi: str, mme_teid: int, enodeb_teid: int, ambr: tuple[int, int] = (1_000_000, 1_000_000)) -> dict[str, Any]:
+def attach(
+    mme: Mme, enodebs: Peer, imsi: str, mme_teid: int, enodeb_teid: int, ambr: tuple[int, int] = (1_000_000, 1_000_000)
+) -> dict[str, Any]:
     """A subscriber that is attached and has an eNodeB; what the gateway gave it."""
     created = mme.do("create", imsi=imsi, teid=mme_teid, ambr=ambr)
     if not created or created["cause"] != 16:
         raise RuntimeError(f"Create Session Request of {imsi}: {created}")
     teids = {interface: teid for interface, teid, _ in created["fteids"]}
-    given = {"imsi": imsi, "address": created["paa"], "control": teids[11], "up": teids[UP_INTERFACE], "enodeb_teid": enodeb_teid}
+    given = {
+        "imsi": imsi,
+        "address": created["paa"],
+        "control": teids[11],
+        "up": teids[UP_INTERFACE],
+        "enodeb_teid": enodeb_teid,
+    }
     modified = mme.do("modify", to=given["control"], enodeb=ENODEBS[0], enodeb_teid=enodeb_teid)
     if not modified or modified["cause"] != 16:
         raise RuntimeError(f"Modify Bearer Request of {imsi}: {modified}")

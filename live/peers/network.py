@@ -13,7 +13,14 @@ GATEWAY_SGI, HOST, NOBODY = "203.0.113.1", "203.0.113.9", "203.0.113.77"
 SUBSCRIBERS = "10.45.0.0/16"
 DEBIAN_PYTHON = "/usr/bin/python3"  # it alone has Debian's scapy
 
-COMMANDS = {"ip": "iproute2", "ping": "iputils-ping", "iperf3": "iperf3", "curl": "curl", "tcpdump": "tcpdump", "tshark": "tshark"}
+COMMANDS = {
+    "ip": "iproute2",
+    "ping": "iputils-ping",
+    "iperf3": "iperf3",
+    "curl": "curl",
+    "tcpdump": "tcpdump",
+    "tshark": "tshark",
+}
 
 
 class Network:
@@ -28,7 +35,9 @@ class Network:
 
     def run(self, place: str, *words: str, **options) -> subprocess.CompletedProcess:
         """Runs a command there to its end."""
-        return subprocess.run(self.within(place, *words), stdin=subprocess.DEVNULL, capture_output=True, text=True, **options)
+        return subprocess.run(
+            self.within(place, *words), stdin=subprocess.DEVNULL, capture_output=True, text=True, **options
+        )
 
     def up(self) -> None:
         """Sets all up."""
@@ -39,8 +48,12 @@ class Network:
             self.do(name, "sysctl", "-qw", "net.ipv6.conf.all.disable_ipv6=1", "net.ipv6.conf.default.disable_ipv6=1")
         do("ip", "link", "add", "s1", "netns", enb, "type", "veth", "peer", "name", "s1", "netns", gw)
         do("ip", "link", "add", "sgi", "netns", gw, "type", "veth", "peer", "name", "sgi", "netns", pdn)
-        for name, link, addresses in ((enb, "s1", (*ENODEBS, *MMES, STRANGER)), (gw, "s1", (GATEWAY,)), (gw, "sgi", (GATEWAY_SGI,)),
-                                      (pdn, "sgi", (HOST,))):
+        for name, link, addresses in (
+            (enb, "s1", (*ENODEBS, *MMES, STRANGER)),
+            (gw, "s1", (GATEWAY,)),
+            (gw, "sgi", (GATEWAY_SGI,)),
+            (pdn, "sgi", (HOST,)),
+        ):
             for address in addresses:
                 self.do(name, "ip", "addr", "add", f"{address}/24", "dev", link)
             self.do(name, "ip", "link", "set", link, "up")

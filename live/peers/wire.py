@@ -12,8 +12,12 @@ ETHERNET, RAW_IP, LINKTYPE_RAW = 1, 12, 101
 UDP, S11_PORT, S1U_PORT = 17, 2123, 2152
 Sent = collections.Counter  # of (place, octets): an address for GTP-U, "S11", or "SGI"
 
-TO_ENODEB = re.compile(rb"^(?:P \d+ \d+ \d+ \d+ down \d+|H \d+ \d+ \d+ down \d+|M \d+ \d+ \d+) ([\d.]+) ([0-9a-f]+)$", re.M)
-TO_MME = re.compile(rb"^(?:P \d+ \d+ \d+ \d+ held \d+|C \d+ \d+ \d+ \w+|N \d+ s11 [a-z]+(?: \d+ \d+)?) ([0-9a-f]{16,})$", re.M)
+TO_ENODEB = re.compile(
+    rb"^(?:P \d+ \d+ \d+ \d+ down \d+|H \d+ \d+ \d+ down \d+|M \d+ \d+ \d+) ([\d.]+) ([0-9a-f]+)$", re.M
+)
+TO_MME = re.compile(
+    rb"^(?:P \d+ \d+ \d+ \d+ held \d+|C \d+ \d+ \d+ \w+|N \d+ s11 [a-z]+(?: \d+ \d+)?) ([0-9a-f]{16,})$", re.M
+)
 TO_PEER = re.compile(rb"^N \d+ s1u (?:echo|unknown) ([0-9a-f]+)$", re.M)
 TO_INTERNET = re.compile(rb"^P \d+ \d+ \d+ \d+ up \d+ ([0-9a-f]+)$", re.M)
 
@@ -34,7 +38,7 @@ def packets(capture: pathlib.Path) -> Iterator[bytes]:
     place = 24
     while place + 16 <= len(octets):
         length = struct.unpack_from("<I", octets, place + 8)[0]
-        frame = octets[place + 16:place + 16 + length]
+        frame = octets[place + 16 : place + 16 + length]
         place += 16 + length
         if link == ETHERNET and frame[12:14] == b"\x08\x00":
             yield frame[14:]
@@ -50,7 +54,7 @@ def seen(s1: pathlib.Path, sgi: pathlib.Path) -> Sent:
         if packet[12:16] == gateway and packet[9] == UDP:
             head = (packet[0] & 15) * 4
             source, port, length = struct.unpack_from("!HHH", packet, head)
-            message = packet[head + 8:head + length]
+            message = packet[head + 8 : head + length]
             if source == S11_PORT:
                 found["S11", message] += 1
             elif source == S1U_PORT:
@@ -58,7 +62,7 @@ def seen(s1: pathlib.Path, sgi: pathlib.Path) -> Sent:
                 found["S1U" if is_answer else ".".join(map(str, packet[16:20])), message] += 1
     for packet in packets(sgi):
         if packet[12:14] == bytes((10, 45)):
-            found["SGI", packet[:int.from_bytes(packet[2:4])]] += 1
+            found["SGI", packet[: int.from_bytes(packet[2:4])]] += 1
     return found
 
 
@@ -70,7 +74,9 @@ def malformed(capture: pathlib.Path) -> int:
 def shown(capture: pathlib.Path, wanted: str, *fields: str) -> list[str]:
     """The frames that a display filter of tshark has, a line each."""
     words = [word for field in fields or ("frame.number",) for word in ("-e", field)]
-    ran = subprocess.run(["tshark", "-n", "-r", str(capture), "-Y", wanted, "-T", "fields", *words], capture_output=True, text=True)
+    ran = subprocess.run(
+        ["tshark", "-n", "-r", str(capture), "-Y", wanted, "-T", "fields", *words], capture_output=True, text=True
+    )
     if ran.returncode:
         raise RuntimeError(f"tshark: {ran.stderr.strip()}")
     return ran.stdout.splitlines()

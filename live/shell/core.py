@@ -15,8 +15,9 @@ class Core:
     def __init__(self, program: str, command: str) -> None:
         self.command = command
         try:
-            self.process = subprocess.Popen([program, command], stdin=subprocess.PIPE, stdout=subprocess.PIPE,
-                                            bufsize=0, start_new_session=True)
+            self.process = subprocess.Popen(
+                [program, command], stdin=subprocess.PIPE, stdout=subprocess.PIPE, bufsize=0, start_new_session=True
+            )
         except OSError as fault:
             raise CoreFault(f"the core {program} can't be started: {fault.strerror}") from fault
         self.into, self.out = self.process.stdin.fileno(), self.process.stdout.fileno()

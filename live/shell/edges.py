@@ -141,9 +141,13 @@ class Tun(Edge):
             self.device = os.open("/dev/net/tun", os.O_RDWR | os.O_NONBLOCK)
             fcntl.ioctl(self.device, TUNSETIFF, struct.pack("16sH22x", name.encode(), IFF_TUN | IFF_NO_PI))
         except OSError as fault:
-            raise EdgeFault(f"the TUN device {name} can't be had: {fault.strerror} (root, or CAP_NET_ADMIN, makes one)") from fault
-        for words in (["addr", "add", TUN_ADDRESS, "dev", name],
-                      ["link", "set", name, "up", "mtu", str(mtu), "txqueuelen", "2000"]):
+            raise EdgeFault(
+                f"the TUN device {name} can't be had: {fault.strerror} (root, or CAP_NET_ADMIN, makes one)"
+            ) from fault
+        for words in (
+            ["addr", "add", TUN_ADDRESS, "dev", name],
+            ["link", "set", name, "up", "mtu", str(mtu), "txqueuelen", "2000"],
+        ):
             try:
                 ran = subprocess.run(["ip", *words], capture_output=True, text=True)
             except FileNotFoundError as fault:

@@ -49,7 +49,9 @@ class Answers:
         if fields[0] not in (b"P", b"C", b"N", b"F"):
             return None
         if int(fields[1]) != self.next_line:
-            raise AnswerFault(f"the core says nothing of line {self.next_line}: its next entry is of line {int(fields[1])}")
+            raise AnswerFault(
+                f"the core says nothing of line {self.next_line}: its next entry is of line {int(fields[1])}"
+            )
         if not self.awaited:
             raise AnswerFault(f"the core answers line {self.next_line}, which it wasn't given")
         self.next_line += 1

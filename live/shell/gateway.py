@@ -38,7 +38,12 @@ class Times:
     def told(self) -> dict[str, float]:
         """Microseconds, as a mean over packets."""
         count = max(1, self.packets)
-        return {"lines": self.packets, "batches": self.batches, "shell": self.shell / count / 1000, "core": self.core / count / 1000}
+        return {
+            "lines": self.packets,
+            "batches": self.batches,
+            "shell": self.shell / count / 1000,
+            "core": self.core / count / 1000,
+        }
 
 
 class Gateway:
@@ -46,8 +51,15 @@ class Gateway:
 
     core: Core
 
-    def __init__(self, edges: dict[bytes, Edge], answers: Answers, clock: Clock, judge: Judge, record: Record | None,
-                 tally: Tally | None) -> None:
+    def __init__(
+        self,
+        edges: dict[bytes, Edge],
+        answers: Answers,
+        clock: Clock,
+        judge: Judge,
+        record: Record | None,
+        tally: Tally | None,
+    ) -> None:
         self.edges, self.answers, self.clock, self.judge, self.record = edges, answers, clock, judge, record
         self.tally = tally
         self.guard = tally.lock if tally else contextlib.nullcontext()
@@ -89,7 +101,7 @@ class Gateway:
     def turn(self, patience: float) -> None:
         """Does what can be done now, or waits for it."""
         full = [edge for edge in self.edges.values() if edge.waiting]
-        is_open = (not self.stopping and not full and not self.core.unwritten and len(self.unanswered) < IN_FLIGHT)
+        is_open = not self.stopping and not full and not self.core.unwritten and len(self.unanswered) < IN_FLIGHT
         reads = [self.woken, self.core.out, *(self.edges.values() if is_open else ())]
         writes = [*full, *([self.core.into] if self.core.unwritten else ())]
         ready, writable, _ = select.select(reads, writes, [], 0 if is_open and self.carried else patience)
@@ -215,7 +227,19 @@ class Gateway:
 
     def state(self, chosen: int | None, asked: str) -> dict[str, Any]:
         """What the page shows."""
-        edges = {edge.kind.decode(): {**edge.counts, "waiting now": len(edge.waiting), "dropped by the kernel": edge.lost_by_kernel()}
-                 for edge in self.edges.values()}
-        return {**self.tally.snapshot(chosen, asked), "edges": edges, "times": self.times.told(),
-                "lines": self.line_count, "unanswered": len(self.answers.awaited), "homeless": self.answers.homeless}
+        edges = {
+            edge.kind.decode(): {
+                **edge.counts,
+                "waiting now": len(edge.waiting),
+                "dropped by the kernel": edge.lost_by_kernel(),
+            }
+            for edge in self.edges.values()
+        }
+        return {
+            **self.tally.snapshot(chosen, asked),
+            "edges": edges,
+            "times": self.times.told(),
+            "lines": self.line_count,
+            "unanswered": len(self.answers.awaited),
+            "homeless": self.answers.homeless,
+        }

@@ -21,8 +21,13 @@ class Judge:
             return "kind"
         if self.process is None:
             self.line_count = 0
-            self.process = subprocess.Popen([self.program, "solo"], stdin=subprocess.PIPE, stdout=subprocess.PIPE,
-                                            stderr=subprocess.DEVNULL, start_new_session=True)
+            self.process = subprocess.Popen(
+                [self.program, "solo"],
+                stdin=subprocess.PIPE,
+                stdout=subprocess.PIPE,
+                stderr=subprocess.DEVNULL,
+                start_new_session=True,
+            )
         self.line_count += 2
         try:
             self.process.stdin.write(b"0 %s\n0 FENCE\n" % text)
@@ -35,7 +40,7 @@ class Judge:
             if entry == b"N %d fence\n" % self.line_count:
                 return None
             if entry.startswith(refused):
-                why = entry[len(refused):-1].decode()
+                why = entry[len(refused) : -1].decode()
         self.close()
         return why
 

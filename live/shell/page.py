@@ -21,7 +21,9 @@ class Handler(http.server.BaseHTTPRequestHandler):
         elif asked.path == "/state.json":
             query = urllib.parse.parse_qs(asked.query)
             slot = query.get("slot", [""])[0]
-            state = self.server.state(int(slot) if slot.isdecimal() and len(slot) < 6 else None, query.get("find", [""])[0])
+            state = self.server.state(
+                int(slot) if slot.isdecimal() and len(slot) < 6 else None, query.get("find", [""])[0]
+            )
             self.answer("application/json", json.dumps(state).encode())
         else:
             self.send_error(404)

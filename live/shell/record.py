@@ -41,8 +41,11 @@ class Record:
 
     def lines(self, text: bytes, first: int, sources: list[Any]) -> None:
         """Records a batch; its peers first, so that each message in the trace has its own."""
-        peers = b"".join(b"%d %s %d\n" % (first + place, source.address[0].encode(), source.address[1])
-                         for place, source in enumerate(sources) if type(source) is lines.FromMme)
+        peers = b"".join(
+            b"%d %s %d\n" % (first + place, source.address[0].encode(), source.address[1])
+            for place, source in enumerate(sources)
+            if type(source) is lines.FromMme
+        )
         if peers:
             self.write(2, peers)
         self.write(0, text)
@@ -55,7 +58,7 @@ class Record:
         rest = memoryview(text)
         try:
             while rest:
-                rest = rest[os.write(self.files[which], rest):]
+                rest = rest[os.write(self.files[which], rest) :]
         except OSError as fault:
             raise RecordFault(f"{self.folder / NAMES[which]} can't be written: {fault.strerror}") from fault
 
@@ -112,8 +115,11 @@ class Past:
         os.truncate(self.folder / "trace", self.trace_octets)
         os.truncate(self.folder / "report", self.report_octets)
         peers = self.folder / "peers"
-        kept = [b"%d %s %d\n" % (number, address.encode(), port)
-                for number, (address, port) in self.peers.items() if number <= self.line_count]
+        kept = [
+            b"%d %s %d\n" % (number, address.encode(), port)
+            for number, (address, port) in self.peers.items()
+            if number <= self.line_count
+        ]
         peers.write_bytes(b"".join(kept))
 
     def run(self, program: str, command: str) -> Iterator[bytes]:
@@ -189,7 +195,7 @@ def last_line(path: pathlib.Path, fits) -> int:
             end = begin + len(text)
             # the first piece may have begun earlier, the last one has no newline
             end -= len(lines[-1])
-            for line in reversed(lines[0 if begin == 0 else 1:-1]):
+            for line in reversed(lines[0 if begin == 0 else 1 : -1]):
                 if fits(line):
                     return end
                 end -= len(line) + 1

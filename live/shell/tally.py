@@ -100,13 +100,35 @@ class Tally:
         """All of it: subscribers whose IMSI or address has the text asked for, as many as a page shows, and the last
         entries of the one that is chosen."""
         with self.lock:
-            fitting = ((slot, it) for slot, it in sorted(self.subscribers.items()) if asked in it.imsi or asked in address_of(slot))
-            rows = [{"slot": slot, "imsi": it.imsi, "address": address_of(slot), "attached": it.attached, "mme": it.mme,
-                     "up": it.up, "down": it.down, "verdicts": dict(it.verdicts)}
-                    for slot, it in itertools.islice(fitting, MOST_ROWS)]
+            fitting = (
+                (slot, it)
+                for slot, it in sorted(self.subscribers.items())
+                if asked in it.imsi or asked in address_of(slot)
+            )
+            rows = [
+                {
+                    "slot": slot,
+                    "imsi": it.imsi,
+                    "address": address_of(slot),
+                    "attached": it.attached,
+                    "mme": it.mme,
+                    "up": it.up,
+                    "down": it.down,
+                    "verdicts": dict(it.verdicts),
+                }
+                for slot, it in itertools.islice(fitting, MOST_ROWS)
+            ]
             last = [it.decode() for it in self.subscribers[chosen].last] if chosen in self.subscribers else []
-            return {"subscribers": rows, "attached": sum(it.attached for it in self.subscribers.values()), "verdicts": dict(self.verdicts),
-                    "notes": dict(self.notes), "kinds": dict(self.kinds), "seconds": list(self.seconds), "chosen": chosen, "last": last}
+            return {
+                "subscribers": rows,
+                "attached": sum(it.attached for it in self.subscribers.values()),
+                "verdicts": dict(self.verdicts),
+                "notes": dict(self.notes),
+                "kinds": dict(self.kinds),
+                "seconds": list(self.seconds),
+                "chosen": chosen,
+                "last": last,
+            }
 
 
 def address_of(slot: int) -> str:
@@ -118,9 +140,9 @@ def imsi_of(message: bytes) -> str:
     """The digits of the IMSI in a Create Session Request (TS 29.274, 8.3); empty where there is none."""
     place = 12 if message[0] & 8 else 8
     while place + 4 <= len(message):
-        length = int.from_bytes(message[place + 1:place + 3])
+        length = int.from_bytes(message[place + 1 : place + 3])
         if message[place] == 1:
-            digits = "".join(f"{octet & 15:x}{octet >> 4:x}" for octet in message[place + 4:place + 4 + length])
+            digits = "".join(f"{octet & 15:x}{octet >> 4:x}" for octet in message[place + 4 : place + 4 + length])
             return digits.rstrip("f")
         place += 4 + length
     return ""
