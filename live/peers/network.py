@@ -20,6 +20,7 @@ COMMANDS = {
     "curl": "curl",
     "tcpdump": "tcpdump",
     "tshark": "tshark",
+    "mergecap": "wireshark-common",
 }
 
 

@@ -4,12 +4,14 @@ import pathlib
 import re
 import struct
 import subprocess
+import tempfile
 from typing import Iterator
 
 from peers.network import GATEWAY, STRANGER
 
 ETHERNET, RAW_IP, LINKTYPE_RAW = 1, 12, 101
 UDP, S11_PORT, S1U_PORT = 17, 2123, 2152
+END_MARKER = 254
 Sent = collections.Counter  # of (place, octets): an address for GTP-U, "S11", or "SGI"
 
 TO_ENODEB = re.compile(
@@ -66,17 +68,25 @@ def seen(s1: pathlib.Path, sgi: pathlib.Path) -> Sent:
     return found
 
 
-def malformed(capture: pathlib.Path) -> int:
-    """How many frames tshark calls malformed, of all that the stranger didn't send."""
-    return len(shown(capture, f"_ws.malformed && !(ip.src == {STRANGER})"))
+def dissected(captures: list[pathlib.Path]) -> tuple[int, list[tuple[str, str]]]:
+    """By tshark, over all captures: how many frames are malformed, but the stranger's, and each End Marker's receiver
+    and TEID."""
+    with tempfile.TemporaryDirectory() as folder:
+        merged = pathlib.Path(folder) / "merged.pcapng"
+        run("mergecap", "-w", str(merged), *map(str, captures))
+        malformed = f"(_ws.malformed && !(ip.src == {STRANGER}))"
+        fields = ("_ws.malformed", "gtp.message", "ip.dst", "gtp.teid")
+        words = [word for field in fields for word in ("-e", field)]
+        wanted = f"{malformed} || gtp.message == {END_MARKER}"
+        said = run("tshark", "-n", "-r", str(merged), "-Y", wanted, "-T", "fields", *words)
+    rows = [line.split("\t") for line in said.splitlines()]
+    markers = [(address, teid) for fault, message, address, teid in rows if int(message or "0", 0) == END_MARKER]
+    return sum(bool(row[0]) for row in rows), markers
 
 
-def shown(capture: pathlib.Path, wanted: str, *fields: str) -> list[str]:
-    """The frames that a display filter of tshark has, a line each."""
-    words = [word for field in fields or ("frame.number",) for word in ("-e", field)]
-    ran = subprocess.run(
-        ["tshark", "-n", "-r", str(capture), "-Y", wanted, "-T", "fields", *words], capture_output=True, text=True
-    )
+def run(*words: str) -> str:
+    """What a command writes, that has to succeed."""
+    ran = subprocess.run(words, capture_output=True, text=True)
     if ran.returncode:
-        raise RuntimeError(f"tshark: {ran.stderr.strip()}")
-    return ran.stdout.splitlines()
+        raise RuntimeError(f"{words[0]}: {ran.stderr.strip()}")
+    return ran.stdout
