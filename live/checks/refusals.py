@@ -22,6 +22,9 @@ def run(checks: Checks, lab: Lab) -> None:
     taken = folder / "taken"
     taken.mkdir()
     (taken / "trace").touch()
+    none = folder / "no-record"
+    none.mkdir()
+    (none / "trace").write_text("hello FENCE\n")
     wrong = folder / "wrong"
     wrong.write_text("ATTACH 001010000000001 192.0.2.2 00000909 1 1\nDROP 001010000000001 4\n")
     attached = folder / "attached"
@@ -54,6 +57,8 @@ def run(checks: Checks, lab: Lab) -> None:
             6,
             "has no record",
         ),
+        ("a record that is none", [gateway, "--core", good, "--resume", str(none)], 6, "isn't a record"),
+        ("no program, with instructions", [gateway, "--core", "/none", "--instructions", str(wrong)], 4, "can't be"),
         ("instructions that aren't some", [gateway, "--core", good, "--instructions", str(wrong)], 7, "line 2"),
         ("no option of it", [gateway, "--cores"], 2, "usage"),
     ]

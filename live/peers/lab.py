@@ -120,7 +120,7 @@ class Lab:
 
     def host(self) -> None:
         """iperf3 on the internet's host."""
-        self.start("pdn", "iperf3", "-s", "-B", HOST, stdout=subprocess.DEVNULL)
+        self.start("pdn", "iperf3", "-s", "-B", HOST, stdout=subprocess.DEVNULL, stderr=subprocess.DEVNULL)
         time.sleep(0.3)
 
     def iperf(self, address: str, *words: str, seconds: float) -> dict[str, Any]:

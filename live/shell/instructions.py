@@ -2,7 +2,7 @@
 rule of what a line is stays with the program."""
 import subprocess
 
-from shell.faults import InstructionFault
+from shell.faults import CoreFault, InstructionFault
 
 KINDS = (b"ATTACH", b"BEARER", b"FILTERS", b"DROP", b"AMBR", b"MOVE")
 
@@ -15,19 +15,25 @@ class Judge:
         self.process: subprocess.Popen | None = None
         self.line_count = 0
 
-    def fault_of(self, text: bytes) -> str | None:
-        """The word for what is wrong with an instruction; None where nothing is."""
-        if text.split(b" ", 1)[0] not in KINDS or b"\n" in text:
-            return "kind"
-        if self.process is None:
-            self.line_count = 0
-            self.process = subprocess.Popen(
+    def begin(self) -> subprocess.Popen:
+        try:
+            return subprocess.Popen(
                 [self.program, "solo"],
                 stdin=subprocess.PIPE,
                 stdout=subprocess.PIPE,
                 stderr=subprocess.DEVNULL,
                 start_new_session=True,
             )
+        except OSError as fault:
+            raise CoreFault(f"the core {self.program} can't be started: {fault.strerror}") from fault
+
+    def fault_of(self, text: bytes) -> str | None:
+        """The word for what is wrong with an instruction; None where nothing is."""
+        if text.split(b" ", 1)[0] not in KINDS or b"\n" in text:
+            return "kind"
+        if self.process is None:
+            self.line_count = 0
+            self.process = self.begin()
         self.line_count += 2
         try:
             self.process.stdin.write(b"0 %s\n0 FENCE\n" % text)

@@ -79,11 +79,17 @@ class Past:
 
     def __init__(self, folder: str) -> None:
         self.folder = pathlib.Path(folder)
-        self.trace_octets = end_of_batches(self.folder / "trace")
-        self.report_octets = end_of_entries(self.folder / "report")
-        self.line_count = 0
-        self.last_moment = 0
+        self.line_count = self.last_moment = 0
         self.commands: dict[int, bytes] = {}  # messages and instructions, by their lines' numbers
+        try:
+            self.trace_octets = end_of_batches(self.folder / "trace")
+            self.report_octets = end_of_entries(self.folder / "report")
+            self.read_trace()
+            self.peers = self.read_peers()
+        except (OSError, ValueError, IndexError) as fault:
+            raise RecordFault(f"{folder} isn't a record: {fault}") from fault
+
+    def read_trace(self) -> None:
         with open(self.folder / "trace", "rb") as trace:
             for line in whole_lines(trace, self.trace_octets):
                 self.line_count += 1
@@ -91,10 +97,9 @@ class Past:
                     self.commands[self.line_count] = line
             if self.line_count:
                 self.last_moment = int(line.split(b" ", 1)[0])
-        self.peers = self.read_peers()
 
     def read_peers(self) -> dict[int, tuple[str, int]]:
-        """Where the S11 messages came from, by their lines; a cut last line counts for nothing."""
+        """Where the S11 messages came from, by their lines: the last that is told of one, as batches are cut off."""
         peers = {}
         for line in (self.folder / "peers").read_bytes().split(b"\n")[:-1]:
             number, address, port = line.split(b" ")
@@ -115,24 +120,20 @@ class Past:
         (self.folder / STOPPED).unlink(missing_ok=True)
         os.truncate(self.folder / "trace", self.trace_octets)
         os.truncate(self.folder / "report", self.report_octets)
-        peers = self.folder / "peers"
-        kept = [
-            b"%d %s %d\n" % (number, address.encode(), port)
-            for number, (address, port) in self.peers.items()
-            if number <= self.line_count
-        ]
-        peers.write_bytes(b"".join(kept))
+        os.truncate(self.folder / "peers", last_line(self.folder / "peers", lambda line: True))
 
     def run(self, program: str, command: str) -> Iterator[bytes]:
         """What the program says of the whole batches, line by line."""
         with tempfile.TemporaryFile() as said:
             with open(self.folder / "trace", "rb") as trace:
-                core = subprocess.Popen([program, command], stdin=subprocess.PIPE, stdout=said)
                 try:
+                    core = subprocess.Popen([program, command], stdin=subprocess.PIPE, stdout=said)
                     copy(trace, self.trace_octets, core.stdin)
                     core.stdin.close()
                 except BrokenPipeError:
-                    pass
+                    pass  # its status says why
+                except OSError as fault:
+                    raise CoreFault(f"the core {program} can't be started: {fault.strerror}") from fault
             if core.wait():
                 raise CoreFault(f"{command} of the record ended with status {core.returncode}")
             said.seek(0)
