@@ -50,6 +50,7 @@ class Resumed:
             "-b",
             "10M",
             "-J",
+            "--repeating-payload",
             stdout=subprocess.PIPE,
         )
 

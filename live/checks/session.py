@@ -1,7 +1,6 @@
 """A session with peers that nobody here wrote: an MME of scapy, ping, curl, iperf3, tshark."""
 
 import json
-import os
 import pathlib
 import re
 import subprocess
@@ -76,7 +75,7 @@ class Session:
             )
         folder = self.lab.folder / "served"
         folder.mkdir()
-        (folder / "file").write_bytes(os.urandom(300_000))
+        (folder / "file").write_bytes(b"a file of some length\n" * 15_000)
         self.lab.start(
             "pdn",
             sys.executable,

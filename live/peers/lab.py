@@ -124,8 +124,10 @@ class Lab:
         time.sleep(0.3)
 
     def iperf(self, address: str, *words: str, seconds: float) -> dict[str, Any]:
-        """iperf3 from a UE, and what it tells in JSON."""
-        ran = self.network.run("enb", "iperf3", "-c", HOST, "-B", address, "-J", *words, timeout=seconds)
+        """iperf3 from a UE, and what it tells in JSON. Octets drawn at random look like any protocol to tshark."""
+        ran = self.network.run(
+            "enb", "iperf3", "-c", HOST, "-B", address, "-J", "--repeating-payload", *words, timeout=seconds
+        )
         return json.loads(ran.stdout)
 
 
