@@ -10,7 +10,7 @@ import time
 
 from checks.judging import Checks, audited, judge_frames
 from peers import wire
-from peers.lab import CAPTURE_SECONDS, Lab, attach
+from peers.lab import CAPTURE_SECONDS, Lab, attach, core_of
 from peers.network import ENODEBS, HOST
 
 NOTIFICATION = 176
@@ -81,10 +81,7 @@ class Resumed:
         self.keep("killed shell")
         self.resume()
         time.sleep(4)
-        core = subprocess.run(
-            ["pgrep", "-P", str(self.gateway.pid), "-f", "resume"], capture_output=True, text=True
-        ).stdout.split()
-        os.kill(int(core[0]), signal.SIGKILL)
+        os.kill(core_of(self.gateway), signal.SIGKILL)
         status, said = self.gateway.wait(10), self.gateway.stderr.read().strip()
         self.checks.expect(
             "a core that is killed ends the shell with a clear line and status 4",

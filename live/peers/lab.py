@@ -131,6 +131,11 @@ class Lab:
         return json.loads(ran.stdout)
 
 
+def core_of(gateway: subprocess.Popen) -> int:
+    """The process of a gateway's core: the child that it began last."""
+    return int(pathlib.Path(f"/proc/{gateway.pid}/task/{gateway.pid}/children").read_text().split()[-1])
+
+
 def attach(
     mme: Mme, enodebs: Peer, imsi: str, mme_teid: int, enodeb_teid: int, ambr: tuple[int, int] = (1_000_000, 1_000_000)
 ) -> dict[str, Any]:

@@ -75,7 +75,7 @@ class Answers:
             sendings.append((S1U, unhexlify(fields[5]), (fields[4].decode(), S1U_PORT)))
         elif kind == b"C":
             if type(source) is FromMme:
-                # a reply goes where its request came from (TS 29.274, 4.2)
+                # a reply goes where its request came from (TS 29.274, 4.2.1)
                 self.mmes[fields[2]] = source.address
                 if fields[5] != b"-":
                     sendings.append((S11, unhexlify(fields[5]), source.address))
@@ -90,7 +90,7 @@ class Answers:
             raise ValueError
 
     def initial(self, slot: bytes, message: bytes, sendings: list[Sending]) -> None:
-        """A message that no request asked for goes to port 2123 of the subscriber's MME (TS 29.274, 4.2)."""
+        """A message that no request asked for goes to port 2123 of the subscriber's MME (TS 29.274, 4.2.1)."""
         if slot in self.mmes:
             sendings.append((S11, unhexlify(message), (self.mmes[slot][0], S11_PORT)))
         else:
