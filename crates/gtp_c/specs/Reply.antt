@@ -1,5 +1,5 @@
 -- The replies of GTPv2-C that are written into a caller's room.
-use Rattle.std.specs.Prelude.{◌≡◌, ℕ, ◌==◌, ◌&&◌, ◌||◌, not, nat_lt, is_some, List, [], ◌∷◌, Option, Some, None, if◌then◌else◌}
+use Rattle.std.specs.Prelude.{ℕ, ◌==◌, not, nat_lt, MatchBool, is_some, List, [], ◌∷◌, Option, Some, None, if◌then◌else◌}
 use Rattle.gtpv2_ie.specs.declared.value.IeValue.TheVariants as values
 use Rattle.gtpv2_msg.specs.Header.{kind_of}
 use Rattle.gtpv2_msg.specs.Kinds.{is_request}
@@ -44,6 +44,7 @@ echo_response seq counter = record {
   ies = record { instance = 0; value = values.Recovery counter } ∷ [];
 }
 
+-- 23 where it is no sequence number
 abbrev pub EchoAnswer : ℕ → List ℕ → ℕ → List ℕ → List ℕ → ℕ → Type 0
 EchoAnswer seq octets code old new needed =
-    if nat_lt 16777215 seq then WritesNothing 23 code old new needed else Writes octets code old new needed
+    MatchBool (nat_lt 16777215 seq) (WritesNothing 23 code old new needed) (Writes octets code old new needed)

@@ -1,5 +1,5 @@
 //! Replies of GTPv2-C.
-ghost use Rattle.std.specs.Prelude.{◌≡◌, ◌<◌, ◌^◌, true, false};
+ghost use Rattle.std.specs.Prelude.{◌≡◌, ◌≢◌, ◌<◌, ◌^◌, ◌==◌, true, Some, None, if◌then◌else◌};
 ghost use Rattle.gtpv2_msg.specs.Kinds as kinds;
 ghost use Rattle.gtpv2_msg.specs.Refusal.{refusing};
 ghost use Rattle.gtpv2_msg.specs.Spelling.{spelling};

@@ -1,5 +1,5 @@
 -- What a C caller is told of a whole template.
-use Rattle.std.specs.Prelude.{◌≡◌, ℕ, ◌<◌, List, length, IfSome, Option, Some, None}
+use Rattle.std.specs.Prelude.{◌≡◌, ℕ, ◌<◌, List, length, IsSomeAnd, Option, Some, None}
 use Rattle.tft_codec.specs.Spelling.{Spells}
 use Rattle.tft_codec.specs.declared.fault.TBad.{TBad}
 use Rattle.tft_codec.specs.declared.fault.TBad.TheVariants as bad
@@ -37,7 +37,7 @@ operation_of Nothing = 6
 
 -- the octets are the template of this operation and these entries
 abbrev pub Tells : List ℕ → ℕ → List TftFilter → Type 0
-Tells octets operation entries = IfSome (tft_said operation entries) (Spells octets)
+Tells octets operation entries = IsSomeAnd (tft_said operation entries) (Spells octets)
 
 -- they are a template of more entries than there is room for
 abbrev pub IsTooMany : List ℕ → ℕ → ℕ → Type 0
