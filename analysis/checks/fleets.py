@@ -14,12 +14,11 @@ import subprocess
 import sys
 import time
 
-from .harness import ANALYSIS, Check, SAFE, TOP, children_of, is_there, nothing_left, pepc, words_of
+from .harness import ANALYSIS, Check, PEPC, SAFE, children_of, is_there, nothing_left, pepc, words_of
 
 TRACES = 200
 SECONDS = 600                     # at most, for one fleet
 PATIENCE = 15                     # seconds with a stopped worker
-PROGRAM = TOP / "crates/pepc_main/out/pepc_main"
 WRONG, CUT, CHANGED, MISSING, REFUSED, NO_ENTRY, NO_REPORT, KILLER = 3, 17, 23, 41, 59, 83, 97, 111
 
 
@@ -79,7 +78,7 @@ cat >"$input"
 0 FENCE" ] || kill -9 $PPID
 exec <"$input"
 rm "$input"
-exec {PROGRAM} "$@"
+exec {PEPC} "$@"
 """)
     program.chmod(0o755)
     return program

@@ -7,7 +7,7 @@ from typing import Any, Iterator, NamedTuple
 
 TOP = pathlib.Path(__file__).resolve().parents[2]
 ANALYSIS = TOP / "analysis"
-PEPC = TOP / "pepc"
+PEPC = TOP / "crates/pepc_main/out/pepc_main"
 DEMO = ANALYSIS / "demo.trace"
 
 
