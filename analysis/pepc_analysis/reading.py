@@ -10,13 +10,22 @@ from . import entries, schema, wire
 from .faults import BAD_LINE, BAD_REPORT, Fault, TOO_LONG, at
 from .lives import Lives, Misfit
 
-LONGEST = 132_000                 # octets of a line, without its newline
+LONGEST = 132_000  # octets of a line, without its newline
 EPOCH_LINES, EPOCH_OCTETS = 65_536, 67_108_864
-FLUSHED = 2_000_000               # octets of the report between two times that rows are handed on
+FLUSHED = 2_000_000  # octets of the report between two times that rows are handed on
 COMMANDS = {b"S11", b"ATTACH", b"BEARER", b"FILTERS", b"DROP", b"AMBR"}
 KINDS = {b"S1U": "S1U", b"SGI": "SGI"}
-WAYS = {("S1U", "up"), ("S1U", "spoof"), ("S1U", "nobearer"), ("S1U", "policed"),
-        ("SGI", "down"), ("SGI", "nobearer"), ("SGI", "policed"), ("SGI", "idle"), ("SGI", "held")}
+WAYS = {
+    ("S1U", "up"),
+    ("S1U", "spoof"),
+    ("S1U", "nobearer"),
+    ("S1U", "policed"),
+    ("SGI", "down"),
+    ("SGI", "nobearer"),
+    ("SGI", "policed"),
+    ("SGI", "idle"),
+    ("SGI", "held"),
+}
 NOT_ITS_FIELDS = (ValueError, IndexError, StopIteration)
 
 
@@ -33,12 +42,12 @@ class Reading:
         self.line = self.at = 0
         self.epoch, self.in_epoch, self.octets = -1, EPOCH_LINES, 0
         self.moment = 0
-        self.stopped = False                                     # a refused line: no entry of a line stands behind it
+        self.stopped = False  # a refused line: no entry of a line stands behind it
         self.lives = Lives()
-        self.packets = [0] * (entries.MOST_SLOT + 1)             # the next number of each slot
+        self.packets = [0] * (entries.MOST_SLOT + 1)  # the next number of each slot
         self.orders = [0] * (entries.MOST_SLOT + 1)
-        self.held: dict[tuple[int, int], int] = {}               # octets of the packets that wait
-        self.commands: dict[tuple[int, int], int] = {}           # moments of the epoch's commands
+        self.held: dict[tuple[int, int], int] = {}  # octets of the packets that wait
+        self.commands: dict[tuple[int, int], int] = {}  # moments of the epoch's commands
         self.addresses: dict[bytes, str] = {}
         self.unanswered_from: int | None = None
         self.short = False
@@ -136,8 +145,27 @@ class Reading:
 
     def packet(self, found: tuple) -> None:
         """A P entry with its line."""
-        (told, slot, number, met, up, up_life, up_data, down, down_life, address, down_data, plain,
-         stopped, stopped_life, held, held_life, notification, place, parked) = found
+        (
+            told,
+            slot,
+            number,
+            met,
+            up,
+            up_life,
+            up_data,
+            down,
+            down_life,
+            address,
+            down_data,
+            plain,
+            stopped,
+            stopped_life,
+            held,
+            held_life,
+            notification,
+            place,
+            parked,
+        ) = found
         words = self.take_line(told).split(b" ", 2)
         kind = KINDS.get(words[1]) if len(words) == 3 else None
         if kind is None:
@@ -166,8 +194,23 @@ class Reading:
             raise self.fault(f"`{verdict}` of a packet of kind {kind}")
         if self.keep and data:
             self.rows["packet_octets"].append((self.line, bytes.fromhex(data.decode())))
-        self.add_packet((self.line, self.epoch, moment, slot, number, int(met), kind, verdict, life, octets, enodeb,
-                         None if place is None else -1 if place == b"-" else int(place), 1 if parked else 0))
+        self.add_packet(
+            (
+                self.line,
+                self.epoch,
+                moment,
+                slot,
+                number,
+                int(met),
+                kind,
+                verdict,
+                life,
+                octets,
+                enodeb,
+                None if place is None else -1 if place == b"-" else int(place),
+                1 if parked else 0,
+            )
+        )
 
     def offered(self, words: list[bytes]) -> int:
         """Octets of the IPv4 packet that the line brings, which the entry doesn't tell."""
@@ -197,8 +240,20 @@ class Reading:
             raise self.fault(f"`{outcome}`, though {why}") from None
         except NOT_ITS_FIELDS:
             raise self.line_fault(f"its fields aren't those of a command {kind.decode()}") from None
-        self.rows["command"].append((self.line, self.epoch, moment, slot, number, kind.decode(), sort, outcome,
-                                     reply[1] if reply and len(reply) > 1 else None, reply))
+        self.rows["command"].append(
+            (
+                self.line,
+                self.epoch,
+                moment,
+                slot,
+                number,
+                kind.decode(),
+                sort,
+                outcome,
+                reply[1] if reply and len(reply) > 1 else None,
+                reply,
+            )
+        )
         self.rows["bearer_event"] += lives.events
         self.rows["rate"] += lives.rates
         lives.events.clear()
@@ -255,8 +310,13 @@ class Reading:
         if octets is None:
             raise self.fault(f"the fate of packet {packet} of slot {slot}, which isn't held")
         if down:
-            row = ("down", int(down_life), self.tunnelled(data), self.address_of(address),
-                   self.octets_of(data) if self.keep else None)
+            row = (
+                "down",
+                int(down_life),
+                self.tunnelled(data),
+                self.address_of(address),
+                self.octets_of(data) if self.keep else None,
+            )
         else:
             row = (lost.decode(), int(lost_life), octets, None, None)
         self.rows["fate"].append((self.at, self.epoch, moment, slot, packet, command, *row))
@@ -266,8 +326,9 @@ class Reading:
         slot, life, command, address, message = found
         slot, command = self.slot_of(slot), int(command)
         moment = self.moment_of_command(slot, command)
-        self.rows["end_marker"].append((self.at, self.epoch, moment, slot, int(life), command, self.address_of(address),
-                                        self.octets_of(message)))
+        self.rows["end_marker"].append(
+            (self.at, self.epoch, moment, slot, int(life), command, self.address_of(address), self.octets_of(message))
+        )
 
     def counts_of(self, words: tuple) -> tuple:
         """Slot, life, seq, EBI, QCI and the four counts of an R or O entry, in the order of the columns."""
@@ -327,7 +388,13 @@ class Reading:
         self.line = answered
 
 
-READERS = [(ord("P"), entries.PACKET, "packet"), (ord("C"), entries.COMMAND, "command"),
-           (ord("N"), entries.NOTE, "note"), (ord("F"), entries.REFUSED, "refused"), (ord("H"), entries.FATE, "fate"),
-           (ord("M"), entries.END_MARKER, "end_marker"), (ord("R"), entries.RECORD, "record"),
-           (ord("O"), entries.OPEN_COUNTER, "open_counter")]
+READERS = [
+    (ord("P"), entries.PACKET, "packet"),
+    (ord("C"), entries.COMMAND, "command"),
+    (ord("N"), entries.NOTE, "note"),
+    (ord("F"), entries.REFUSED, "refused"),
+    (ord("H"), entries.FATE, "fate"),
+    (ord("M"), entries.END_MARKER, "end_marker"),
+    (ord("R"), entries.RECORD, "record"),
+    (ord("O"), entries.OPEN_COUNTER, "open_counter"),
+]
