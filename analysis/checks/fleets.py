@@ -4,6 +4,7 @@ cluster is killed; nothing is open but what was asked for, and nobody without a 
 import hashlib
 import os
 import pathlib
+import pty
 import re
 import shutil
 import signal
@@ -528,6 +529,32 @@ def words(check: Check, room: pathlib.Path, tls: pathlib.Path) -> None:
     )
 
 
+def on_a_terminal(check: Check, room: pathlib.Path) -> None:
+    """A bar, on one line that is written over."""
+    (room / "one").write_text(f"{name_of(1)}.trace\t{(room / f'{name_of(1)}.trace').stat().st_size}\n")
+    ours, theirs = pty.openpty()
+    driver = subprocess.Popen(
+        [ANALYSIS / "fleet", room / "one", room / "bar", "--program", room / "killer", "--workers", "1"],
+        stdin=subprocess.DEVNULL,
+        stdout=subprocess.DEVNULL,
+        stderr=theirs,
+        env=SAFE,
+    )
+    os.close(theirs)
+    told = b""
+    try:
+        while part := os.read(ours, 4096):
+            told += part
+    except OSError:
+        pass  # the terminal is closed
+    check.same("fleet on a terminal: status", driver.wait(), 0)
+    last = told.decode().split("\r\x1b[K")[-1]
+    check.holds(
+        f"fleet on a terminal: its bar: {last!r}",
+        re.match(r"\[#{24}\] 1/1 done, 0 failed, 0 lost, .* traces/s, .* lines/s, 1 workers, 0 s left", last),
+    )
+
+
 def memory(check: Check) -> None:
     """No more side by side than fit."""
     from pepc_analysis.fleet_cluster import Host
@@ -611,6 +638,7 @@ def run(check: Check) -> None:
     real(check, room, rows, room / "tls", room / "foreign")
     told("real cluster")
     interrupted(check, room)
+    on_a_terminal(check, room)
     words(check, room, room / "tls")
     memory(check)
     merged(check, room / "calm", rows)
