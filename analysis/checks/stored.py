@@ -70,7 +70,7 @@ def written_again(base: sqlite3.Connection) -> str:
     lines, others = of_lines(base), of_entries(base)
     rest = iter(sorted(lines))
     return "".join(
-        (others[entry] if entry in others else lines[next(rest)]) + "\n"
+        (others[entry] if entry in others else lines.get(next(rest, 0), "nothing")) + "\n"
         for entry in range(1, len(lines) + len(others) + 1)
     )
 
