@@ -2,7 +2,7 @@
 import csv
 import sqlite3
 
-from .harness import Check, made, pepc
+from .harness import Check, is_missing, made, pepc
 
 WORDS = ["--seed", "7", "--subs", "100", "--lines", "20000"]
 TABLES = {"N": "note", "C": "command", "P": "packet", "F": "refused", "R": "record", "O": "open_counter"}
@@ -47,6 +47,11 @@ def run(check: Check) -> None:
         ]
         with open(sheets / f"{table}.csv", newline="") as sheet:
             check.same(f"made trace: sheet {table}", list(csv.reader(sheet)) == wanted_rows, True)
+    if not is_missing("pandas"):
+        import pandas
+
+        charges = pandas.read_sql("SELECT * FROM record JOIN subscriber USING (slot)", sqlite3.connect(out))
+        check.same("made trace: records that pandas reads", len(charges), found["R"])
     base.execute(
         "UPDATE packet SET octets = octets + 1 WHERE rowid = (SELECT max(line) FROM packet WHERE verdict = 'up')"
     )
