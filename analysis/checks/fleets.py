@@ -291,7 +291,10 @@ def embedded(check: Check, room: pathlib.Path, foreign: pathlib.Path) -> list[tu
     said = driver.said.read_text()
     check.holds(
         f"fleet: lines of progress: {said[:200]}",
-        re.search(rf"{TRACES}/{TRACES} done, 7 failed, 1 lost, [0-9.]+ traces/s, [0-9,]+ lines/s, \d workers, 0 s left", said),
+        re.search(
+            rf"{TRACES}/{TRACES} done, 7 failed, 1 lost, [0-9.]+ traces/s, [0-9,]+ lines/s, \d workers, 0 s left",
+            said,
+        ),
     )
     ended = [
         row[0]

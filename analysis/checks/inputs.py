@@ -161,7 +161,9 @@ def full_and_stopped(check: Check, folder) -> None:
         "tables where the disk is full", ["tables", pair.trace, pair.report, out], 4, preexec_fn=small_files
     )
     check.command(
-        "tables in a folder that isn't there", ["tables", pair.trace, pair.report, "/dev/shm/none/x", "--csv", folder], 4
+        "tables in a folder that isn't there",
+        ["tables", pair.trace, pair.report, "/dev/shm/none/x", "--csv", folder],
+        4,
     )
     for number in (signal.SIGTERM, signal.SIGINT):
         running = subprocess.Popen(

@@ -30,6 +30,8 @@ def configure(patience: int) -> None:
             "distributed.scheduler.work-stealing": False,
             "distributed.scheduler.worker-ttl": f"{patience}s",
             "distributed.worker.daemon": True,
+            # else a worker that is slow to begin anew would be given up for good
+            "distributed.deploy.lost-worker-timeout": "1h",
             "distributed.comm.timeouts.connect": "15s",
             "distributed.comm.require-encryption": True,
             **{f"distributed.{part}.http.routes": [] for part in ("scheduler", "worker", "nanny")},

@@ -1,6 +1,7 @@
 """Hands traces out to workers, and keeps their rows as they come back."""
 import os
 import queue
+import time
 from typing import NamedTuple
 
 from . import fleet_task
@@ -49,8 +50,9 @@ def need_of(job: Job, steps: list[str]) -> int:
 class Fleet:
     """The traces that wait, those that are out, and where."""
 
-    def __init__(self, client, rows: Rows, plan: Plan, jobs: list[Job], memory: int | None):
+    def __init__(self, client, rows: Rows, plan: Plan, jobs: list[Job], memory: int | None, alone: int | None):
         self.client, self.rows, self.plan = client, rows, plan
+        self.alone, self.seen = alone, time.monotonic()  # seconds without a worker at most, and when there was one
         self.hosts = Hosts(client, memory)
         self.waiting = sorted(jobs, key=lambda job: job.octets or 0, reverse=True)  # the longest first
         self.tries: dict[str, int] = {}
@@ -151,6 +153,13 @@ class Fleet:
         """The row of a trace of which nothing is known."""
         return {"rows": [fleet_task.row("run", status, said)], "lines": 0, "host": "-"}
 
+    def look_for_workers(self) -> None:
+        """An embedded cluster whose workers don't begin anew is given up."""
+        if self.hosts.workers:
+            self.seen = time.monotonic()
+        elif self.alone and time.monotonic() - self.seen > self.alone:
+            raise Fault(READ_FAULT, f"no worker for {self.alone} s; the same command goes on from here")
+
     def run(self) -> None:
         """Hands all out, and takes all back."""
         while self.waiting or self.out:
@@ -159,6 +168,7 @@ class Fleet:
             try:
                 self.hand_out()
                 self.recall()
+                self.look_for_workers()
             except OSError:
                 raise Fault(READ_FAULT, "the scheduler is lost; the same command goes on from here") from None
             try:
