@@ -15,7 +15,7 @@ import subprocess
 import sys
 import time
 
-from .harness import ANALYSIS, Check, PEPC, SAFE, children_of, is_there, nothing_left, pepc, words_of
+from .harness import ANALYSIS, Check, PEPC, SAFE, children_of, is_there, nothing_left, pepc, small_files, words_of
 
 TRACES = 200
 SECONDS = 600  # at most, for one fleet
@@ -518,6 +518,8 @@ def words(check: Check, room: pathlib.Path, tls: pathlib.Path) -> None:
     check.command(
         "a merge of no fleet", ["merge", room / "none"], 3, f"merge: {room}/none/fleet.sqlite: no such file"
     )
+    on_full = ["fleet", good, room / "full", "--program", room / "killer"]
+    check.command("a fleet where the disk is full", on_full, 4, env=SAFE, preexec_fn=small_files)
     check.command("a fleet where a file is", ["fleet", good, good], 4, env=SAFE)
     (room / "version").mkdir()
     shutil.copy(out / "fleet.sqlite", room / "version/fleet.sqlite")
