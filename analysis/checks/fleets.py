@@ -266,14 +266,15 @@ def look_at_listeners(check: Check, what: str, processes: list[int], foreign: pa
             check.same(f"{what}: port {port} to HTTP", answer, "HTTP/1.1 404 Not Found")
             continue
         guarded += 1
+        # an authority of the same name is told by its signature
         for name, context, wanted in (
-            ("no", without, "TLSV13_ALERT_CERTIFICATE_REQUIRED"),
-            ("a foreign", other, "TLSV1_ALERT_UNKNOWN_CA"),
+            ("no", without, ["TLSV13_ALERT_CERTIFICATE_REQUIRED"]),
+            ("a foreign", other, ["TLSV1_ALERT_UNKNOWN_CA", "TLSV1_ALERT_DECRYPT_ERROR"]),
         ):
             told = [answer_of(port, context)]
-            while told[-1] != wanted and len(told) < 4:  # a connection may be reset before the reason is read
+            while told[-1] not in wanted and len(told) < 4:  # a connection may be reset before the reason is read
                 told.append(answer_of(port, context))
-            check.same(f"{what}: port {port} to TLS with {name} certificate", told[-1], wanted)
+            check.holds(f"{what}: port {port} to TLS with {name} certificate: {told[-1]}", told[-1] in wanted)
     check.holds(f"{what}: {guarded} listeners ask for a certificate", guarded >= 2)
 
 
