@@ -91,6 +91,15 @@ fn direction_said(up: u32) -> Direction
     }
 }
 
+/// Whether a packet that goes up, or, where `up` is 0, down, fits a filter, as a number.
+fn fit_number(filter: &TftFilter, up: u32, packet: &Ip4<'_>) -> u8
+    ensures { (result == 1) ≡ fits (direction_said up) packet.now (filter_said filter.now) }
+{
+    let direction = direction_said(up);
+    let does_fit = fits(direction, filter, packet, &ends_of(packet, direction));
+    u8::from(does_fit)
+}
+
 /// Whether a packet fits a filter: 1 or 0. It goes up, or, where `up` is 0, down.
 #[unsafe(no_mangle)]
 pub extern "C" fn gtp_c_tft_fits(
@@ -107,13 +116,7 @@ pub extern "C" fn gtp_c_tft_fits(
     match Ip4::read(packet) {
         Err(bad) => bad_number(bad),
         Ok(packet) => {
-            let direction = direction_said(up);
-            let ends = ends_of(&packet, direction);
-            *does_fit = if fits(direction, filter, &packet, &ends) {
-                1
-            } else {
-                0
-            };
+            *does_fit = fit_number(filter, up, &packet);
             0
         }
     }
