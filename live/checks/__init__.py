@@ -1,0 +1,1 @@
+"""What live/check looks at, part by part."""

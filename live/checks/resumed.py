@@ -1,0 +1,134 @@
+"""A session that is killed, stopped and gone on with."""
+
+import json
+import os
+import pathlib
+import shutil
+import signal
+import subprocess
+import time
+
+from checks.judging import Checks, audited, judge_frames
+from peers import wire
+from peers.lab import CAPTURE_SECONDS, Lab, attach, core_of
+from peers.network import ENODEBS, HOST
+
+NOTIFICATION = 176
+ACCEPTED = 16
+
+
+class Resumed:
+    """A session whose shell and core are killed under iperf3, and gone on with each time."""
+
+    def __init__(self, checks: Checks, lab: Lab) -> None:
+        self.checks, self.lab = checks, lab
+        self.record = lab.folder / "resumed"
+        self.s1, self.sgi = lab.folder / "s1-resumed.pcap", lab.folder / "sgi-resumed.pcap"
+
+    def begin(self) -> None:
+        """One subscriber with traffic, one idle."""
+        self.gateway = self.lab.gateway("--record", str(self.record))
+        self.captures = [self.lab.capture("s1", self.s1)]
+        self.lab.host()
+        self.enodebs, self.mme = self.lab.enodebs(), self.lab.mme()
+        self.busy = attach(self.mme, self.enodebs, "001010000000001", 0x1000, 0xB01)
+        self.idle = attach(self.mme, self.enodebs, "001010000000002", 0x2000, 0xC01)
+        self.mme.do("release", to=self.idle["control"])
+        self.pinging = self.lab.start(
+            "pdn", "ping", "-c", "1", "-W", "40", self.idle["address"], stdout=subprocess.PIPE
+        )
+        self.checks.expect("a packet is held before the kills", self.mme.do("wait", type=NOTIFICATION, seconds=5))
+        self.stream = self.lab.start(
+            "enb",
+            "iperf3",
+            "-c",
+            HOST,
+            "-B",
+            self.busy["address"],
+            "-t",
+            "15",
+            "-b",
+            "10M",
+            "-J",
+            "--repeating-payload",
+            stdout=subprocess.PIPE,
+        )
+
+    def keep(self, name: str) -> None:
+        """The record as it stands after a kill."""
+        shutil.copytree(self.record, self.lab.folder / name)
+
+    def cut(self, name: str) -> None:
+        """A record that was kept is judged as it stands, and with a batch and an entry cut in the middle."""
+        kept = self.lab.folder / name
+        audited(self.checks, self.lab, kept, f"the record of a {name}")
+        (kept / "stopped").unlink(missing_ok=True)
+        with open(kept / "trace", "ab") as trace, open(kept / "report", "ab") as report:
+            trace.write(b"9999999999 AMBR 001010000000001 1 1\n9999999999 S1U 30ff")
+            report.write(b"P 99")
+        audited(self.checks, self.lab, kept, "the same, cut in the middle of a line,")
+
+    def resume(self) -> None:
+        begun = time.monotonic()
+        self.gateway = self.lab.gateway("--resume", str(self.record))
+        print(f"       gone on with in {time.monotonic() - begun:.1f} s", flush=True)
+
+    def run(self) -> None:
+        self.begin()
+        time.sleep(3)
+        self.gateway.send_signal(signal.SIGKILL)
+        self.gateway.wait()
+        self.keep("killed shell")
+        self.resume()
+        time.sleep(4)
+        os.kill(core_of(self.gateway), signal.SIGKILL)
+        status, said = self.gateway.wait(10), self.gateway.stderr.read().strip()
+        self.checks.expect(
+            "a core that is killed ends the shell with a clear line and status 4",
+            status == 4 and "the core" in said,
+            said,
+        )
+        self.keep("killed core")
+        self.resume()
+        time.sleep(2)
+        self.gateway.terminate()
+        self.checks.expect("the gateway stops with status 0", self.gateway.wait(20) == 0)
+        self.keep("gateway that stopped")
+        self.resume()
+        self.end()
+        for name in ("killed shell", "killed core", "gateway that stopped"):
+            self.cut(name)
+
+    def end(self) -> None:
+        sent = json.loads(self.stream.communicate(timeout=40)[0])
+        seconds = [it["sum"]["bits_per_second"] for it in sent["intervals"]]
+        self.checks.expect(
+            "iperf3 goes on behind kills and a stop",
+            sent["end"]["sum_received"]["bytes"] > 1_000_000 and max(seconds[-3:]) > 1e6,
+            f"{sent['end']['sum_received']['bits_per_second'] / 1e6:.1f} Mbit/s, {[round(it / 1e6) for it in seconds]}",
+        )
+        answer = self.mme.do("modify", to=self.idle["control"], enodeb=ENODEBS[0], enodeb_teid=0xC01)
+        self.checks.expect("a subscriber is still attached", answer and answer["cause"] == ACCEPTED)
+        self.checks.expect(
+            "the packet that was held before the kills goes down behind them",
+            "time=" in self.pinging.communicate(timeout=30)[0],
+        )
+        time.sleep(CAPTURE_SECONDS)
+        self.gateway.terminate()
+        self.checks.expect("the gateway stops with status 0", self.gateway.wait(20) == 0)
+        self.lab.end(self.captures[0])
+        said = audited(self.checks, self.lab, self.record, "the joined record")
+        self.checks.expect("the joined record is whole", said == "yes\n", said)
+        report = (self.record / "report").read_bytes()
+        told, seen = wire.told(report), wire.seen(self.s1, self.s1)
+        twice = {it: (count, told[it]) for it, count in seen.items() if count > told[it]}
+        self.checks.expect(
+            "no message was sent twice, or untold",
+            not twice,
+            next(((place, octets.hex()[:60]) for place, octets in twice), ""),
+        )
+        judge_frames(self.checks, [self.s1])
+
+
+def run(checks: Checks, lab: Lab) -> None:
+    Resumed(checks, lab).run()
