@@ -121,7 +121,8 @@ impl Open {
     ghost use Rattle.charging_book.specs.Pieces.{volume, open_of};
     ghost use Rattle.charging_book.specs.Counters.{with_packet, next_piece, HasRoom};
 
-    pub(super) fn new(life: u64, ebi: u8, qci: u8) -> Open
+    /// The counters of a life's first piece, with nothing counted; the life's number is at most 2^61.
+    pub fn new(life: u64, ebi: u8, qci: u8) -> Open
         requires { life ≤ 2 ^ 61 }
         ensures { result ≡ open_of life ebi qci 0 [] }
     {
@@ -137,8 +138,8 @@ impl Open {
         }
     }
 
-    // The counters with one packet more.
-    pub(super) fn with(&self, up: bool, octets: u32) -> Open
+    /// The counters with one packet of so many octets more, up or down; they have room, and the piece isn't full.
+    pub fn with(&self, up: bool, octets: u32) -> Open
         requires octets { self.now.up_octets + self.now.down_octets < volume }
         requires room { HasRoom self.now }
         ensures { result ≡ with_packet self.now up octets }
@@ -155,8 +156,8 @@ impl Open {
         more
     }
 
-    // The counters of the next piece.
-    pub(super) fn next(&self) -> Open
+    /// The counters of the life's next piece, with nothing counted; this one's number is at most 2^61 - 20.
+    pub fn next(&self) -> Open
         requires { self.now.seq ≤ 2 ^ 61 - 20 }
         ensures { result ≡ next_piece self.now }
     {
@@ -172,13 +173,15 @@ impl Open {
         }
     }
 
-    pub(super) fn has_room(&self) -> bool
+    /// Whether each count may still rise: pieces and packets, up and down, are at most 2^61 - 20 each.
+    pub fn has_room(&self) -> bool
         ensures { IsTrue result ↔ HasRoom self.now }
     {
         self.seq <= MOST_COUNT && self.up_packets <= MOST_COUNT && self.down_packets <= MOST_COUNT
     }
 
-    pub(super) fn is_full(&self) -> bool
+    /// Whether the octets, up and down together, fill a piece.
+    pub fn is_full(&self) -> bool
         requires { self.now.up_octets + self.now.down_octets < 2 ^ 64 }
         ensures { result ≡ nat_le volume (self.now.up_octets + self.now.down_octets) }
     {

@@ -36,12 +36,13 @@ pub enum Kind {
     Teid,
     Address,
     Imsi,
+    Printed,
     Admit,
     Why,
     Constants,
 }
 
-const KINDS: [(&str, Kind); 35] = [
+const KINDS: [(&str, Kind); 36] = [
     ("gtpv2", Kind::Gtpv2),
     ("first", Kind::First),
     ("contexts", Kind::Contexts),
@@ -74,6 +75,7 @@ const KINDS: [(&str, Kind); 35] = [
     ("teid", Kind::Teid),
     ("address", Kind::Address),
     ("imsi", Kind::Imsi),
+    ("printed", Kind::Printed),
     ("admit", Kind::Admit),
     ("why", Kind::Why),
     ("constants", Kind::Constants),

@@ -26,6 +26,7 @@
 //! | `slot NUMBER` | the address of a slot and its TEIDs, the control plane's first |
 //! | `teid NUMBER`, `address NUMBER` | the slot, and the use of the TEID; or `none` |
 //! | `imsi TEXT` | the IMSI as it prints, or `none`; the text is in octets |
+//! | `printed NUMBER` | the number as a moment, its lowest 32 bits as an address and a TEID, each as it prints |
 //! | `copies OCTETS` | how many values with these octets equal their copy, and the octets as they print |
 //! | `book STEP..` | rows that weren't taken, `=`, and open counters |
 //! | `pieces ROW.. STEP..` | the same of a book that is made of pieces, behind steps; or `none` |

@@ -24,6 +24,7 @@ pub fn answer(
         Kind::Teid => teid(words, line),
         Kind::Address => address(words, line),
         Kind::Imsi => imsi(alloc, words, line),
+        Kind::Printed => printed(words, line),
         Kind::Admit => admitted(alloc, words, line),
         _ => Err(Stop::Line),
     }
@@ -92,10 +93,19 @@ fn imsi(alloc: Global, words: &mut Words<'_>, line: &mut Line) -> Result<(), Sto
             if imsi.digits() != digits.as_slice() {
                 return Err(Stop::Differ);
             }
-            line.debugged(&imsi);
+            line.shown(&imsi);
         }
         None => line.word("none"),
     }
+    Ok(())
+}
+
+fn printed(words: &mut Words<'_>, line: &mut Line) -> Result<(), Stop> {
+    let moment = words.moment()?;
+    let low = (moment.0 % 0x1_0000_0000) as u32;
+    line.shown(&moment);
+    line.shown(&Addr4(low));
+    line.shown(&Teid(low));
     Ok(())
 }
 

@@ -43,8 +43,8 @@ fn count_entries(alloc: Global, lines: &[u8]) -> Result<(u64, u64), NoMemory> {
     Ok((entries, others))
 }
 
-/// Says of each line of the file, and of the empty text behind the last one, what entry it is, and how that entry
-/// is written where places aren't shown and, if it is a packet's, from octets that are lent.
+/// Says of each line of the file, and of the empty text behind the last one, what entry it is, how that entry prints,
+/// and how it is written where places aren't shown and, if it is a packet's, from octets that are lent.
 fn show_entries(rt: &HostRuntime, lines: &[u8]) -> io::Result<()> {
     for line in lines.split(|octet| *octet == b'\n') {
         match read(rt.alloc(), line)? {
@@ -58,6 +58,7 @@ fn show_entries(rt: &HostRuntime, lines: &[u8]) -> io::Result<()> {
 fn show_entry(rt: &HostRuntime, entry: &Entry) -> io::Result<()> {
     let without = text(rt.alloc(), entry, false)?;
     println!(rt; "{entry:?}")?;
+    println!(rt; "{entry}")?;
     println!(rt;
         "{}",
         String::from_utf8_lossy(rt.alloc(), without.as_slice())?

@@ -4,7 +4,7 @@ use crate::ends::push_octets;
 use crate::telling::push_told;
 use command_words::{Job, Lanes, TurnList, Turns, job};
 use entry_counts::{EntryCounts, push_summary};
-use pepc::{Status, fault_text};
+use pepc::Status;
 use std::alloc::{AllocError, Global};
 use trace_lines::TraceLine;
 use trace_maker::{Draws, Maker, made_line};
@@ -163,7 +163,7 @@ pub fn counts(
     push_octets(&summary, text)
 }
 
-/// `statuses`: the number of each, and its line on standard error.
+/// `statuses`: the number of each, and its line on standard error, as which it prints.
 pub fn statuses(text: &mut String) -> Result<(), AllocError> {
     let all = [
         Status::Ok,
@@ -181,7 +181,7 @@ pub fn statuses(text: &mut String) -> Result<(), AllocError> {
     ];
     for status in all {
         push_told(text, "", &status.code())?;
-        push_told(text, " ", &fault_text(status))?;
+        push_told(text, " ", &status)?;
         text.push('\n')?;
     }
     Ok(())

@@ -1,5 +1,5 @@
 //! Reads lines of a trace, each behind the least moment that it may have, and says of each what line it is and
-//! how it is written, or why it is refused; and of some lines whether an epoch ends behind them.
+//! how it prints and is written, or why it is refused; and of some lines whether an epoch ends behind them.
 #![tactic(auto)]
 
 ghost use Rattle.std.specs.Prelude.{ℕ, List};
@@ -54,6 +54,7 @@ fn read_row(row: &[u8]) -> Option<Case<'_>> {
 fn show_line(rt: &HostRuntime, line: &TraceLine) -> io::Result<()> {
     let again = text(rt.alloc(), line)?;
     println!(rt; "{:?}", line.kind)?;
+    println!(rt; "{line}")?;
     println!(rt;
         "{}",
         String::from_utf8_lossy(rt.alloc(), again.as_slice())?

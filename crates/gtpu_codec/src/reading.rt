@@ -2,6 +2,7 @@
 ghost use Rattle.std.specs.Prelude.{◌≡◌, ℕ, List, IfOk, IfErr, IfSome, IsOkAnd, MatchResult};
 ghost use Rattle.gtpu_codec.specs.declared.head.GtpUHead.{GtpUHead};
 ghost use Rattle.gtpu_codec.specs.Message.{message_of};
+ghost use Rattle.gtpu_codec.specs.Place.{EndsCounted};
 ghost use Rattle.gtpu_codec.specs.Spelling.{Spells};
 ghost use Rattle.gtpu_codec.specs.Refusal.{first_fault};
 
@@ -10,8 +11,8 @@ use crate::{GtpUHead, GtpUKind, MANDATORY_LEN, OPTIONS_LEN, UBad};
 use pc_base::Teid;
 use wire_octets::{be16_at, be32_at};
 
-/// The head of the message at the front, and the octets behind its extension headers. Octets past its
-/// length don't count.
+/// The head of the message at the front, and the octets behind its extension headers: the last ones that its length
+/// counts. Octets past its length don't count (TS 29.281, section 5.1).
 pub fn read(bytes: &[u8]) -> Result<(GtpUHead, &[u8]), UBad>
     // What is read is spelled so, and what is spelled so is read.
     ensures found { IfOk result (λ r. Spells bytes.now r.0 r.1.now) }
@@ -26,6 +27,9 @@ pub fn read(bytes: &[u8]) -> Result<(GtpUHead, &[u8]), UBad>
     ensures message { MatchResult result
         (λ r. message_of bytes.now ≡ Some (r.0, r.1.now))
         (λ _. message_of bytes.now ≡ None) }
+
+    // The body stands where the length ends.
+    ensures place { IfOk result (λ r. EndsCounted bytes.now r.1.now) }
 {
     parse(bytes)
 }

@@ -17,7 +17,8 @@ pub struct CauseIe {
     pub offending: Option<(u8, u8)>,
 }
 
-/// The Cause that two octets or more spell: with six the longer form, else the shorter one.
+/// The Cause that two octets or more spell: with six the longer form, else the shorter one (TS
+/// 29.274, section 8.4). None where the longer form is none.
 pub fn cause_of(octets: &[u8]) -> Option<CauseIe>
     requires { least_len IeKind.Cause ≤ length octets.now }
     ensures value { result ≡ cause_of octets.now }

@@ -8,7 +8,7 @@ use pc_base::Octets;
 use std::alloc::{AllocError as NoMemory, Global};
 use wire_octets::be32_at;
 
-/// The EPS bearer identity that octets spell.
+/// The EPS bearer identity that one octet or more spell, 0 or 5 to 15 (TS 29.274, section 8.8).
 pub fn ebi_of(octets: &[u8]) -> Option<u8>
     requires { least_len IeKind.Ebi ≤ length octets.now }
     ensures value { result ≡ grammar.ebi_of octets.now }
@@ -22,7 +22,7 @@ pub fn ebi_of(octets: &[u8]) -> Option<u8>
     }
 }
 
-/// The PDN type that octets spell.
+/// The PDN type that one octet or more spell, 1 to 3 (TS 29.274, section 8.34).
 pub fn pdn_of(octets: &[u8]) -> Option<u8>
     requires { least_len IeKind.Pdn ≤ length octets.now }
     ensures { result ≡ grammar.pdn_of octets.now }
@@ -35,7 +35,8 @@ pub fn pdn_of(octets: &[u8]) -> Option<u8>
     }
 }
 
-/// The IPv4 address that octets spell.
+/// The IPv4 address that five octets or more spell as a PDN address allocation; None where the PDN type there isn't
+/// IPv4 (TS 29.274, section 8.14).
 pub fn paa_of(octets: &[u8]) -> Option<u32>
     requires { least_len IeKind.Paa ≤ length octets.now }
     ensures { result ≡ grammar.paa_of octets.now }

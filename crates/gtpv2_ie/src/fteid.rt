@@ -93,7 +93,7 @@ impl Eq for Fteids {
     ghost laws = { lists_equiv same_fteid-is };
 }
 
-/// The F-TEID that nine octets or more spell: V4 is set.
+/// The F-TEID that nine octets or more spell; None where V4 isn't set (TS 29.274, section 8.22).
 pub fn fteid_of(octets: &[u8]) -> Option<Fteid>
     requires { least_len IeKind.Fteid ≤ length octets.now }
     ensures value { result ≡ fteid_of octets.now }

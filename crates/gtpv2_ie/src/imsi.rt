@@ -23,8 +23,9 @@ use std::alloc::{AllocError as NoMemory, Global};
 /// The high nibble of the last octet of an odd count.
 const FILLER: u8 = 15;
 
-/// The first digit of an octet and the second, which only a last octet may lack.
-fn digit_pair(octet: u8, last: bool) -> Option<(u8, Option<u8>)>
+/// The first digit of an octet of an IMSI and the second, both in ASCII; only a last octet may lack the second (TS
+/// 29.274, section 8.3). None where a nibble is no digit.
+pub fn digit_pair(octet: u8, last: bool) -> Option<(u8, Option<u8>)>
     ensures { result ≡ digit_pair octet last }
 {
     let low = octet & 15;

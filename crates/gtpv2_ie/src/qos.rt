@@ -33,7 +33,7 @@ fn rate_of(octets: &[u8], at: usize) -> u64
     be40_at(octets, at)
 }
 
-/// The Bearer QoS that 22 octets or more spell.
+/// The Bearer QoS that 22 octets or more spell (TS 29.274, section 8.15).
 pub fn qos_of(octets: &[u8]) -> QosIe
     requires { least_len IeKind.Qos ≤ length octets.now }
     ensures value { result ≡ qos_of octets.now }

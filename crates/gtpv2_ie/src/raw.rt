@@ -29,8 +29,9 @@ pub struct RawIe {
     pub to: usize,
 }
 
-/// The element whose header begins at this place.
-fn ie_at(octets: &[u8], at: usize) -> Result<RawIe, IeBad>
+/// The element whose header begins at this place, which is one of the octets' (TS 29.274, section 8.2.1). `Short` where
+/// fewer than four octets stand from there on, `Length` where its value passes the end. Takes no memory.
+pub fn ie_at(octets: &[u8], at: usize) -> Result<RawIe, IeBad>
     requires { at < length octets.now }
     ensures found { IfOk result (λ ie. StandsAt octets.now at ie) }
     ensures short { result ≡ Err IeBad.Short → length octets.now < at + 4 }

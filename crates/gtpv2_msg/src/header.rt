@@ -11,6 +11,7 @@ use wire_octets::{be16_at, be24_at, be32_at};
 /// 1: version (3) P T * (3)   2: type   3-4: length without the first four octets
 /// With T: 5-8: TEID   9-11: sequence number   12: spare
 /// Without: 5-7: sequence number   8: spare
+/// The sequence number is below 2^24.
 #[derive(Clone, Copy, Debug)]
 pub struct Header {
     pub kind: u8,
@@ -94,7 +95,8 @@ pub fn seq_of(octets: &[u8]) -> u32
     }
 }
 
-/// The header of octets, or what is wrong with it.
+/// The header of the message at the front of the octets, or the first fault of it (TS 29.274, section 5.1). Takes no
+/// memory.
 pub fn read_header(octets: &[u8]) -> Result<Header, CBad>
     ensures refused { IfErr result (λ bad. header_fault octets.now ≡ Some bad) }
     ensures right { IfOk result (λ _. IsRight octets.now) }

@@ -1,2 +1,3 @@
 mod StandardFacts
 pub mod PaddingLemmas
+pub mod TextLemmas

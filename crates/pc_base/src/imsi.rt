@@ -1,8 +1,9 @@
 //! The international mobile subscriber identity.
-ghost use Rattle.std.specs.Prelude.{◌≡◌, MatchBool};
+ghost use Rattle.std.specs.Prelude.{◌≡◌, MatchBool, Some};
 ghost use Rattle.std.specs.Option.{SomeIff};
 ghost use Rattle.pc_base.specs.Imsi.{IsImsi};
 
+use crate::text::ascii_text;
 use std::fmt;
 use std::marker::Model;
 
@@ -60,12 +61,17 @@ impl Imsi {
     }
 }
 
+impl fmt::Display for Imsi {
+    ghost output = { λ digits. Some digits };
+
+    fn fmt<W: fmt::Write>(&self, f: &mut fmt::Formatter<W>) -> fmt::Result {
+        f.pad(ascii_text(self.digits()))
+    }
+}
+
 impl fmt::Debug for Imsi {
     fn fmt<W: fmt::Write>(&self, f: &mut fmt::Formatter<W>) -> fmt::Result {
-        for digit in self.digits() {
-            write!(f, "{}", char::from(*digit))?;
-        }
-        Ok(())
+        fmt::Display::fmt(self, f)
     }
 }
 

@@ -23,6 +23,7 @@ mod octets;
 mod packet;
 mod reply;
 mod teids;
+mod text;
 
 pub use addresses::{addr_of, addresses_are_distinct, slot_of_addr};
 pub use effect::{Effect, Fate};

@@ -58,8 +58,9 @@ fn run_job<R: Threads + Wait + Sync, S: Source, K: Sink>(
 /// For every trace and every schedule of the threads: each accepted packet of a subscriber is handled exactly once, in
 /// order of acceptance, across any number of migrations; its verdict and octets are those of the one-thread gateway
 /// after a prefix of that subscriber's commands that never shrinks; charging records and open counters equal the
-/// forwarded volume; packets are parked only during their subscriber's migration, and refused only where their queue
-/// could be full. That is what `Does` says of `replay`: what is written are the texts of a lawful run of the trace.
+/// forwarded volume. A packet is parked only where its subscriber was moved before it in the epoch and all its packets
+/// since the last move were parked too; a line is refused only where its queue or lane could be full. That is what
+/// `Does` says of `replay`: what is written are the texts of a lawful run of the trace. No clause says that a run ends.
 pub fn run_words<R: Threads + Wait + Sync, S: Source, K: Sink>(
     rt: &R,
     alloc: Global,

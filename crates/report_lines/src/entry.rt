@@ -6,7 +6,7 @@ use charging_book::{ChargeRow, Open};
 use pc_base::{Effect, Octets, Place, Reply, Slot, Verdict};
 use std::marker::Model;
 
-/// An entry of a report.
+/// An entry of a report. It prints as its text, with its place.
 #[derive(Debug, Drop, PartialEq, Eq)]
 pub enum Entry {
     Line(LineEntry),

@@ -26,6 +26,7 @@ mod heads;
 mod laws;
 mod packets;
 mod reading;
+mod shown;
 mod words;
 mod writing;
 

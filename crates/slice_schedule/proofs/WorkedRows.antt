@@ -2,7 +2,7 @@
 use Rattle.std.proofs.Common.{refl}
 use Rattle.slice_schedule.specs.Halves.{learn}
 use Rattle.slice_schedule.specs.FlowTurns.{take_orders}
-use Rattle.slice_schedule.specs.Rows.{ParkedOnTheWay, PlacesOfTurns, MovesInARow, FullRoom, TwoCommandsOneBatch, ParkingQueueFull, SliceLaneFull, NewerWait, SeventeenCommands, WaitsForCommands}
+use Rattle.slice_schedule.specs.Rows.{ParkedOnTheWay, PlacesOfTurns, MovesInARow, FullRoom, TwoCommandsOneBatch, ParkingQueueFull, SliceLaneFull, NewerWait, SeventeenCommands, WaitsForCommands, NineOrders, SeventeenBatches, TwoHalvesLeave, NextHalfWorks, FullOrders, FullHome}
 
 pub parked_on_the_way : ParkedOnTheWay
 unfolding learn take_orders
@@ -43,3 +43,27 @@ seventeen_commands = record { lines = refl; packets = refl }
 pub waits_for_commands : WaitsForCommands
 unfolding learn take_orders
 waits_for_commands = record { lines = refl; packets = refl }
+
+pub nine_orders : NineOrders
+unfolding learn take_orders
+nine_orders = record { lines = refl; packets = refl }
+
+pub seventeen_batches : SeventeenBatches
+unfolding learn take_orders
+seventeen_batches = record { lines = refl; packets = refl }
+
+pub two_halves_leave : TwoHalvesLeave
+unfolding learn take_orders
+two_halves_leave = record { one_back = refl; both_back = refl }
+
+pub next_half_works : NextHalfWorks
+unfolding learn take_orders
+next_half_works = record { second = refl; third = refl }
+
+pub full_orders : FullOrders
+unfolding learn take_orders
+full_orders = record { last = refl; one_more = refl }
+
+pub full_home : FullHome
+unfolding learn take_orders
+full_home = record { control_stays = refl; control_goes = refl; data_stays = refl; data_goes = refl }

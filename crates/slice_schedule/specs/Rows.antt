@@ -1,9 +1,11 @@
 -- Worked rows: what lines ask, under turns, and what becomes of them.
-use Rattle.std.specs.Prelude.{◌≡◌, ℕ, ◌%◌, true, false, List, [], ◌∷◌, ◌++◌, map, replicate}
+use Rattle.std.specs.Prelude.{◌≡◌, ℕ, zero, suc, ◌%◌, true, false, Some, List, [], ◌∷◌, ◌++◌, map, replicate}
 use Rattle.pc_base.specs.declared.packet.Place.TheVariants.{At, Closing}
 use Rattle.slice_schedule.specs.Slots.{Met}
-use Rattle.slice_schedule.specs.World.{Rooms, start}
+use Rattle.slice_schedule.specs.World.{World, Rooms, start, fresh_control, fresh_flow, control_at, flow_at}
 use Rattle.slice_schedule.specs.Front.{Asks, nothing, command, packet, move, Outcome}
+use Rattle.slice_schedule.specs.ControlTurns.{go_or_work}
+use Rattle.slice_schedule.specs.FlowTurns.{go_home, doing, over}
 use Rattle.slice_schedule.specs.Schedule.{Driven, outcomes, mets}
 
 -- the same turns behind each line, in a first epoch, where each slot is bound for the slice of its number
@@ -133,3 +135,69 @@ no_control_turns = under (1 ∷ 3 ∷ []) (command 0 ∷ move 0 1 ∷ nothing �
 pub record WaitsForCommands : Type 0 where
   pub lines : outcomes_of 2 usual no_control_turns ≡ replicate 4 done
   pub packets : mets_of 2 usual no_control_turns 0 ≡ at_closing ∷ []
+
+-- a turn of a data worker has eight orders at most: here an arrival and seven packets
+abbrev pub nine_orders : List Driven
+nine_orders = under [] (command 0 ∷ replicate 8 (packet 0)) ++ under (0 ∷ 0 ∷ 1 ∷ []) (nothing ∷ [])
+
+pub record NineOrders : Type 0 where
+  pub lines : outcomes_of 2 usual nine_orders ≡ replicate 10 done
+  pub packets : mets_of 2 usual nine_orders 0 ≡ replicate 7 (on_slice 0) ++ at_closing ∷ []
+
+-- a counter half learns sixteen batches at most before it handles a packet: here of one command each
+abbrev pub batches : List Driven
+batches = under (0 ∷ 0 ∷ []) (replicate 17 (command 0)) ++ under (1 ∷ []) (packet 0 ∷ [])
+
+pub record SeventeenBatches : Type 0 where
+  pub lines : outcomes_of 2 usual batches ≡ replicate 18 done
+  pub packets : mets_of 2 usual batches 0 ≡ record { commands = 16; place = At 0 } ∷ []
+
+-- Of two halves that leave the first one ends the turn, and goes home in the next: so one is back behind two turns,
+-- and both behind three.
+abbrev pub two_leave : List ℕ → List Driven
+two_leave turns =
+    under [] (command 0 ∷ command 2 ∷ move 0 1 ∷ []) ++ under turns (move 2 1 ∷ []) ++ under [] (packet 0 ∷ packet 2 ∷ [])
+
+pub record TwoHalvesLeave : Type 0 where
+  pub one_back : outcomes_of 2 usual (two_leave (1 ∷ 1 ∷ [])) ≡ replicate 5 done ++ waits ∷ []
+  pub both_back : outcomes_of 2 usual (two_leave (1 ∷ 1 ∷ 1 ∷ [])) ≡ replicate 6 done
+
+-- The turns of control halves go on where they stood as one leaves: of three halves the first works and leaves, and
+-- then the second one works, so that its packet meets its command and that of the third one doesn't.
+abbrev pub first_leaves : List Driven
+first_leaves =
+    under (0 ∷ []) (command 0 ∷ command 2 ∷ command 4 ∷ []) ++ under (0 ∷ 0 ∷ 0 ∷ []) (move 0 1 ∷ [])
+    ++ under (0 ∷ []) (nothing ∷ []) ++ under (1 ∷ []) (packet 2 ∷ packet 4 ∷ [])
+
+pub record NextHalfWorks : Type 0 where
+  pub second : counts_of 2 usual first_leaves 2 ≡ 1 ∷ []
+  pub third : counts_of 2 usual first_leaves 4 ≡ 0 ∷ []
+
+-- a command of each of so many slots, all on one slice
+abbrev pub of_each : (ℕ → Asks) → (first count : ℕ) → List Asks
+of_each asks first zero = []
+of_each asks first (suc n) = asks first ∷ of_each asks (suc first) n
+
+-- A control worker has room for 64 orders: the half of the 65th slot is still at the front, and the command of the
+-- 64th alone is done.
+abbrev pub full_orders : List Driven
+full_orders =
+    under [] (of_each command 0 65 ++ packet 63 ∷ []) ++ under (replicate 130 0 ++ replicate 9 1) (packet 64 ∷ [])
+
+pub record FullOrders : Type 0 where
+  pub last : counts_of 1 usual full_orders 63 ≡ 1 ∷ []
+  pub one_more : counts_of 1 usual full_orders 64 ≡ 0 ∷ []
+
+-- A slice's way home has room for 64 halves: with so many on it, a half that is to go stays, and with one fewer it goes.
+abbrev pub on_the_way_home : ℕ → World
+on_the_way_home n = record {
+  slots = [];
+  controls = record fresh_control { held = record { slot = 0; until = Some 0 } ∷ []; home = replicate n 1 } ∷ [];
+  flows = record fresh_flow { home = replicate n 1; waiting = Some 0 } ∷ [];
+}
+
+pub record FullHome : Type 0 where
+  pub control_stays : (control_at (go_or_work usual 0 (on_the_way_home 64)) 0).home ≡ replicate 64 1
+  pub control_goes : (control_at (go_or_work usual 0 (on_the_way_home 63)) 0).home ≡ replicate 63 1 ++ 0 ∷ []
+  pub data_stays : go_home 0 (on_the_way_home 64) (Some 0) ≡ doing (on_the_way_home 64) over
+  pub data_goes : (flow_at (go_home 0 (on_the_way_home 63) (Some 0)).world 0).home ≡ replicate 63 1 ++ 0 ∷ []

@@ -12,9 +12,15 @@ ghost use Rattle.slice_schedule.specs.Rows.{
   NewerWait,
   SeventeenCommands,
   WaitsForCommands,
+  NineOrders,
+  SeventeenBatches,
+  TwoHalvesLeave,
+  NextHalfWorks,
+  FullOrders,
+  FullHome,
 };
 
-/// What becomes of ten short traces under their turns.
+/// What becomes of sixteen short traces under their turns.
 pub fn worked_rows()
     ensures parked_on_the_way { ParkedOnTheWay }
     ensures places_of_turns { PlacesOfTurns }
@@ -26,6 +32,12 @@ pub fn worked_rows()
     ensures newer_wait { NewerWait }
     ensures seventeen_commands { SeventeenCommands }
     ensures waits_for_commands { WaitsForCommands }
+    ensures nine_orders { NineOrders }
+    ensures seventeen_batches { SeventeenBatches }
+    ensures two_halves_leave { TwoHalvesLeave }
+    ensures next_half_works { NextHalfWorks }
+    ensures full_orders { FullOrders }
+    ensures full_home { FullHome }
 {}
 
 /// Whatever the turns, the numbers of each slot are right behind each line, and all packets that were accepted

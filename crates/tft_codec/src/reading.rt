@@ -91,9 +91,10 @@ fn pair_u8(bytes: &[u8]) -> Option<((u8, u8), &[u8])>
     Some(((first, second), rest))
 }
 
-/// The component of a type octet, by what follows it.
+/// The component of a type octet, by what follows it, and the octets behind; None where the type is unknown or the
+/// octets are too few (TS 24.008, section 10.5.6.12).
 #[tactic(auto, unfolding(crate::specs::Reading::component_of))]
-fn component_at(kind: u8, bytes: &[u8]) -> Option<(Component, &[u8])>
+pub fn component_at(kind: u8, bytes: &[u8]) -> Option<(Component, &[u8])>
     ensures { Finds (λ x. (x.0, x.1.now)) result (component_of kind bytes.now) }
 {
     match kind {

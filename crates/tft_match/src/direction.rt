@@ -11,8 +11,8 @@ pub enum Direction {
     Down,
 }
 
-/// Whether filters with this direction field count for packets of a direction.
-pub(crate) fn counts_in(direction: Direction, field: u8) -> bool
+/// Whether filters with this direction field, 0 to 3, count for packets of a direction (TS 24.008, section 10.5.6.12).
+pub fn counts_in(direction: Direction, field: u8) -> bool
     ensures { IsTrue result ↔ CountsIn direction field }
 {
     match direction {

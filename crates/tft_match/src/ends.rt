@@ -5,18 +5,19 @@ ghost use Rattle.tft_match.specs.Ends.{AreEnds};
 use crate::direction::Direction;
 use ipv4_packet::Ip4;
 
-/// Where a packet goes, and its addresses and ports by that; it may have no ports.
+/// Where a packet goes, and its addresses and ports by that; it may have no ports. Remote is the far end, local the
+/// user (TS 24.008, section 10.5.6.12).
 #[derive(Drop)]
-pub(crate) struct Ends {
-    pub(crate) direction: Direction,
-    pub(crate) remote_address: u32,
-    pub(crate) local_address: u32,
-    pub(crate) remote_port: Option<u16>,
-    pub(crate) local_port: Option<u16>,
+pub struct Ends {
+    pub direction: Direction,
+    pub remote_address: u32,
+    pub local_address: u32,
+    pub remote_port: Option<u16>,
+    pub local_port: Option<u16>,
 }
 
-/// A downlink packet comes from the far end, and an uplink packet goes there.
-pub(crate) fn ends_of(packet: &Ip4<'_>, direction: Direction) -> Ends
+/// The ends of a packet: a downlink packet comes from the far end, and an uplink packet goes there.
+pub fn ends_of(packet: &Ip4<'_>, direction: Direction) -> Ends
     ensures ends { AreEnds packet.now result }
     ensures direction { result.direction ≡ direction }
 {

@@ -36,8 +36,8 @@ fn all_hold(components: &[Component], packet: &Ip4<'_>, ends: &Ends) -> bool
         .all(|component| holds(component, packet, ends))
 }
 
-/// Whether a packet meets a component.
-fn holds(component: &Component, packet: &Ip4<'_>, ends: &Ends) -> bool
+/// Whether a packet with these ends meets a component (TS 24.008, section 10.5.6.12).
+pub fn holds(component: &Component, packet: &Ip4<'_>, ends: &Ends) -> bool
     requires { AreEnds packet.now ends.now }
     ensures { result ≡ holds ends.now.direction packet.now component.now }
 {

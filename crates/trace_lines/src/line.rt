@@ -118,7 +118,8 @@ impl LineKind {
     }
 }
 
-/// A line of a trace: its number, counted from 1, its moment, and what it says.
+/// A line of a trace: its number, counted from 1, its moment, and what it says. It prints as its text, without a
+/// newline.
 #[derive(Debug, Drop, PartialEq, Eq)]
 pub struct TraceLine {
     pub number: u64,

@@ -1,12 +1,15 @@
 //! The text of a line.
-ghost use Rattle.std.specs.Prelude.{◌≡◌, ◌≤◌, ◌++◌, ◌∷◌, [], length, take, decimal, IfOk, OnOk, OnErr};
+ghost use Rattle.std.specs.Prelude.{◌≡◌, ◌≤◌, ◌++◌, ◌∷◌, [], Some, length, take, decimal, IfOk, OnOk, OnErr};
+ghost use Rattle.std.specs.Fmt.{WritesOnOk};
 ghost use Rattle.hex.specs.Hex.{encode_lower};
 ghost use Rattle.text_fields.specs.Fields.{behind, joined};
 ghost use Rattle.trace_lines.specs.Text.{arguments, kind_word, line_text};
 
 use crate::{LineKind, TraceLine};
+use hex_display::Hexadecimal;
 use pc_base::{Moment, Octets};
 use std::alloc::{AllocError as NoMemory, Global};
+use std::fmt;
 use text_fields::{Head, Text};
 
 /// The one text of the line, without a newline.
@@ -136,6 +139,51 @@ fn push_arguments(out: &mut Text, kind: &LineKind) -> Result<(), NoMemory>
             out.push_field(imsi.digits())?;
             out.push_number(u64::from(slice.0))
         }
+        LineKind::Fence => Ok(()),
+    }
+}
+
+impl fmt::Display for TraceLine {
+    ghost output = { λ line. Some (line_text line) };
+
+    fn fmt<W: fmt::Write>(&self, f: &mut fmt::Formatter<W>) -> fmt::Result {
+        write!(f, "{} {}", self.moment, kind_word(&self.kind))?;
+        write_arguments(&self.kind, f)
+    }
+}
+
+fn write_arguments<W: fmt::Write>(kind: &LineKind, f: &mut fmt::Formatter<W>) -> fmt::Result
+    ensures { WritesOnOk W.write_str_gives f.old result (behind (arguments kind.now)) f.new }
+{
+    match kind {
+        LineKind::S11(octets) | LineKind::S1u(octets) | LineKind::Sgi(octets) => {
+            write!(f, " {}", Hexadecimal(octets.as_slice()))
+        }
+        LineKind::Attach {
+            imsi,
+            enb,
+            up,
+            down,
+        } => write!(f, " {imsi} {} {} {} {}", enb.addr, enb.teid, up.0, down.0),
+        LineKind::Bearer {
+            imsi,
+            qci,
+            mbr_up,
+            mbr_down,
+            gbr_up,
+            gbr_down,
+            tft,
+        } => {
+            write!(f, " {imsi} {qci} {} {}", mbr_up.0, mbr_down.0)?;
+            let tft = Hexadecimal(tft.as_slice());
+            write!(f, " {} {} {tft}", gbr_up.0, gbr_down.0)
+        }
+        LineKind::Filters { imsi, ebi, tft } => {
+            write!(f, " {imsi} {ebi} {}", Hexadecimal(tft.as_slice()))
+        }
+        LineKind::Drop { imsi, ebi } => write!(f, " {imsi} {ebi}"),
+        LineKind::Ambr { imsi, up, down } => write!(f, " {imsi} {} {}", up.0, down.0),
+        LineKind::Move { imsi, slice } => write!(f, " {imsi} {}", slice.0),
         LineKind::Fence => Ok(()),
     }
 }

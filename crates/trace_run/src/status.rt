@@ -1,8 +1,10 @@
 //! How a run ends.
-ghost use Rattle.std.specs.Prelude.{◌≡◌};
+ghost use Rattle.std.specs.Prelude.{◌≡◌, Some};
 ghost use Rattle.trace_run.specs.Status.{code_of, fault_text_of};
 
-/// How a run ended.
+use std::fmt;
+
+/// How a run ended. It prints as its line on standard error, without the newline, so `Ok` as nothing.
 #[derive(Clone, Copy, Debug, PartialEq, Eq)]
 pub enum Status {
     /// The input was read to its end, and the whole report written.
@@ -50,6 +52,14 @@ impl Status {
             Status::BadState => 11,
             Status::BadReport => 12,
         }
+    }
+}
+
+impl fmt::Display for Status {
+    ghost output = { λ status. Some (fault_text_of status) };
+
+    fn fmt<W: fmt::Write>(&self, f: &mut fmt::Formatter<W>) -> fmt::Result {
+        f.pad(fault_text(*self))
     }
 }
 

@@ -1,4 +1,4 @@
-use Rattle.slice_schedule.proofs.WorkedRows.{parked_on_the_way, places_of_turns, moves_in_a_row, full_room, two_commands_one_batch, parking_queue_full, slice_lane_full, newer_wait, seventeen_commands, waits_for_commands}
+use Rattle.slice_schedule.proofs.WorkedRows.{parked_on_the_way, places_of_turns, moves_in_a_row, full_room, two_commands_one_batch, parking_queue_full, slice_lane_full, newer_wait, seventeen_commands, waits_for_commands, nine_orders, seventeen_batches, two_halves_leave, next_half_works, full_orders, full_home}
 use Rattle.slice_schedule.proofs.laws.worked_rows.Goals as goal
 
 pub returns : goal.returns
@@ -13,4 +13,10 @@ returns c = record {
   newer_wait = newer_wait;
   seventeen_commands = seventeen_commands;
   waits_for_commands = waits_for_commands;
+  nine_orders = nine_orders;
+  seventeen_batches = seventeen_batches;
+  two_halves_leave = two_halves_leave;
+  next_half_works = next_half_works;
+  full_orders = full_orders;
+  full_home = full_home;
 }

@@ -1,0 +1,1 @@
+"""What analysis/check looks at, a module for each part."""

@@ -1,0 +1,1 @@
+"""Tables, pictures and fleets of traces: what the commands of this folder share."""

@@ -1,0 +1,180 @@
+"""What a worker does for one trace: its steps, each a process of its own.
+
+The module is sent to the workers by value, so that they need nothing of this project but Python; it takes and gives
+plain values alone. Nothing that a trace, a report or a program does raises: it becomes the row of its step."""
+import hashlib
+import os
+import socket
+import subprocess
+import tempfile
+import threading
+import time
+
+SAID = 400               # octets of a line that a row keeps
+PIECE = 1 << 20
+SAMPLED = .05            # seconds between two looks at a program's memory
+
+
+def row(step, status, said="", seconds=0.0, memory=0):
+    """The row of a step."""
+    return {"step": step, "status": status, "said": said, "seconds": seconds, "memory": memory}
+
+
+def free_memory():
+    """Octets that programs may take on this host."""
+    with open("/proc/meminfo") as told:
+        return next(int(line.split()[1]) * 1024 for line in told if line.startswith("MemAvailable"))
+
+
+def most_memory(pid):
+    """The most octets that a program held so far, or 0 where it is gone."""
+    try:
+        with open(f"/proc/{pid}/status") as told:
+            return next((int(line.split()[1]) * 1024 for line in told if line.startswith("VmHWM")), 0)
+    except OSError:
+        return 0
+
+
+def line_of(octets):
+    """The first line of what a program said."""
+    return octets[:SAID].decode("utf-8", "replace").strip().split("\n")[0]
+
+
+class Feeder(threading.Thread):
+    """Writes files and octets into a program, one behind another with a newline behind each, and looks at its memory."""
+
+    def __init__(self, process, pieces):
+        super().__init__(daemon=True)
+        self.process, self.pieces = process, pieces
+        self.memory = self.lines = 0
+        self.ended = threading.Event()
+
+    def run(self):
+        try:
+            with self.process.stdin as pipe:
+                for piece in self.pieces:
+                    self.feed(pipe, piece)
+        except OSError:
+            pass                              # the program ended before: its status tells
+        while not self.ended.wait(SAMPLED):
+            self.memory = max(self.memory, most_memory(self.process.pid))
+
+    def feed(self, pipe, piece):
+        """One piece."""
+        if isinstance(piece, bytes):
+            pipe.write(piece)
+            return
+        last = b"\n"
+        with open(piece, "rb") as source:
+            while octets := source.read(PIECE):
+                pipe.write(octets)
+                self.lines += octets.count(b"\n")
+                last = octets[-1:]
+                self.memory = max(self.memory, most_memory(self.process.pid))
+        if last != b"\n":
+            pipe.write(b"\n")
+            self.lines += 1
+
+
+def run_step(step, words, pieces, out, limit):
+    """Runs one program. Its output goes to a file that gets its name when the program has ended. Gives the row, and
+    how many lines were fed."""
+    begun = time.monotonic()
+    new = f"{out}.{socket.gethostname()}.{os.getpid()}.new"
+    try:
+        with open(new, "wb") as sink, tempfile.TemporaryFile() as errors:
+            # pdeathsig: where the worker dies its program dies too, and writes no more
+            process = subprocess.Popen(["setpriv", "--pdeathsig", "KILL", "--", *words], stdin=subprocess.PIPE,
+                                       stdout=sink, stderr=errors)
+            late = threading.Timer(limit, process.kill)
+            late.start()
+            feeder = Feeder(process, pieces)
+            feeder.start()
+            _, status, used = os.wait4(process.pid, 0)
+            process.returncode = os.waitstatus_to_exitcode(status)
+            in_time = late.is_alive()
+            late.cancel()
+            feeder.ended.set()
+            feeder.join()
+            errors.seek(0)
+            said = line_of(errors.read(SAID))
+        os.replace(new, out)
+    except OSError as why:
+        try:
+            os.unlink(new)
+        except OSError:
+            pass
+        return row(step, "fault", str(why), time.monotonic() - begun), 0
+    ended = str(process.returncode) if process.returncode >= 0 else f"signal {-process.returncode}" if in_time else "timeout"
+    return row(step, ended, said, time.monotonic() - begun, feeder.memory or used.ru_maxrss * 1024), feeder.lines
+
+
+def found(job):
+    """Whether the trace is what the list says, or the row that says what it is."""
+    try:
+        size = os.stat(job["trace"]).st_size
+        if len(job["expected"]) == 64:
+            with open(job["trace"], "rb") as source:
+                digest = hashlib.file_digest(source, "sha256").hexdigest()
+            if digest != job["expected"]:
+                return row("find", "changed", f"its SHA-256 is {digest}")
+        elif int(job["expected"]) != size:
+            return row("find", "cut" if size < int(job["expected"]) else "changed",
+                       f"{size} octets, where the list has {job['expected']}")
+        if job["report"] and not os.path.isfile(job["report"]):
+            return row("find", "missing", f"{os.path.basename(job['report'])}: no such file")
+    except OSError as why:
+        return row("find", "missing", f"{os.path.basename(job['trace'])}: {why.strerror}")
+    return None
+
+
+def first_line(path, number):
+    """A line of what a step wrote."""
+    try:
+        with open(path, "rb") as told:
+            return line_of(b"".join(told.read(SAID).split(b"\n")[number:number + 1]))
+    except OSError:
+        return ""
+
+
+def run_trace(job):
+    """All steps of one trace: its report, made or given, then what is to be known of it. Gives rows, lines and host."""
+    wrong = found(job)
+    if wrong:
+        return {"rows": [wrong], "lines": 0, "host": socket.gethostname()}
+    trace, report, out, program, steps = (job[word] for word in ("trace", "report", "out", "program", "steps"))
+    rows, lines = [], 0
+    try:
+        os.makedirs(os.path.dirname(out), exist_ok=True)
+    except OSError as why:
+        return {"rows": [row("run", "fault", str(why))], "lines": 0, "host": socket.gethostname()}
+    if report is None:
+        report = out + ".report"
+        if "solo" in steps or not os.path.isfile(report):
+            told, lines = run_step("solo", [program, "solo"], [trace], report, job["limit"])
+            rows.append(told)
+            if told["status"] not in ("0", "6", "7"):       # no report of all lines before the trace's stop
+                return {"rows": rows, "lines": lines, "host": socket.gethostname()}
+    both, judged = [trace, b"REPORT\n", report], "not audited"
+    if "audit" in steps:
+        told, fed = run_step("audit", [program, "audit", *job["setup"]], both, out + ".audit", job["limit"])
+        rows.append(told)
+        lines = lines or fed
+        if told["status"] in ("0", "9"):
+            judged = first_line(out + ".audit", 0)
+            told["said"] = told["said"] and f"{told['said']}: {judged}"
+        if told["status"] == "9" and "why" in steps:
+            why, _ = run_step("why", [program, "audit", "--why", *job["setup"]], both, out + ".why", job["limit"])
+            why["said"] = first_line(out + ".why", 1)
+            rows.append(why)
+    if "balance" in steps:
+        rows.append(run_step("balance", [program, "balance", "--slices", job["slices"]], both, out + ".balanced",
+                             job["limit"])[0])
+    if "tables" in steps:
+        rows.append(run_step("tables", [job["tables"], trace, report, out + ".sqlite", "--audit", judged], [],
+                             out + ".tables", job["limit"])[0])
+        try:
+            os.unlink(out + ".tables")                      # it writes nothing on standard output
+        except OSError:
+            pass
+    return {"rows": rows, "lines": lines, "host": socket.gethostname()}

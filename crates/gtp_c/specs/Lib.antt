@@ -1,0 +1,11 @@
+pub mod Apply
+pub mod Choice
+pub mod Cursor
+pub mod Element
+pub mod Gtpu
+pub mod Gtpv2
+pub mod Imsi
+pub mod Ip4
+pub mod Piece
+pub mod Policer
+pub mod Reply

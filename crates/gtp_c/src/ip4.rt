@@ -1,0 +1,83 @@
+//! IPv4.
+ghost use Rattle.std.specs.Prelude.{◌≡◌, ◌==◌, if◌then◌else◌, Some, None, MatchOption};
+ghost use Rattle.ipv4_packet.specs.Packet.{packet_of};
+ghost use Rattle.ipv4_packet.specs.Refusal.{first_fault};
+ghost use Rattle.gtp_c.specs.Ip4.{Says, code_of, bad_number};
+
+use gtp_c_base::code::{HEADER, SHORT, TOTAL, VERSION};
+use ipv4_packet::{Ip4, IpBad};
+
+/// The fields of a packet. The ports count where `has_ports` is 1, `spi` where `has_spi` is 1.
+#[repr(C)]
+#[derive(Clone, Copy, Drop)]
+pub struct Ip4Head {
+    pub source: u32,
+    pub destination: u32,
+    pub spi: u32,
+    pub source_port: u16,
+    pub destination_port: u16,
+    pub total_len: u16,
+    pub fragment_offset: u16,
+    pub protocol: u8,
+    pub tos: u8,
+    pub has_ports: u8,
+    pub has_spi: u8,
+}
+
+pub(crate) fn bad_number(bad: IpBad) -> u32
+    ensures { result ≡ bad_number bad }
+{
+    match bad {
+        IpBad::Short => SHORT,
+        IpBad::Version => VERSION,
+        IpBad::Header => HEADER,
+        IpBad::Total => TOTAL,
+    }
+}
+
+fn port_numbers(ports: Option<(u16, u16)>) -> (u8, u16, u16)
+    ensures { ports ≡ (if result.0 == 0 then None else Some (result.1, result.2)) }
+{
+    match ports {
+        Some((source, destination)) => (1, source, destination),
+        None => (0, 0, 0),
+    }
+}
+
+fn spi_numbers(spi: Option<u32>) -> (u8, u32)
+    ensures { spi ≡ (if result.0 == 0 then None else Some result.1) }
+{
+    match spi {
+        Some(spi) => (1, spi),
+        None => (0, 0),
+    }
+}
+
+/// The fields of the packet at the front of some octets (RFC 791, section 3.1).
+#[unsafe(no_mangle)]
+pub extern "C" fn gtp_c_ip4_read(bytes: &[u8], head: &mut Ip4Head) -> u32
+    ensures code { result ≡ code_of (first_fault bytes.now) }
+    ensures packet { MatchOption (first_fault bytes.now) (Says head.new (packet_of bytes.now)) (λ _. head.new ≡ head.old) }
+{
+    match Ip4::read(bytes) {
+        Err(bad) => bad_number(bad),
+        Ok(packet) => {
+            let (has_ports, source_port, destination_port) = port_numbers(packet.ports());
+            let (has_spi, spi) = spi_numbers(packet.spi());
+            *head = Ip4Head {
+                source: packet.source(),
+                destination: packet.destination(),
+                spi,
+                source_port,
+                destination_port,
+                total_len: packet.total_len(),
+                fragment_offset: packet.fragment_offset(),
+                protocol: packet.protocol(),
+                tos: packet.tos(),
+                has_ports,
+                has_spi,
+            };
+            0
+        }
+    }
+}

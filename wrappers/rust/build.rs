@@ -1,0 +1,12 @@
+//! Where the archives are: GTP_C_LIB is the folder of libgtp_c.a, libgtp_c_memory.a and liblibc_c.a.
+fn main() {
+    println!("cargo:rerun-if-env-changed=GTP_C_LIB");
+    let folder = std::env::var("GTP_C_LIB").expect("GTP_C_LIB: the folder of libgtp_c.a, libgtp_c_memory.a and liblibc_c.a");
+    println!("cargo:rustc-link-search=native={folder}");
+    for name in ["gtp_c", "gtp_c_memory", "libc_c"] {
+        let archive = format!("{folder}/lib{name}.a");
+        assert!(std::path::Path::new(&archive).exists(), "{archive} isn't there: see docs/LIBRARY.md");
+        println!("cargo:rerun-if-changed={archive}");
+        println!("cargo:rustc-link-lib=static={name}");
+    }
+}
