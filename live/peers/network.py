@@ -21,7 +21,6 @@ COMMANDS = {
     "curl": "curl",
     "tcpdump": "tcpdump",
     "tshark": "tshark",
-    "mergecap": "wireshark-common",
 }
 
 
