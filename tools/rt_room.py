@@ -21,10 +21,24 @@ CUTTING = (signal.SIGHUP, signal.SIGINT, signal.SIGTERM)
 libc = ctypes.CDLL(None)
 
 
+def keep_closed() -> None:
+    """Puts what can't be read or written in the place of a standard stream that is closed, so that no file gets its number."""
+    for number, way in ((0, os.O_WRONLY), (1, os.O_RDONLY), (2, os.O_RDONLY)):
+        try:
+            os.fstat(number)
+        except OSError:
+            os.open(os.devnull, way)
+
+
+def tell(text: str) -> None:
+    """Writes to standard error, which may be closed."""
+    with contextlib.suppress(OSError):
+        os.write(2, text.encode(errors="replace"))
+
+
 def say(text: str) -> None:
-    """Writes a line of this script to standard error; a closed one loses it."""
-    with contextlib.suppress(OSError, ValueError):
-        print(f"pepc: {text}", file=sys.stderr, flush=True)
+    """Writes a line of this script to standard error."""
+    tell(f"pepc: {text}\n")
 
 
 def fail(text: str, status: int = 1) -> typing.NoReturn:
@@ -84,12 +98,21 @@ def room(name: str) -> collections.abc.Iterator[pathlib.Path]:
             signal.signal(it, cut_off)
     # whoever loses its parent below is this script's child, and ended with it
     libc.prctl(SUBREAPER, 1)
+    # (no signal comes between a file and what removes it)
+    signal.pthread_sigmask(signal.SIG_BLOCK, CUTTING)
     for old in pathlib.Path(tempfile.gettempdir()).glob(f"pepc-{name}-*-*"):
         if not pathlib.Path(f"/proc/{old.name.split('-')[2]}").exists():
             shutil.rmtree(old, ignore_errors=True)
     try:
         with tempfile.TemporaryDirectory(prefix=f"pepc-{name}-{os.getpid()}-", ignore_cleanup_errors=True) as folder:
-            yield pathlib.Path(folder)
+            try:
+                signal.pthread_sigmask(signal.SIG_UNBLOCK, CUTTING)
+                yield pathlib.Path(folder)
+            finally:
+                signal.pthread_sigmask(signal.SIG_BLOCK, CUTTING)
+    except shutil.Error as error:
+        # (the first file that couldn't be copied, and why)
+        fail(str(error.args[0][0][-1]))
     except OSError as error:
         fail(f"{error.strerror}: {error.filename or tempfile.gettempdir()}")
 
