@@ -49,6 +49,7 @@ def run(checks: Checks, lab: Lab) -> None:
             5,
             "says nothing of line 1",
         ),
+        ("a core that never says if", [gateway, "--core", silent, "--instructions", str(attached)], 4, "doesn't say"),
         ("a core that says what is no entry", [gateway, "--core", noise], 5, "no entry"),
         ("a record that is there", [gateway, "--core", good, "--record", str(taken)], 6, "has a record already"),
         (
@@ -74,7 +75,9 @@ def run(checks: Checks, lab: Lab) -> None:
     checks.expect(
         "a second gateway: status 3", second.returncode == 3 and "can't be had" in second.stderr, second.stderr.strip()
     )
-    lab.end(running)
+    lab.network.run("enb", str(LIVE / "peers" / "probe"), "--address", STRANGER, "2152", "00")
+    status, said = running.wait(20), running.stderr.read().strip()
+    checks.expect("a core that says nothing: status 5", status == 5 and "says nothing of line 1 for" in said, said)
     full(checks, lab)
 
 

@@ -2,6 +2,7 @@
 import contextlib
 import json
 import pathlib
+import signal
 import subprocess
 import tempfile
 import time
@@ -60,10 +61,15 @@ class Lab:
         return self
 
     def __exit__(self, *_: Any) -> None:
-        for process in reversed(self.processes):
-            self.end(process)
-        self.network.down()
-        self.room.cleanup()
+        ending = {signal.SIGTERM, signal.SIGINT, signal.SIGALRM}
+        before = signal.pthread_sigmask(signal.SIG_BLOCK, ending)  # so that nothing is left
+        try:
+            for process in reversed(self.processes):
+                self.end(process)
+            self.network.down()
+            self.room.cleanup()
+        finally:
+            signal.pthread_sigmask(signal.SIG_SETMASK, before)
 
     def start(self, place: str, *words: str, **options: Any) -> subprocess.Popen:
         """Starts a process there; it is ended with the lab at the latest."""

@@ -11,6 +11,7 @@ GATEWAY, ENODEBS, MMES = "192.0.2.1", ("192.0.2.2", "192.0.2.3"), ("192.0.2.4", 
 STRANGER = "192.0.2.6"  # sends what no peer should
 GATEWAY_SGI, HOST, NOBODY = "203.0.113.1", "203.0.113.9", "203.0.113.77"
 SUBSCRIBERS = "10.45.0.0/16"
+MOST_SECONDS = 40.0  # of a command
 DEBIAN_PYTHON = "/usr/bin/python3"  # it alone has Debian's scapy
 
 COMMANDS = {
@@ -34,10 +35,10 @@ class Network:
         """The words of a command that runs there."""
         return ["ip", "netns", "exec", self.names[place], *words]
 
-    def run(self, place: str, *words: str, **options) -> subprocess.CompletedProcess:
-        """Runs a command there to its end."""
+    def run(self, place: str, *words: str, timeout: float = MOST_SECONDS) -> subprocess.CompletedProcess:
+        """Runs a command there to its end, or so long."""
         return subprocess.run(
-            self.within(place, *words), stdin=subprocess.DEVNULL, capture_output=True, text=True, **options
+            self.within(place, *words), stdin=subprocess.DEVNULL, capture_output=True, text=True, timeout=timeout
         )
 
     def up(self) -> None:

@@ -36,7 +36,7 @@ class Answers:
             try:
                 source = self.source_of(fields)
                 self.sending_of(fields, source, sendings)
-            except (IndexError, ValueError) as fault:
+            except (IndexError, ValueError, TypeError, AttributeError) as fault:
                 raise AnswerFault(f"the core says what is no entry: {entry[:80].decode(errors='replace')}") from fault
             if type(source) is FromOperator:
                 sendings.append((OPERATOR, entry, source.address))

@@ -19,7 +19,7 @@ from shell.tally import Tally
 
 IN_FLIGHT = 3  # batches: one is gathered and one acted on while the core has one
 TURN = 32  # packets of an edge before the next one's turn
-PATIENCE = 30.0  # seconds that the core may take for a batch
+PATIENCE = 10.0  # seconds that the core may take for a batch
 
 
 class Times:

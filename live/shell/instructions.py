@@ -1,9 +1,12 @@
 """Instructions of the operator: which texts are some. A bad line would end the core, so another one is asked first; the
 rule of what a line is stays with the program."""
+import select
 import subprocess
+from typing import Iterator
 
 from shell.faults import CoreFault, InstructionFault
 
+PATIENCE = 10.0
 KINDS = (b"ATTACH", b"BEARER", b"FILTERS", b"DROP", b"AMBR", b"MOVE")
 
 
@@ -22,6 +25,7 @@ class Judge:
                 stdin=subprocess.PIPE,
                 stdout=subprocess.PIPE,
                 stderr=subprocess.DEVNULL,
+                bufsize=0,
                 start_new_session=True,
             )
         except OSError as fault:
@@ -37,18 +41,29 @@ class Judge:
         self.line_count += 2
         try:
             self.process.stdin.write(b"0 %s\n0 FENCE\n" % text)
-            self.process.stdin.flush()
         except BrokenPipeError:
             pass  # it has said why
         refused = b"N %d line " % (self.line_count - 1)
         why = "length"
-        for entry in self.process.stdout:
-            if entry == b"N %d fence\n" % self.line_count:
+        for entry in self.entries():
+            if entry == b"N %d fence" % self.line_count:
                 return None
             if entry.startswith(refused):
-                why = entry[len(refused) : -1].decode()
+                why = entry[len(refused) :].decode()
         self.close()
         return why
+
+    def entries(self) -> Iterator[bytes]:
+        """The whole entries that the core says, up to its end."""
+        rest = b""
+        while True:
+            if not select.select([self.process.stdout], [], [], PATIENCE)[0]:
+                raise CoreFault(f"the core doesn't say within {PATIENCE:.0f} seconds whether an instruction is one")
+            octets = self.process.stdout.read(1 << 16)
+            if not octets:
+                return
+            *whole, rest = (rest + octets).split(b"\n")
+            yield from whole
 
     def close(self) -> None:
         if self.process:
@@ -57,6 +72,7 @@ class Judge:
                 self.process.stdin.close()
             except BrokenPipeError:
                 pass
+            self.process.kill()
             self.process.wait()
             self.process = None
 

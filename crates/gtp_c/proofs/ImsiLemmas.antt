@@ -2,7 +2,7 @@
 use Rattle.std.proofs.Common.{◌≡◌, ℕ, suc, ◌+◌, ◌*◌, ◌/◌, ◌%◌, ◌<◌, ◌≤◌, Bool, true, false, eqb, ltb, leb, cond, ◌&&◌, ◌⊎◌, inl, inr, List, [], ◌∷◌, ◌++◌, length, Option, Some, None, refl, sym, ap, subst, ◌∙◌, arith, length-append}
 use Rattle.std.proofs.lemmas.Bool.Decides.{nat_tests}
 use Rattle.std.proofs.lemmas.Option.{cond_some}
-use Rattle.gtpv2_ie.specs.Imsi.{digit_pair, pair_digits, with_digits, with_pair, digits_of, if_imsi, imsi_of}
+use Rattle.gtpv2_ie.specs.Imsi.{digit_pair, pair_digits, with_pair, digits_of, if_imsi, imsi_of}
 use Rattle.gtpv2_ie.specs.Kind.{no_context}
 use Rattle.gtpv2_ie.specs.Value.{kind_value}
 use Rattle.gtpv2_ie.specs.declared.kind.IeKind.TheVariants as kinds

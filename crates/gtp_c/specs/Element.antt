@@ -1,5 +1,18 @@
 -- What a C caller is told of an element's value.
-use Rattle.std.specs.Prelude.{◌≡◌, ℕ, ◌==◌, nat_lt, is_none, List, length, Option, Some, None, MatchOption, if◌then◌else◌}
+use Rattle.std.specs.Prelude.{
+  ◌≡◌,
+  ℕ,
+  ◌==◌,
+  nat_lt,
+  is_none,
+  List,
+  length,
+  Option,
+  Some,
+  None,
+  MatchOption,
+  if◌then◌else◌,
+}
 use Rattle.gtpv2_ie.specs.declared.kind.IeKind.{IeKind}
 use Rattle.gtpv2_ie.specs.declared.value.IeValue.{IeValue}
 use Rattle.gtpv2_ie.specs.declared.value.IeValue.TheVariants as values

@@ -1,5 +1,5 @@
 -- The IMSI that a C caller's struct says.
-use Rattle.std.specs.Prelude.{ℕ, List, take}
+use Rattle.std.specs.Prelude.{take}
 use Rattle.gtpv2_ie.specs.declared.value.IeValue.{IeValue}
 use Rattle.gtpv2_ie.specs.declared.value.IeValue.TheVariants as values
 use Rattle.gtp_c.specs.declared.imsi.Imsi.{Imsi}

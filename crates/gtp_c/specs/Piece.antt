@@ -1,5 +1,5 @@
 -- A piece of a charging record in a C caller's numbers. Whose it is, the caller knows.
-use Rattle.std.specs.Prelude.{ℕ, ◌+◌, ◌==◌, ◌&&◌, ◌||◌, not, nat_lt, nat_le, Bool, Some, None, if◌then◌else◌}
+use Rattle.std.specs.Prelude.{ℕ, ◌+◌, ◌==◌, ◌&&◌, ◌||◌, nat_lt, nat_le, Bool, Some, None, if◌then◌else◌}
 use Rattle.charging_book.specs.Counters.{with_packet}
 use Rattle.charging_book.specs.Pieces.{volume}
 use Rattle.charging_book.specs.Rows.{Counters, Moments}

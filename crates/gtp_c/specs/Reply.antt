@@ -1,5 +1,19 @@
 -- The replies of GTPv2-C that are written into a caller's room.
-use Rattle.std.specs.Prelude.{ℕ, ◌==◌, not, nat_lt, MatchBool, is_some, List, [], ◌∷◌, Option, Some, None, if◌then◌else◌}
+use Rattle.std.specs.Prelude.{
+  ℕ,
+  ◌==◌,
+  not,
+  nat_lt,
+  MatchBool,
+  is_some,
+  List,
+  [],
+  ◌∷◌,
+  Option,
+  Some,
+  None,
+  if◌then◌else◌,
+}
 use Rattle.gtpv2_ie.specs.declared.value.IeValue.TheVariants as values
 use Rattle.gtpv2_msg.specs.Header.{kind_of}
 use Rattle.gtpv2_msg.specs.Kinds.{is_request}

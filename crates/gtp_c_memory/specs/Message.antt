@@ -1,5 +1,5 @@
 -- What a C caller is told of a whole message.
-use Rattle.std.specs.Prelude.{◌≡◌, ℕ, Option, Some, None}
+use Rattle.std.specs.Prelude.{Option, Some}
 use Rattle.gtpv2_msg.specs.declared.fault.CBad.{CBad}
 use Rattle.gtpv2_msg.specs.declared.fault.CBad.TheVariants as bad
 use Rattle.gtp_c_memory.specs.declared.message.Gtpv2Fault.{Gtpv2Fault}

@@ -48,8 +48,8 @@ in_one report = record {
 abbrev pub only : ℕ → ℕ → Bool
 only slot at = at == slot
 
--- Two reports tell the same of these slots, over all epochs: the entries of their lines in order; of each its effects and
--- its charging records, each kind in order; and their open counters in order.
+-- Two reports tell the same of these slots, over all epochs: the entries of their lines in order; of each its effects
+-- and its charging records, each kind in order; and their open counters in order.
 pub record TellTheSame (own : ℕ → Bool) (report other : Report) : Type 0 where
   pub lines : filter (tells_of own) (in_one report).lines ≡ filter (tells_of own) (in_one other).lines
   pub each : (slot : ℕ) → own slot ≡ true

@@ -185,12 +185,12 @@ static void match(char *rest) {
     struct octets o = octets_from(packet);
     struct gtp_c_ip4_head head;
     uint32_t bad = gtp_c_ip4_read(o.at, o.len, &head);
-    if (bad) say_fault(bad); else SAY("fits");
+    if (bad) say_fault(bad); else SAY("fits ");
     for (size_t i = 0; i < count; i++) {
         uint8_t fits = 9;
         uint32_t code = gtp_c_tft_fits(&filters[i], !strcmp(way, "up"), o.at, o.len, &fits);
         if (code != bad) SAY(" differs");
-        if (!code) SAY(" %u", fits);
+        if (!code) SAY("%u", fits);
     }
     octets_free(o);
 }
@@ -251,7 +251,7 @@ static int book(char *rest) {
         const char *why = NULL;
         if (sscanf(step, "%c.%lu.%lu.%lu", &what, &of, &a, &b) < 2) return 0;
         if (what == 's') {
-            if (begun++) return 0;
+            if (begun++ || of > (unsigned long)1 << 61) return 0;
             life = of; ebi = a; qci = b;
             continue;
         }
