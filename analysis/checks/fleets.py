@@ -15,7 +15,7 @@ import subprocess
 import sys
 import time
 
-from .harness import ANALYSIS, Check, PEPC, SAFE, children_of, is_there, nothing_left, pepc, words_of
+from .harness import ANALYSIS, Check, PEPC, SAFE, children_of, is_there, nothing_left, pepc, small_files, words_of
 
 TRACES = 200
 SECONDS = 600  # at most, for one fleet
@@ -266,14 +266,15 @@ def look_at_listeners(check: Check, what: str, processes: list[int], foreign: pa
             check.same(f"{what}: port {port} to HTTP", answer, "HTTP/1.1 404 Not Found")
             continue
         guarded += 1
+        # an authority of the same name is told by its signature
         for name, context, wanted in (
-            ("no", without, "TLSV13_ALERT_CERTIFICATE_REQUIRED"),
-            ("a foreign", other, "TLSV1_ALERT_UNKNOWN_CA"),
+            ("no", without, ["TLSV13_ALERT_CERTIFICATE_REQUIRED"]),
+            ("a foreign", other, ["TLSV1_ALERT_UNKNOWN_CA", "TLSV1_ALERT_DECRYPT_ERROR"]),
         ):
             told = [answer_of(port, context)]
-            while told[-1] != wanted and len(told) < 4:  # a connection may be reset before the reason is read
+            while told[-1] not in wanted and len(told) < 4:  # a connection may be reset before the reason is read
                 told.append(answer_of(port, context))
-            check.same(f"{what}: port {port} to TLS with {name} certificate", told[-1], wanted)
+            check.holds(f"{what}: port {port} to TLS with {name} certificate: {told[-1]}", told[-1] in wanted)
     check.holds(f"{what}: {guarded} listeners ask for a certificate", guarded >= 2)
 
 
@@ -518,6 +519,8 @@ def words(check: Check, room: pathlib.Path, tls: pathlib.Path) -> None:
     check.command(
         "a merge of no fleet", ["merge", room / "none"], 3, f"merge: {room}/none/fleet.sqlite: no such file"
     )
+    on_full = ["fleet", good, room / "full", "--program", room / "killer"]
+    check.command("a fleet where the disk is full", on_full, 4, env=SAFE, preexec_fn=small_files)
     check.command("a fleet where a file is", ["fleet", good, good], 4, env=SAFE)
     (room / "version").mkdir()
     shutil.copy(out / "fleet.sqlite", room / "version/fleet.sqlite")
