@@ -57,6 +57,6 @@ def judge_wire(checks: Checks, report: bytes, s1: pathlib.Path, sgi: pathlib.Pat
 def judge_frames(checks: Checks, captures: list[pathlib.Path], markers: list[tuple[str, str]] | None = None) -> None:
     """tshark reads all of it, and sees these End Markers."""
     malformed, seen = wire.dissected(captures)
-    checks.expect("tshark calls no frame malformed, but the stranger's", malformed == 0, malformed)
+    checks.expect("tshark calls no frame malformed, but the stranger's", not malformed, malformed[:3])
     if markers is not None:
         checks.expect("tshark sees one End Marker, at the eNodeB that was left", seen == markers, seen)

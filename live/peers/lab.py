@@ -46,7 +46,7 @@ class Lab:
     """A context: inside it the network stands."""
 
     def __init__(self, tag: str, core: str) -> None:
-        self.network, self.core = Network(tag), core
+        self.network, self.core = Network(tag), str(pathlib.Path(core).resolve())
         self.processes: list[subprocess.Popen] = []
         self.folder = pathlib.Path()
 

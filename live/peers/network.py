@@ -21,7 +21,6 @@ COMMANDS = {
     "curl": "curl",
     "tcpdump": "tcpdump",
     "tshark": "tshark",
-    "mergecap": "wireshark-common",
 }
 
 
@@ -48,6 +47,8 @@ class Network:
             do("ip", "netns", "add", name)
             self.do(name, "ip", "link", "set", "lo", "up")
             self.do(name, "sysctl", "-qw", "net.ipv6.conf.all.disable_ipv6=1", "net.ipv6.conf.default.disable_ipv6=1")
+            # ports that tshark takes for no protocol
+            self.do(name, "sysctl", "-qw", "net.ipv4.ip_local_port_range=50100 53999")
         do("ip", "link", "add", "s1", "netns", enb, "type", "veth", "peer", "name", "s1", "netns", gw)
         do("ip", "link", "add", "sgi", "netns", gw, "type", "veth", "peer", "name", "sgi", "netns", pdn)
         for name, link, addresses in (

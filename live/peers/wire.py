@@ -4,7 +4,6 @@ import pathlib
 import re
 import struct
 import subprocess
-import tempfile
 from typing import Iterator
 
 from peers.network import GATEWAY, STRANGER
@@ -68,20 +67,18 @@ def seen(s1: pathlib.Path, sgi: pathlib.Path) -> Sent:
     return found
 
 
-def dissected(captures: list[pathlib.Path]) -> tuple[int, list[tuple[str, str]]]:
-    """By tshark, over all captures: how many frames are malformed, but the stranger's, and each End Marker's receiver
-    and TEID."""
-    with tempfile.TemporaryDirectory() as folder:
-        merged = pathlib.Path(folder) / "merged.pcapng"
-        run("mergecap", "-w", str(merged), *map(str, captures))
-        malformed = f"(_ws.malformed && !(ip.src == {STRANGER}))"
-        fields = ("_ws.malformed", "gtp.message", "ip.dst", "gtp.teid")
-        words = [word for field in fields for word in ("-e", field)]
-        wanted = f"{malformed} || gtp.message == {END_MARKER}"
-        said = run("tshark", "-n", "-r", str(merged), "-Y", wanted, "-T", "fields", *words)
-    rows = [line.split("\t") for line in said.splitlines()]
-    markers = [(address, teid) for fault, message, address, teid in rows if int(message or "0", 0) == END_MARKER]
-    return sum(bool(row[0]) for row in rows), markers
+def dissected(captures: list[pathlib.Path]) -> tuple[list[str], list[tuple[str, str]]]:
+    """By tshark, of each capture by itself (a stream that stands twice in one confuses it): the protocols of each frame
+    that is malformed, but the stranger's, and each End Marker's receiver and TEID."""
+    fields = ("_ws.malformed", "gtp.message", "ip.dst", "gtp.teid", "frame.protocols")
+    words = [word for field in fields for word in ("-e", field)]
+    wanted = f"(_ws.malformed && !(ip.src == {STRANGER})) || gtp.message == {END_MARKER}"
+    rows = []
+    for capture in captures:
+        said = run("tshark", "-n", "-r", str(capture), "-Y", wanted, "-T", "fields", *words)
+        rows += [line.split("\t") for line in said.splitlines()]
+    markers = [(row[2], row[3]) for row in rows if row[1] and int(row[1], 0) == END_MARKER]
+    return [row[4] for row in rows if row[0]], markers
 
 
 def run(*words: str) -> str:

@@ -2,11 +2,30 @@
 import collections
 import fcntl
 import os
+import pathlib
 import subprocess
+import sys
 
 from shell.faults import CoreFault
 
 PIPE_OCTETS = 1 << 20
+TOP = pathlib.Path(__file__).resolve().parents[2]
+BUILT = TOP / "crates" / "pepc_main" / "out" / "pepc_main"
+
+
+def program_of(given: str | None) -> str:
+    """The program that is given, or else this tree's own, which is proved and built first where it isn't."""
+    if given:
+        return given
+    with subprocess.Popen(
+        [TOP / "pepc", "--prove"], stdin=subprocess.DEVNULL, stderr=subprocess.PIPE, text=True
+    ) as proving:
+        for line in proving.stderr:
+            if line != "pepc: proved already\n":
+                sys.stderr.write(line)
+    if proving.returncode:
+        raise CoreFault(f"the core isn't proved: ./pepc --prove ended with status {proving.returncode}")
+    return str(BUILT)
 
 
 class Core:
