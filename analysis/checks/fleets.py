@@ -4,6 +4,7 @@ cluster is killed; nothing is open but what was asked for, and nobody without a 
 import hashlib
 import os
 import pathlib
+import pty
 import re
 import shutil
 import signal
@@ -14,13 +15,12 @@ import subprocess
 import sys
 import time
 
-from .harness import ANALYSIS, Check, SAFE, TOP, children_of, is_there, nothing_left, pepc, words_of
+from .harness import ANALYSIS, Check, PEPC, SAFE, children_of, is_there, nothing_left, pepc, words_of
 
 TRACES = 200
-SECONDS = 600                     # at most, for one fleet
-PATIENCE = 15                     # seconds with a stopped worker
-PROGRAM = TOP / "crates/pepc_main/out/pepc_main"
-WRONG, CUT, CHANGED, MISSING, REFUSED, NO_ENTRY, NO_REPORT, KILLER = 3, 17, 23, 41, 59, 83, 97, 111
+SECONDS = 600  # at most, for one fleet
+PATIENCE = 15  # seconds with a stopped worker
+WRONG, CUT, CHANGED, MISSING, REFUSED, NO_ENTRY, NO_REPORT, KILLER = 3, 17, 23, 38, 29, 33, 37, 11
 
 
 def name_of(number: int) -> str:
@@ -39,9 +39,12 @@ def make_list(room: pathlib.Path) -> pathlib.Path:
         text = texts[number % 20]
         octets, report = len(text), None
         if number == WRONG:
-            wrong = re.sub(rb"^(P 20 .*)(..)\n", rb"\g<1>00\n", reports[number % 20], flags=re.M)
-            report = re.sub(rb"^O 0 0 5 9 (\d+) (\d+)", lambda told: b"O 0 0 5 9 %s %d" % (told[1], int(told[2]) + 1), wrong,
-                            flags=re.M)
+            wrong = re.sub(
+                rb"^(P \d+ \d+ \d+ \d+ up \d+ [0-9a-f]+)..\n", rb"\g<1>ff\n", reports[number % 20], 1, re.M
+            )
+            report = re.sub(
+                rb"^(O 0 0 5 9 \d+) (\d+)", lambda told: b"%s %d" % (told[1], int(told[2]) + 1), wrong, 1, re.M
+            )
         elif number == CUT:
             text = text[:-100]
         elif number == CHANGED:
@@ -58,8 +61,11 @@ def make_list(room: pathlib.Path) -> pathlib.Path:
             report = reports[number % 20]
         if number != MISSING:
             trace.write_bytes(text)
-        expected = hashlib.sha256(texts[number % 20]).hexdigest() if number == CHANGED or number % 7 == 0 and number not in (
-            REFUSED, KILLER) else octets
+        expected = (
+            hashlib.sha256(texts[number % 20]).hexdigest()
+            if number == CHANGED or number % 7 == 0 and number not in (REFUSED, KILLER)
+            else octets
+        )
         if report is not None:
             trace.with_suffix(".report").write_bytes(report)
         if report is not None or number == NO_REPORT:
@@ -73,15 +79,17 @@ def make_list(room: pathlib.Path) -> pathlib.Path:
 def make_killer(room: pathlib.Path) -> pathlib.Path:
     """A program that is pepc, but kills its worker at a trace that begins with two fences."""
     program = room / "killer"
-    program.write_text(f"""#!/bin/sh
+    program.write_text(
+        f"""#!/bin/sh
 input={room}/input.$$
 cat >"$input"
 [ "$(head -c 16 "$input")" != "0 FENCE
 0 FENCE" ] || kill -9 $PPID
 exec <"$input"
 rm "$input"
-exec {PROGRAM} "$@"
-""")
+exec {PEPC} "$@"
+"""
+    )
     program.chmod(0o755)
     return program
 
@@ -93,8 +101,13 @@ class Driver:
         self.out = room / out
         self.said = room / f"{out}.said"
         with open(self.said, "ab") as said:
-            self.process = subprocess.Popen([ANALYSIS / "fleet", room / "list", self.out, "--program", room / "killer",
-                                             *map(str, words)], stdin=subprocess.DEVNULL, stdout=said, stderr=said, env=SAFE)
+            self.process = subprocess.Popen(
+                [ANALYSIS / "fleet", room / "list", self.out, "--program", room / "killer", *map(str, words)],
+                stdin=subprocess.DEVNULL,
+                stdout=said,
+                stderr=said,
+                env=SAFE,
+            )
 
     def rows(self) -> int:
         """How many traces have their rows."""
@@ -108,7 +121,7 @@ class Driver:
         """Waits until so many traces are done."""
         end = time.monotonic() + SECONDS
         while self.rows() < rows and self.process.poll() is None and time.monotonic() < end:
-            time.sleep(.02)
+            time.sleep(0.02)
         return self.process.poll() is None
 
     def workers(self) -> list[int]:
@@ -127,8 +140,9 @@ class Driver:
 def rows_of(out: pathlib.Path) -> list[tuple]:
     """The rows, but for times, memory and attempts."""
     with sqlite3.connect(f"file:{out}/fleet.sqlite?mode=ro", uri=True) as base:
-        return base.execute("SELECT name, octets, lines, step, step.status, said FROM trace JOIN step USING (name) "
-                            "ORDER BY 1, 4").fetchall()
+        return base.execute(
+            "SELECT name, octets, lines, step, step.status, said FROM trace JOIN step USING (name) " "ORDER BY 1, 4"
+        ).fetchall()
 
 
 def outputs_of(out: pathlib.Path) -> dict[str, str]:
@@ -158,19 +172,42 @@ def wanted_rows(check: Check, rows: list[tuple]) -> None:
     well = [("audit", "0", ""), ("balance", "0", ""), ("solo", "0", ""), ("tables", "0", "")]
     given = [row for row in well if row[0] != "solo"]
     wrong = found.pop(name_of(WRONG))
-    check.same("fleet: a wrong report", [row[:2] for row in wrong], [("audit", "9"), ("balance", "0"), ("tables", "9"), ("why", "9")])
-    check.holds(f"fleet: where it is wrong: {wrong}", re.match(r"at 20 slot \d: P 20 .*; due P 20", wrong[3][2])
-                and wrong[0][2] == "pepc: report refuted: no 4"
-                and "slot 0 life 0: charged less forwarded is up +0, down +1" in wrong[2][2])
-    for number, step, status in ((CUT, "find", "cut"), (CHANGED, "find", "changed"), (MISSING, "find", "missing"),
-                                 (NO_REPORT, "find", "missing"), (KILLER, "run", "lost")):
+    check.same(
+        "fleet: a wrong report",
+        [row[:2] for row in wrong],
+        [("audit", "9"), ("balance", "0"), ("tables", "9"), ("why", "9")],
+    )
+    check.holds(
+        f"fleet: where it is wrong: {wrong}",
+        re.match(r"at (\d+) slot \d: P \1 .* up .*; due P \1 .* up", wrong[3][2])
+        and wrong[0][2] == "pepc: report refuted: no 4"
+        and "slot 0 life 0: charged less forwarded is up +1, down +0" in wrong[2][2],
+    )
+    for number, step, status in (
+        (CUT, "find", "cut"),
+        (CHANGED, "find", "changed"),
+        (MISSING, "find", "missing"),
+        (NO_REPORT, "find", "missing"),
+        (KILLER, "run", "lost"),
+    ):
         check.same(f"fleet: trace {number}", [row[:2] for row in found.pop(name_of(number))], [(step, status)])
     refused = found.pop(name_of(REFUSED))
-    check.same("fleet: a trace with a bad line", refused, [("audit", "0", ""), ("balance", "6", "pepc: bad line"),
-                                                           ("solo", "6", "pepc: bad line"), ("tables", "0", "")])
+    check.same(
+        "fleet: a trace with a bad line",
+        refused,
+        [
+            ("audit", "0", ""),
+            ("balance", "6", "pepc: bad line"),
+            ("solo", "6", "pepc: bad line"),
+            ("tables", "0", ""),
+        ],
+    )
     no_entry = found.pop(name_of(NO_ENTRY))
-    check.same("fleet: a report with a line that is no entry", [row[:2] for row in no_entry],
-               [("audit", "9"), ("balance", "12"), ("tables", "12"), ("why", "9")])
+    check.same(
+        "fleet: a report with a line that is no entry",
+        [row[:2] for row in no_entry],
+        [("audit", "9"), ("balance", "12"), ("tables", "12"), ("why", "9")],
+    )
     check.same("fleet: all others", {name: told for name, told in found.items() if told not in (well, given)}, {})
 
 
@@ -192,25 +229,24 @@ def listeners_of(process: int) -> list[tuple[str, int]]:
             if fields[3] == "0A" and fields[9] in inodes:
                 address, port = fields[1].split(":")
                 octets = bytes.fromhex(address)
-                words = [octets[at:at + 4][::-1] for at in range(0, len(octets), 4)]
+                words = [octets[at : at + 4][::-1] for at in range(0, len(octets), 4)]
                 family = socket.AF_INET if len(octets) == 4 else socket.AF_INET6
                 found.append((socket.inet_ntop(family, b"".join(words)), int(port, 16)))
     return sorted(set(found))
 
 
-def answer_of(port: int, context: ssl.SSLContext | None) -> bytes:
-    """What a listener answers to a request of HTTP, plainly or by TLS; nothing where it refuses."""
+def answer_of(port: int, context: ssl.SSLContext | None) -> str:
+    """What a listener answers to a request of HTTP, plainly or by TLS: its first line, or why it talks to nobody."""
     try:
         with socket.create_connection(("127.0.0.1", port), 5) as plain:
             talk = context.wrap_socket(plain) if context else plain
             talk.settimeout(3)
             talk.sendall(b"GET /info/main/workers.html HTTP/1.0\r\n\r\n")
-            found = b""
-            while part := talk.recv(4096):
-                found += part
-            return found
-    except OSError:
-        return b""
+            return talk.recv(4096).split(b"\r\n")[0].decode("latin-1") or "nothing"
+    except ssl.SSLError as why:
+        return str(why.reason)
+    except OSError as why:
+        return type(why).__name__
 
 
 def look_at_listeners(check: Check, what: str, processes: list[int], foreign: pathlib.Path) -> None:
@@ -223,18 +259,28 @@ def look_at_listeners(check: Check, what: str, processes: list[int], foreign: pa
     found = sorted({listener for process in processes for listener in listeners_of(process)})
     check.holds(f"{what}: it has listeners: {found}", len(found) >= 3)
     check.same(f"{what}: addresses of listeners", sorted({address for address, _ in found}), ["127.0.0.1"])
+    guarded = 0
     for _, port in found:
         answer = answer_of(port, None)
-        check.holds(f"{what}: port {port} serves nothing to HTTP: {answer[:200]!r}",
-                    not answer or b"404" in answer.split(b"\r\n")[0] or not answer.startswith(b"HTTP"))
-        for name, context in (("no", without), ("a foreign", other)):
-            check.same(f"{what}: port {port} to TLS with {name} certificate", answer_of(port, context), b"")
+        if answer.startswith("HTTP"):
+            check.same(f"{what}: port {port} to HTTP", answer, "HTTP/1.1 404 Not Found")
+            continue
+        guarded += 1
+        for name, context, wanted in (
+            ("no", without, "TLSV13_ALERT_CERTIFICATE_REQUIRED"),
+            ("a foreign", other, "TLSV1_ALERT_UNKNOWN_CA"),
+        ):
+            told = [answer_of(port, context)]
+            while told[-1] != wanted and len(told) < 4:  # a connection may be reset before the reason is read
+                told.append(answer_of(port, context))
+            check.same(f"{what}: port {port} to TLS with {name} certificate", told[-1], wanted)
+    check.holds(f"{what}: {guarded} listeners ask for a certificate", guarded >= 2)
 
 
 def embedded(check: Check, room: pathlib.Path, foreign: pathlib.Path) -> list[tuple]:
     """The undisturbed run, whose rows all others must have; nothing is done twice."""
     driver = Driver(room, "calm", "--workers", 3)
-    driver.wait_for(10)
+    driver.wait_for(TRACES // 20)
     look_at_listeners(check, "embedded cluster", [driver.process.pid], foreign)
     check.same("fleet: status", driver.end(), 1)
     rows = rows_of(driver.out)
@@ -243,9 +289,17 @@ def embedded(check: Check, room: pathlib.Path, foreign: pathlib.Path) -> list[tu
     tried = attempts_of(driver.out)
     check.same("fleet: attempts at the trace that kills its worker", tried.get(name_of(KILLER)), 3)
     said = driver.said.read_text()
-    check.holds(f"fleet: lines of progress: {said[:200]}", re.search(
-        r"200/200 done, 7 failed, 1 lost, [0-9.]+ traces/s, [0-9,]+ lines/s, \d workers, 0 s left", said))
-    ended = [row[0] for row in sqlite3.connect(driver.out / "fleet.sqlite").execute("SELECT ended FROM trace ORDER BY name")]
+    check.holds(
+        f"fleet: lines of progress: {said[:200]}",
+        re.search(
+            rf"{TRACES}/{TRACES} done, 7 failed, 1 lost, [0-9.]+ traces/s, [0-9,]+ lines/s, \d workers, 0 s left",
+            said,
+        ),
+    )
+    ended = [
+        row[0]
+        for row in sqlite3.connect(driver.out / "fleet.sqlite").execute("SELECT ended FROM trace ORDER BY name")
+    ]
     again = Driver(room, "calm", "--workers", 3)
     check.same("fleet again: status", again.end(), 1)
     lost = 1
@@ -259,27 +313,32 @@ def embedded(check: Check, room: pathlib.Path, foreign: pathlib.Path) -> list[tu
 def disturbed(check: Check, room: pathlib.Path, wanted: list[tuple]) -> None:
     """A worker killed, the driver killed and begun again, and then a worker stopped."""
     driver = Driver(room, "rough", "--workers", 3)
-    if check.holds("rough fleet: it runs", driver.wait_for(20)):
+    if check.holds("rough fleet: it runs", driver.wait_for(TRACES // 10)):
         os.kill(driver.workers()[0], signal.SIGKILL)
-    if check.holds("rough fleet: it goes on without a worker", driver.wait_for(60)):
+    if check.holds("rough fleet: it goes on without a worker", driver.wait_for(TRACES * 3 // 10)):
         below = children_of(driver.process.pid)
         driver.process.kill()
         driver.process.wait()
         end = time.monotonic() + 60
         while any(map(is_there, below)) and time.monotonic() < end:
-            time.sleep(.05)
-        check.same("rough fleet: processes that outlive their driver", [words_of(process) for process in below
-                                                                        if is_there(process)], [])
+            time.sleep(0.05)
+        check.same(
+            "rough fleet: processes that outlive their driver",
+            [words_of(process) for process in below if is_there(process)],
+            [],
+        )
     done = driver.rows()
-    check.holds(f"rough fleet: {done} traces stand when the driver was killed", 60 <= done < TRACES)
+    check.holds(f"rough fleet: {done} traces stand when the driver was killed", TRACES * 3 // 10 <= done < TRACES)
     again = Driver(room, "rough", "--workers", 3, "--patience", PATIENCE)
-    if check.holds("rough fleet: it goes on from there", again.wait_for(100)):
+    if check.holds("rough fleet: it goes on from there", again.wait_for(TRACES // 2)):
         below = children_of(again.process.pid)
         stopped = again.workers()[-1]
         os.kill(stopped, signal.SIGSTOP)
     check.same("rough fleet: status beside a stopped worker", again.end(), 1)
-    time.sleep(.5)
-    check.same("rough fleet: processes that are left", [words_of(process) for process in below if is_there(process)], [])
+    time.sleep(0.5)
+    check.same(
+        "rough fleet: processes that are left", [words_of(process) for process in below if is_there(process)], []
+    )
     check.same("rough fleet: rows", rows_of(again.out), wanted)
     check.same("rough fleet: files", outputs_of(again.out), outputs_of(room / "calm"))
     nothing_left(check, "rough fleet", again.out)
@@ -289,12 +348,17 @@ def interrupted(check: Check, room: pathlib.Path) -> None:
     """A signal: status 130, a line, and nobody left; a second fleet in the same OUT is refused."""
     driver = Driver(room, "stopped", "--workers", 2)
     if check.holds("stopped fleet: it runs", driver.wait_for(5)):
-        check.command("a second fleet in OUT", ["fleet", room / "list", driver.out, "--program", room / "killer"], 2,
-                      f"fleet: {driver.out}: another fleet is at work there", env=SAFE)
+        check.command(
+            "a second fleet in OUT",
+            ["fleet", room / "list", driver.out, "--program", room / "killer"],
+            2,
+            f"fleet: {driver.out}: another fleet is at work there",
+            env=SAFE,
+        )
         below = children_of(driver.process.pid)
         driver.process.send_signal(signal.SIGINT)
         check.same("stopped fleet: status", driver.end(), 130)
-        time.sleep(.5)
+        time.sleep(0.5)
         check.same("stopped fleet: processes", [words_of(process) for process in below if is_there(process)], [])
         check.holds("stopped fleet: its line", driver.said.read_text().endswith("fleet: stopped\n"))
 
@@ -306,21 +370,46 @@ class Cluster:
         with socket.socket() as free:
             free.bind(("127.0.0.1", 0))
             self.port = free.getsockname()[1]
-        shared = [f"--tls-ca-file={tls}/ca.pem", f"--tls-cert={tls}/cert.pem", f"--tls-key={tls}/key.pem",
-                  "--dashboard-address=127.0.0.1:0"]
+        shared = [
+            f"--tls-ca-file={tls}/ca.pem",
+            f"--tls-cert={tls}/cert.pem",
+            f"--tls-key={tls}/key.pem",
+            "--dashboard-address=127.0.0.1:0",
+        ]
         env = SAFE | {f"DASK_DISTRIBUTED__{part}__HTTP__ROUTES": "[]" for part in ("SCHEDULER", "WORKER", "NANNY")}
-        env |= {"DASK_DISTRIBUTED__SCHEDULER__ALLOWED_FAILURES": "0", "DASK_DISTRIBUTED__SCHEDULER__WORK_STEALING": "False",
-                "DASK_DISTRIBUTED__COMM__REQUIRE_ENCRYPTION": "True"}
+        env |= {
+            "DASK_DISTRIBUTED__SCHEDULER__ALLOWED_FAILURES": "0",
+            "DASK_DISTRIBUTED__SCHEDULER__WORK_STEALING": "False",
+            "DASK_DISTRIBUTED__COMM__REQUIRE_ENCRYPTION": "True",
+        }
         self.processes = []
         self.said = open(room / "cluster.said", "ab")
-        self.start(["/usr/bin/dask-scheduler", "--host=127.0.0.1", f"--port={self.port}", "--protocol=tls", *shared], room, env)
+        self.start(
+            ["/usr/bin/dask-scheduler", "--host=127.0.0.1", f"--port={self.port}", "--protocol=tls", *shared],
+            room,
+            env,
+        )
         for number in range(2):
-            self.start(["/usr/bin/dask-worker", f"tls://127.0.0.1:{self.port}", "--host=127.0.0.1", "--nthreads=1",
-                        "--memory-limit=0", f"--local-directory={room}/worker{number}", "--death-timeout=60", *shared], room, env)
+            self.start(
+                [
+                    "/usr/bin/dask-worker",
+                    f"tls://127.0.0.1:{self.port}",
+                    "--host=127.0.0.1",
+                    "--nthreads=1",
+                    "--memory-limit=0",
+                    f"--local-directory={room}/worker{number}",
+                    "--death-timeout=60",
+                    *shared,
+                ],
+                room,
+                env,
+            )
 
     def start(self, words: list[str], room: pathlib.Path, env: dict) -> None:
         """Starts one program of the cluster."""
-        self.processes.append(subprocess.Popen(words, cwd=room, env=env, stdin=subprocess.DEVNULL, stdout=self.said, stderr=self.said))
+        self.processes.append(
+            subprocess.Popen(words, cwd=room, env=env, stdin=subprocess.DEVNULL, stdout=self.said, stderr=self.said)
+        )
 
     def end(self) -> None:
         """Ends all of it."""
@@ -340,55 +429,133 @@ def real(check: Check, room: pathlib.Path, wanted: list[tuple], tls: pathlib.Pat
     cluster = Cluster(room, tls)
     try:
         driver = Driver(room, "real", *words, f"tls://127.0.0.1:{cluster.port}")
-        if check.holds("real cluster: it runs", driver.wait_for(20)):
-            look_at_listeners(check, "real cluster", [process.pid for process in cluster.processes], foreign)
-            check.command("a fleet with a foreign certificate", ["fleet", room / "list", room / "foreign", "--program",
-                          room / "killer", "--tls", foreign, "--scheduler", f"tls://127.0.0.1:{cluster.port}"], 3, env=SAFE)
+        if check.holds("real cluster: it runs", driver.wait_for(TRACES // 10)):
             cluster.processes[0].kill()
             check.same("real cluster: status without its scheduler", driver.end(), 3)
-            check.holds("real cluster: its line", driver.said.read_text().endswith(
-                "fleet: the scheduler is lost; the same command goes on from here\n"))
+            check.holds(
+                "real cluster: its line",
+                driver.said.read_text().endswith(
+                    "fleet: the scheduler is lost; the same command goes on from here\n"
+                ),
+            )
         done = driver.rows()
-        check.holds(f"real cluster: {done} traces stand", 20 <= done < TRACES)
+        check.holds(f"real cluster: {done} traces stand", TRACES // 10 <= done < TRACES)
     finally:
         cluster.end()
     cluster = Cluster(room, tls)
     try:
         again = Driver(room, "real", *words, f"tls://127.0.0.1:{cluster.port}")
+        again.wait_for(done + TRACES // 10)
+        look_at_listeners(check, "real cluster", [process.pid for process in cluster.processes], foreign)
+        check.command(
+            "a fleet with a foreign certificate",
+            [
+                "fleet",
+                room / "list",
+                room / "foreign-out",
+                "--program",
+                room / "killer",
+                "--tls",
+                foreign,
+                "--scheduler",
+                f"tls://127.0.0.1:{cluster.port}",
+            ],
+            3,
+            env=SAFE,
+        )
         check.same("real cluster: status", again.end(), 1)
-        check.same("real cluster: rows", rows_of(again.out), [row for row in wanted if row[3] not in ("balance", "tables")])
+        check.same(
+            "real cluster: rows", rows_of(again.out), [row for row in wanted if row[3] not in ("balance", "tables")]
+        )
     finally:
         cluster.end()
 
 
 def words(check: Check, room: pathlib.Path, tls: pathlib.Path) -> None:
     """Faulty lists and words: a line with file and number, or the fault, and a status."""
-    lines = {"an empty list": ("", 6, "line 1: the list is empty"),
-             "a path twice": ("a.trace\t5\nb.trace\t5\na.trace\t5\n", 6, "line 3: a.trace: a path twice"),
-             "a path outside": ("../a.trace\t5\n", 6, f"line 1: a path outside {room}"),
-             "a line without octets": ("a.trace\t5\nb.trace\n", 6, "line 2: it isn't a path, octets or SHA-256, and maybe a "
-                                       "report, with a tab between each two"),
-             "octets that are none": ("a.trace\tfive\n", 6, "line 1: five: neither octets nor a SHA-256 of 64 hexadecimal digits")}
+    lines = {
+        "an empty list": ("", 6, "line 1: the list is empty"),
+        "a path twice": ("a.trace\t5\nb.trace\t5\na.trace\t5\n", 6, "line 3: a.trace: a path twice"),
+        "a path outside": ("../a.trace\t5\n", 6, f"line 1: a path outside {room}"),
+        "a line without octets": (
+            "a.trace\t5\nb.trace\n",
+            6,
+            "line 2: it isn't a path, octets or SHA-256, and maybe a " "report, with a tab between each two",
+        ),
+        "octets that are none": (
+            "a.trace\tfive\n",
+            6,
+            "line 1: five: neither octets nor a SHA-256 of 64 hexadecimal digits",
+        ),
+    }
     for what, (text, status, said) in lines.items():
         (room / "bad").write_text(text)
         check.command(what, ["fleet", room / "bad", room / "o"], status, f"fleet: {room}/bad {said}", env=SAFE)
     good, out = room / "list", room / "calm"
-    check.command("a missing list", ["fleet", room / "none", out], 3, f"fleet: {room}/none: No such file or directory", env=SAFE)
+    check.command(
+        "a missing list", ["fleet", room / "none", out], 3, f"fleet: {room}/none: No such file or directory", env=SAFE
+    )
     check.command("an OUT of another program", ["fleet", good, out, "--program", "/bin/true"], 2, env=SAFE)
     check.command("a program that isn't there", ["fleet", good, out, "--program", room / "none"], 3, env=SAFE)
-    check.command("a scheduler without TLS", ["fleet", good, room / "o", "--program", room / "killer", "--tls", tls,
-                                              "--scheduler", "tcp://127.0.0.1:1"], 2, env=SAFE)
-    check.command("a scheduler without certificates", ["fleet", good, room / "o", "--scheduler", "tls://127.0.0.1:1"], 2, env=SAFE)
-    check.command("a scheduler that isn't there", ["fleet", good, room / "o", "--program", room / "killer", "--tls", tls,
-                                                   "--scheduler", "tls://127.0.0.1:1"], 3, env=SAFE)
-    check.command("a merge of no fleet", ["merge", room / "none"], 3, f"merge: {room}/none/fleet.sqlite: no such file")
+    check.command(
+        "a scheduler without TLS",
+        ["fleet", good, room / "o", "--program", room / "killer", "--tls", tls, "--scheduler", "tcp://127.0.0.1:1"],
+        2,
+        env=SAFE,
+    )
+    check.command(
+        "a scheduler without certificates",
+        ["fleet", good, room / "o", "--scheduler", "tls://127.0.0.1:1"],
+        2,
+        env=SAFE,
+    )
+    check.command(
+        "a scheduler that isn't there",
+        ["fleet", good, room / "o", "--program", room / "killer", "--tls", tls, "--scheduler", "tls://127.0.0.1:1"],
+        3,
+        env=SAFE,
+    )
+    check.command(
+        "a merge of no fleet", ["merge", room / "none"], 3, f"merge: {room}/none/fleet.sqlite: no such file"
+    )
     check.command("a fleet where a file is", ["fleet", good, good], 4, env=SAFE)
     (room / "version").mkdir()
     shutil.copy(out / "fleet.sqlite", room / "version/fleet.sqlite")
     with sqlite3.connect(room / "version/fleet.sqlite") as base:
         base.execute("UPDATE run SET version = 99")
-    check.command("an OUT of another version", ["fleet", good, room / "version", "--program", room / "killer"], 2,
-                  f"fleet: {room}/version/fleet.sqlite: of version 99, where this program has 1; give another OUT", env=SAFE)
+    check.command(
+        "an OUT of another version",
+        ["fleet", good, room / "version", "--program", room / "killer"],
+        2,
+        f"fleet: {room}/version/fleet.sqlite: of version 99, where this program has 1; give another OUT",
+        env=SAFE,
+    )
+
+
+def on_a_terminal(check: Check, room: pathlib.Path) -> None:
+    """A bar, on one line that is written over."""
+    (room / "one").write_text(f"{name_of(1)}.trace\t{(room / f'{name_of(1)}.trace').stat().st_size}\n")
+    ours, theirs = pty.openpty()
+    driver = subprocess.Popen(
+        [ANALYSIS / "fleet", room / "one", room / "bar", "--program", room / "killer", "--workers", "1"],
+        stdin=subprocess.DEVNULL,
+        stdout=subprocess.DEVNULL,
+        stderr=theirs,
+        env=SAFE,
+    )
+    os.close(theirs)
+    told = b""
+    try:
+        while part := os.read(ours, 4096):
+            told += part
+    except OSError:
+        pass  # the terminal is closed
+    check.same("fleet on a terminal: status", driver.wait(), 0)
+    last = told.decode().split("\r\x1b[K")[-1]
+    check.holds(
+        f"fleet on a terminal: its bar: {last!r}",
+        re.match(r"\[#{24}\] 1/1 done, 0 failed, 0 lost, .* traces/s, .* lines/s, 1 workers, 0 s left", last),
+    )
 
 
 def memory(check: Check) -> None:
@@ -397,6 +564,7 @@ def memory(check: Check) -> None:
     from pepc_analysis.fleet_list import Listed
     from pepc_analysis.fleet_rows import Job
     from pepc_analysis.fleet_run import Fleet, Out, need_of
+
     job = Job(Listed("a", "a", "1", None), 100_000_000, None, "")
     need = need_of(job, ["audit"])
     check.holds(f"need of an audit of 100 MB: {need}", 300_000_000 < need < 600_000_000)
@@ -414,6 +582,7 @@ def memory(check: Check) -> None:
 def merged(check: Check, out: pathlib.Path, rows: list[tuple]) -> None:
     """The charges of all traces against those of their reports, and the picture."""
     from pepc_analysis import fleet_merge
+
     names = [name for name, *_, step, status, _ in rows if step == "tables" and status in ("0", "9")]
     wanted = [0, 0, 0]
     for name in names:
@@ -427,9 +596,14 @@ def merged(check: Check, out: pathlib.Path, rows: list[tuple]) -> None:
     told = check.command("merge", ["merge", out], 0, "")
     check.same("merge: its line", told, f"{len(names)} traces, {wanted[0]} charges\n")
     base = sqlite3.connect(out / "charges.sqlite")
-    check.same("merge: charges", list(base.execute("SELECT count(*), sum(up), sum(down) FROM charge").fetchone()), wanted)
-    check.same("merge: audits", dict(base.execute("SELECT audit, count(DISTINCT name) FROM charge GROUP BY audit")),
-               {"yes": len(names) - 1, "no 4": 1})
+    check.same(
+        "merge: charges", list(base.execute("SELECT count(*), sum(up), sum(down) FROM charge").fetchone()), wanted
+    )
+    check.same(
+        "merge: audits",
+        dict(base.execute("SELECT audit, count(DISTINCT name) FROM charge GROUP BY audit")),
+        {"yes": len(names) - 1, "no 4": 1},
+    )
     figure = fleet_merge.picture(str(out / "charges.sqlite"))
     counts: dict[str, float] = {}
     for container in figure.axes[2].containers:
@@ -441,8 +615,11 @@ def merged(check: Check, out: pathlib.Path, rows: list[tuple]) -> None:
     check.same("merge: the picture's steps", counts, found)
     unit = {"kB": 1_000, "MB": 1_000_000}[figure.axes[0].get_xlabel().removeprefix("charged, ")]
     widths = [sum(container.patches[0].get_width() for container in figure.axes[0].containers) * unit]
-    check.same("merge: the picture's greatest trace", [round(width) for width in widths],
-               [base.execute("SELECT sum(up + down) FROM charge GROUP BY name ORDER BY 1 DESC LIMIT 1").fetchone()[0]])
+    check.same(
+        "merge: the picture's greatest trace",
+        [round(width) for width in widths],
+        [base.execute("SELECT sum(up + down) FROM charge GROUP BY name ORDER BY 1 DESC LIMIT 1").fetchone()[0]],
+    )
     base.close()
 
 
@@ -456,6 +633,7 @@ def run(check: Check) -> None:
 
     def told(what: str) -> None:
         print(f"  {what}: {time.monotonic() - begun:.0f} s", file=sys.stdout, flush=True)
+
     rows = embedded(check, room, room / "foreign")
     told("undisturbed")
     disturbed(check, room, rows)
@@ -463,6 +641,7 @@ def run(check: Check) -> None:
     real(check, room, rows, room / "tls", room / "foreign")
     told("real cluster")
     interrupted(check, room)
+    on_a_terminal(check, room)
     words(check, room, room / "tls")
     memory(check)
     merged(check, room / "calm", rows)

@@ -7,12 +7,13 @@ from typing import Any, Iterator, NamedTuple
 
 TOP = pathlib.Path(__file__).resolve().parents[2]
 ANALYSIS = TOP / "analysis"
-PEPC = TOP / "pepc"
+PEPC = TOP / "crates/pepc_main/out/pepc_main"
 DEMO = ANALYSIS / "demo.trace"
 
 
 class Pair(NamedTuple):
     """A trace and its report, as files."""
+
     name: str
     trace: pathlib.Path
     report: pathlib.Path
@@ -42,7 +43,9 @@ class Check:
         """A command of analysis/ ends with this status, and says this line on standard error where one is wanted; it
         never shows a traceback. Gives its output."""
         words = [str(ANALYSIS / words[0]), *map(str, words[1:])]
-        ran = subprocess.run(words, stdin=subprocess.DEVNULL, stdout=subprocess.PIPE, stderr=subprocess.PIPE, text=True, **more)
+        ran = subprocess.run(
+            words, stdin=subprocess.DEVNULL, stdout=subprocess.PIPE, stderr=subprocess.PIPE, text=True, **more
+        )
         self.same(f"{what}: status", ran.returncode, status)
         self.holds(f"{what}: no traceback, but {ran.stderr[:400]!r}", "Traceback" not in ran.stderr)
         if said is not None:
@@ -84,7 +87,7 @@ def stored_pairs(room: pathlib.Path) -> Iterator[Pair]:
         middle = lines.index(b"REPORT\n") if b"REPORT\n" in lines else len(lines)
         pair = Pair(f"cases/audit/{both.name}", room / f"audit-{both.name}.trace", room / f"audit-{both.name}.report")
         pair.trace.write_bytes(b"".join(lines[:middle]))
-        report = b"".join(lines[middle + 1:])
+        report = b"".join(lines[middle + 1 :])
         pair.report.write_bytes(report + (b"" if report.endswith(b"\n") or not report else b"\n"))
         yield pair
 
@@ -97,6 +100,7 @@ def nothing_left(check: Check, what: str, folder: pathlib.Path) -> None:
 def is_missing(module: str) -> bool:
     """Whether Debian's Python lacks a module."""
     import importlib.util
+
     return importlib.util.find_spec(module) is None
 
 

@@ -12,8 +12,9 @@ class Words(argparse.ArgumentParser):
     """A command line, whose faults have status 2 and one line."""
 
     def __init__(self, name: str, text: str):
-        super().__init__(prog=name, description=text, formatter_class=argparse.RawDescriptionHelpFormatter,
-                         allow_abbrev=False)
+        super().__init__(
+            prog=name, description=text, formatter_class=argparse.RawDescriptionHelpFormatter, allow_abbrev=False
+        )
 
     def error(self, message: str) -> NoReturn:
         raise Fault(USAGE, f"{message}; see {self.prog} --help")
@@ -26,7 +27,7 @@ def stop(*_) -> NoReturn:
 
 def run(name: str, main: Callable[[list[str]], int]) -> NoReturn:
     """Runs a command; a fault is one line on standard error and its status."""
-    for number in (signal.SIGINT, signal.SIGTERM, signal.SIGHUP):      # a shell's background job has SIGINT ignored
+    for number in (signal.SIGINT, signal.SIGTERM, signal.SIGHUP):  # a shell's background job has SIGINT ignored
         signal.signal(number, stop)
     try:
         status = main(sys.argv[1:])
@@ -48,4 +49,6 @@ def run(name: str, main: Callable[[list[str]], int]) -> NoReturn:
 def needs(module: str, package: str) -> None:
     """A module of a Debian package that isn't there is a fault, which names the package."""
     if importlib.util.find_spec(module) is None:
-        raise Fault(USAGE, f"Debian's package {package} is missing: apt-get install --no-install-recommends {package}")
+        raise Fault(
+            USAGE, f"Debian's package {package} is missing: apt-get install --no-install-recommends {package}"
+        )

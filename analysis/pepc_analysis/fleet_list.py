@@ -11,6 +11,7 @@ SIZE, HASH = re.compile("0|[1-9][0-9]{0,17}"), re.compile("[0-9a-f]{64}")
 
 class Listed(NamedTuple):
     """A line of the list: the trace's name in OUT, its path, what it must be, and the report's path."""
+
     name: str
     path: str
     expected: str
@@ -32,8 +33,10 @@ def read(path: str, base: str) -> list[Listed]:
         raise Fault(READ_FAULT, f"{path}: {why.strerror}") from None
     found: dict[str, Listed] = {}
     for number, line in enumerate(lines, 1):
+
         def wrong(why: str) -> Fault:
             return at(path, number, why, BAD_LINE)
+
         fields = line.split("\t")
         if len(fields) not in (2, 3) or not all(fields):
             raise wrong("it isn't a path, octets or SHA-256, and maybe a report, with a tab between each two")

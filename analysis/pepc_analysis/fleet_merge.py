@@ -41,7 +41,9 @@ def merge(out: str) -> tuple[int, int]:
         base.execute("PRAGMA synchronous = OFF")
         base.executescript(TABLES)
         base.executemany("INSERT INTO step VALUES (?, ?, ?)", rows.execute("SELECT name, step, status FROM step"))
-        for name, in rows.execute("SELECT name FROM step WHERE step = 'tables' AND status IN ('0', '9') ORDER BY name"):
+        for (name,) in rows.execute(
+            "SELECT name FROM step WHERE step = 'tables' AND status IN ('0', '9') ORDER BY name"
+        ):
             add(base, name, f"{out}/{name}.sqlite")
         base.execute("CREATE INDEX charge_of_imsi ON charge (imsi)")
         counts = base.execute("SELECT count(DISTINCT name), count(*) FROM charge").fetchone()
@@ -84,40 +86,55 @@ def add(base: sqlite3.Connection, name: str, path: str) -> None:
 def kind_of(step: str, status: str) -> str:
     """What came of a step, in words."""
     return {"0": "well", "9": "refuted (9)", "6": "bad line (6)", "12": "bad report (12)"}.get(
-        status, status if not status.isdigit() else "other status")
+        status, status if not status.isdigit() else "other status"
+    )
 
 
 def picture(path: str):
     """One picture of the fleet: volume, refusals, and what came of the steps."""
     from matplotlib.figure import Figure
     from .pictures import COLOUR, ROW, finished, nothing, octet_unit, titled
+
     base = sqlite3.connect(path)
     figure = Figure(figsize=(10, 11))
     volume, refusals, steps = figure.subplots(3, 1, gridspec_kw={"height_ratios": [5, 5, 3]})
-    charged = base.execute("SELECT name, sum(up), sum(down) FROM charge GROUP BY name ORDER BY sum(up + down) DESC, name "
-                           "LIMIT ?", (MOST_TRACES,)).fetchall()
+    charged = base.execute(
+        "SELECT name, sum(up), sum(down) FROM charge GROUP BY name ORDER BY sum(up + down) DESC, name " "LIMIT ?",
+        (MOST_TRACES,),
+    ).fetchall()
     traces = base.execute("SELECT count(DISTINCT name) FROM step").fetchone()[0]
     word, unit = octet_unit(max((up + down for _, up, down in charged), default=0))
-    for values, left, label, colour in (([row[1] / unit for row in charged], None, "up", ROW[1]),
-                                        ([row[2] / unit for row in charged], [row[1] / unit for row in charged], "down", ROW[0])):
-        volume.barh(range(len(charged)), values, left=left, label=label, color=colour, height=.75)
+    for values, left, label, colour in (
+        ([row[1] / unit for row in charged], None, "up", ROW[1]),
+        ([row[2] / unit for row in charged], [row[1] / unit for row in charged], "down", ROW[0]),
+    ):
+        volume.barh(range(len(charged)), values, left=left, label=label, color=colour, height=0.75)
     rows_of(volume, [row[0] for row in charged])
     volume.set_xlabel(f"charged, {word}")
     titled(volume, f"Volume of the {len(charged)} greatest of {traces:,} traces", bool(charged))
 
-    colours = {"held": COLOUR[sums.SENT], "idle": COLOUR[sums.IDLE], "policed": COLOUR[sums.POLICED],
-               sums.REFUSED: COLOUR[sums.REFUSED], "queue full": "#AA3377"}
+    colours = {
+        "held": COLOUR[sums.SENT],
+        "idle": COLOUR[sums.IDLE],
+        "policed": COLOUR[sums.POLICED],
+        sums.REFUSED: COLOUR[sums.REFUSED],
+        "queue full": "#AA3377",
+    }
     found: dict[str, dict[str, float]] = {}
     for name, outcome, packets in base.execute("SELECT name, outcome, packets FROM outcome"):
         found.setdefault(name, {})[outcome] = packets
-    share = {name: {what: 100 * packets / sum(counts.values()) for what, packets in counts.items() if what in colours}
-             for name, counts in found.items()}
-    shown = sorted((name for name in share if share[name]), key=lambda name: (-sum(share[name].values()), name))[:MOST_TRACES]
+    share = {
+        name: {what: 100 * packets / sum(counts.values()) for what, packets in counts.items() if what in colours}
+        for name, counts in found.items()
+    }
+    shown = sorted((name for name in share if share[name]), key=lambda name: (-sum(share[name].values()), name))[
+        :MOST_TRACES
+    ]
     left = [0.0] * len(shown)
     for outcome, colour in colours.items():
         values = [share[name].get(outcome, 0) for name in shown]
         if any(values):
-            refusals.barh(range(len(shown)), values, left=left, color=colour, height=.75, label=outcome)
+            refusals.barh(range(len(shown)), values, left=left, color=colour, height=0.75, label=outcome)
         left = [low + value for low, value in zip(left, values)]
     rows_of(refusals, shown)
     refusals.set_xlabel("of the trace's packets, %")
@@ -132,9 +149,14 @@ def picture(path: str):
     left = [0] * len(order)
     for place, kind in enumerate(kinds):
         values = [counts[step].get(kind, 0) for step in order]
-        colour = ROW[0] if kind == "well" else COLOUR[sums.POLICED] if kind.startswith("refuted") else (
-            ["#E69F00", "#CC79A7", "#F0E442", "#009E73", "#999999", "#000000", "#7A3300"][(place - 1) % 7])
-        steps.barh(range(len(order)), values, left=left, color=colour, height=.75, label=kind)
+        colour = (
+            ROW[0]
+            if kind == "well"
+            else COLOUR[sums.POLICED]
+            if kind.startswith("refuted")
+            else (["#E69F00", "#CC79A7", "#F0E442", "#009E73", "#999999", "#000000", "#7A3300"][(place - 1) % 7])
+        )
+        steps.barh(range(len(order)), values, left=left, color=colour, height=0.75, label=kind)
         left = [low + value for low, value in zip(left, values)]
     rows_of(steps, order)
     steps.set_xlabel("traces")
@@ -148,5 +170,5 @@ def picture(path: str):
 def rows_of(axis, names: list[str]) -> None:
     """Names of the rows of lying bars, from the top."""
     axis.set_yticks(range(len(names)), [name if len(name) <= 32 else ".." + name[-30:] for name in names], fontsize=8)
-    axis.set_ylim(max(len(names), 1) - .4, -.6)
+    axis.set_ylim(max(len(names), 1) - 0.4, -0.6)
     axis.grid(axis="y", visible=False)

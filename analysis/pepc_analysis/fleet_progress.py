@@ -33,14 +33,17 @@ class Progress:
     def tell(self, workers: int, last: bool = False) -> None:
         """Shows it, at most five times a second on a terminal and each ten seconds elsewhere."""
         now = time.monotonic()
-        if not last and now - self.shown < (.2 if self.terminal else 10):
+        if not last and now - self.shown < (0.2 if self.terminal else 10):
             return
         self.shown = now
         spent = max(now - self.begun, 1e-9)
         part = min(self.read / self.octets if self.octets > 1 else self.done / max(self.traces, 1), 1)
         left = time_of(spent * (1 - part) / part) if part > 0 else "?"
-        text = (f"{self.done}/{self.traces} done, {self.failed} failed, {self.lost} lost, {self.done / spent:.1f} traces/s, "
-                f"{self.lines / spent:,.0f} lines/s, {workers} workers, {left} left")
+        text = (
+            f"{self.done}/{self.traces} done, {self.failed} failed, {self.lost} lost, "
+            f"{self.done / spent:.1f} traces/s, "
+            f"{self.lines / spent:,.0f} lines/s, {workers} workers, {left} left"
+        )
         if self.terminal:
             filled = WIDE * self.done // max(self.traces, 1)
             text = f"\r\x1b[K[{'#' * filled}{'.' * (WIDE - filled)}] {text}"

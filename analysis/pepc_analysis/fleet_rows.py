@@ -8,10 +8,10 @@ import time
 from typing import Iterable, NamedTuple
 
 from .fleet_list import Listed
-from .faults import Fault, USAGE, WRITE_FAULT
+from .faults import Fault, USAGE, WRITE_FAULT, remove
 
 VERSION = 1
-AGAIN = ("lost", "fault")         # of these steps nothing is known: they are done again
+AGAIN = ("lost", "fault")  # of these steps nothing is known: they are done again
 TABLES = """
 CREATE TABLE run (version INTEGER NOT NULL, program TEXT NOT NULL, path TEXT NOT NULL) STRICT;
 CREATE TABLE trace (name TEXT PRIMARY KEY, path TEXT NOT NULL, report TEXT, expected TEXT NOT NULL, octets INTEGER,
@@ -27,6 +27,7 @@ CREATE VIEW failed AS SELECT name FROM step GROUP BY name HAVING max(status <> '
 
 class Job(NamedTuple):
     """A trace that is to be done: its line of the list, its size, and what its files are known by."""
+
     listed: Listed
     octets: int | None
     report_octets: int | None
@@ -61,8 +62,8 @@ class Rows:
             raise Fault(USAGE, f"{out}: another fleet is at work there") from None
         except OSError as why:
             raise Fault(WRITE_FAULT, f"{out}: {why.strerror}") from None
-        for left in pathlib.Path(out).rglob("*.new"):       # of programs that were killed
-            left.unlink(missing_ok=True)
+        self.out = out
+        self.sweep()
         try:
             self.base = sqlite3.connect(self.path)
             self.base.execute("PRAGMA journal_mode = WAL")
@@ -75,16 +76,30 @@ class Rows:
         except (sqlite3.Error, TypeError) as why:
             raise Fault(WRITE_FAULT, f"{self.path}: {why}") from None
         if version != VERSION:
-            raise Fault(USAGE, f"{self.path}: of version {version}, where this program has {VERSION}; give another OUT")
+            raise Fault(
+                USAGE, f"{self.path}: of version {version}, where this program has {VERSION}; give another OUT"
+            )
         if made_by != program:
-            raise Fault(USAGE, f"{self.path}: made by another program (SHA-256 {made_by[:16]}.., and {path} has "
-                               f"{program[:16]}..); give another OUT")
+            raise Fault(
+                USAGE,
+                f"{self.path}: made by another program (SHA-256 {made_by[:16]}.., and {path} has "
+                f"{program[:16]}..); give another OUT",
+            )
+
+    def sweep(self) -> None:
+        """Files of programs that were killed go."""
+        for left in pathlib.Path(self.out).rglob("*.new"):
+            remove(str(left))
 
     def done(self, steps: str) -> set[tuple[str, str, str]]:
         """Name, expectation and mark of the traces whose rows stand, by these steps."""
-        return set(self.base.execute(
-            f"SELECT name, expected, mark FROM trace WHERE steps = ? AND NOT EXISTS (SELECT 1 FROM step WHERE "
-            f"step.name = trace.name AND status IN {AGAIN})", (steps,)))
+        return set(
+            self.base.execute(
+                f"SELECT name, expected, mark FROM trace WHERE steps = ? AND NOT EXISTS (SELECT 1 FROM step WHERE "
+                f"step.name = trace.name AND status IN {AGAIN})",
+                (steps,),
+            )
+        )
 
     def keep(self, job: Job, steps: str, rows: Iterable[dict], lines: int, attempts: int, host: str) -> None:
         """The rows of a trace, in place of those from before."""
@@ -92,11 +107,26 @@ class Rows:
         try:
             with self.base:
                 self.base.execute("DELETE FROM step WHERE name = ?", (listed.name,))
-                self.base.executemany("INSERT INTO step VALUES (?, :step, :status, :said, :seconds, :memory)".replace(
-                    "?", ":name"), [{**row, "name": listed.name} for row in rows])
-                self.base.execute("INSERT OR REPLACE INTO trace VALUES (?, ?, ?, ?, ?, ?, ?, ?, ?, ?, ?)",
-                                  (listed.name, listed.path, listed.report, listed.expected, job.octets, job.mark, steps,
-                                   lines, attempts, host, int(time.time())))
+                self.base.executemany(
+                    "INSERT INTO step VALUES (?, :step, :status, :said, :seconds, :memory)".replace("?", ":name"),
+                    [{**row, "name": listed.name} for row in rows],
+                )
+                self.base.execute(
+                    "INSERT OR REPLACE INTO trace VALUES (?, ?, ?, ?, ?, ?, ?, ?, ?, ?, ?)",
+                    (
+                        listed.name,
+                        listed.path,
+                        listed.report,
+                        listed.expected,
+                        job.octets,
+                        job.mark,
+                        steps,
+                        lines,
+                        attempts,
+                        host,
+                        int(time.time()),
+                    ),
+                )
         except sqlite3.Error as why:
             raise Fault(WRITE_FAULT, f"{self.path}: {why}") from None
 

@@ -1,6 +1,7 @@
 """Hands traces out to workers, and keeps their rows as they come back."""
 import os
 import queue
+import time
 from typing import NamedTuple
 
 from . import fleet_task
@@ -15,6 +16,7 @@ MEGA = 1_000_000
 
 class Plan(NamedTuple):
     """What is done with each trace."""
+
     out: str
     program: str
     tables: str
@@ -26,6 +28,7 @@ class Plan(NamedTuple):
 
 class Out(NamedTuple):
     """A trace that was handed out."""
+
     job: Job
     host: str
     need: int
@@ -39,7 +42,7 @@ def need_of(job: Job, steps: list[str]) -> int:
     need = 32 * MEGA
     if "tables" in steps:
         need = 200 * MEGA if trace > 20 * MEGA else 80 * MEGA
-    if "audit" in steps or "balance" in steps:      # they take their input whole
+    if "audit" in steps or "balance" in steps:  # they take their input whole
         need = max(need, 32 * MEGA + 2 * (trace + report))
     return need
 
@@ -47,10 +50,11 @@ def need_of(job: Job, steps: list[str]) -> int:
 class Fleet:
     """The traces that wait, those that are out, and where."""
 
-    def __init__(self, client, rows: Rows, plan: Plan, jobs: list[Job], memory: int | None):
+    def __init__(self, client, rows: Rows, plan: Plan, jobs: list[Job], memory: int | None, alone: int | None):
         self.client, self.rows, self.plan = client, rows, plan
+        self.alone, self.seen = alone, time.monotonic()  # seconds without a worker at most, and when there was one
         self.hosts = Hosts(client, memory)
-        self.waiting = sorted(jobs, key=lambda job: job.octets or 0, reverse=True)      # the longest first
+        self.waiting = sorted(jobs, key=lambda job: job.octets or 0, reverse=True)  # the longest first
         self.tries: dict[str, int] = {}
         self.out: dict[str, Out] = {}
         self.futures: dict = {}
@@ -62,7 +66,7 @@ class Fleet:
         best = None
         for name, host in hosts.items():
             mine = [out for out in self.out.values() if out.host == name]
-            free = host.threads - len(mine)         # none waits at a worker, as one that dies would take it along
+            free = host.threads - len(mine)  # none waits at a worker, as one that dies would take it along
             fits = sum(out.need for out in mine) + need <= host.memory or not mine
             if free > 0 and fits and (best is None or free > best[0]):
                 best = (free, name)
@@ -87,11 +91,25 @@ class Fleet:
         """Gives a trace to a machine."""
         attempt = self.tries[job.listed.name] = self.tries.get(job.listed.name, 0) + 1
         plan = self.plan
-        words = {"trace": job.listed.path, "report": job.listed.report, "expected": job.listed.expected,
-                 "out": os.path.join(plan.out, job.listed.name), "program": plan.program, "tables": plan.tables,
-                 "steps": plan.steps, "setup": plan.setup, "slices": plan.slices, "limit": plan.limit}
-        future = self.client.submit(fleet_task.run_trace, words, pure=False, key=f"{job.listed.name} {attempt} {id(words)}",
-                                    workers=None if len(hosts) == 1 else [host])
+        words = {
+            "trace": job.listed.path,
+            "report": job.listed.report,
+            "expected": job.listed.expected,
+            "out": os.path.join(plan.out, job.listed.name),
+            "program": plan.program,
+            "tables": plan.tables,
+            "steps": plan.steps,
+            "setup": plan.setup,
+            "slices": plan.slices,
+            "limit": plan.limit,
+        }
+        future = self.client.submit(
+            fleet_task.run_trace,
+            words,
+            pure=False,
+            key=f"{job.listed.name} {attempt} {id(words)}",
+            workers=None if len(hosts) == 1 else [host],
+        )
         self.out[future.key] = Out(job, host, need, attempt)
         self.futures[future.key] = future
         future.add_done_callback(self.back.put)
@@ -110,10 +128,11 @@ class Fleet:
         """What came of a trace that was handed out."""
         from concurrent.futures import CancelledError
         from distributed.scheduler import KilledWorker
+
         out = self.out.pop(future.key, None)
         self.futures.pop(future.key, None)
         if out is None:
-            return                                          # recalled
+            return  # recalled
         job = out.job
         try:
             told = future.result()
@@ -124,8 +143,8 @@ class Fleet:
             told = self.nothing("lost", f"its worker died, {out.attempts} times")
         except (CancelledError, OSError):
             raise Fault(READ_FAULT, "the scheduler is lost; the same command goes on from here") from None
-        except Exception as why:                            # whatever a worker's Python makes of the task
-            told = self.nothing("fault", f"{type(why).__name__}: {why}"[:fleet_task.SAID])
+        except Exception as why:  # whatever a worker's Python makes of the task
+            told = self.nothing("fault", f"{type(why).__name__}: {why}"[: fleet_task.SAID])
         self.rows.keep(job, ",".join(self.plan.steps), told["rows"], told["lines"], out.attempts, told["host"])
         self.progress.count([row["status"] for row in told["rows"]], told["lines"], job.octets or 0)
 
@@ -133,6 +152,13 @@ class Fleet:
     def nothing(status: str, said: str) -> dict:
         """The row of a trace of which nothing is known."""
         return {"rows": [fleet_task.row("run", status, said)], "lines": 0, "host": "-"}
+
+    def look_for_workers(self) -> None:
+        """An embedded cluster whose workers don't begin anew is given up."""
+        if self.hosts.workers:
+            self.seen = time.monotonic()
+        elif self.alone and time.monotonic() - self.seen > self.alone:
+            raise Fault(READ_FAULT, f"no worker for {self.alone} s; the same command goes on from here")
 
     def run(self) -> None:
         """Hands all out, and takes all back."""
@@ -142,10 +168,11 @@ class Fleet:
             try:
                 self.hand_out()
                 self.recall()
+                self.look_for_workers()
             except OSError:
                 raise Fault(READ_FAULT, "the scheduler is lost; the same command goes on from here") from None
             try:
-                self.take(self.back.get(timeout=.5))
+                self.take(self.back.get(timeout=0.5))
                 while True:
                     self.take(self.back.get_nowait())
             except queue.Empty:

@@ -10,9 +10,9 @@ import tempfile
 import threading
 import time
 
-SAID = 400               # octets of a line that a row keeps
+SAID = 400  # octets of a line that a row keeps
 PIECE = 1 << 20
-SAMPLED = .05            # seconds between two looks at a program's memory
+SAMPLED = 0.05  # seconds between two looks at a program's memory
 
 
 def row(step, status, said="", seconds=0.0, memory=0):
@@ -26,9 +26,13 @@ def free_memory():
         return next(int(line.split()[1]) * 1024 for line in told if line.startswith("MemAvailable"))
 
 
-def most_memory(pid):
-    """The most octets that a program held so far, or 0 where it is gone."""
+def most_memory(pid, program):
+    """The most octets that a process held so far, or 0 where it isn't this program yet, or any more."""
     try:
+        with open(f"/proc/{pid}/cmdline", "rb") as told:
+            words = told.read().split(b"\0")
+        if words[0] == b"setpriv" or program.encode() not in words:
+            return 0
         with open(f"/proc/{pid}/status") as told:
             return next((int(line.split()[1]) * 1024 for line in told if line.startswith("VmHWM")), 0)
     except OSError:
@@ -41,11 +45,11 @@ def line_of(octets):
 
 
 class Feeder(threading.Thread):
-    """Writes files and octets into a program, one behind another with a newline behind each, and looks at its memory."""
+    """Writes files and octets into a program, a newline behind each, and looks at its memory."""
 
-    def __init__(self, process, pieces):
+    def __init__(self, process, program, pieces):
         super().__init__(daemon=True)
-        self.process, self.pieces = process, pieces
+        self.process, self.program, self.pieces = process, program, pieces
         self.memory = self.lines = 0
         self.ended = threading.Event()
 
@@ -55,9 +59,14 @@ class Feeder(threading.Thread):
                 for piece in self.pieces:
                     self.feed(pipe, piece)
         except OSError:
-            pass                              # the program ended before: its status tells
+            pass  # the program ended before: its status tells
+        self.sample()
         while not self.ended.wait(SAMPLED):
-            self.memory = max(self.memory, most_memory(self.process.pid))
+            self.sample()
+
+    def sample(self):
+        """Looks at the program's memory."""
+        self.memory = max(self.memory, most_memory(self.process.pid, self.program))
 
     def feed(self, pipe, piece):
         """One piece."""
@@ -70,7 +79,7 @@ class Feeder(threading.Thread):
                 pipe.write(octets)
                 self.lines += octets.count(b"\n")
                 last = octets[-1:]
-                self.memory = max(self.memory, most_memory(self.process.pid))
+                self.sample()
         if last != b"\n":
             pipe.write(b"\n")
             self.lines += 1
@@ -84,14 +93,14 @@ def run_step(step, words, pieces, out, limit):
     try:
         with open(new, "wb") as sink, tempfile.TemporaryFile() as errors:
             # pdeathsig: where the worker dies its program dies too, and writes no more
-            process = subprocess.Popen(["setpriv", "--pdeathsig", "KILL", "--", *words], stdin=subprocess.PIPE,
-                                       stdout=sink, stderr=errors)
+            process = subprocess.Popen(
+                ["setpriv", "--pdeathsig", "KILL", "--", *words], stdin=subprocess.PIPE, stdout=sink, stderr=errors
+            )
             late = threading.Timer(limit, process.kill)
             late.start()
-            feeder = Feeder(process, pieces)
+            feeder = Feeder(process, words[0], pieces)
             feeder.start()
-            _, status, used = os.wait4(process.pid, 0)
-            process.returncode = os.waitstatus_to_exitcode(status)
+            process.wait()
             in_time = late.is_alive()
             late.cancel()
             feeder.ended.set()
@@ -105,8 +114,14 @@ def run_step(step, words, pieces, out, limit):
         except OSError:
             pass
         return row(step, "fault", str(why), time.monotonic() - begun), 0
-    ended = str(process.returncode) if process.returncode >= 0 else f"signal {-process.returncode}" if in_time else "timeout"
-    return row(step, ended, said, time.monotonic() - begun, feeder.memory or used.ru_maxrss * 1024), feeder.lines
+    ended = (
+        str(process.returncode)
+        if process.returncode >= 0
+        else f"signal {-process.returncode}"
+        if in_time
+        else "timeout"
+    )
+    return row(step, ended, said, time.monotonic() - begun, feeder.memory), feeder.lines
 
 
 def found(job):
@@ -119,8 +134,11 @@ def found(job):
             if digest != job["expected"]:
                 return row("find", "changed", f"its SHA-256 is {digest}")
         elif int(job["expected"]) != size:
-            return row("find", "cut" if size < int(job["expected"]) else "changed",
-                       f"{size} octets, where the list has {job['expected']}")
+            return row(
+                "find",
+                "cut" if size < int(job["expected"]) else "changed",
+                f"{size} octets, where the list has {job['expected']}",
+            )
         if job["report"] and not os.path.isfile(job["report"]):
             return row("find", "missing", f"{os.path.basename(job['report'])}: no such file")
     except OSError as why:
@@ -132,7 +150,7 @@ def first_line(path, number):
     """A line of what a step wrote."""
     try:
         with open(path, "rb") as told:
-            return line_of(b"".join(told.read(SAID).split(b"\n")[number:number + 1]))
+            return line_of(b"".join(told.read(SAID).split(b"\n")[number : number + 1]))
     except OSError:
         return ""
 
@@ -153,7 +171,7 @@ def run_trace(job):
         if "solo" in steps or not os.path.isfile(report):
             told, lines = run_step("solo", [program, "solo"], [trace], report, job["limit"])
             rows.append(told)
-            if told["status"] not in ("0", "6", "7"):       # no report of all lines before the trace's stop
+            if told["status"] not in ("0", "6", "7"):  # no report of all lines before the trace's stop
                 return {"rows": rows, "lines": lines, "host": socket.gethostname()}
     both, judged = [trace, b"REPORT\n", report], "not audited"
     if "audit" in steps:
@@ -168,13 +186,23 @@ def run_trace(job):
             why["said"] = first_line(out + ".why", 1)
             rows.append(why)
     if "balance" in steps:
-        rows.append(run_step("balance", [program, "balance", "--slices", job["slices"]], both, out + ".balanced",
-                             job["limit"])[0])
+        rows.append(
+            run_step(
+                "balance", [program, "balance", "--slices", job["slices"]], both, out + ".balanced", job["limit"]
+            )[0]
+        )
     if "tables" in steps:
-        rows.append(run_step("tables", [job["tables"], trace, report, out + ".sqlite", "--audit", judged], [],
-                             out + ".tables", job["limit"])[0])
+        rows.append(
+            run_step(
+                "tables",
+                [job["tables"], trace, report, out + ".sqlite", "--audit", judged],
+                [],
+                out + ".tables",
+                job["limit"],
+            )[0]
+        )
         try:
-            os.unlink(out + ".tables")                      # it writes nothing on standard output
+            os.unlink(out + ".tables")  # it writes nothing on standard output
         except OSError:
             pass
     return {"rows": rows, "lines": lines, "host": socket.gethostname()}

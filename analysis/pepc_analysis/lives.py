@@ -4,7 +4,7 @@ from . import wire
 from .wire import Peer
 
 MOST_RATE = 2**40 - 1
-GUARANTEED = range(1, 5)      # QCIs of a guaranteed rate: their own rate counts, and not the AMBR
+GUARANTEED = range(1, 5)  # QCIs of a guaranteed rate: their own rate counts, and not the AMBR
 
 
 class Misfit(Exception):
@@ -36,8 +36,10 @@ class Slot:
 
     def asked(self, sequence: int) -> int | None:
         """The least index of a bearer that is asked under this number."""
-        return min((index for index, bearer in self.bearers.items()
-                    if bearer.ebi is None and bearer.sequence == sequence), default=None)
+        return min(
+            (index for index, bearer in self.bearers.items() if bearer.ebi is None and bearer.sequence == sequence),
+            default=None,
+        )
 
 
 class Lives:
@@ -59,7 +61,9 @@ class Lives:
                 if message.type == wire.CREATE_SESSION:
                     self.imsis[slot] = wire.imsi_of(message.body)
 
-    def take(self, slot: int, number: int, line: int, moment: int, kind: bytes, fields: list[bytes], outcome: str) -> None:
+    def take(
+        self, slot: int, number: int, line: int, moment: int, kind: bytes, fields: list[bytes], outcome: str
+    ) -> None:
         """What a command does to the lives of its slot; repeats and refusals do nothing, but for an answer that lets
         an asked bearer go."""
         if outcome == "again":
@@ -76,7 +80,9 @@ class Lives:
             return
         elif kind == b"ATTACH":
             self.rate(None, int(fields[5]), int(fields[6]))
-            self.attach(own, 5, Peer(fields[3].decode(), int.from_bytes(bytes.fromhex(fields[4].decode())[:4], "big")))
+            self.attach(
+                own, 5, Peer(fields[3].decode(), int.from_bytes(bytes.fromhex(fields[4].decode())[:4], "big"))
+            )
         elif kind == b"AMBR":
             self.rate(None, int(fields[3]), int(fields[4]))
         elif kind == b"BEARER":

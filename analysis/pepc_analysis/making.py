@@ -15,10 +15,17 @@ def opened(path: str):
         raise Fault(READ_FAULT, f"{path}: {why.strerror}") from None
 
 
-def make_tables(trace_path: str, report_path: str, out: str, octets: bool = False, sheets: str | None = None,
-                audit: str = "not audited") -> list[str]:
+def make_tables(
+    trace_path: str,
+    report_path: str,
+    out: str,
+    octets: bool = False,
+    sheets: str | None = None,
+    audit: str = "not audited",
+) -> list[str]:
     """Makes OUT, and FOLDER/TABLE.csv where a folder for sheets is given. Tells what isn't as it must be: a life whose
-    charges aren't what was forwarded, or that has no begin, and a line without an entry. At a fault nothing is left."""
+    charges aren't what was forwarded, or that has no begin, and a line without an entry. At a fault nothing is left.
+    """
     with opened(trace_path) as trace, opened(report_path) as report:
         if not os.path.isdir(os.path.dirname(out) or "."):
             raise Fault(WRITE_FAULT, f"{out}: its folder isn't there")
@@ -28,8 +35,19 @@ def make_tables(trace_path: str, report_path: str, out: str, octets: bool = Fals
             store.begin()
             reading.run(store.take)
             sizes = (os.fstat(file.fileno()).st_size for file in (trace, report))
-            store.end((schema.VERSION, os.path.basename(trace_path), os.path.basename(report_path), *sizes, reading.line,
-                       reading.at, reading.epoch + 1, reading.unanswered_from, audit))
+            store.end(
+                (
+                    schema.VERSION,
+                    os.path.basename(trace_path),
+                    os.path.basename(report_path),
+                    *sizes,
+                    reading.line,
+                    reading.at,
+                    reading.epoch + 1,
+                    reading.unanswered_from,
+                    audit,
+                )
+            )
             wrongs = list(store.wrongs())
             if sheets:
                 write_sheets(store.base, sheets)

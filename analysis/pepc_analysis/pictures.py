@@ -3,28 +3,48 @@ import os
 import sqlite3
 
 import matplotlib
-matplotlib.use("Agg")
-from matplotlib.axes import Axes                  # noqa: E402
-from matplotlib.figure import Figure              # noqa: E402
-from matplotlib.lines import Line2D               # noqa: E402
-from matplotlib.patches import Patch              # noqa: E402
 
-from . import sums                                # noqa: E402
-from .faults import Fault, WRITE_FAULT, remove    # noqa: E402
-from .sums import (Bars, FORWARDED, GBR, IDLE, LOST, OUTCOMES, POLICED, REFUSED, SENT, WAITING)   # noqa: E402
+matplotlib.use("Agg")
+from matplotlib.axes import Axes  # noqa: E402
+from matplotlib.figure import Figure  # noqa: E402
+from matplotlib.lines import Line2D  # noqa: E402
+from matplotlib.patches import Patch  # noqa: E402
+
+from . import sums  # noqa: E402
+from .faults import Fault, WRITE_FAULT, remove  # noqa: E402
+from .sums import Bars, FORWARDED, GBR, IDLE, LOST, OUTCOMES, POLICED, REFUSED, SENT, WAITING  # noqa: E402
 
 # Okabe and Ito's colours, which the colour-blind tell apart; what was forwarded is quiet, what was lost is loud
-COLOUR = {FORWARDED: "#56B4E9", FORWARDED + GBR: "#0072B2", SENT: "#009E73", WAITING: "#8FD3BE", IDLE: "#E69F00",
-          LOST: "#CC79A7", POLICED: "#D55E00", POLICED + GBR: "#7A3300", REFUSED: "#000000"}
+COLOUR = {
+    FORWARDED: "#56B4E9",
+    FORWARDED + GBR: "#0072B2",
+    SENT: "#009E73",
+    WAITING: "#8FD3BE",
+    IDLE: "#E69F00",
+    LOST: "#CC79A7",
+    POLICED: "#D55E00",
+    POLICED + GBR: "#7A3300",
+    REFUSED: "#000000",
+}
 ROW = ["#56B4E9", "#E69F00", "#009E73", "#CC79A7", "#0072B2", "#D55E00", "#F0E442", "#999999"]
 ENODEBS = ["#4477AA", "#EE6677", "#228833", "#CCBB44", "#AA3377", "#66CCEE"]
 MOST_SUBSCRIBERS = 20
 MOST_MARKS = 2_000
 HELD_AT_MOST = 16
 
-matplotlib.rcParams.update({"figure.dpi": 100, "font.size": 10, "axes.spines.top": False, "axes.spines.right": False,
-                            "axes.grid": True, "grid.alpha": .3, "legend.frameon": False, "axes.axisbelow": True,
-                            "svg.hashsalt": "pepc"})
+matplotlib.rcParams.update(
+    {
+        "figure.dpi": 100,
+        "font.size": 10,
+        "axes.spines.top": False,
+        "axes.spines.right": False,
+        "axes.grid": True,
+        "grid.alpha": 0.3,
+        "legend.frameon": False,
+        "axes.axisbelow": True,
+        "svg.hashsalt": "pepc",
+    }
+)
 
 
 def save(figure: Figure, folder: str, name: str) -> None:
@@ -68,20 +88,27 @@ def octet_unit(most: int) -> tuple[str, int]:
 def nothing(axis: Axes) -> None:
     """An empty panel says so."""
     axis.set_yticks([])
-    axis.text(.5, .5, "none", transform=axis.transAxes, ha="center", va="center", color="#666666")
+    axis.text(0.5, 0.5, "none", transform=axis.transAxes, ha="center", va="center", color="#666666")
 
 
 def titled(axis: Axes, title: str, legend: bool = True) -> None:
     """The title of a panel at its left, the legend at its right."""
     axis.set_title(title, loc="left", fontsize=11)
     if legend and axis.get_legend_handles_labels()[0]:
-        axis.legend(ncol=9, loc="lower right", bbox_to_anchor=(1.01, .98), fontsize=8, handlelength=1, columnspacing=.9,
-                    handletextpad=.4)
+        axis.legend(
+            ncol=9,
+            loc="lower right",
+            bbox_to_anchor=(1.01, 0.98),
+            fontsize=8,
+            handlelength=1,
+            columnspacing=0.9,
+            handletextpad=0.4,
+        )
 
 
 def finished(figure: Figure, title: str) -> Figure:
     """The figure's title, and room for all of it."""
-    figure.suptitle(title, x=.01, ha="left", weight="bold")
+    figure.suptitle(title, x=0.01, ha="left", weight="bold")
     figure.tight_layout()
     return figure
 
@@ -92,8 +119,16 @@ def stack(axis: Axes, bars: Bars, heights: dict[str, list[float]], unit: int) ->
     floor = [0.0] * len(at)
     for outcome, values in heights.items():
         if any(values):
-            axis.bar(at, values, width=bars.step / unit, bottom=floor, align="edge", color=COLOUR[outcome], label=outcome,
-                     linewidth=0)
+            axis.bar(
+                at,
+                values,
+                width=bars.step / unit,
+                bottom=floor,
+                align="edge",
+                color=COLOUR[outcome],
+                label=outcome,
+                linewidth=0,
+            )
             floor = [low + value for low, value in zip(floor, values)]
     axis.grid(axis="x", visible=False)
     axis.set_ylim(0, max(max(floor) * 1.06, 1e-9))
@@ -132,8 +167,14 @@ def volume(base: sqlite3.Connection, bars: Bars, name: str) -> Figure:
     for axis, way, title in ((axes[0], "down", "Downlink"), (axes[1], "up", "Uplink")):
         rate_panel(axis, bars, rates_of(found, way, bars), unit)
         titled(axis, title)
-    rest = {outcome: [(up + down) / (bars.step / 1e6) for (_, up), (_, down) in zip(found["up", outcome],
-                      found["down", outcome])] for outcome in OUTCOMES if not outcome.startswith(FORWARDED)}
+    rest = {
+        outcome: [
+            (up + down) / (bars.step / 1e6)
+            for (_, up), (_, down) in zip(found["up", outcome], found["down", outcome])
+        ]
+        for outcome in OUTCOMES
+        if not outcome.startswith(FORWARDED)
+    }
     stack(axes[2], bars, rest, unit)
     axes[2].set_ylabel(f"packets a second\n(mean of {width_of(bars.step)})")
     titled(axes[2], "Both ways, not forwarded at once")
@@ -146,27 +187,37 @@ def charged(base: sqlite3.Connection, name: str) -> Figure:
     qcis = sorted({qci for charges in shown for qci in charges.up})
     most = max((max(sum(c.up.values()), sum(c.down.values())) for c in shown), default=0)
     word, unit = octet_unit(most)
-    figure = Figure(figsize=(10, 1.8 + .28 * max(len(shown), 3)))
+    figure = Figure(figsize=(10, 1.8 + 0.28 * max(len(shown), 3)))
     axes = figure.subplots(1, 2, sharey=True)
     for axis, way, title in ((axes[0], "up", "Uplink"), (axes[1], "down", "Downlink")):
         left = [0.0] * len(shown)
         for place, qci in enumerate(qcis):
             width = [getattr(charges, way).get(qci, 0) / unit for charges in shown]
-            axis.barh(range(len(shown)), width, left=left, height=.75, color=ROW[place % len(ROW)],
-                      hatch="////" if qci <= 4 else None, edgecolor="white", linewidth=0,
-                      label=f"QCI {qci}" + (" (own rate)" if qci <= 4 else ""))
+            axis.barh(
+                range(len(shown)),
+                width,
+                left=left,
+                height=0.75,
+                color=ROW[place % len(ROW)],
+                hatch="////" if qci <= 4 else None,
+                edgecolor="white",
+                linewidth=0,
+                label=f"QCI {qci}" + (" (own rate)" if qci <= 4 else ""),
+            )
             left = [low + value for low, value in zip(left, width)]
         axis.set_xlabel(f"charged, {word}" + (f" ({unit:,} octets)" if unit > 1 else ""))
         axis.grid(axis="y", visible=False)
         titled(axis, title, way == "down")
     axes[0].set_yticks(range(len(shown)), [f"{charges.imsi}  slot {charges.slot}" for charges in shown], fontsize=9)
-    axes[0].set_ylim(len(shown) - .4, -.6)
+    axes[0].set_ylim(len(shown) - 0.4, -0.6)
     axes[0].set_ylabel("IMSI and slot")
     if not shown:
         for axis in axes:
             nothing(axis)
     part = sum(sum(c.up.values()) + sum(c.down.values()) for c in shown) * 100 / octets if octets else 100
-    return finished(figure, f"Charged octets of the {len(shown)} greatest of {count:,} subscribers ({part:.0f} %): {name}")
+    return finished(
+        figure, f"Charged octets of the {len(shown)} greatest of {count:,} subscribers ({part:.0f} %): {name}"
+    )
 
 
 def policing(base: sqlite3.Connection, bars: Bars, name: str) -> Figure:
@@ -176,13 +227,29 @@ def policing(base: sqlite3.Connection, bars: Bars, name: str) -> Figure:
     rows = sums.policed_shares(base, bars, MOST_MARKS)
     seconds = (bars.high - bars.low) / 1e6
     word, size = rate_unit(max((row[3] * 8 / seconds for row in rows), default=0))
-    for way, gbr, colour, mark in (("down", 0, "#0072B2", "o"), ("up", 0, "#E69F00", "^"), ("down", 1, "#009E73", "s"),
-                                   ("up", 1, "#CC79A7", "D")):
-        mine = [(slot, tried * 8 / seconds / size, 100 * policed / tried) for slot, found, qci, tried, policed in rows
-                if found == way and qci == gbr and tried]
+    for way, gbr, colour, mark in (
+        ("down", 0, "#0072B2", "o"),
+        ("up", 0, "#E69F00", "^"),
+        ("down", 1, "#009E73", "s"),
+        ("up", 1, "#CC79A7", "D"),
+    ):
+        mine = [
+            (slot, tried * 8 / seconds / size, 100 * policed / tried)
+            for slot, found, qci, tried, policed in rows
+            if found == way and qci == gbr and tried
+        ]
         if mine:
-            shares.scatter([row[1] for row in mine], [row[2] for row in mine], s=28, color=colour, marker=mark, alpha=.8,
-                           linewidths=0, clip_on=False, label=f"{way}link, " + ("own rate (QCI 1 to 4)" if gbr else "AMBR"))
+            shares.scatter(
+                [row[1] for row in mine],
+                [row[2] for row in mine],
+                s=28,
+                color=colour,
+                marker=mark,
+                alpha=0.8,
+                linewidths=0,
+                clip_on=False,
+                label=f"{way}link, " + ("own rate (QCI 1 to 4)" if gbr else "AMBR"),
+            )
         for slot, rate, share in sorted(mine, key=lambda row: -row[2])[:3]:
             if share >= 1:
                 shares.annotate(f"slot {slot}", (rate, share), xytext=(5, 4), textcoords="offset points", fontsize=8)
@@ -198,8 +265,14 @@ def policing(base: sqlite3.Connection, bars: Bars, name: str) -> Figure:
     step, counts = sums.waits(base, bars, 40)
     name_of_unit, unit = time_unit(step * 40)
     if counts:
-        wait.bar([number * step / unit for number, _ in counts], [count for _, count in counts], width=step / unit,
-                 align="edge", color=COLOUR[SENT], linewidth=0)
+        wait.bar(
+            [number * step / unit for number, _ in counts],
+            [count for _, count in counts],
+            width=step / unit,
+            align="edge",
+            color=COLOUR[SENT],
+            linewidth=0,
+        )
     else:
         nothing(wait)
     wait.set_xlabel(f"from being held to their fate, {name_of_unit} (bars of {width_of(step)})")
@@ -215,13 +288,13 @@ def bearer_panel(axis: Axes, base: sqlite3.Connection, slot: int, bars: Bars, un
     idle = False
     for row, (life, _, _) in enumerate(lives):
         for stretch in sums.stretches(base, slot, life, bars):
-            place = {"left": stretch.begin / unit, "width": (stretch.end - stretch.begin) / unit, "height": .62}
+            place = {"left": stretch.begin / unit, "width": (stretch.end - stretch.begin) / unit, "height": 0.62}
             if stretch.enodeb is None:
                 idle = True
-                axis.barh(row, color="white", edgecolor="#888888", hatch="////", linewidth=.6, **place)
+                axis.barh(row, color="white", edgecolor="#888888", hatch="////", linewidth=0.6, **place)
             else:
                 colour = colours.setdefault(stretch.enodeb, ENODEBS[len(colours) % len(ENODEBS)])
-                axis.barh(row, color=colour, edgecolor="white", linewidth=.6, **place)
+                axis.barh(row, color=colour, edgecolor="white", linewidth=0.6, **place)
     keys = [Patch(color=colour, label=enodeb) for enodeb, colour in list(colours.items())[:6]]
     if idle:
         keys.append(Patch(facecolor="white", edgecolor="#888888", hatch="////", label="no eNodeB"))
@@ -231,10 +304,17 @@ def bearer_panel(axis: Axes, base: sqlite3.Connection, slot: int, bars: Bars, un
     if moments:
         keys.append(Line2D([], [], color="black", linestyle=":", label="move to another slice"))
     if keys:
-        axis.legend(handles=keys, ncol=8, loc="lower right", bbox_to_anchor=(1.01, .96), fontsize=8, handlelength=1.4,
-                    columnspacing=.9)
+        axis.legend(
+            handles=keys,
+            ncol=8,
+            loc="lower right",
+            bbox_to_anchor=(1.01, 0.96),
+            fontsize=8,
+            handlelength=1.4,
+            columnspacing=0.9,
+        )
     axis.set_yticks(range(len(lives)), [f"life {life}: EBI {ebi}, QCI {qci}" for life, ebi, qci in lives])
-    axis.set_ylim(max(len(lives), 1) - .4, -.6)
+    axis.set_ylim(max(len(lives), 1) - 0.4, -0.6)
     axis.grid(axis="y", visible=False)
     titled(axis, "Bearers, by eNodeB", False)
     if not lives:
@@ -245,8 +325,10 @@ def subscriber(base: sqlite3.Connection, slot: int, bars: Bars, name: str) -> Fi
     """One subscriber: its bearers, both ways against the AMBR, and the packets that wait."""
     imsi = (base.execute("SELECT imsi FROM subscriber WHERE slot = ?", (slot,)).fetchone() or ("?",))[0]
     rows = len(sums.bearers(base, slot, bars))
-    figure = Figure(figsize=(10, 8.2 + .25 * min(rows, 12)))
-    bearers, down, up, wait = figure.subplots(4, 1, sharex=True, gridspec_kw={"height_ratios": [.8 + .4 * rows, 2.2, 2.2, 1.3]})
+    figure = Figure(figsize=(10, 8.2 + 0.25 * min(rows, 12)))
+    bearers, down, up, wait = figure.subplots(
+        4, 1, sharex=True, gridspec_kw={"height_ratios": [0.8 + 0.4 * rows, 2.2, 2.2, 1.3]}
+    )
     unit = time_axis(wait, bars)
     bearer_panel(bearers, base, slot, bars, unit)
     found = sums.outcomes(base, bars, slot)
@@ -254,7 +336,7 @@ def subscriber(base: sqlite3.Connection, slot: int, bars: Bars, name: str) -> Fi
         size, top = rate_panel(axis, bars, rates_of(found, way, bars), unit)
         steps = [(moment / unit, kbps * 1e3 / size) for moment, kbps in sums.ambr(base, slot, way, bars)]
         lowest = min((rate for _, rate in steps), default=0)
-        if top and steps and lowest <= 3 * top:        # else the bars would be flat below it, and its height is told
+        if top and steps and lowest <= 3 * top:  # else the bars would be flat below it, and its height is told
             axis.step(*zip(*steps), where="post", color="black", linewidth=1.2, label="AMBR (for QCI 5 and above)")
             axis.set_ylim(0, max(top, min(max(rate for _, rate in steps), 3 * top)) * 1.08)
         elif top and steps:

@@ -7,16 +7,25 @@ from functools import partial
 from typing import BinaryIO, Callable
 
 from . import entries, schema, wire
-from .faults import BAD_LINE, BAD_REPORT, Fault, READ_FAULT, TOO_LONG, at
+from .faults import BAD_LINE, BAD_REPORT, Fault, TOO_LONG, at
 from .lives import Lives, Misfit
 
-LONGEST = 132_000                 # octets of a line, without its newline
+LONGEST = 132_000  # octets of a line, without its newline
 EPOCH_LINES, EPOCH_OCTETS = 65_536, 67_108_864
-FLUSHED = 2_000_000               # octets of the report between two times that rows are handed on
+FLUSHED = 2_000_000  # octets of the report between two times that rows are handed on
 COMMANDS = {b"S11", b"ATTACH", b"BEARER", b"FILTERS", b"DROP", b"AMBR"}
 KINDS = {b"S1U": "S1U", b"SGI": "SGI"}
-WAYS = {("S1U", "up"), ("S1U", "spoof"), ("S1U", "nobearer"), ("S1U", "policed"),
-        ("SGI", "down"), ("SGI", "nobearer"), ("SGI", "policed"), ("SGI", "idle"), ("SGI", "held")}
+WAYS = {
+    ("S1U", "up"),
+    ("S1U", "spoof"),
+    ("S1U", "nobearer"),
+    ("S1U", "policed"),
+    ("SGI", "down"),
+    ("SGI", "nobearer"),
+    ("SGI", "policed"),
+    ("SGI", "idle"),
+    ("SGI", "held"),
+}
 NOT_ITS_FIELDS = (ValueError, IndexError, StopIteration)
 
 
@@ -33,12 +42,12 @@ class Reading:
         self.line = self.at = 0
         self.epoch, self.in_epoch, self.octets = -1, EPOCH_LINES, 0
         self.moment = 0
-        self.stopped = False                                     # a refused line: no entry of a line stands behind it
+        self.stopped = False  # a refused line: no entry of a line stands behind it
         self.lives = Lives()
-        self.packets = [0] * (entries.MOST_SLOT + 1)             # the next number of each slot
+        self.packets = [0] * (entries.MOST_SLOT + 1)  # the next number of each slot
         self.orders = [0] * (entries.MOST_SLOT + 1)
-        self.held: dict[tuple[int, int], int] = {}               # octets of the packets that wait
-        self.commands: dict[tuple[int, int], int] = {}           # moments of the epoch's commands
+        self.held: dict[tuple[int, int], int] = {}  # octets of the packets that wait
+        self.commands: dict[tuple[int, int], int] = {}  # moments of the epoch's commands
         self.addresses: dict[bytes, str] = {}
         self.unanswered_from: int | None = None
         self.short = False
@@ -120,6 +129,13 @@ class Reading:
             raise self.fault("no entry: an odd number of hexadecimal digits")
         return len(digits) >> 1
 
+    def tunnelled(self, digits: bytes) -> int:
+        """How many octets the packet in a G-PDU has, behind its head of 8."""
+        size = self.size_of(digits) - 8
+        if size < 0:
+            raise self.fault("no entry: a G-PDU of fewer than 8 octets")
+        return size
+
     def octets_of(self, digits: bytes | None) -> bytes | None:
         """The octets of digits, or none of `-`."""
         if digits is None or digits == b"-":
@@ -129,8 +145,27 @@ class Reading:
 
     def packet(self, found: tuple) -> None:
         """A P entry with its line."""
-        (told, slot, number, met, up, up_life, up_data, down, down_life, address, down_data, plain,
-         stopped, stopped_life, held, held_life, notification, place, parked) = found
+        (
+            told,
+            slot,
+            number,
+            met,
+            up,
+            up_life,
+            up_data,
+            down,
+            down_life,
+            address,
+            down_data,
+            plain,
+            stopped,
+            stopped_life,
+            held,
+            held_life,
+            notification,
+            place,
+            parked,
+        ) = found
         words = self.take_line(told).split(b" ", 2)
         kind = KINDS.get(words[1]) if len(words) == 3 else None
         if kind is None:
@@ -142,7 +177,7 @@ class Reading:
         if up:
             verdict, life, octets, data = "up", int(up_life), self.size_of(up_data), up_data
         elif down:
-            verdict, life, octets, data = "down", int(down_life), self.size_of(down_data) - 8, down_data
+            verdict, life, octets, data = "down", int(down_life), self.tunnelled(down_data), down_data
             enodeb = self.address_of(address)
         else:
             octets = self.offered(words)
@@ -159,8 +194,23 @@ class Reading:
             raise self.fault(f"`{verdict}` of a packet of kind {kind}")
         if self.keep and data:
             self.rows["packet_octets"].append((self.line, bytes.fromhex(data.decode())))
-        self.add_packet((self.line, self.epoch, moment, slot, number, int(met), kind, verdict, life, octets, enodeb,
-                         None if place is None else -1 if place == b"-" else int(place), 1 if parked else 0))
+        self.add_packet(
+            (
+                self.line,
+                self.epoch,
+                moment,
+                slot,
+                number,
+                int(met),
+                kind,
+                verdict,
+                life,
+                octets,
+                enodeb,
+                None if place is None else -1 if place == b"-" else int(place),
+                1 if parked else 0,
+            )
+        )
 
     def offered(self, words: list[bytes]) -> int:
         """Octets of the IPv4 packet that the line brings, which the entry doesn't tell."""
@@ -190,8 +240,20 @@ class Reading:
             raise self.fault(f"`{outcome}`, though {why}") from None
         except NOT_ITS_FIELDS:
             raise self.line_fault(f"its fields aren't those of a command {kind.decode()}") from None
-        self.rows["command"].append((self.line, self.epoch, moment, slot, number, kind.decode(), sort, outcome,
-                                     reply[1] if reply and len(reply) > 1 else None, reply))
+        self.rows["command"].append(
+            (
+                self.line,
+                self.epoch,
+                moment,
+                slot,
+                number,
+                kind.decode(),
+                sort,
+                outcome,
+                reply[1] if reply and len(reply) > 1 else None,
+                reply,
+            )
+        )
         self.rows["bearer_event"] += lives.events
         self.rows["rate"] += lives.rates
         lives.events.clear()
@@ -248,8 +310,13 @@ class Reading:
         if octets is None:
             raise self.fault(f"the fate of packet {packet} of slot {slot}, which isn't held")
         if down:
-            row = ("down", int(down_life), self.size_of(data) - 8, self.address_of(address),
-                   self.octets_of(data) if self.keep else None)
+            row = (
+                "down",
+                int(down_life),
+                self.tunnelled(data),
+                self.address_of(address),
+                self.octets_of(data) if self.keep else None,
+            )
         else:
             row = (lost.decode(), int(lost_life), octets, None, None)
         self.rows["fate"].append((self.at, self.epoch, moment, slot, packet, command, *row))
@@ -259,8 +326,9 @@ class Reading:
         slot, life, command, address, message = found
         slot, command = self.slot_of(slot), int(command)
         moment = self.moment_of_command(slot, command)
-        self.rows["end_marker"].append((self.at, self.epoch, moment, slot, int(life), command, self.address_of(address),
-                                        self.octets_of(message)))
+        self.rows["end_marker"].append(
+            (self.at, self.epoch, moment, slot, int(life), command, self.address_of(address), self.octets_of(message))
+        )
 
     def counts_of(self, words: tuple) -> tuple:
         """Slot, life, seq, EBI, QCI and the four counts of an R or O entry, in the order of the columns."""
@@ -277,7 +345,8 @@ class Reading:
         moments = [None if word == b"-" else int(word) for word in found[9:11]]
         if any(moment is not None and moment > entries.MOST_MOMENT for moment in moments):
             raise self.fault("a moment above 2^50 - 1")
-        self.rows["record"].append((self.at, max(self.epoch, 0), *self.counts_of(found[:9]), *moments, found[11].decode()))
+        counts = self.counts_of(found[:9])
+        self.rows["record"].append((self.at, max(self.epoch, 0), *counts, *moments, found[11].decode()))
 
     def open_counter(self, found: tuple) -> None:
         """An O entry."""
@@ -319,7 +388,13 @@ class Reading:
         self.line = answered
 
 
-READERS = [(ord("P"), entries.PACKET, "packet"), (ord("C"), entries.COMMAND, "command"), (ord("N"), entries.NOTE, "note"),
-           (ord("F"), entries.REFUSED, "refused"), (ord("H"), entries.FATE, "fate"),
-           (ord("M"), entries.END_MARKER, "end_marker"), (ord("R"), entries.RECORD, "record"),
-           (ord("O"), entries.OPEN_COUNTER, "open_counter")]
+READERS = [
+    (ord("P"), entries.PACKET, "packet"),
+    (ord("C"), entries.COMMAND, "command"),
+    (ord("N"), entries.NOTE, "note"),
+    (ord("F"), entries.REFUSED, "refused"),
+    (ord("H"), entries.FATE, "fate"),
+    (ord("M"), entries.END_MARKER, "end_marker"),
+    (ord("R"), entries.RECORD, "record"),
+    (ord("O"), entries.OPEN_COUNTER, "open_counter"),
+]

@@ -26,8 +26,13 @@ class Store:
     def begin(self) -> None:
         """Makes the file, with its tables."""
         self.base = self.guarded(lambda: sqlite3.connect(self.new, isolation_level=None))
-        self.run("PRAGMA page_size = 8192", "PRAGMA journal_mode = OFF", "PRAGMA synchronous = OFF",
-                 "PRAGMA locking_mode = EXCLUSIVE", "PRAGMA cache_size = -32768")
+        self.run(
+            "PRAGMA page_size = 8192",
+            "PRAGMA journal_mode = OFF",
+            "PRAGMA synchronous = OFF",
+            "PRAGMA locking_mode = EXCLUSIVE",
+            "PRAGMA cache_size = -32768",
+        )
         self.run(*map(schema.statement_of, schema.TABLES), "BEGIN")
 
     def guarded(self, act):
@@ -60,14 +65,18 @@ class Store:
                 raise Fault(BAD_REPORT, self.twice(index)) from None
             except sqlite3.Error as why:
                 raise write_fault(why, self.path) from None
-        self.run(*(f"CREATE VIEW {name} AS {text}" for name, (_, text) in schema.VIEWS.items()),
-                 "PRAGMA analysis_limit = 1000", "ANALYZE")
+        self.run(
+            *(f"CREATE VIEW {name} AS {text}" for name, (_, text) in schema.VIEWS.items()),
+            "PRAGMA analysis_limit = 1000",
+            "ANALYZE",
+        )
 
     def twice(self, index: str) -> str:
         """The line of the report whose key an earlier one has."""
         table, columns = index.split(" ON ")[1].rstrip(")").split(" (")
-        line, *key = self.base.execute(f"SELECT max(entry), {columns} FROM {table} GROUP BY {columns} HAVING count(*) > 1 "
-                                       "ORDER BY 1 LIMIT 1").fetchone()
+        line, *key = self.base.execute(
+            f"SELECT max(entry), {columns} FROM {table} GROUP BY {columns} HAVING count(*) > 1 " "ORDER BY 1 LIMIT 1"
+        ).fetchone()
         told = ", ".join(f"{name} {value}" for name, value in zip(columns.split(", "), key))
         return f"{self.report_name} line {line}: a second {table.replace('_', ' ')} of {told}"
 

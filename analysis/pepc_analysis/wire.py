@@ -8,12 +8,14 @@ IMSI, AMBR, EBI, F_TEID, BEARER_CONTEXT = 1, 72, 73, 87, 93
 
 class Peer(NamedTuple):
     """An eNodeB's end of a tunnel."""
+
     address: str
     teid: int
 
 
 class Message(NamedTuple):
     """A GTPv2-C message that the gateway took as a command."""
+
     type: int
     sequence: int
     body: bytes
@@ -23,8 +25,8 @@ def elements(octets: bytes) -> Iterator[tuple[int, int, bytes]]:
     """Type, instance and value of each information element."""
     place = 0
     while place + 4 <= len(octets):
-        size = int.from_bytes(octets[place + 1:place + 3], "big")
-        yield octets[place], octets[place + 3] & 15, octets[place + 4:place + 4 + size]
+        size = int.from_bytes(octets[place + 1 : place + 3], "big")
+        yield octets[place], octets[place + 3] & 15, octets[place + 4 : place + 4 + size]
         place += 4 + size
 
 
@@ -48,8 +50,9 @@ def contexts(octets: bytes) -> Iterator[bytes]:
 
 def ebi_of(context: bytes) -> int:
     """The EBI of a Context: the first inside its grammar, whatever its instance."""
-    return next(value[0] & 15 for kind, _, value in elements(context)
-                if kind == EBI and value and not 1 <= value[0] & 15 <= 4)
+    return next(
+        value[0] & 15 for kind, _, value in elements(context) if kind == EBI and value and not 1 <= value[0] & 15 <= 4
+    )
 
 
 def peer_of(context: bytes) -> Peer | None:
@@ -74,6 +77,6 @@ def packet_octets(kind: bytes, digits: bytes) -> int:
             place = 24
             following = int(digits[22:24], 16) if flags & 4 else 0
             while following:
-                place += int(digits[place:place + 2], 16) * 8
-                following = int(digits[place - 2:place], 16)
-    return int(digits[place + 4:place + 8], 16)
+                place += int(digits[place : place + 2], 16) * 8
+                following = int(digits[place - 2 : place], 16)
+    return int(digits[place + 4 : place + 8], 16)

@@ -67,13 +67,12 @@ int main(int argc, char **argv) {
         struct gtp_c_gtpu_head tunnel;
         struct gtp_c_gtpv2_head message;
         if (fread(record, 1, len, capture) < len || gtp_c_ip4_read(record, len, &ip) || ip.total_len < 28) continue;
-        const uint8_t *inner = record + 28;
-        size_t n = ip.total_len - 28u;
-        if (ip.protocol == 17 && ip.destination_port == 2123 && !gtp_c_gtpv2_head(inner, n, &message)) {
+        const uint8_t *inner = record + 28, *end = record + ip.total_len;
+        if (ip.protocol == 17 && ip.destination_port == 2123 && !gtp_c_gtpv2_head(inner, (size_t)(end - inner), &message)) {
             printf("message %u", message.kind);
             elements(inner + message.ies_from, message.ies_len, 0);
             puts("");
-        } else if (ip.protocol == 17 && ip.destination_port == 2152 && !gtp_c_gtpu_read(inner, n, &tunnel)) {
+        } else if (ip.protocol == 17 && ip.destination_port == 2152 && !gtp_c_gtpu_read(inner, (size_t)(end - inner), &tunnel)) {
             packet(inner + tunnel.body_from, tunnel.body_len, 1);
         } else packet(record, len, 0);
     }

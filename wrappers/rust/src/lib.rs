@@ -25,8 +25,6 @@
 //! octets[0] = 0;
 //! println!("{:?}", message.elements);
 //! ```
-#![warn(missing_docs)]
-
 mod c;
 mod refusal;
 
@@ -401,7 +399,8 @@ impl Policer {
     pub fn of(rate: u64, level: u64, last: u64) -> Result<Policer, Refusal> {
         let policer = Policer(c::Policer { rate, level, last });
         // asking for nothing at the last moment changes nothing, and refuses what is no bucket
-        policer.clone().ask(last, 0)?;
+        let mut asked = policer;
+        asked.ask(last, 0)?;
         Ok(policer)
     }
 
