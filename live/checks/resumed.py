@@ -48,7 +48,7 @@ class Resumed:
             "-t",
             "120",
             "-b",
-            "10M",
+            "3M",
             "-J",
             "--repeating-payload",
             stdout=subprocess.PIPE,
@@ -77,7 +77,7 @@ class Resumed:
 
     def flows(self, what: str) -> None:
         """The acknowledgements of iperf3 come down to the eNodeB."""
-        wanted, until = self.forwarded() + 200, time.monotonic() + 25
+        wanted, until = self.forwarded() + 100, time.monotonic() + 25
         while self.forwarded() < wanted and time.monotonic() < until:
             time.sleep(0.2)
         self.checks.expect(what, self.forwarded() >= wanted)
