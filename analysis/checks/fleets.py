@@ -1,6 +1,7 @@
 """A fleet of 200 traces, of which some are wrong, cut, missing, refused, and one kills its worker. Its rows stay the
 same where a worker is killed, one is stopped, the driver is killed and begun again, and where a scheduler of a real
 cluster is killed; nothing is open but what was asked for, and nobody without a certificate gets in."""
+import contextlib
 import hashlib
 import os
 import pathlib
@@ -15,7 +16,7 @@ import subprocess
 import sys
 import time
 
-from .harness import ANALYSIS, Check, PEPC, SAFE, children_of, is_there, nothing_left, pepc, words_of
+from .harness import ANALYSIS, Check, PEPC, SAFE, children_of, is_there, nothing_left, pepc, small_files, words_of
 
 TRACES = 200
 SECONDS = 600  # at most, for one fleet
@@ -94,6 +95,11 @@ exec {PEPC} "$@"
     return program
 
 
+def rows_in(out: pathlib.Path) -> sqlite3.Connection:
+    """The rows of a fleet, to read."""
+    return sqlite3.connect(f"file:{out}/fleet.sqlite?mode=ro", uri=True)
+
+
 class Driver:
     """A fleet that runs."""
 
@@ -112,7 +118,7 @@ class Driver:
     def rows(self) -> int:
         """How many traces have their rows."""
         try:
-            with sqlite3.connect(f"file:{self.out}/fleet.sqlite?mode=ro", uri=True) as base:
+            with contextlib.closing(rows_in(self.out)) as base:
                 return base.execute("SELECT count(*) FROM trace").fetchone()[0]
         except sqlite3.Error:
             return 0
@@ -121,7 +127,7 @@ class Driver:
         """Waits until so many traces are done."""
         end = time.monotonic() + SECONDS
         while self.rows() < rows and self.process.poll() is None and time.monotonic() < end:
-            time.sleep(0.02)
+            time.sleep(0.1)
         return self.process.poll() is None
 
     def workers(self) -> list[int]:
@@ -139,7 +145,7 @@ class Driver:
 
 def rows_of(out: pathlib.Path) -> list[tuple]:
     """The rows, but for times, memory and attempts."""
-    with sqlite3.connect(f"file:{out}/fleet.sqlite?mode=ro", uri=True) as base:
+    with contextlib.closing(rows_in(out)) as base:
         return base.execute(
             "SELECT name, octets, lines, step, step.status, said FROM trace JOIN step USING (name) " "ORDER BY 1, 4"
         ).fetchall()
@@ -150,7 +156,7 @@ def outputs_of(out: pathlib.Path) -> dict[str, str]:
     found = {}
     for path in sorted(out.rglob("gateway-*")):
         if path.suffix == ".sqlite":
-            with sqlite3.connect(path) as base:
+            with contextlib.closing(sqlite3.connect(path)) as base:
                 found[str(path.relative_to(out))] = hashlib.sha256("\n".join(base.iterdump()).encode()).hexdigest()
         else:
             found[str(path.relative_to(out))] = hashlib.sha256(path.read_bytes()).hexdigest()
@@ -159,8 +165,14 @@ def outputs_of(out: pathlib.Path) -> dict[str, str]:
 
 def attempts_of(out: pathlib.Path) -> dict[str, int]:
     """Of the traces that were tried more than once, how often."""
-    with sqlite3.connect(f"file:{out}/fleet.sqlite?mode=ro", uri=True) as base:
+    with contextlib.closing(rows_in(out)) as base:
         return dict(base.execute("SELECT name, attempts FROM trace WHERE attempts > 1"))
+
+
+def ended_of(out: pathlib.Path) -> dict[str, int]:
+    """When the rows of each trace were written."""
+    with contextlib.closing(rows_in(out)) as base:
+        return dict(base.execute("SELECT name, ended FROM trace"))
 
 
 def wanted_rows(check: Check, rows: list[tuple]) -> None:
@@ -266,14 +278,15 @@ def look_at_listeners(check: Check, what: str, processes: list[int], foreign: pa
             check.same(f"{what}: port {port} to HTTP", answer, "HTTP/1.1 404 Not Found")
             continue
         guarded += 1
+        # an authority of the same name is told by its signature
         for name, context, wanted in (
-            ("no", without, "TLSV13_ALERT_CERTIFICATE_REQUIRED"),
-            ("a foreign", other, "TLSV1_ALERT_UNKNOWN_CA"),
+            ("no", without, ["TLSV13_ALERT_CERTIFICATE_REQUIRED"]),
+            ("a foreign", other, ["TLSV1_ALERT_UNKNOWN_CA", "TLSV1_ALERT_DECRYPT_ERROR"]),
         ):
             told = [answer_of(port, context)]
-            while told[-1] != wanted and len(told) < 4:  # a connection may be reset before the reason is read
+            while told[-1] not in wanted and len(told) < 4:  # a connection may be reset before the reason is read
                 told.append(answer_of(port, context))
-            check.same(f"{what}: port {port} to TLS with {name} certificate", told[-1], wanted)
+            check.holds(f"{what}: port {port} to TLS with {name} certificate: {told[-1]}", told[-1] in wanted)
     check.holds(f"{what}: {guarded} listeners ask for a certificate", guarded >= 2)
 
 
@@ -296,16 +309,11 @@ def embedded(check: Check, room: pathlib.Path, foreign: pathlib.Path) -> list[tu
             said,
         ),
     )
-    ended = [
-        row[0]
-        for row in sqlite3.connect(driver.out / "fleet.sqlite").execute("SELECT ended FROM trace ORDER BY name")
-    ]
+    ended = ended_of(driver.out)
     again = Driver(room, "calm", "--workers", 3)
     check.same("fleet again: status", again.end(), 1)
-    lost = 1
-    with sqlite3.connect(driver.out / "fleet.sqlite") as base:
-        now = [row[0] for row in base.execute("SELECT ended FROM trace ORDER BY name")]
-    check.holds("fleet again: what was done isn't done again", sum(a != b for a, b in zip(ended, now)) <= lost)
+    changed = {name for name, moment in ended_of(driver.out).items() if ended[name] != moment}
+    check.same("fleet again: only what was lost is done again", changed - {name_of(KILLER)}, set())
     check.same("fleet again: rows", rows_of(driver.out), rows)
     return rows
 
@@ -518,11 +526,14 @@ def words(check: Check, room: pathlib.Path, tls: pathlib.Path) -> None:
     check.command(
         "a merge of no fleet", ["merge", room / "none"], 3, f"merge: {room}/none/fleet.sqlite: no such file"
     )
+    on_full = ["fleet", good, room / "full", "--program", room / "killer"]
+    check.command("a fleet where the disk is full", on_full, 4, env=SAFE, preexec_fn=small_files)
     check.command("a fleet where a file is", ["fleet", good, good], 4, env=SAFE)
     (room / "version").mkdir()
     shutil.copy(out / "fleet.sqlite", room / "version/fleet.sqlite")
-    with sqlite3.connect(room / "version/fleet.sqlite") as base:
+    with contextlib.closing(sqlite3.connect(room / "version/fleet.sqlite")) as base:
         base.execute("UPDATE run SET version = 99")
+        base.commit()
     check.command(
         "an OUT of another version",
         ["fleet", good, room / "version", "--program", room / "killer"],

@@ -1,6 +1,7 @@
 """What the parts share: counting, the commands, and pairs of a trace and its report."""
 import os
 import pathlib
+import resource
 import subprocess
 import sys
 from typing import Any, Iterator, NamedTuple
@@ -90,6 +91,11 @@ def stored_pairs(room: pathlib.Path) -> Iterator[Pair]:
         report = b"".join(lines[middle + 1 :])
         pair.report.write_bytes(report + (b"" if report.endswith(b"\n") or not report else b"\n"))
         yield pair
+
+
+def small_files() -> None:
+    """For a command whose disk is to be full: no file has more than 10,000 octets."""
+    resource.setrlimit(resource.RLIMIT_FSIZE, (10_000, 10_000))
 
 
 def nothing_left(check: Check, what: str, folder: pathlib.Path) -> None:

@@ -1,5 +1,4 @@
 """Bad input of the commands for one trace: each a line and a status, and nothing left."""
-import resource
 import signal
 import sqlite3
 import subprocess
@@ -8,7 +7,7 @@ import time
 from pepc_analysis.faults import Fault
 from pepc_analysis.making import make_tables
 
-from .harness import ANALYSIS, Check, made, nothing_left, pepc
+from .harness import ANALYSIS, Check, made, nothing_left, pepc, small_files
 
 ATTACH = "0 ATTACH 001010000000001 198.51.100.7 00000a01 1000 1000\n"
 PACKET = "450000140000000040fd00000a2d0002cb007109"
@@ -153,9 +152,6 @@ def full_and_stopped(check: Check, folder) -> None:
     """A disk that is full, by a limit of files' size; and a signal in the midst."""
     pair = made(check.room, "big", pepc(["make", "--seed", "5", "--subs", "200", "--lines", "30000"]))
     out = folder / "big.sqlite"
-
-    def small_files() -> None:
-        resource.setrlimit(resource.RLIMIT_FSIZE, (200_000, 200_000))
 
     check.command(
         "tables where the disk is full", ["tables", pair.trace, pair.report, out], 4, preexec_fn=small_files

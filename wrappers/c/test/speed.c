@@ -1,5 +1,5 @@
 /* Nanoseconds a call, the least of many runs: each export beside plain C. speed [RUNS [CALLS [NAME]]]: RUNS of CALLS calls of
- * those whose name has NAME in it. With one run of few calls it is for counting instructions. */
+ * all, or of the one of this name. With one run of few calls it is for counting instructions. */
 #define _POSIX_C_SOURCE 199309L
 #include "plain.h"
 #include <stdio.h>
@@ -92,7 +92,7 @@ int main(int argc, char **argv) {
     const char *only = argc > 3 ? argv[3] : "";
     fill();
 #define TIME(name, call) do { \
-    if (!strstr(name, only)) break; \
+    if (*only && strcmp(name, only)) break; \
     double least = 1e18; \
     for (int r = 0; r < runs; r++) { \
         double begun = now(); \
