@@ -108,9 +108,9 @@ class Session:
             "curl fetches a file", fetched.exists() and fetched.read_bytes() == (folder / "file").read_bytes()
         )
         for way, words in (("up", ()), ("down", ("-R",))):
-            sent = self.lab.iperf(self.second["address"], "-t", "2", "-b", "20M", *words, seconds=30)
+            sent = self.lab.iperf(self.second["address"], "-t", "2", "-b", "10M", *words, seconds=30)
             rate = sent["end"]["sum_received"]["bits_per_second"] / 1e6
-            self.checks.expect(f"iperf3 over TCP {way}", rate > 1, f"{rate:.0f} Mbit/s of 20")
+            self.checks.expect(f"iperf3 over TCP {way}", rate > 1, f"{rate:.0f} Mbit/s of 10")
 
     def bearer(self) -> None:
         """A bearer with a filter for UDP is asked for, accepted, and takes what iperf3 sends down, octet for octet."""
