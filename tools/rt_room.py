@@ -125,7 +125,9 @@ def end_children() -> None:
                 for child in (thread / "children").read_text().split():
                     with contextlib.suppress(ProcessLookupError):
                         os.kill(int(child), signal.SIGKILL)
-            os.waitpid(-1, 0)
+            while os.waitpid(-1, os.WNOHANG)[0]:
+                pass
+            time.sleep(0.01)
 
 
 def run_rt(words: list[str], folder: pathlib.Path, temporary: pathlib.Path,

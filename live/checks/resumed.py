@@ -35,7 +35,7 @@ class Resumed:
         self.idle = attach(self.mme, self.enodebs, "001010000000002", 0x2000, 0xC01)
         self.mme.do("release", to=self.idle["control"])
         self.pinging = self.lab.start(
-            "pdn", "ping", "-c", "1", "-W", "40", self.idle["address"], stdout=subprocess.PIPE
+            "pdn", "ping", "-c", "1", "-W", "150", self.idle["address"], stdout=subprocess.PIPE
         )
         self.checks.expect("a packet is held before the kills", self.mme.do("wait", type=NOTIFICATION, seconds=5))
         self.stream = self.lab.start(
@@ -48,7 +48,7 @@ class Resumed:
             "-t",
             "120",
             "-b",
-            "10M",
+            "3M",
             "-J",
             "--repeating-payload",
             stdout=subprocess.PIPE,
@@ -77,7 +77,7 @@ class Resumed:
 
     def flows(self, what: str) -> None:
         """The acknowledgements of iperf3 come down to the eNodeB."""
-        wanted, until = self.forwarded() + 200, time.monotonic() + 25
+        wanted, until = self.forwarded() + 100, time.monotonic() + 25
         while self.forwarded() < wanted and time.monotonic() < until:
             time.sleep(0.2)
         self.checks.expect(what, self.forwarded() >= wanted)
@@ -112,7 +112,7 @@ class Resumed:
         self.checks.expect("a subscriber is still attached", answer and answer["cause"] == ACCEPTED)
         self.checks.expect(
             "the packet that was held before the kills goes down behind them",
-            "time=" in self.pinging.communicate(timeout=30)[0],
+            "time=" in self.pinging.communicate(timeout=60)[0],
         )
         time.sleep(CAPTURE_SECONDS)
         self.gateway.terminate()

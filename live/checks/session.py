@@ -108,9 +108,9 @@ class Session:
             "curl fetches a file", fetched.exists() and fetched.read_bytes() == (folder / "file").read_bytes()
         )
         for way, words in (("up", ()), ("down", ("-R",))):
-            sent = self.lab.iperf(self.second["address"], "-t", "2", "-b", "20M", *words, seconds=30)
+            sent = self.lab.iperf(self.second["address"], "-t", "2", "-b", "10M", *words, seconds=30)
             rate = sent["end"]["sum_received"]["bits_per_second"] / 1e6
-            self.checks.expect(f"iperf3 over TCP {way}", rate > 1, f"{rate:.0f} Mbit/s of 20")
+            self.checks.expect(f"iperf3 over TCP {way}", rate > 1, f"{rate:.0f} Mbit/s of 10")
 
     def bearer(self) -> None:
         """A bearer with a filter for UDP is asked for, accepted, and takes what iperf3 sends down, octet for octet."""
@@ -140,16 +140,21 @@ class Session:
 
         def run() -> None:
             # once more where a busy machine let the stream stand still
+            is_met, told = False, ""
             for _ in range(2):
-                stream = self.lab.iperf(self.second["address"], "-u", "-b", "2M", "-l", "1000", "-t", "10", seconds=40)
-                received = stream["end"]["sum_received"]["bytes"]
+                try:
+                    words = ("-u", "-b", "2M", "-l", "1000", "-t", "10")
+                    stream = self.lab.iperf(self.second["address"], *words, seconds=40)
+                    received = stream["end"]["sum_received"]["bytes"]
+                except (subprocess.SubprocessError, ValueError, KeyError) as fault:
+                    # (an exception would end the thread, and this check with it)
+                    told = repr(fault)
+                    continue
                 rate = received * (1000 + UDP_HEAD) / 1000 * 8 / 10 / 1e6
-                is_met = 0.95 <= rate <= 1.05
+                is_met, told = 0.95 <= rate <= 1.05, f"{rate:.3f} Mbit/s of IPv4"
                 if is_met:
                     break
-            self.checks.expect(
-                "iperf3 is policed to 1 Mbit/s within 5 % over 10 s", is_met, f"{rate:.3f} Mbit/s of IPv4"
-            )
+            self.checks.expect("iperf3 is policed to 1 Mbit/s within 5 % over 10 s", is_met, told)
 
         thread = threading.Thread(target=run)
         thread.start()
