@@ -106,6 +106,7 @@ def room(name: str) -> collections.abc.Iterator[pathlib.Path]:
     try:
         with tempfile.TemporaryDirectory(prefix=f"pepc-{name}-{os.getpid()}-", ignore_cleanup_errors=True) as folder:
             try:
+                os.chmod(folder, 0o711)  # where rt runs as root, it runs tests as nobody
                 signal.pthread_sigmask(signal.SIG_UNBLOCK, CUTTING)
                 yield pathlib.Path(folder)
             finally:
@@ -125,7 +126,9 @@ def end_children() -> None:
                 for child in (thread / "children").read_text().split():
                     with contextlib.suppress(ProcessLookupError):
                         os.kill(int(child), signal.SIGKILL)
-            os.waitpid(-1, 0)
+            while os.waitpid(-1, os.WNOHANG)[0]:
+                pass
+            time.sleep(0.01)
 
 
 def run_rt(words: list[str], folder: pathlib.Path, temporary: pathlib.Path,

@@ -90,10 +90,12 @@ def missing(commands: tuple[str, ...] = tuple(COMMANDS), scapy: bool = True) -> 
     if scapy and subprocess.run([DEBIAN_PYTHON, "-c", "import scapy.contrib.gtp_v2"], capture_output=True).returncode:
         found.append("scapy with gtp_v2 (Debian's python3-scapy)")
     if not found:
-        trial = f"pepc{os.getpid()}-trial"
-        tried = subprocess.run(["ip", "netns", "add", trial], capture_output=True, text=True)
-        if tried.returncode:
-            found.append(f"network namespaces ({tried.stderr.strip()})")
-        else:
-            do("ip", "netns", "del", trial)
+        trial = Network(f"{os.getpid()}-trial")
+        try:
+            trial.up()
+            trial.do(trial.names["gw"], "ip", "tuntap", "add", "dev", "pepc0", "mode", "tun")
+        except RuntimeError as fault:
+            found.append(f"what a lab of namespaces needs ({fault})")
+        finally:
+            trial.down()
     return found

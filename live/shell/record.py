@@ -4,7 +4,7 @@
 A batch is recorded whole before the core is given it, and an entry before it is acted on. So whatever ends the shell,
 each answer that anybody was sent stands in the report, and each line that was answered in the trace. A killed shell may
 leave a batch without its FENCE (which no core was given), a cut last line, and lines without entries; as lines have one
-report, `solo` says what these entries are. Files are written, not synced: a record outlives its processes, not the
+report, `solo` says what these entries are. Files are synced at a stop alone: a record outlives its processes, not the
 power.
 """
 import fcntl

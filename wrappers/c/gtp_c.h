@@ -283,7 +283,8 @@ uint32_t gtp_c_gtpv2_check(const uint8_t *bytes, size_t len, struct gtp_c_gtpv2_
 
 /* Reads a whole template (value of the element Bearer TFT): its operation, and its filters, as filters of this bearer;
  * of a removal structs with identifiers alone. *needed is how many entries it has. SHORT, PARAMETERS, OPERATION,
- * COMPONENT, REPEATED_ID, TRAILING (*needed is 0), NO_ROOM, NO_MEMORY. */
+ * COMPONENT, REPEATED_ID, TRAILING (*needed is 0), NO_ROOM, NO_MEMORY. On a refusal *operation is as it was, and nothing
+ * is said of entries. */
 uint32_t gtp_c_tft_read(const uint8_t *octets, size_t len, uint8_t bearer, uint8_t *operation,
                         struct gtp_c_tft_filter *entries, size_t room, size_t *needed);
 
