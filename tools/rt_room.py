@@ -106,6 +106,7 @@ def room(name: str) -> collections.abc.Iterator[pathlib.Path]:
     try:
         with tempfile.TemporaryDirectory(prefix=f"pepc-{name}-{os.getpid()}-", ignore_cleanup_errors=True) as folder:
             try:
+                os.chmod(folder, 0o711)  # where rt runs as root, it runs tests as nobody
                 signal.pthread_sigmask(signal.SIG_UNBLOCK, CUTTING)
                 yield pathlib.Path(folder)
             finally:
