@@ -180,7 +180,8 @@ def wanted_rows(check: Check, rows: list[tuple]) -> None:
     found: dict[str, list[tuple]] = {}
     for name, _, _, step, status, said in rows:
         found.setdefault(name, []).append((step, status, said))
-    check.same("fleet: traces", len(found), TRACES)
+    if not check.same("fleet: traces", len(found), TRACES):
+        return
     well = [("audit", "0", ""), ("balance", "0", ""), ("solo", "0", ""), ("tables", "0", "")]
     given = [row for row in well if row[0] != "solo"]
     wrong = found.pop(name_of(WRONG))
