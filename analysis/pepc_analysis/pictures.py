@@ -91,19 +91,16 @@ def nothing(axis: Axes) -> None:
     axis.text(0.5, 0.5, "none", transform=axis.transAxes, ha="center", va="center", color="#666666")
 
 
+def small_legend(axis: Axes, height: float, **how) -> None:
+    """A legend of small letters above a panel, at its right."""
+    axis.legend(loc="lower right", bbox_to_anchor=(1.01, height), fontsize=8, columnspacing=0.9, **how)
+
+
 def titled(axis: Axes, title: str, legend: bool = True) -> None:
     """The title of a panel at its left, the legend at its right."""
     axis.set_title(title, loc="left", fontsize=11)
     if legend and axis.get_legend_handles_labels()[0]:
-        axis.legend(
-            ncol=9,
-            loc="lower right",
-            bbox_to_anchor=(1.01, 0.98),
-            fontsize=8,
-            handlelength=1,
-            columnspacing=0.9,
-            handletextpad=0.4,
-        )
+        small_legend(axis, 0.98, ncol=9, handlelength=1, handletextpad=0.4)
 
 
 def finished(figure: Figure, title: str) -> Figure:
@@ -304,15 +301,7 @@ def bearer_panel(axis: Axes, base: sqlite3.Connection, slot: int, bars: Bars, un
     if moments:
         keys.append(Line2D([], [], color="black", linestyle=":", label="move to another slice"))
     if keys:
-        axis.legend(
-            handles=keys,
-            ncol=8,
-            loc="lower right",
-            bbox_to_anchor=(1.01, 0.96),
-            fontsize=8,
-            handlelength=1.4,
-            columnspacing=0.9,
-        )
+        small_legend(axis, 0.96, handles=keys, ncol=8, handlelength=1.4)
     axis.set_yticks(range(len(lives)), [f"life {life}: EBI {ebi}, QCI {qci}" for life, ebi, qci in lives])
     axis.set_ylim(max(len(lives), 1) - 0.4, -0.6)
     axis.grid(axis="y", visible=False)

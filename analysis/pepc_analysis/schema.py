@@ -32,6 +32,8 @@ MOMENT = Column("moment", "INTEGER", "moment of the line, or of the command of a
 SLOT = Column("slot", "INTEGER", "number of the subscriber, from 0")
 LIFE = Column("life", "INTEGER", "bearer of the slot, from 0")
 ENTRY = Column("entry", "INTEGER PRIMARY KEY", "line of the report, from 1")
+OF_LINE = [LINE, EPOCH, MOMENT, SLOT]
+OF_EFFECT = [ENTRY, EPOCH, MOMENT, SLOT]
 COUNTS = [
     Column("ebi", "INTEGER", "EPS bearer identity"),
     Column("qci", "INTEGER", "QoS class"),
@@ -70,10 +72,7 @@ TABLES = [
         "packet",
         "a P entry with its line",
         [
-            LINE,
-            EPOCH,
-            MOMENT,
-            SLOT,
+            *OF_LINE,
             Column("number", "INTEGER", "number of the slot's packet, from 0"),
             Column("met", "INTEGER", "commands of the slot done before it"),
             Column("kind", "TEXT", "`S1U` (up) or `SGI` (down)"),
@@ -99,10 +98,7 @@ TABLES = [
         "command",
         "a C entry with its line",
         [
-            LINE,
-            EPOCH,
-            MOMENT,
-            SLOT,
+            *OF_LINE,
             Column("number", "INTEGER", "number of the slot's command, from 0"),
             Column("kind", "TEXT", "`S11`, `ATTACH`, `BEARER`, `FILTERS`, `DROP`, `AMBR`"),
             Column("type", "INTEGER NULL", "GTPv2-C message type of an `S11` line"),
@@ -128,16 +124,13 @@ TABLES = [
     Table(
         "refused",
         "an F entry with its line",
-        [LINE, EPOCH, MOMENT, SLOT, Column("what", "TEXT", "`command` or `packet`: its queue was full")],
+        [*OF_LINE, Column("what", "TEXT", "`command` or `packet`: its queue was full")],
     ),
     Table(
         "fate",
         "an H entry: what became of a held packet",
         [
-            ENTRY,
-            EPOCH,
-            MOMENT,
-            SLOT,
+            *OF_EFFECT,
             Column("packet", "INTEGER", "number of the slot's packet"),
             Column("command", "INTEGER", "number of the slot's command that ended the wait"),
             Column("fate", "TEXT", "`down`, `policed` or `gone`"),
@@ -151,10 +144,7 @@ TABLES = [
         "end_marker",
         "an M entry: an End Marker to the eNodeB before",
         [
-            ENTRY,
-            EPOCH,
-            MOMENT,
-            SLOT,
+            *OF_EFFECT,
             LIFE,
             Column("command", "INTEGER", "number of the slot's command that moved the bearer"),
             Column("enodeb", "TEXT", "address that it went to"),
