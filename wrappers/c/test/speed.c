@@ -1,5 +1,7 @@
-/* Nanoseconds a call, the least of many runs: each export beside plain C. speed [RUNS [CALLS [NAME]]]: RUNS of CALLS calls of
- * all, or of the one of this name. With one run of few calls it is for counting instructions. */
+/* Nanoseconds a call, the least of many runs, of each export and of plain C by turns, and their ratio:
+ *     speed [RUNS [CALLS [NAME [SIDE]]]]
+ * RUNS of CALLS calls of all, or of the one of this name, alone of this side: export or C. With one run of few calls it is
+ * for counting instructions. */
 #define _POSIX_C_SOURCE 199309L
 #include "plain.h"
 #include <stdio.h>
@@ -89,40 +91,45 @@ static double now(void) {
 int main(int argc, char **argv) {
     int runs = argc > 1 ? atoi(argv[1]) : 90;
     long calls = argc > 2 ? atol(argv[2]) : 2000000;
-    const char *only = argc > 3 ? argv[3] : "";
+    const char *only = argc > 3 ? argv[3] : "", *side = argc > 4 ? argv[4] : "";
     fill();
-#define TIME(name, call) do { \
+#define TIMED(least, call) do { \
+    double begun = now(); \
+    at = 0; \
+    for (long k = 0; k < calls; k++) { i = (unsigned)k & 63; sum += (call); } \
+    double each = (now() - begun) / (double)calls; \
+    if (each < (least)) (least) = each; \
+    gtp_c_policer_new(1000, &bucket); \
+    plain_bucket = bucket; \
+} while (0)
+#define BOTH(name, call, plain_call) do { \
     if (*only && strcmp(name, only)) break; \
-    double least = 1e18; \
+    double least = 1e18, plain = 1e18; \
     for (int r = 0; r < runs; r++) { \
-        double begun = now(); \
-        at = 0; \
-        for (long k = 0; k < calls; k++) { i = (unsigned)k & 63; sum += (call); } \
-        double each = (now() - begun) / (double)calls; \
-        if (each < least) least = each; \
-        gtp_c_policer_new(1000, &bucket); \
-        plain_bucket = bucket; \
+        if (strcmp(side, "C")) TIMED(least, call); \
+        if (strcmp(side, "export")) TIMED(plain, plain_call); \
     } \
+    if (*side) printf("%-36s %7.2f\n", name, *side == 'C' ? plain : least); \
+    else printf("%-36s %7.2f %7.2f %5.2f\n", name, least, plain, least / plain); \
+} while (0)
+#define ALONE(name, call) do { \
+    if ((*only && strcmp(name, only)) || !strcmp(side, "C")) break; \
+    double least = 1e18; \
+    for (int r = 0; r < runs; r++) TIMED(least, call); \
     printf("%-36s %7.2f\n", name, least); \
 } while (0)
-    TIME("G-PDU head read", gtp_c_gtpu_read(gpdu[i], 36, &tunnel));
-    TIME("G-PDU head read, C", plain_gtpu_read(gpdu[i], 36, &tunnel));
-    TIME("G-PDU with extension header", gtp_c_gtpu_read(long_gpdu[i], 44, &tunnel));
-    TIME("G-PDU with extension header, C", plain_gtpu_read(long_gpdu[i], 44, &tunnel));
-    TIME("G-PDU head written", gtp_c_gpdu_head(i, 28, out, 8, &needed));
-    TIME("G-PDU head written, C", plain_gpdu_head(i, 28, out, 8, &needed));
-    TIME("GTPv2-C head", gtp_c_gtpv2_head(request[i], 107, &message));
-    TIME("GTPv2-C head, C", plain_gtpv2_head(request[i], 107, &message));
-    TIME("cursor, head and 7 elements", session(request[i], 0));
-    TIME("cursor, head and 7 elements, C", plain_session(request[i]));
-    TIME("the same with values", session(request[i], 1));
-    TIME("IPv4", gtp_c_ip4_read(ip[i], 28, &packet));
-    TIME("IPv4, C", plain_ip4_read(ip[i], 28, &packet));
-    TIME("choice, 1 filter", gtp_c_tft_choose(filters + 15, 1, 1, ip[i], 28, &bearer));
-    TIME("choice, 1 filter, C", plain_tft_choose(filters + 15, 1, 1, ip[i], 28, &bearer));
-    TIME("choice, 16 filters", gtp_c_tft_choose(filters, 16, 1, ip[i], 28, &bearer));
-    TIME("choice, 16 filters, C", plain_tft_choose(filters, 16, 1, ip[i], 28, &bearer));
-    TIME("policer", gtp_c_policer_ask(&bucket, at++, 100));
-    TIME("policer, C", plain_policer_ask(&plain_bucket, at++, 100));
+    if (!*side) printf("%-36s %7s %7s %5s\n", "nanoseconds", "export", "C", "ratio");
+    BOTH("G-PDU head read", gtp_c_gtpu_read(gpdu[i], 36, &tunnel), plain_gtpu_read(gpdu[i], 36, &tunnel));
+    BOTH("G-PDU with extension header", gtp_c_gtpu_read(long_gpdu[i], 44, &tunnel), plain_gtpu_read(long_gpdu[i], 44, &tunnel));
+    BOTH("G-PDU head written", gtp_c_gpdu_head(i, 28, out, 8, &needed), plain_gpdu_head(i, 28, out, 8, &needed));
+    BOTH("GTPv2-C head", gtp_c_gtpv2_head(request[i], 107, &message), plain_gtpv2_head(request[i], 107, &message));
+    BOTH("cursor, head and 7 elements", session(request[i], 0), plain_session(request[i]));
+    ALONE("the same with values", session(request[i], 1));
+    BOTH("IPv4", gtp_c_ip4_read(ip[i], 28, &packet), plain_ip4_read(ip[i], 28, &packet));
+    BOTH("choice, 1 filter", gtp_c_tft_choose(filters + 15, 1, 1, ip[i], 28, &bearer),
+         plain_tft_choose(filters + 15, 1, 1, ip[i], 28, &bearer));
+    BOTH("choice, 16 filters", gtp_c_tft_choose(filters, 16, 1, ip[i], 28, &bearer),
+         plain_tft_choose(filters, 16, 1, ip[i], 28, &bearer));
+    BOTH("policer", gtp_c_policer_ask(&bucket, at++, 100), plain_policer_ask(&plain_bucket, at++, 100));
     return 0;
 }
