@@ -1,1 +1,4 @@
+pub mod ChoiceLemmas
+pub mod GtpuLemmas
+pub mod HeadLemmas
 pub mod ImsiLemmas

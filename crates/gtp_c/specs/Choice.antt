@@ -8,7 +8,12 @@ use Rattle.std.specs.Prelude.{
   map,
   nat_lt,
   length,
+  Bool,
+  true,
   not,
+  Option,
+  Some,
+  None,
   is_some,
   is_none,
   if◌then◌else◌,
@@ -16,7 +21,8 @@ use Rattle.std.specs.Prelude.{
 use Rattle.tft_codec.specs.declared.tft.BearerFilters.{BearerFilters}
 use Rattle.ipv4_packet.specs.Packet.{packet_of}
 use Rattle.ipv4_packet.specs.Refusal.{first_fault}
-use Rattle.tft_match.specs.Chosen.{first_of, candidate_ranks, bearer_by}
+use Rattle.tft_match.specs.Choice.{Rank}
+use Rattle.tft_match.specs.Chosen.{is_before, first_of, candidate_ranks, bearer_by}
 use Rattle.tft_match.specs.declared.direction.Direction.{Direction}
 use Rattle.tft_match.specs.declared.direction.Direction.TheVariants.{Up, Down}
 use Rattle.gtp_c_base.specs.Filter.{filter_said}
@@ -29,6 +35,11 @@ direction_said up = if up == 0 then Down else Up
 -- each filter as a row of its bearer
 abbrev pub rows_said : List TftFilter → List BearerFilters
 rows_said filters = map (λ said. record { index = said.bearer; filters = filter_said said ∷ [] }) filters
+
+-- whether a rank would be the first, where this is the first one so far
+abbrev pub leads : Rank → Option Rank → Bool
+leads rank None = true
+leads rank (Some first) = is_before rank first
 
 -- 27 for too many filters, the packet's fault, 26 where it takes no bearer
 abbrev pub choose_code : List TftFilter → ℕ → List ℕ → ℕ

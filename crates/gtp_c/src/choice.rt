@@ -3,12 +3,12 @@ ghost use Rattle.std.specs.Prelude.{◌≡◌, ◌≢◌, ◌==◌, not, map, So
 ghost use Rattle.std.specs.List.{list_all};
 ghost use Rattle.ipv4_packet.specs.Packet.{packet_of};
 ghost use Rattle.ipv4_packet.specs.Refusal.{first_fault};
-ghost use Rattle.tft_match.specs.Chosen.{is_before, earlier_of, first_of, candidate_ranks, bearer_by};
+ghost use Rattle.tft_match.specs.Chosen.{is_before, first_of, candidate_ranks, bearer_by};
 ghost use Rattle.tft_match.specs.Ends.{AreEnds};
 ghost use Rattle.tft_match.specs.Fit.{holds, fits};
 ghost use Rattle.tft_match.specs.declared.direction.Direction.TheVariants as directions;
 ghost use Rattle.gtp_c_base.specs.Filter.{component_said, filter_said};
-ghost use Rattle.gtp_c.specs.Choice.{rows_said, choose_code, direction_said};
+ghost use Rattle.gtp_c.specs.Choice.{leads, rows_said, choose_code, direction_said};
 ghost use Rattle.gtp_c.specs.Ip4.{code_of};
 
 use crate::ip4::bad_number;
@@ -17,7 +17,7 @@ use gtp_c_base::{TftComponent, TftFilter, component_said};
 use ipv4_packet::Ip4;
 use tft_match::{Direction, Ends, counts_in, ends_of, holds};
 
-/// As many filters as eleven bearers have: so many calls stand one in another.
+/// As many filters as eleven bearers have.
 const MOST_FILTERS: usize = 176;
 
 type Rank = (u8, u8, u8);
@@ -54,31 +54,31 @@ fn is_before(rank: Rank, other: Rank) -> bool
             && (index < other_index || index == other_index && id < other_id)
 }
 
-fn earlier_of(rank: Rank, later: Option<Rank>) -> Rank
-    ensures { result ≡ earlier_of rank later }
+/// Whether a rank is before the first one so far.
+fn leads(rank: Rank, first: Option<Rank>) -> bool
+    ensures { result ≡ leads rank first }
 {
-    match later {
-        Some(other) if is_before(other, rank) => other,
-        _ => rank,
+    match first {
+        Some(other) => is_before(rank, other),
+        None => true,
     }
 }
 
+/// The rank of the first filter that a downlink packet fits.
 fn first_rank(filters: &[TftFilter], packet: &Ip4<'_>, ends: &Ends) -> Option<Rank>
     requires ends { AreEnds packet.now ends.now }
     requires down { ends.now.direction ≡ directions.Down }
     ensures { result ≡ first_of (candidate_ranks (rows_said filters.now) packet.now) }
 {
-    match filters {
-        [] => None,
-        [filter, rest @ ..] => {
-            let later = first_rank(rest, packet, ends);
-            if fits(Direction::Down, filter, packet, ends) {
-                Some(earlier_of((filter.precedence, filter.bearer, filter.id), later))
-            } else {
-                later
-            }
+    let mut first = None;
+    for filter in filters {
+        let rank = (filter.precedence, filter.bearer, filter.id);
+        // The order costs less than the components, so it is asked first.
+        if leads(rank, first) && fits(Direction::Down, filter, packet, ends) {
+            first = Some(rank);
         }
     }
+    first
 }
 
 fn direction_said(up: u32) -> Direction

@@ -13,6 +13,8 @@ ghost use Rattle.std.specs.Prelude.{
   take,
   drop,
   MatchOption,
+  IfSome,
+  IsSomeAnd,
   if◌then◌else◌,
   Some,
   None,
@@ -27,9 +29,12 @@ ghost use Rattle.gtp_c_base.specs.Room.{Writes};
 
 use gtp_c_base::code::{EXTENSION, KIND, LENGTH, NO_ROOM, NOT_GTP, SHORT, TOO_LONG, VERSION};
 use gtp_c_base::put;
-use gtpu_codec::{MANDATORY_LEN, UBad, gpdu_head, read};
+use gtpu_codec::{GtpUKind, MANDATORY_LEN, UBad, gpdu_head, read};
 use pc_base::Teid;
-use wire_octets::{be16_at, be16_octets, be32_octets};
+use wire_octets::{be16_at, be16_octets, be32_at, be32_octets};
+
+/// Octets 1 and 2 of a G-PDU without flags: version 1 and GTP, and its type (TS 29.281, section 5.1).
+const PLAIN_GPDU: u16 = 0x30ff;
 
 /// A message's head, and where its body lies. `seq` counts where `has_seq` is 1.
 #[repr(C)]
@@ -66,12 +71,40 @@ fn seq_numbers(seq: Option<u16>) -> (u8, u16)
     }
 }
 
+/// What is said of a G-PDU without flags, as user packets commonly come in; None of all else.
+#[inline]
+fn plain_gpdu(bytes: &[u8]) -> Option<GtpuHead>
+    ensures faultless { IfSome result (λ _. first_fault bytes.now ≡ None) }
+    ensures message { IfSome result (λ head. IsSomeAnd (message_of bytes.now) (λ m. Says head bytes.now m.0 m.1)) }
+{
+    if bytes.len() < MANDATORY_LEN || be16_at(bytes, 0) != PLAIN_GPDU {
+        return None;
+    }
+    let body_len = usize::from(be16_at(bytes, 2));
+    if body_len > bytes.len() - MANDATORY_LEN {
+        return None;
+    }
+    Some(GtpuHead {
+        body_from: MANDATORY_LEN,
+        body_len,
+        teid: be32_at(bytes, 4),
+        seq: 0,
+        has_seq: 0,
+        kind: GtpUKind::Gpdu.octet(),
+    })
+}
+
 /// The message at the front of some octets.
 #[unsafe(no_mangle)]
 pub extern "C" fn gtp_c_gtpu_read(bytes: &[u8], head: &mut GtpuHead) -> u32
     ensures code { result ≡ code_of (first_fault bytes.now) }
     ensures message { MatchOption (message_of bytes.now) (head.new ≡ head.old) (λ m. Says head.new bytes.now m.0 m.1) }
 {
+    // It wants fewer tests than all that a header may have.
+    if let Some(plain) = plain_gpdu(bytes) {
+        *head = plain;
+        return 0;
+    }
     match read(bytes) {
         Err(bad) => bad_number(bad),
         Ok((found, body)) => {

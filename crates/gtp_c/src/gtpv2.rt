@@ -1,5 +1,5 @@
 //! GTPv2-C: the head of a message.
-ghost use Rattle.std.specs.Prelude.{◌≡◌, ◌+◌, ◌≤◌, ◌==◌, length, if◌then◌else◌, Some, None, MatchOption};
+ghost use Rattle.std.specs.Prelude.{◌≡◌, ◌≢◌, ◌+◌, ◌^◌, ◌≤◌, ◌<◌, ◌==◌, true, is_some, length, if◌then◌else◌, Some, None, MatchOption};
 ghost use Rattle.gtpv2_msg.specs.Refusal.{header_fault};
 ghost use Rattle.gtp_c_base.specs.Fault.{code_of};
 ghost use Rattle.gtp_c.specs.Gtpv2.{Says};
@@ -28,11 +28,15 @@ fn teid_numbers(teid: Option<u32>) -> (u8, u32)
     }
 }
 
-/// The head of the message at the front of some octets.
-#[unsafe(no_mangle)]
-pub extern "C" fn gtp_c_gtpv2_head(bytes: &[u8], head: &mut Gtpv2Head) -> u32
+/// The head of the message at the front of some octets: the one caller of `read_header`, which is so compiled into it.
+#[tactic(auto, using(crate::proofs::HeadLemmas::some_code))]
+pub(crate) fn head_of(bytes: &[u8], head: &mut Gtpv2Head) -> u32
     ensures code { result ≡ code_of (header_fault bytes.now) }
     ensures message { MatchOption (header_fault bytes.now) (Says head.new bytes.now) (λ _. head.new ≡ head.old) }
+    ensures fault { result ≡ 0 → header_fault bytes.now ≡ None }
+    ensures refused { result ≢ 0 → is_some (header_fault bytes.now) ≡ true }
+    ensures right { result ≡ 0 → Says head.new bytes.now }
+    ensures seq { result ≡ 0 → head.new.seq < 2 ^ 24 }
 {
     match read_header(bytes) {
         Err(bad) => message_code(bad),
@@ -49,4 +53,13 @@ pub extern "C" fn gtp_c_gtpv2_head(bytes: &[u8], head: &mut Gtpv2Head) -> u32
             0
         }
     }
+}
+
+/// The head of the message at the front of some octets.
+#[unsafe(no_mangle)]
+pub extern "C" fn gtp_c_gtpv2_head(bytes: &[u8], head: &mut Gtpv2Head) -> u32
+    ensures code { result ≡ code_of (header_fault bytes.now) }
+    ensures message { MatchOption (header_fault bytes.now) (Says head.new bytes.now) (λ _. head.new ≡ head.old) }
+{
+    head_of(bytes, head)
 }

@@ -2,6 +2,7 @@
 ghost use Rattle.std.specs.Prelude.{◌≡◌, ◌==◌, if◌then◌else◌, Some, None, MatchOption};
 ghost use Rattle.ipv4_packet.specs.Packet.{packet_of};
 ghost use Rattle.ipv4_packet.specs.Refusal.{first_fault};
+ghost use Rattle.ipv4_packet.specs.Payload.{ports_of, spi_of};
 ghost use Rattle.gtp_c.specs.Ip4.{Says, code_of, bad_number};
 
 use gtp_c_base::code::{HEADER, SHORT, TOTAL, VERSION};
@@ -53,6 +54,18 @@ fn spi_numbers(spi: Option<u32>) -> (u8, u32)
     }
 }
 
+/// The SPI of a packet with these ports: where there are any, it isn't looked for.
+#[tactic(auto, using(crate::proofs::HeadLemmas::no_spi))]
+fn spi_beside(packet: &Ip4<'_>, ports: Option<(u16, u16)>) -> Option<u32>
+    requires { ports ≡ ports_of packet.now }
+    ensures { result ≡ spi_of packet.now }
+{
+    match ports {
+        Some(_) => None,
+        None => packet.spi(),
+    }
+}
+
 /// The fields of the packet at the front of some octets (RFC 791, section 3.1).
 #[unsafe(no_mangle)]
 pub extern "C" fn gtp_c_ip4_read(bytes: &[u8], head: &mut Ip4Head) -> u32
@@ -62,8 +75,9 @@ pub extern "C" fn gtp_c_ip4_read(bytes: &[u8], head: &mut Ip4Head) -> u32
     match Ip4::read(bytes) {
         Err(bad) => bad_number(bad),
         Ok(packet) => {
-            let (has_ports, source_port, destination_port) = port_numbers(packet.ports());
-            let (has_spi, spi) = spi_numbers(packet.spi());
+            let ports = packet.ports();
+            let (has_spi, spi) = spi_numbers(spi_beside(&packet, ports));
+            let (has_ports, source_port, destination_port) = port_numbers(ports);
             *head = Ip4Head {
                 source: packet.source(),
                 destination: packet.destination(),

@@ -5,12 +5,12 @@ ghost use Rattle.gtpv2_msg.specs.Refusal.{refusing};
 ghost use Rattle.gtpv2_msg.specs.Spelling.{spelling};
 ghost use Rattle.gtp_c.specs.Reply.{fault_said, silent_code, reply_to, WritesReply, echo_response, EchoAnswer};
 
+use crate::gtpv2::{Gtpv2Head, head_of};
 use gtp_c_base::code::{INCORRECT, MISSING, NO_REPLY, RANGE};
-use gtp_c_base::{message_code, put};
+use gtp_c_base::put;
 use gtpv2_ie::element_type::{CAUSE, RECOVERY};
 use gtpv2_msg::{
     ECHO_REQUEST, ECHO_RESPONSE, MANDATORY_IE_INCORRECT, MANDATORY_IE_MISSING, is_request,
-    read_header,
 };
 use wire_octets::be24_octets;
 
@@ -120,10 +120,18 @@ pub extern "C" fn gtp_c_gtpv2_refusal(
     let Some(cause) = cause_of(fault) else {
         return RANGE;
     };
-    let head = match read_header(request) {
-        Err(bad) => return message_code(bad),
-        Ok(head) => head,
+    let mut head = Gtpv2Head {
+        ies_from: 0,
+        ies_len: 0,
+        teid: 0,
+        seq: 0,
+        has_teid: 0,
+        kind: 0,
     };
+    let bad = head_of(request, &mut head);
+    if bad != 0 {
+        return bad;
+    }
     if !is_request(head.kind) {
         return NO_REPLY;
     }
