@@ -1,5 +1,5 @@
 -- A G-PDU without flags: its eight octets, and as many behind them as it says.
-use Rattle.std.proofs.Common.{◌≡◌, ℕ, ◌+◌, ◌-◌, ◌≤◌, ◌<◌, List, length, take, drop, length-drop, Option, Some, None, IsSomeAnd, IsTrue, refl, sym, ap, subst, arith}
+use Rattle.std.proofs.Common.{◌≡◌, ℕ, ◌+◌, ◌-◌, ◌≤◌, ◌<◌, List, length, take, drop, length-drop, Some, None, IsSomeAnd, IsTrue, refl, sym, ap, subst, arith}
 use Rattle.std.specs.Prelude.{slice_index}
 use Rattle.wire_octets.specs.Numbers.{be16_at}
 use Rattle.gtpu_codec.specs.declared.head.GtpUHead.{GtpUHead}

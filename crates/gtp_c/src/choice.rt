@@ -11,7 +11,7 @@ ghost use Rattle.gtp_c_base.specs.Filter.{component_said, filter_said};
 ghost use Rattle.gtp_c.specs.Choice.{leads, rows_said, choose_code, direction_said};
 ghost use Rattle.gtp_c.specs.Ip4.{code_of};
 
-use crate::ip4::bad_number;
+use crate::ip4::{bad_number, packet_at};
 use gtp_c_base::code::{NO_BEARER, TOO_MANY};
 use gtp_c_base::{TftComponent, TftFilter, component_said};
 use ipv4_packet::Ip4;
@@ -113,7 +113,7 @@ pub extern "C" fn gtp_c_tft_fits(
         ((does_fit.new == 1) ≡ fits (direction_said up) (packet_of packet.now) (filter_said filter.now))
         (λ _. does_fit.new ≡ does_fit.old) }
 {
-    match Ip4::read(packet) {
+    match packet_at(packet) {
         Err(bad) => bad_number(bad),
         Ok(packet) => {
             *does_fit = fit_number(filter, up, &packet);
@@ -140,7 +140,7 @@ pub extern "C" fn gtp_c_tft_choose(
     if filters.len() > MOST_FILTERS {
         return TOO_MANY;
     }
-    let packet = match Ip4::read(packet) {
+    let packet = match packet_at(packet) {
         Err(bad) => return bad_number(bad),
         Ok(packet) => packet,
     };

@@ -1,8 +1,7 @@
 -- Both clauses follow from what octets 1 to 4 are.
-use Rattle.std.proofs.Common.{◌≡◌, ℕ, ◌+◌, ◌-◌, ◌≤◌, length, Some, IsSomeAnd, refl, sym, ap, subst, arith}
+use Rattle.std.proofs.Common.{◌≡◌, ◌-◌, ◌≤◌, length, arith}
 use Rattle.gtpu_codec.specs.Head.{length_in}
 use Rattle.wire_octets.specs.Numbers.{be16_at}
-use Rattle.gtp_c.specs.Gtpu.{Says}
 use Rattle.gtp_c.proofs.GtpuLemmas.{plain_is_message, said_plain}
 use Rattle.gtp_c.proofs.gtpu.plain_gpdu.Goals as goal
 
