@@ -151,28 +151,29 @@ small_last values block w at from k done twice whole less before is =
     let all : block ≡ drop from values = is ∙ take_all k (drop from values) (omega (arith, length-drop from values)) in
     rw (before, all) (covered values from (2 * done) (2 * (done - at)) (omega arith))
 
--- ---- two blocks, and the two halves of one
+-- ---- two equal parts, and the two halves of a block
 
 values_apart : (digits : List ℕ) (n : ℕ) → values_of digits ≡ values_of (take n digits) ++ values_of (drop n digits)
 values_apart digits n =
     ap values_of (sym (take-append-drop n digits)) ∙ map-append value_of (take n digits) (drop n digits)
 
-pub two_packed : (digits octets front back : List ℕ) → length digits ≡ 64 → length octets ≡ 32
-    → front ≡ packed (values_of (take 32 digits)) → back ≡ packed (values_of (drop 32 digits))
-    → put_mid 16 (length (front ++ drop 16 octets) - 16) (front ++ drop 16 octets) back ≡ packed (values_of digits)
-two_packed digits octets front back long room first second =
-    let one : length (values_of (take 32 digits)) ≡ 32 =
-    length-map (take 32 digits) value_of ∙ length-take-le 32 digits (omega arith) in
-    let two : length (values_of (drop 32 digits)) ≡ 32 =
-    length-map (drop 32 digits) value_of ∙ length-drop 32 digits ∙ omega arith in
-    let front_long : length front ≡ 16 = ap length first ∙ length-packed 16 (values_of (take 32 digits)) one in
-    let back_long : length back ≡ 16 = ap length second ∙ length-packed 16 (values_of (drop 32 digits)) two in
-    let k : length (front ++ drop 16 octets) - 16 ≡ length back =
-    omega (arith, length-append front (drop 16 octets), length-drop 16 octets) in
-    two_halves octets front back 16 (length (front ++ drop 16 octets) - 16) front_long (omega arith) k
-    ∙ ap (λ x. x ++ back) first ∙ ap (λ x. packed (values_of (take 32 digits)) ++ x) second
-    ∙ sym (ap packed (values_apart digits 32)
-    ∙ packed-append 16 (values_of (take 32 digits)) (values_of (drop 32 digits)) one)
+pub two_packed : (k n : ℕ) (digits octets front back : List ℕ) → n ≡ 2 * k → length digits ≡ 2 * n
+    → length octets ≡ 2 * k
+    → front ≡ packed (values_of (take n digits)) → back ≡ packed (values_of (drop n digits))
+    → put_mid k (length (front ++ drop k octets) - k) (front ++ drop k octets) back ≡ packed (values_of digits)
+two_packed k n digits octets front back double long room first second =
+    let one : length (values_of (take n digits)) ≡ 2 * k =
+    length-map (take n digits) value_of ∙ length-take-le n digits (omega arith) ∙ double in
+    let two : length (values_of (drop n digits)) ≡ 2 * k =
+    length-map (drop n digits) value_of ∙ length-drop n digits ∙ omega arith in
+    let front_long : length front ≡ k = ap length first ∙ length-packed k (values_of (take n digits)) one in
+    let back_long : length back ≡ k = ap length second ∙ length-packed k (values_of (drop n digits)) two in
+    let rest : length (front ++ drop k octets) - k ≡ length back =
+    omega (arith, length-append front (drop k octets), length-drop k octets) in
+    two_halves octets front back k (length (front ++ drop k octets) - k) front_long (omega arith) rest
+    ∙ ap (λ x. x ++ back) first ∙ ap (λ x. packed (values_of (take n digits)) ++ x) second
+    ∙ sym (ap packed (values_apart digits n)
+    ∙ packed-append k (values_of (take n digits)) (values_of (drop n digits)) one)
 
 pub small_two : (digits : List ℕ) (w : Bool) (n : ℕ)
     → ((w && are_small (values_of (take n digits))) && are_small (values_of (drop n digits)))

@@ -1,6 +1,6 @@
 -- Blocks of digits put behind each other.
-use Rattle.std.proofs.Common.{◌≡◌, ℕ, zero, suc, ◌+◌, ◌*◌, ◌/◌, ◌%◌, ◌^◌, ◌<◌, ◌≤◌, List, [], ◌∷◌, ◌++◌, length, map, take, drop, get_or, bit_and, refl, subst, append-nil, sym, ap, ◌∙◌, arith, take-add}
-use Rattle.std.proofs.lemmas.List.{take_all, get_or-map, ext_get_or, length-map, length-take-le, length-drop, length-append, take_at, drop_all}
+use Rattle.std.proofs.Common.{◌≡◌, ℕ, zero, suc, ◌+◌, ◌-◌, ◌*◌, ◌/◌, ◌%◌, ◌^◌, ◌<◌, ◌≤◌, List, [], ◌∷◌, ◌++◌, length, map, take, drop, get_or, bit_and, refl, subst, append-nil, sym, ap, ◌∙◌, arith, take-add}
+use Rattle.std.proofs.lemmas.List.{take_all, get_or-map, ext_get_or, length-map, length-take-le, length-drop, length-append, take-append-drop, take_at, drop_all}
 use Rattle.std.proofs.lemmas.Nat.{and_mask}
 use Rattle.std.proofs.lemmas.Slice.{take-put_mid}
 use Rattle.std.proofs.lemmas.Simd.{Each1-weaker, Each1-zip2, Each2-splat, below_from_Fits, length-zip2, length-swz_l, get_or-swz_l_below, Each1-all, Each1-get_or, put_chunk_whole, put_chunk_is, swz_l, SwzOk, SwzOk-from_below}
@@ -14,7 +14,7 @@ use mir.Val.{Fits}
 use Rattle.hex.proofs.HexLemmas.{length-encode_with}
 use Rattle.text_fields.specs.Blocks.{high_digit, low_digit}
 use Rattle.text_fields.proofs.LaneLemmas.{is_listing}
-use Rattle.text_fields.proofs.BlockLemmas.{take_less, length-put}
+use Rattle.text_fields.proofs.BlockLemmas.{take_less, length-put, two_halves}
 
 -- ---- sixteen digits looked up
 
@@ -114,6 +114,23 @@ encoded_last octets digits block at from k n done twice double sum less whole is
     ∙ encoded_to octets digits block at from k n to (length octets) twice double (omega arith) sum (omega arith) whole
     (encoded_less octets digits at done from less twice is) more
     ∙ ap encode_lower (take_all (length octets) octets (omega arith))
+
+-- two equal parts
+pub two_encoded : (k n : ℕ) (octets digits front back : List ℕ) → n ≡ 2 * k → length octets ≡ 2 * k
+    → length digits ≡ 2 * n
+    → front ≡ encode_lower (take k octets) → back ≡ encode_lower (drop k octets)
+    → put_mid n (length (front ++ drop n digits) - n) (front ++ drop n digits) back ≡ encode_lower octets
+two_encoded k n octets digits front back double long room first second =
+    let front_long : length front ≡ n =
+    ap length first ∙ length-encode_with lower_digits (take k octets)
+    ∙ omega (arith, length-take-le k octets (omega arith)) in
+    let back_long : length back ≡ n =
+    ap length second ∙ length-encode_with lower_digits (drop k octets) ∙ omega (arith, length-drop k octets) in
+    let rest : length (front ++ drop n digits) - n ≡ length back =
+    omega (arith, length-append front (drop n digits), length-drop n digits) in
+    two_halves digits front back n (length (front ++ drop n digits) - n) front_long (omega arith) rest
+    ∙ ap (λ x. x ++ back) first ∙ ap (λ x. encode_lower (take k octets) ++ x) second
+    ∙ sym (ap encode_lower (sym (take-append-drop k octets)) ∙ encode-append (take k octets) (drop k octets))
 
 -- ---- the two halves of a block
 

@@ -17,17 +17,41 @@ pub(crate) fn decode_blocks(digits: &[u8], octets: &mut [u8]) -> bool
 {
     let len = octets.len();
     let mut worst = u8x16::splat(0);
-    for place in 0..len / 32 {
-        worst = two_blocks(
+    for place in 0..len / 64 {
+        worst = four_blocks(
             worst,
-            &digits[64 * place..64 * place + 64],
-            &mut octets[32 * place..32 * place + 32],
+            &digits[128 * place..128 * place + 128],
+            &mut octets[64 * place..64 * place + 64],
         );
     }
-    is_small(decode_rest(worst, digits, octets, len / 32 * 32))
+    is_small(decode_half(worst, digits, octets, len / 64 * 64))
 }
 
-// What is left behind whole rounds: one block more where it isn't the last, then the last.
+// What is left behind whole rounds: half a round where it has that many, then what is left behind it.
+#[inline(always)]
+fn decode_half(worst: u8x16, digits: &[u8], octets: &mut [u8], done: usize) -> u8x16
+    requires twice { length digits.now ≡ 2 * length octets.old }
+    requires room { 16 ≤ length octets.old }
+    requires left { length octets.old ≤ done + 64 }
+    requires within { done ≤ length octets.old }
+    requires octets { take done octets.old ≡ packed (take (2 * done) (values_of digits.now)) }
+    requires worst { are_small worst ≡ are_small (take (2 * done) (values_of digits.now)) }
+    ensures octets { octets.new ≡ packed (values_of digits.now) }
+    ensures worst { are_small result ≡ are_small (values_of digits.now) }
+{
+    if done + 32 <= octets.len() {
+        let worst = two_blocks(
+            worst,
+            &digits[2 * done..2 * done + 64],
+            &mut octets[done..done + 32],
+        );
+        decode_rest(worst, digits, octets, done + 32)
+    } else {
+        decode_rest(worst, digits, octets, done)
+    }
+}
+
+// At most two blocks: one more where it isn't the last, then the last.
 fn decode_rest(worst: u8x16, digits: &[u8], octets: &mut [u8], done: usize) -> u8x16
     requires twice { length digits.now ≡ 2 * length octets.old }
     requires room { 16 ≤ length octets.old }
@@ -69,7 +93,19 @@ fn decode_last(worst: u8x16, digits: &[u8], octets: &mut [u8], done: usize) -> u
     )
 }
 
-// 64 digits to 32 octets; two blocks a round, since the constants are loaded anew in each.
+// 128 digits to 64 octets; four blocks a round, since the constants are loaded anew in each.
+#[inline(always)]
+fn four_blocks(worst: u8x16, digits: &[u8], octets: &mut [u8]) -> u8x16
+    requires digits { length digits.now ≡ 128 }
+    requires octets { length octets.old ≡ 64 }
+    ensures octets { octets.new ≡ packed (values_of digits.now) }
+    ensures worst { are_small result ≡ (are_small worst && are_small (values_of digits.now)) }
+{
+    let worst = two_blocks(worst, &digits[..64], &mut octets[..32]);
+    two_blocks(worst, &digits[64..], &mut octets[32..])
+}
+
+// 64 digits to 32 octets.
 #[inline(always)]
 fn two_blocks(worst: u8x16, digits: &[u8], octets: &mut [u8]) -> u8x16
     requires digits { length digits.now ≡ 64 }

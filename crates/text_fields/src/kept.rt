@@ -112,6 +112,7 @@ impl Text {
     }
 
     /// Appends a head as it is, and behind it octets in hexadecimal, in lower case.
+    #[inline(always)]
     pub fn push_headed(&mut self, head: &[u8], octets: &[u8]) -> Result<(), AllocError>
         ensures appended { OnOk result (self.new ≡ self.old ++ head.now ++ encode_lower octets.now) }
         ensures kept { OnErr result (self.new ≡ self.old) }
@@ -226,6 +227,7 @@ fn put(room: &mut Vec<u8>, at: usize, octets: &[u8]) -> usize
 }
 
 // Writes octets in hexadecimal at a place: where they end.
+#[inline(always)]
 fn put_digits(room: &mut Vec<u8>, at: usize, octets: &[u8]) -> usize
     requires { at + 2 * length octets.now ≤ vec_len room.old }
     ensures value { take result room.new.items ≡ take at room.old.items ++ encode_lower octets.now }

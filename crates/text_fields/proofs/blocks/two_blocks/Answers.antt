@@ -1,4 +1,4 @@
-use Rattle.std.proofs.Common.{◌&&◌, ◌-◌, length, drop, sym, ap, ◌∙◌, arith}
+use Rattle.std.proofs.Common.{◌&&◌, ◌-◌, length, drop, refl, sym, ap, ◌∙◌, arith}
 use Rattle.std.proofs.lemmas.List.{length-take-le, length-drop, take_all}
 use Rattle.text_fields.specs.Blocks.{values_of, are_small, packed}
 use Rattle.text_fields.proofs.BlockLemmas.{two_packed, small_two}
@@ -14,7 +14,7 @@ pub returns-clause-octets : goal.returns-clause-octets
 returns-clause-octets c =
     let digits = c.args.digits.now in
     let rest = take_all (length digits - 32) (drop 32 digits) (omega (arith, length-drop 32 digits)) in
-    two_packed digits c.args.octets.now c.block-worst.new.octets c.block.new.octets c.requires.digits
+    two_packed 16 32 digits c.args.octets.now c.block-worst.new.octets c.block.new.octets refl c.requires.digits
     c.requires.octets c.block-worst.ensures.octets (c.block.ensures.octets ∙ ap (λ part. packed (values_of part)) rest)
 
 pub returns-clause-worst : goal.returns-clause-worst
