@@ -1,5 +1,8 @@
 -- The bearer that a packet takes, from the rank of the first candidate, and that it is one.
-use Rattle.std.proofs.Common.{◌≡◌, ℕ, List, Option, Some, None, ap, subst, refl}
+use Rattle.std.proofs.Common.{◌≡◌, ℕ, ◌==◌, true, List, [], length, Option, Some, None, All, ap, subst, refl, arith}
+use Rattle.std.proofs.lemmas.Bool.{eqb-true}
+use Rattle.std.proofs.lemmas.List.{nil_from_length}
+use Rattle.std.proofs.lemmas.List.Elements.{All-contains}
 use Rattle.tft_codec.specs.declared.filter.Filter.{Filter}
 use Rattle.tft_codec.specs.declared.tft.BearerFilters.{BearerFilters}
 use Rattle.tft_match.specs.Choice.{Rank, rank_of, IsBefore, IsCandidate, NoCandidate, IsFirst, Takes, by_filter, by_default, none}
@@ -30,6 +33,16 @@ pub no_candidate : (rows : List BearerFilters) (packet : List ℕ) → IsFirstRa
     → NoCandidate rows packet
 no_candidate rows packet no_rank row filter candidate =
     no_rank (rank_of row filter) (rank_from rows packet row filter candidate)
+
+pub none_left : (filters : List Filter) → (length filters == 0) ≡ true → filters ≡ []
+none_left filters is = nil_from_length filters (eqb-true (length filters) 0 is)
+
+-- bearers without filters have no candidate
+pub no_filters : (rows : List BearerFilters) (packet : List ℕ) → All (λ row. row.filters ≡ []) rows
+    → NoCandidate rows packet
+no_filters rows packet empty row filter candidate =
+    let none : row.filters ≡ [] = All-contains (λ row. row.filters ≡ []) rows row empty candidate.in_rows in
+    absurd (omega (arith, candidate.in_row.1, ap length none))
 
 -- first candidates have one rank
 pub same_rank : (rows : List BearerFilters) (packet : List ℕ) (row : BearerFilters) (filter : Filter)

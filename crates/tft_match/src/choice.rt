@@ -1,7 +1,7 @@
 //! The bearer that a downlink packet takes.
-ghost use Rattle.std.specs.Prelude.{◌≡◌, ◌↔◌, IsTrue, ℕ, List, [], ◌∷◌, ◌++◌, Option};
+ghost use Rattle.std.specs.Prelude.{◌≡◌, ◌↔◌, IsTrue, IsFalse, ℕ, List, [], ◌∷◌, ◌++◌, Option, All};
 ghost use Rattle.tft_codec.specs.declared.tft.BearerFilters.{BearerFilters};
-ghost use Rattle.tft_match.specs.Choice.{IsBefore, HasDefault, Takes};
+ghost use Rattle.tft_match.specs.Choice.{IsBefore, HasDefault, NoCandidate, Takes};
 ghost use Rattle.tft_match.specs.Chosen.{chosen};
 ghost use Rattle.tft_match.specs.Ends.{AreEnds};
 ghost use Rattle.tft_match.specs.Walk.{IsFirstRank, Leads};
@@ -18,6 +18,7 @@ type Rank = (u8, u8, u8);
 /// The index of the bearer that a downlink packet takes: the one whose filter comes first among those
 /// that the packet fits, by precedence, then by index, then by identifier. A packet that fits none
 /// takes the default bearer, of index 0, where that has no filters, and else none.
+#[inline(always)]
 pub fn choose(rows: &[BearerFilters], packet: &Ip4<'_>) -> Option<u8>
     // The answer is the bearer that the packet takes, and it takes no other.
     ensures taken { Takes rows.now packet.now result }
@@ -25,11 +26,43 @@ pub fn choose(rows: &[BearerFilters], packet: &Ip4<'_>) -> Option<u8>
 
     ensures chosen { result ≡ chosen rows.now packet.now }
 {
+    if have_filters(rows) {
+        choose_by_filters(rows, packet)
+    } else {
+        default_of(rows)
+    }
+}
+
+/// The same where there may be filters. Most subscribers have none, and the filters are not looked at then.
+#[inline(never)]
+fn choose_by_filters(rows: &[BearerFilters], packet: &Ip4<'_>) -> Option<u8>
+    ensures { Takes rows.now packet.now result }
+{
     match first_rank(rows, packet) {
         Some((_, index, _)) => Some(index),
-        None if has_default(rows) => Some(0),
-        None => None,
+        None => default_of(rows),
     }
+}
+
+/// The bearer of a packet that fits no filter.
+#[inline(always)]
+fn default_of(rows: &[BearerFilters]) -> Option<u8>
+    ensures { (packet : List ℕ) → NoCandidate rows.now packet → Takes rows.now packet result }
+{
+    if has_default(rows) { Some(0) } else { None }
+}
+
+/// Whether a bearer has filters.
+#[inline(always)]
+fn have_filters(rows: &[BearerFilters]) -> bool
+    ensures { IsFalse result ↔ All (λ row. row.filters ≡ []) rows.now }
+{
+    for row in rows {
+        if !row.filters.as_slice().is_empty() {
+            return true;
+        }
+    }
+    false
 }
 
 /// The rank of the first filter that the packet fits.
@@ -92,6 +125,7 @@ fn is_before(rank: Rank, other: Rank) -> bool
 }
 
 /// Whether the default bearer is there without filters.
+#[inline(always)]
 fn has_default(rows: &[BearerFilters]) -> bool
     ensures { IsTrue result ↔ HasDefault rows.now }
 {
