@@ -2,6 +2,7 @@ pub mod KnownOctets
 pub mod Newlines
 pub mod Parts
 pub mod Settling
+mod RoundLemmas
 pub mod ReadSteps
 pub mod OneAnswerCases
 pub mod ToldLemmas

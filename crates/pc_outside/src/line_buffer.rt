@@ -2,6 +2,7 @@
 ghost use Rattle.std.specs.Prelude.{◌≡◌, ◌+◌, ◌-◌, ◌<◌, ◌≤◌, ◌++◌, ◌∷◌, [], length, take, drop, slice_range, vec_len};
 ghost use Rattle.std.specs.Prelude.{IfOk, IfSome, IfNone, OnErr};
 ghost use Rattle.std.specs.Io.KnownBytes.{Consumes, IsAtEnd, Keeps};
+ghost use Rattle.memchr.specs.Find.{IsFirstByte, is_byte};
 ghost use Rattle.pc_outside.specs.Faults.{Rises};
 ghost use Rattle.pc_outside.specs.Limits.{newline, line_max};
 ghost use Rattle.pc_outside.specs.Line.{NoNewline};
@@ -13,6 +14,7 @@ use super::sources::{Failed, Source};
 use memchr::memchr;
 use std::alloc::Global;
 use std::marker::Model;
+use std::simd::prelude::*;
 
 /// The octet that ends a line.
 pub const NEWLINE: u8 = b'\n';
@@ -117,6 +119,7 @@ impl LineBuf {
         self.to - self.from
     }
 
+    #[inline(always)]
     pub(super) fn forget_line(&mut self)
         ensures { self.new ≡ record self.old { line = []; last = false } }
     {
@@ -127,6 +130,7 @@ impl LineBuf {
 
     // The answer that the octets held give, whatever comes behind them. The first `seen` of them
     // are known to end no line. `None`: more are needed.
+    #[inline(always)]
     pub(super) fn settle(&mut self, seen: usize) -> Option<LineRead>
         requires seen_held { seen ≤ length self.old.front }
         requires seen_short { seen ≤ line_max }
@@ -192,6 +196,7 @@ impl LineBuf {
 }
 
 // Where the first newline stands, if within a line's length. The first `seen` octets are none.
+#[inline(always)]
 fn line_len(front: &[u8], seen: usize) -> Option<usize>
     requires seen_held { seen ≤ length front.now }
     requires seen_short { seen ≤ line_max }
@@ -204,8 +209,45 @@ fn line_len(front: &[u8], seen: usize) -> Option<usize>
     ensures none { IfNone result (NoNewline (take (line_max + 1) front.now)) }
 {
     let end = (LINE_MAX + 1).min(front.len());
-    match memchr(NEWLINE, &front[seen..end]) {
+    match first_newline(&front[seen..end]) {
         Some(at) => Some(seen + at),
         None => None,
     }
+}
+
+// How many octets are looked at in one round: most lines are a few rounds long, so a call for each costs more.
+const ROUND: usize = 64;
+
+// Where the first newline stands.
+#[inline(always)]
+fn first_newline(octets: &[u8]) -> Option<usize>
+    ensures { IsFirstByte (is_byte newline) octets.now result }
+{
+    let rounds = octets.len() / ROUND;
+    for round in 0..rounds {
+        let at = ROUND * round;
+        if let Some(place) = newline_in_round(&octets[at..at + ROUND]) {
+            return Some(at + place);
+        }
+    }
+    let at = ROUND * rounds;
+    match memchr(NEWLINE, &octets[at..]) {
+        Some(place) => Some(at + place),
+        None => None,
+    }
+}
+
+// The same of one round.
+#[inline(always)]
+fn newline_in_round(octets: &[u8]) -> Option<usize>
+    requires { length octets.now ≡ 64 }
+    ensures { IsFirstByte (is_byte newline) octets.now result }
+{
+    let here = u8x64::from_slice(octets)
+        .simd_eq(u8x64::splat(NEWLINE))
+        .to_bitmask();
+    if here != 0 {
+        return Some(here.trailing_zeros() as usize);
+    }
+    None
 }
