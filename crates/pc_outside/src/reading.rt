@@ -1,5 +1,5 @@
 // Octets read in pieces are given out line by line.
-ghost use Rattle.std.specs.Prelude.{◌≡◌, ◌⊎◌, ◌≤◌, ℕ, List, ◌++◌};
+ghost use Rattle.std.specs.Prelude.{◌≡◌, ◌⊎◌, ◌≤◌, ℕ, List, [], ◌++◌, false};
 ghost use Rattle.std.specs.Io.KnownBytes.{prepend_known};
 ghost use Rattle.pc_outside.specs.Faults.{Rises};
 ghost use Rattle.pc_outside.specs.LineReads.{Answers, Reads};
@@ -31,6 +31,7 @@ pub enum LineRead {
 }
 
 /// Reads the next line into the buffer. It takes no memory.
+#[inline(always)]
 pub fn read_line<S: Source>(source: &mut S, buf: &mut LineBuf) -> LineRead
     // The octets that the source tells, behind those held, give the answer.
     ensures octets { Reads result buf.old.room buf.new.room (prepend_known buf.old.front (S.left source.old))
@@ -51,16 +52,38 @@ pub fn read_line<S: Source>(source: &mut S, buf: &mut LineBuf) -> LineRead
         → (result ≡ stop) × (source.new ≡ source.old) × (buf.new.front ≡ buf.old.front) }
 {
     buf.forget_line();
-    let mut seen = 0;
+    match buf.settle(0) {
+        Some(read) => read,
+        None => read_more(source, buf),
+    }
+}
+
+// The same where the octets held don't give the answer: more are read until they do.
+#[inline(never)]
+fn read_more<S: Source>(source: &mut S, buf: &mut LineBuf) -> LineRead
+    requires no_line { buf.old.line ≡ [] }
+    requires not_last { buf.old.last ≡ false }
+    requires unfinished { IsUnfinished buf.old }
+
+    ensures octets { Reads result buf.old.room buf.new.room (prepend_known buf.old.front (S.left source.old))
+        (prepend_known buf.new.front (S.left source.new)) buf.new.line buf.new.last }
+    ensures held { (given : List ℕ) × Answers result buf.old.room buf.new.room (buf.old.front ++ given)
+        buf.new.front buf.new.line buf.new.last }
+
+    ensures later { S.faults source.old ≤ S.faults source.new }
+    ensures fault { result ≡ LineRead.ReadFault → Rises (S.faults source.old) (S.faults source.new) }
+    ensures unfinished { result ≡ LineRead.ReadFault → IsUnfinished buf.new }
+    ensures stopped { (result ≡ LineRead.LineLong) ⊎ (result ≡ LineRead.TooLong) → HasStopped result buf.new }
+{
     loop {
-        if let Some(read) = buf.settle(seen) {
-            return read;
-        }
-        seen = buf.front_len();
+        let seen = buf.front_len();
         match buf.refill(source) {
             Ok(0) => return buf.finish(),
             Ok(_) => {}
             Err(Failed) => return LineRead::ReadFault,
+        }
+        if let Some(read) = buf.settle(seen) {
+            return read;
         }
     }
 }

@@ -1,0 +1,14 @@
+use Rattle.std.proofs.Common.{◌-◌, ◌≤◌, length}
+use Rattle.pc_outside.specs.Held.{IsUnfinished}
+use Rattle.pc_outside.proofs.ReadSteps.{IsReading}
+use Rattle.pc_outside.proofs.reading.read_more.Given as goal
+
+abbrev pub decreases-loop-buf : goal.decreases-loop-buf
+decreases-loop-buf g l = l.buf.room - length l.buf.front
+
+abbrev pub invariant-loop-buf : goal.invariant-loop-buf
+invariant-loop-buf g l = record {
+  reading : IsReading l.fn.buf l.buf (g.S.Source.left l.fn.source) (g.S.Source.left l.source) (length l.buf.front);
+  unfinished : IsUnfinished l.buf;
+  later : g.S.Source.faults l.fn.source ≤ g.S.Source.faults l.source;
+}
