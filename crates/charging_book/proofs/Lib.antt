@@ -8,3 +8,4 @@ pub mod Bounds
 pub mod PostingLemmas
 pub mod PartLemmas
 pub mod PostedLemmas
+mod Answered

@@ -53,6 +53,7 @@ impl Book {
       map,
       All,
       Contains,
+      set,
       OnOk,
       OnErr,
       IsTrue,
@@ -60,8 +61,9 @@ impl Book {
     };
     ghost use Rattle.charging_book.specs.Happenings.{Happening, started, forwarded, closed, rows_of};
     ghost use Rattle.charging_book.specs.Accounts.{StandsFor, LifeHasRoom, lives_in};
-    ghost use Rattle.charging_book.specs.Counters.{HasRoom};
+    ghost use Rattle.charging_book.specs.Counters.{HasRoom, next_piece, no_moments, row_from};
     ghost use Rattle.charging_book.specs.Posted.{GoesOn};
+    ghost use Rattle.charging_book.specs.declared.records.Why.TheVariants.{Volume};
     ghost use Rattle.std.specs.List.{HoldsAt};
 
     /// A book of no life.
@@ -132,14 +134,31 @@ impl Book {
         let counted = self.opens[place].with(up, octets);
         let span = self.spans[place].with(at);
         if counted.is_full() {
-            self.rows
-                .push(ChargeRow::new(&counted, &span, Why::Volume))?;
-            self.opens[place] = counted.next();
-            self.spans[place] = Span::new();
+            self.fill_at(place, &counted, &span)
         } else {
             self.opens[place] = counted;
             self.spans[place] = span;
+            Ok(())
         }
+    }
+
+    // The piece of the life at a place is full: it gives its row, and the next one begins.
+    #[inline(never)]
+    fn fill_at(&mut self, place: usize, counted: &Open, span: &Span) -> Result<(), NoMemory>
+        requires within { place < length self.old.opens }
+        requires life { slice_index (lives_in self.old) place ≡ counted.now.life }
+        requires room { counted.now.seq ≤ 2 ^ 61 - 20 }
+
+        ensures filled { OnOk result (self.new ≡ record {
+          opens = set self.old.opens place (next_piece counted.now);
+          moments = set self.old.moments place no_moments;
+          rows = self.old.rows ++ row_from counted.now span.now Volume ∷ [];
+        }) }
+        ensures unchanged { OnErr result (self.new ≡ self.old) }
+    {
+        self.rows.push(ChargeRow::new(counted, span, Why::Volume))?;
+        self.opens[place] = counted.next();
+        self.spans[place] = Span::new();
         Ok(())
     }
 
