@@ -51,9 +51,21 @@ impl Book {
         ensures pieces { OnOk result (GoesFar self.old self.new (map happening_of postings.now)) }
         ensures unchanged { OnErr result (self.new ≡ self.old) }
     {
-        if postings.is_empty() {
-            return Ok(());
+        match postings {
+            [] => Ok(()),
+            [posting] => self.post_one(posting),
+            _ => self.post_many(postings),
         }
+    }
+
+    // The same of any number: they are posted to a copy, so that the book stays whole where memory runs out.
+    fn post_many(&mut self, postings: &[Posting]) -> Result<(), NoMemory>
+        ensures stands { (happened : List Happening) (taken : ℕ) → StandsFor self.old happened taken
+            → MayAllFollow happened (map happening_of postings.now)
+            → OnOk result (StandsFor self.new (happened ++ map happening_of postings.now) taken) }
+        ensures pieces { OnOk result (GoesFar self.old self.new (map happening_of postings.now)) }
+        ensures unchanged { OnErr result (self.new ≡ self.old) }
+    {
         let mut copy = self.without_rows()?;
         for posting in postings {
             copy.post_one(posting)?;

@@ -8,7 +8,7 @@ use Rattle.charging_book.specs.Posted.{pieces_after, rows_after}
 use Rattle.charging_book.specs.Postings.{happening_of}
 use Rattle.charging_book.proofs.PostingLemmas.{may_at, posted_one, stands_joined}
 use Rattle.charging_book.proofs.PostedLemmas.{posted_more, goes_far}
-use Rattle.charging_book.proofs.accounts.Book.post.Goals as goal
+use Rattle.charging_book.proofs.accounts.Book.post_many.Goals as goal
 
 pub loop-posting-init : goal.loop-posting-init
 loop-posting-init c = record {

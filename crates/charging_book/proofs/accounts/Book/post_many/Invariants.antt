@@ -5,7 +5,7 @@ use Rattle.charging_book.specs.Accounts.{StandsFor}
 use Rattle.charging_book.specs.Parts.{ArePiecesOf}
 use Rattle.charging_book.specs.Posted.{pieces_after, rows_after, AllMayBePosted}
 use Rattle.charging_book.specs.Postings.{happening_of, MayAllFollow}
-use Rattle.charging_book.proofs.accounts.Book.post.Given as goal
+use Rattle.charging_book.proofs.accounts.Book.post_many.Given as goal
 
 -- the copy represents what was posted so far, and its pieces went on by it
 abbrev pub invariant-loop-posting : goal.invariant-loop-posting
