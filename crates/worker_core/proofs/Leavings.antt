@@ -1,21 +1,18 @@
 -- What is noted of halves that are to leave stood in orders that were taken.
-use Rattle.std.proofs.Common.{◌≡◌, ◌≢◌, ℕ, zero, suc, ◌<◌, ◌≤◌, Bool, true, false, true≢false, cond, List, [], ◌∷◌}
-use Rattle.std.proofs.Common.{◌++◌, length, get_or, set, Option, Some, None, refl, sym, ap, ◌∙◌, subst, arith}
+use Rattle.std.proofs.Common.{◌≡◌, ◌≢◌, ℕ, ◌<◌, ◌≤◌, Bool, true, false, true≢false, cond, List, [], ◌∷◌}
+use Rattle.std.proofs.Common.{◌++◌, length, get_or, Option, Some, None, refl, sym, ap, ◌∙◌, subst, arith}
 use Rattle.std.specs.Prelude.{◌&&◌, ◌||◌, not, nat_le, nat_eq}
 use Rattle.std.specs.List.{All, list_any, position, filter}
-use Rattle.std.specs.Option.{is_some}
-use Rattle.std.specs.Prelude.{IsSome}
 use Rattle.worker_core.specs.Workers.{GoesHome}
 use Rattle.std.proofs.lemmas.List.Quantifiers.{position-Some}
 use Rattle.std.proofs.lemmas.List.Sums.{sum_by-append, sum_by_push}
 use Rattle.std.proofs.lemmas.List.Elements.{All-weaker, All-nil, All-cons, All-head, All-tail}
 use Rattle.std.proofs.lemmas.List.Folds.{Any-from_list_any}
-use Rattle.std.proofs.lemmas.Bool.{eq-eqb, le-leb, ne_eqb}
+use Rattle.std.proofs.lemmas.Bool.{eq-eqb, ne_eqb, or_from}
 use borrow.Author.Tests.{eqb-true, leb-true}
 use Rattle.worker_core.specs.declared.order.Order.{Order}
 use Rattle.worker_core.specs.declared.order.Order.TheVariants.{Leave}
 use Rattle.worker_core.specs.declared.worker.Leaving.{Leaving}
-use Rattle.worker_core.proofs.Seeks.{none_passes}
 use Rattle.worker_core.specs.Leaves.{is_leave, IsOrdered, IsTold, is_met, is_due, is_held, IsNoted, SameElsewhere}
 
 module _ {H : Type 0} where
@@ -91,23 +88,8 @@ picked_all P test (x ∷ xs) all =
       | false ↦ λ e. picked_all P test xs (All-tail P x xs all)
     ] refl
 
--- a test of a list that a write meets
-any_set : {X : Type 0} (p : X → Bool) (xs : List X) (k : ℕ) (y : X) → k < length xs → p y ≡ true
-    → list_any p (set xs k y) ≡ true
-any_set p [] k y within met = absurd (omega arith)
-any_set p (x ∷ xs) zero y within met = ap (λ b. b || list_any p xs) met
-any_set p (x ∷ xs) (suc k) y within met = ap (λ b. p x || b) (any_set p xs k y (omega arith) met) ∙ or_true (p x)
-
--- a write of what fails a test, in place of what fails it, leaves the test
-any_set_same : {X : Type 0} (p : X → Bool) (xs : List X) (k : ℕ) (y : X) → p y ≡ false
-    → ((none : X) → k < length xs → p (get_or xs k none) ≡ false)
-    → list_any p (set xs k y) ≡ list_any p xs
-any_set_same p [] k y fails here = refl
-any_set_same p (x ∷ xs) zero y fails here = ap (λ b. b || list_any p xs) (fails ∙ sym (here y (omega arith)))
-any_set_same p (x ∷ xs) (suc k) y fails here =
-    ap (λ b. p x || b) (any_set_same p xs k y fails (λ none within. here none (omega arith)))
-
-any_push : {X : Type 0} (p : X → Bool) (xs : List X) (y : X) → list_any p (xs ++ y ∷ []) ≡ (list_any p xs || p y)
+-- a test of a list with one more
+pub any_push : {X : Type 0} (p : X → Bool) (xs : List X) (y : X) → list_any p (xs ++ y ∷ []) ≡ (list_any p xs || p y)
 any_push p [] y = sym (or_false (p y))
 any_push p (x ∷ xs) y = ap (λ b. p x || b) (any_push p xs y) ∙ sym (or_assoc (p x) (list_any p xs) (p y))
 
@@ -121,12 +103,31 @@ any_filter p test (x ∷ xs) drops = elim (test x) as (λ b. test x ≡ b
       | false ↦ λ e. any_filter p test xs drops ∙ sym (ap (λ b. b || list_any p xs) (drops x e))
     ] refl
 
+-- the notes of one slot go
+pub forgotten : (slot : ℕ) (leaving : List Leaving) → SameElsewhere slot leaving
+    (filter (λ x. not (nat_eq x.slot slot)) leaving)
+forgotten slot leaving other done apart =
+    any_filter (is_met other done) (λ (x : Leaving). not (nat_eq x.slot slot)) leaving
+    (λ x dropped. other_fails_at slot other done x apart (not_false_true (nat_eq x.slot slot) dropped))
+
 other_fails : (slot until other done : ℕ) → other ≢ slot
     → is_met other done (record { slot = slot; until = until }) ≡ false
 other_fails slot until other done apart = ap (λ b. b && nat_le until done) (ne_eqb slot other (λ e. apart (sym e)))
 
-own_meets : (slot until : ℕ) → is_met slot until (record { slot = slot; until = until }) ≡ true
-own_meets slot until = ap (λ b. b && nat_le until until) (eq-eqb slot slot refl) ∙ le-leb until until (omega arith)
+-- none is left of what is dropped
+none_left : (slot done : ℕ) (leaving : List Leaving)
+    → list_any (is_met slot done) (filter (λ x. not (nat_eq x.slot slot)) leaving) ≡ false
+none_left slot done [] = refl
+none_left slot done (x ∷ xs) = elim (nat_eq x.slot slot) as (λ b. nat_eq x.slot slot ≡ b
+    → list_any (is_met slot done) (cond (not b) (x ∷ filter (λ y. not (nat_eq y.slot slot)) xs)
+    (filter (λ y. not (nat_eq y.slot slot)) xs)) ≡ false) [
+      | true ↦ λ e. none_left slot done xs
+      | false ↦ λ e. or_from (is_met slot done x) (list_any (is_met slot done) (filter (λ y. not (nat_eq y.slot slot)) xs))
+          (ap (λ b. b && nat_le x.until done) e) (none_left slot done xs)
+    ] refl
+
+own_met : (slot until done : ℕ) → is_met slot done (record { slot = slot; until = until }) ≡ nat_le until done
+own_met slot until done = ap (λ b. b && nat_le until done) (eq-eqb slot slot refl)
 
 module _ {H : Type 0} (slot_at : H → ℕ) (held : List H) (slot until : ℕ) where
   abbrev pub note : Leaving
@@ -141,67 +142,34 @@ module _ {H : Type 0} (slot_at : H → ℕ) (held : List H) (slot until : ℕ) w
     none = λ _. refl;
   }
 
-  -- it was noted before
-  pub noted_set : (leaving looked : List Leaving) (k : ℕ) → is_held slot_at slot held ≡ true → looked ≡ leaving
-      → Some k ≡ position (λ x. nat_eq x.slot slot) looked
-      → IsNoted slot_at held (Leave slot until) leaving (set leaving k note)
-  noted_set leaving looked k here same found =
-      let found : position (λ (x : Leaving). nat_eq x.slot slot) leaving ≡ Some k =
-      sym (found ∙ ap (position (λ (x : Leaving). nat_eq x.slot slot)) same) in
-      let at = position-Some (λ (x : Leaving). nat_eq x.slot slot) leaving k note found in
-      let is_slot : (none : Leaving) → k < length leaving → nat_eq (get_or leaving k none).slot slot ≡ true =
-      λ none within. (position-Some (λ (x : Leaving). nat_eq x.slot slot) leaving k none found).1 in
+  -- what was noted of it before is dropped
+  pub noted_last : (leaving dropped new : List Leaving) → is_held slot_at slot held ≡ true
+      → dropped ≡ filter (λ x. not (nat_eq x.slot slot)) leaving → new ≡ dropped ++ note ∷ []
+      → IsNoted slot_at held (Leave slot until) leaving new
+  noted_last leaving dropped new here dropped_is new_is =
+      let kept : List Leaving = filter (λ x. not (nat_eq x.slot slot)) leaving in
+      let all : new ≡ kept ++ note ∷ [] = new_is ∙ ap (λ l. l ++ note ∷ []) dropped_is in
       record {
-        due = λ _. any_set (is_met slot until) leaving k note at.0 (own_meets slot until);
-        elsewhere = λ other done apart. any_set_same (is_met other done) leaving k note
-            (other_fails slot until other done apart)
-            (λ none within. other_fails_at slot other done (get_or leaving k none) apart (is_slot none within));
+        due = λ _ done. ap (list_any (is_met slot done)) all
+            ∙ any_push (is_met slot done) kept note
+            ∙ ap (λ b. b || is_met slot done note) (none_left slot done leaving)
+            ∙ own_met slot until done;
+        elsewhere = λ other done apart. ap (list_any (is_met other done)) all
+            ∙ any_push (is_met other done) kept note
+            ∙ ap (λ b. list_any (is_met other done) kept || b) (other_fails slot until other done apart)
+            ∙ sym (or_false (list_any (is_met other done) kept))
+            ∙ forgotten slot leaving other done apart;
         none = λ none. absurd (true≢false (sym here ∙ none));
       }
-
-  -- it wasn't
-  pub noted_push : (leaving : List Leaving) → is_held slot_at slot held ≡ true
-      → IsNoted slot_at held (Leave slot until) leaving (leaving ++ note ∷ [])
-  noted_push leaving here = record {
-    due = λ _. any_push (is_met slot until) leaving note ∙ ap (λ b. list_any (is_met slot until) leaving || b)
-        (own_meets slot until)
-        ∙ or_true (list_any (is_met slot until) leaving);
-    elsewhere = λ other done apart. any_push (is_met other done) leaving note
-        ∙ ap (λ b. list_any (is_met other done) leaving || b) (other_fails slot until other done apart)
-        ∙ sym (or_false (list_any (is_met other done) leaving));
-    none = λ none. absurd (true≢false (sym here ∙ none));
-  }
-
-  pub noted_same : (leaving new made : List Leaving) → new ≡ made → IsNoted slot_at held (Leave slot until) leaving made
-      → IsNoted slot_at held (Leave slot until) leaving new
-  noted_same leaving new made same noted = subst (IsNoted slot_at held (Leave slot until) leaving) (sym same) noted
-
--- the notes of one slot go
-pub forgotten : (slot : ℕ) (leaving : List Leaving) → SameElsewhere slot leaving
-    (filter (λ x. not (nat_eq x.slot slot)) leaving)
-forgotten slot leaving other done apart =
-    any_filter (is_met other done) (λ (x : Leaving). not (nat_eq x.slot slot)) leaving
-    (λ x dropped. other_fails_at slot other done x apart (not_false_true (nat_eq x.slot slot) dropped))
-
--- where nothing is noted, none is due
-pub none_noted : {H : Type 0} (slot_at done : H → ℕ) (leaving : List Leaving) (held : List H)
-    → nat_eq (length leaving) 0 ≡ true → None ≡ position (λ half. is_due leaving (slot_at half) (done half)) held
-none_noted slot_at done [] held none =
-    sym (none_passes (λ half. is_due [] (slot_at half) (done half)) held (λ half. refl))
-none_noted slot_at done (x ∷ xs) held none =
-    absurd (let e = eqb-true (length (x ∷ xs)) 0 none in omega arith)
 
 module _ {H N : Type 0} (name : H → N) (slot_of : N → ℕ) (done : H → ℕ) where
   abbrev pub due_at : List H → List Leaving → Option ℕ
   due_at held leaving = position (λ half. is_due leaving (slot_of (name half)) (done half)) held
 
-  pub none_due : (held seen : List H) (leaving looked : List Leaving) → seen ≡ held → looked ≡ leaving
-      → None ≡ due_at seen looked
-      → IsSome (due_at held leaving) → ⊥
-  none_due held seen leaving looked same alike none some =
-      let found : None ≡ due_at held leaving =
-      subst (λ (p : List H × List Leaving). None ≡ due_at p.0 p.1) (λ i. (same i, alike i)) none in
-      true≢false (sym (ap is_some found ∙ some))
+  pub none_here : (held seen : List H) (leaving looked : List Leaving) → seen ≡ held → looked ≡ leaving
+      → None ≡ due_at seen looked → None ≡ due_at held leaving
+  none_here held seen leaving looked same alike none =
+      subst (λ (p : List H × List Leaving). None ≡ due_at p.0 p.1) (λ i. (same i, alike i)) none
 
   -- the half that is found due
   pub due_here : (held seen : List H) (leaving looked : List Leaving) (at : ℕ) → seen ≡ held → looked ≡ leaving

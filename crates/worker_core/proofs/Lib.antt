@@ -5,6 +5,7 @@ pub mod Homes
 pub mod Leavings
 pub mod Rising
 pub mod Rounds
+pub mod Seeing
 pub mod Seeks
 pub mod Views
 mod Walks

@@ -54,10 +54,3 @@ held_there slot s (x ∷ xs) (suc k) within is =
       or_true : (a : Bool) → (a || true) ≡ true
       or_true true = refl
       or_true false = refl
-
--- where nothing passes, a search finds none
-pub none_passes : {X : Type 0} (p : X → Bool) (xs : List X) → ((x : X) → p x ≡ false) → position p xs ≡ None
-none_passes {X} p xs fails = position_from-zero p xs ∙ from p 0 xs fails where
-  from : (p : X → Bool) (i : ℕ) (xs : List X) → ((x : X) → p x ≡ false) → position_from p i xs ≡ None
-  from p i [] fails = refl
-  from p i (x ∷ xs) fails = ap (λ b. cond b (Some i) (position_from p (i + 1) xs)) (fails x) ∙ from p (i + 1) xs fails

@@ -34,10 +34,11 @@ is_held slot_at slot held = list_any (λ half. slot_at half == slot) held
 abbrev pub SameElsewhere : ℕ → List Leaving → List Leaving → Type 0
 SameElsewhere slot old new = (other done : ℕ) → other ≢ slot → is_due new other done ≡ is_due old other done
 
--- the half of this slot, if it is held, is due once it has done so much; if it isn't held, nothing is noted
+-- the half of this slot, if it is held, is due once it has done so much and not before, whatever was noted of it; if it
+-- isn't held, nothing is noted
 pub record NotesLeave {H : Type 0} (slot_at : H → ℕ) (held : List H) (slot until : ℕ) (old new : List Leaving) : Type 0
   where
-    pub due : is_held slot_at slot held ≡ true → is_due new slot until ≡ true
+    pub due : is_held slot_at slot held ≡ true → (done : ℕ) → is_due new slot done ≡ nat_le until done
     pub elsewhere : SameElsewhere slot old new
     pub none : is_held slot_at slot held ≡ false → new ≡ old
 

@@ -6,6 +6,7 @@ pub mod Homes
 pub mod Leaves
 pub mod Names
 pub mod Opened
+pub mod Seeing
 pub mod Steps
 pub mod Turns
 pub mod Workers

@@ -2,7 +2,7 @@
 use Rattle.std.specs.Prelude.{◌≡◌, ℕ, ◌≤◌, List, [], ◌∷◌, ◌++◌}
 use Rattle.lane_core.specs.declared.ends.Sender.{Sender}
 use Rattle.lane_core.specs.declared.ends.Receiver.{Receiver}
-use Rattle.lane_core.specs.Ends.{Lane, sender_lane, receiver_lane, sent, taken}
+use Rattle.lane_core.specs.Ends.{Lane, sender_lane, receiver_lane, sent, taken, full_answers, empty_answers}
 use Rattle.worker_core.specs.declared.order.Order.{Order}
 use Rattle.worker_core.specs.declared.desks.LaneDesk.{LaneDesk}
 use Rattle.worker_core.specs.declared.traveller.Traveller.{Ghosts}
@@ -51,6 +51,8 @@ module _ {H N : Type 0} {g : Ghosts H N} where
     held = worker.held.items;
     leaving = worker.leaving.items;
     cursor = worker.cursor;
+    fulls = full_answers worker.home;
+    empties = empty_answers worker.orders;
   }
 
 -- one half more was sent home, an order told it to leave at a count, and it has reached that

@@ -1,10 +1,11 @@
 //! The halves that a worker holds: which are told to leave, which is due, and a turn of each.
-ghost use Rattle.std.specs.Prelude.{◌≡◌, ◌≤◌, ◌<◌, ◌+◌, ◌==◌, not, All, List, length, map, vec_len};
-ghost use Rattle.std.specs.Prelude.{false, vec_capacity, slice_index_or, IsNone, IfSome, IfOk};
+ghost use Rattle.std.specs.Prelude.{◌≡◌, ◌≢◌, ◌≤◌, ◌<◌, ◌+◌, ◌==◌, ◌++◌, ◌∷◌, [], ℕ, not, All, List, length, map};
+ghost use Rattle.std.specs.Prelude.{true, false, vec_len, vec_capacity, slice_index_or, Some, IsNone, IfSome, IfOk};
 ghost use Rattle.std.specs.List.{insert, position, filter};
 ghost use Rattle.worker_core.specs.declared.order.Order.{Order};
-ghost use Rattle.worker_core.specs.Leaves.{IsOrdered, IsTold, IsNoted, is_held, is_due};
+ghost use Rattle.worker_core.specs.Leaves.{IsOrdered, IsTold, IsNoted, is_held, is_due, is_met};
 ghost use Rattle.worker_core.specs.declared.order.Order.TheVariants.{Leave};
+ghost use Rattle.worker_core.specs.Seeing.{AllSeen, SeenBehind, earlier, noted_at};
 ghost use Rattle.worker_core.specs.Turns.{AreTurned, AllTurned, NoneWorked, WorkedAlone, WorkedRound};
 ghost use Rattle.worker_core.specs.Turns.{count_at, works_after};
 ghost use Rattle.worker_core.specs.Answered.{AnswersAt, AllRest, AnswersRound};
@@ -19,42 +20,99 @@ use std::sync::Wait;
 /// How many items a half handles in a turn, at most.
 const GRAIN: u32 = 8;
 
-// The half of this slot, if it is held, is to leave at this count.
-pub fn mark<H: Traveller>(held: &[H], leaving: &mut Vec<Leaving>, slot: Slot, until: u64)
+// The half of this slot, if it is held, is to leave at this count. What was noted of it before counts no more.
+pub fn mark<H: Traveller>(
+    seen: &Seen,
+    held: &[H],
+    leaving: &mut Vec<Leaving>,
+    slot: Slot,
+    until: u64,
+)
     requires { vec_len leaving.old < vec_capacity leaving.old }
     ensures told { (came : List (Order H)) → All (IsTold came) leaving.old.items → IsOrdered came slot until
         → All (IsTold came) leaving.new.items }
     ensures noted { IsNoted (λ half. H.slot_of (H.name half)) held.now
         (Leave slot until) leaving.old.items leaving.new.items }
 {
-    if !is_among(held, slot) {
+    let Some(_at) = find(seen, held, slot) else {
         return;
-    }
-    match find_note(leaving, slot) {
-        Some(k) => leaving[k] = Leaving { slot, until },
-        None => leaving.push_reserved(Leaving { slot, until }),
-    }
+    };
+    forget(leaving, slot);
+    leaving.push_reserved(Leaving { slot, until });
 }
 
-// Whether a half of this slot is held.
-fn is_among<H: Traveller>(held: &[H], slot: Slot) -> bool
-    ensures { result ≡ is_held (λ half. H.slot_of (H.name half)) slot held.now }
-{
-    held.iter().any(|half| half.slot() == slot)
-}
-
-// Where it is noted that the half of this slot is to leave.
-fn find_note(leaving: &[Leaving], slot: Slot) -> Option<usize>
-    ensures { result ≡ position (λ leaving. leaving.slot == slot) leaving.now }
-{
-    leaving.iter().position(|leaving| leaving.slot == slot)
-}
-
-// The half of this slot left.
+// What is noted of the half of this slot goes.
 pub fn forget(leaving: &mut Vec<Leaving>, slot: Slot)
-    ensures { leaving.new.items ≡ filter (λ leaving. not (leaving.slot == slot)) leaving.old.items }
+    ensures kept { leaving.new.items ≡ filter (λ leaving. not (leaving.slot == slot)) leaving.old.items }
+    ensures fewer { vec_len leaving.new ≤ vec_len leaving.old }
+    ensures room { vec_capacity leaving.new ≡ vec_capacity leaving.old }
 {
     leaving.retain(|leaving| leaving.slot != slot)
+}
+
+// The first half that is due home. Where it is known where each half stands, those that are noted are looked at alone.
+pub fn find_due<H: Traveller>(
+    seen: &Seen,
+    known: bool,
+    held: &[H],
+    leaving: &[Leaving],
+) -> Option<usize>
+    requires { known ≡ true → AllSeen (λ half. H.slot_of (H.name half)) held.now seen.now }
+    ensures { result ≡ position (λ half. is_due leaving.now (H.slot_of (H.name half)) (H.done_of half)) held.now }
+{
+    if known {
+        due_of_notes(seen, held, leaving)
+    } else {
+        due_of_halves(held, leaving)
+    }
+}
+
+// The same, by the notes.
+fn due_of_notes<H: Traveller>(seen: &Seen, held: &[H], leaving: &[Leaving]) -> Option<usize>
+    requires { AllSeen (λ half. H.slot_of (H.name half)) held.now seen.now }
+    ensures { result ≡ position (λ half. is_due leaving.now (H.slot_of (H.name half)) (H.done_of half)) held.now }
+{
+    let mut first = None;
+    for note in leaving {
+        first = earlier(first, due_at(seen, held, note));
+    }
+    first
+}
+
+// Where the half that is noted stands, if it is due.
+fn due_at<H: Traveller>(seen: &Seen, held: &[H], note: &Leaving) -> Option<usize>
+    requires { AllSeen (λ half. H.slot_of (H.name half)) held.now seen.now }
+    ensures { result ≡ position (λ half. is_met (H.slot_of (H.name half)) (H.done_of half) note.now) held.now }
+{
+    let Some(at) = guess(seen, held, note.slot) else {
+        return None;
+    };
+    if note.until <= held[at].done() {
+        Some(at)
+    } else {
+        None
+    }
+}
+
+// The lower of two indices, where there are two.
+fn earlier(one: Option<usize>, other: Option<usize>) -> Option<usize>
+    ensures { result ≡ earlier one other }
+{
+    let Some(k) = one else {
+        return other;
+    };
+    let Some(j) = other else {
+        return one;
+    };
+    Some(if j < k { j } else { k })
+}
+
+// The same, by the halves.
+fn due_of_halves<H: Traveller>(held: &[H], leaving: &[Leaving]) -> Option<usize>
+    ensures { result ≡ position (λ half. is_due leaving.now (H.slot_of (H.name half)) (H.done_of half)) held.now }
+{
+    held.iter()
+        .position(|half| is_due_home(leaving, half.slot(), half.done()))
 }
 
 // Whether a half of this slot, which has done so much, is due.
@@ -66,15 +124,24 @@ fn is_due_home(leaving: &[Leaving], slot: Slot, done: u64) -> bool
         .any(|leaving| leaving.slot == slot && leaving.until <= done)
 }
 
-// The first half that is due home.
-pub fn find_due<H: Traveller>(held: &[H], leaving: &[Leaving]) -> Option<usize>
-    ensures { result ≡ position (λ half. is_due leaving.now (H.slot_of (H.name half)) (H.done_of half)) held.now }
+// Notes where the half of a slot stands that comes behind these, and tells whether it is known then where each stands.
+pub fn came<H: Traveller>(seen: &mut Seen, known: bool, held: &[H], slot: Slot) -> bool
+    requires { known ≡ true → AllSeen (λ half. H.slot_of (H.name half)) held.now seen.old }
+    ensures { result ≡ true → (half : H) → H.slot_of (H.name half) ≡ slot
+        → AllSeen (λ half. H.slot_of (H.name half)) (held.now ++ half ∷ []) seen.new }
 {
-    if leaving.is_empty() {
-        return None;
+    let None = guess(seen, held, slot) else {
+        seen.note(slot, held.len());
+        return false;
+    };
+    seen.note(slot, held.len());
+    let Some(at) = seen.noted(slot) else {
+        return false;
+    };
+    if !known {
+        return false;
     }
-    held.iter()
-        .position(|half| is_due_home(leaving, half.slot(), half.done()))
+    at == held.len()
 }
 
 // Where the half of a slot stands: where it was seen last, or else the first of that slot.
@@ -91,8 +158,10 @@ pub fn find<H: Traveller>(seen: &Seen, held: &[H], slot: Slot) -> Option<usize>
 
 // Where the half of a slot was seen last, if it stands there.
 fn guess<H: Traveller>(seen: &Seen, held: &[H], slot: Slot) -> Option<usize>
-    ensures { IfSome result (λ k. (k < length held.now)
+    ensures found { IfSome result (λ k. (k < length held.now)
         × ((none : H) → H.slot_of (H.name (slice_index_or held.now k none)) ≡ slot)) }
+    ensures none { IsNone result → (k : ℕ) (none : H) → noted_at seen.now slot ≡ Some k → k < length held.now
+        → H.slot_of (H.name (slice_index_or held.now k none)) ≢ slot }
 {
     let at = seen.noted(slot)?;
     if at < held.len() && held[at].slot() == slot {
@@ -110,7 +179,10 @@ fn first<H: Traveller>(held: &[H], slot: Slot) -> Option<usize>
 }
 
 // A half that stood at an index left: those behind it stand one further to the front.
-pub fn moved_up<H: Traveller>(seen: &mut Seen, held: &[H], from: usize) {
+pub fn moved_up<H: Traveller>(seen: &mut Seen, held: &[H], from: usize)
+    ensures { SeenBehind (λ half. H.slot_of (H.name half)) from held.now seen.old
+        → AllSeen (λ half. H.slot_of (H.name half)) held.now seen.new }
+{
     for index in from..held.len() {
         seen.note(held[index].slot(), index);
     }

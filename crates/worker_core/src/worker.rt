@@ -1,15 +1,16 @@
 //! A worker: the halves that it holds, and the ends of its two lanes.
 ghost use Rattle.std.specs.Prelude.{◌≡◌, ◌≤◌, ◌<◌, ◌+◌, ◌⊎◌, [], All, length, vec_len};
-ghost use Rattle.std.specs.Prelude.{vec_capacity, true, false, IsSome, IfOk, OnErr};
+ghost use Rattle.std.specs.Prelude.{vec_capacity, true, false, IsSome, IfOk, OnErr, MatchOption};
 ghost use Rattle.lane_core.specs.Ends.{sent, taken, full_answers, empty_answers, raised};
 ghost use Rattle.worker_core.specs.Names.{Kept};
 ghost use Rattle.worker_core.specs.Leaves.{IsTold, is_held};
 ghost use Rattle.worker_core.specs.Turns.{AllTurned};
 ghost use Rattle.worker_core.specs.Answered.{AllRest, TurnedOne};
-ghost use Rattle.worker_core.specs.Steps.{TookOrder, WentHome, Turned, SameButHalves, first_due, wrapped};
-ghost use Rattle.worker_core.specs.Steps.{cursor_without, Attends};
+ghost use Rattle.worker_core.specs.Seeing.{AllSeen};
+ghost use Rattle.worker_core.specs.Steps.{NoneWent, WentHome, HasWorked, Turned, SameButHalves, first_due, wrapped};
+ghost use Rattle.worker_core.specs.Steps.{cursor_without, without_order, Attends};
 
-use crate::turning::{find, find_due, forget, mark, moved_up, put_back, turn_at, turn_round};
+use crate::turning::{came, find, find_due, forget, mark, moved_up, put_back, turn_at, turn_round};
 use crate::{Attended, Order, Seen, Traveller};
 use lane_core::{Did, Full, NoMemory, Receiver, Sender};
 use pc_base::{SliceNo, Slot};
@@ -33,13 +34,15 @@ pub struct Worker<H: Traveller> {
     leaving: Vec<Leaving>,
     /// Where the next turn begins.
     cursor: usize,
-    /// Where to look first for the half of a slot.
+    /// Where to look first for the half of a slot, and whether it is known that each stands there.
     seen: Seen,
+    known: bool,
     orders: Receiver<Order<H>>,
     home: Sender<H>,
     pub ghost kept: { Kept H.name (taken orders) held.items (sent home) },
     ghost told: { All (IsTold (taken orders)) leaving.items },
     ghost within: { cursor ≤ vec_len held },
+    ghost all_seen: { known ≡ true → AllSeen (λ half. H.slot_of (H.name half)) held.items seen },
 }
 
 /// What is left of a worker that stopped: its place, its halves and the ends of its lanes.
@@ -74,6 +77,7 @@ impl<H: Traveller> Worker<H> {
             leaving: Vec::new(alloc),
             cursor: 0,
             seen: Seen::new(alloc),
+            known: true,
             orders,
             home,
         }
@@ -90,13 +94,11 @@ impl<H: Traveller> Worker<H> {
             ⊎ GoesHome H.name H.slot_of H.done_of (taken (orders_of self.new)) (sent (home_of self.old))
             (sent (home_of self.new)) }
 
-        // Worked comes only where an order was taken, the first half that was due went home, or halves
-        // were turned from the cursor round until one worked.
+        // Worked comes only where an order was taken; where none was there, and the first half that was due went
+        // home; or where none went, and halves were turned from the cursor round until one worked.
         ensures worked { result ≡ Ok Did.Worked
-            → TookOrder (λ half. H.slot_of (H.name half)) (view_of self.old) (view_of self.new)
-            ⊎ WentHome (λ half. H.slot_of (H.name half)) H.done_of (view_of self.old) (view_of self.new)
-            ⊎ Turned H.name H.turns H.works H.turned_at (H.came_to 8) (place_of self.old) (view_of self.old)
-            (view_of self.new) }
+            → HasWorked H.name (λ half. H.slot_of (H.name half)) H.done_of H.turns H.works H.turned_at (H.came_to 8)
+            (place_of self.old) (view_of self.old) (view_of self.new) }
 
         // Idle comes only where no order was there, each half was turned and none worked, and, if one
         // was due home, the lane home was full.
@@ -121,7 +123,7 @@ impl<H: Traveller> Worker<H> {
         self.turn_halves(rt)
     }
 
-    /// Takes an order, or else sends home the first half that is due. It turns none.
+    /// Takes an order; or else, where none is there, sends home the first half that is due. It turns none.
     pub fn attend<R: Wait>(&mut self, rt: &R) -> Result<Attended, NoMemory>
         ensures lanes { worker_lanes self.new ≡ worker_lanes self.old }
         ensures place { place_of self.new ≡ place_of self.old }
@@ -129,27 +131,23 @@ impl<H: Traveller> Worker<H> {
             ⊎ GoesHome H.name H.slot_of H.done_of (taken (orders_of self.new)) (sent (home_of self.old))
             (sent (home_of self.new)) }
 
-        // What it answers is what was done, and of which slot. Nothing: all is as it was.
+        // What it answers is what was done, and of which slot. A half goes home, or nothing is done, only where no
+        // order was there; nothing only where none was due, or the one that was met a full lane home.
         ensures attended { IfOk result (λ attended. Attends (λ half. H.slot_of (H.name half)) H.done_of attended
             (view_of self.old) (view_of self.new)) }
-
-        // Nothing comes only where no order was there, and, if a half was due home, the lane home was full.
-        ensures nothing_orders { result ≡ Ok Attended.Nothing
-            → empty_answers (orders_of self.new) ≡ raised (empty_answers (orders_of self.old)) }
-        ensures nothing_home { result ≡ Ok Attended.Nothing → IsSome
-            (first_due (λ half. H.slot_of (H.name half)) H.done_of (view_of self.old))
-            → full_answers (home_of self.new) ≡ raised (full_answers (home_of self.old)) }
 
         // Where memory runs out all is as it was.
         ensures err { OnErr result (view_of self.new ≡ view_of self.old) }
     {
         self.held.reserve(1)?;
         self.leaving.reserve(1)?;
-        let took = self.take_order(rt);
-        let Attended::Nothing = took else {
+        if let Some(took) = self.take_order(rt) {
             return Ok(took);
+        }
+        let Some(slot) = self.send_home(rt) else {
+            return Ok(Attended::Nothing);
         };
-        Ok(self.send_home(rt))
+        Ok(Attended::Went(slot))
     }
 
     /// Turns the half of a slot once, with at most 8 items, and no other one; it answers as the half does.
@@ -176,50 +174,48 @@ impl<H: Traveller> Worker<H> {
     }
 
     // Takes an order, if one is there.
-    fn take_order<R: Wait>(&mut self, rt: &R) -> Attended
+    fn take_order<R: Wait>(&mut self, rt: &R) -> Option<Attended>
         requires held { vec_len self.old.held < vec_capacity self.old.held }
         requires leaving { vec_len self.old.leaving < vec_capacity self.old.leaving }
         ensures lanes { worker_lanes self.new ≡ worker_lanes self.old }
         ensures place { place_of self.new ≡ place_of self.old }
         ensures home { home_of self.new ≡ home_of self.old }
-        ensures attended { Attends (λ half. H.slot_of (H.name half)) H.done_of result (view_of self.old)
-            (view_of self.new) }
-        ensures empty { result ≡ Attended.Nothing → empty_answers (orders_of self.new)
-            ≡ raised (empty_answers (orders_of self.old)) }
+        ensures took { MatchOption result (view_of self.new ≡ without_order (view_of self.old))
+            (λ attended. Attends (λ half. H.slot_of (H.name half)) H.done_of attended (view_of self.old)
+            (view_of self.new)) }
     {
         let Some(order) = self.orders.take(rt) else {
-            return Attended::Nothing;
+            return None;
         };
         match order {
             Order::Arrive(half) => {
                 let slot = half.slot();
+                self.known = came(&mut self.seen, self.known, &self.held, slot);
                 self.held.push_reserved(half);
-                self.seen.note(slot, self.held.len() - 1);
-                Attended::Came(slot)
+                Some(Attended::Came(slot))
             }
             Order::Leave { slot, until } => {
-                mark(&self.held, &mut self.leaving, slot, until);
-                Attended::Told(slot)
+                mark(&self.seen, &self.held, &mut self.leaving, slot, until);
+                Some(Attended::Told(slot))
             }
         }
     }
 
-    // Sends home the first half that is due, if one is.
-    fn send_home<R: Wait>(&mut self, rt: &R) -> Attended
+    // Sends home the first half that is due, if one is: its slot.
+    fn send_home<R: Wait>(&mut self, rt: &R) -> Option<Slot>
         ensures lanes { worker_lanes self.new ≡ worker_lanes self.old }
         ensures place { place_of self.new ≡ place_of self.old }
         ensures orders { orders_of self.new ≡ orders_of self.old }
         ensures home { (sent (home_of self.new) ≡ sent (home_of self.old))
             ⊎ GoesHome H.name H.slot_of H.done_of (taken (orders_of self.old)) (sent (home_of self.old))
             (sent (home_of self.new)) }
-        ensures attended { Attends (λ half. H.slot_of (H.name half)) H.done_of result (view_of self.old)
-            (view_of self.new) }
-        ensures full { result ≡ Attended.Nothing → IsSome (first_due (λ half. H.slot_of (H.name half)) H.done_of
-            (view_of self.old))
-            → full_answers (home_of self.new) ≡ raised (full_answers (home_of self.old)) }
+        ensures went { MatchOption result
+            (NoneWent (λ half. H.slot_of (H.name half)) H.done_of (view_of self.old) (view_of self.new))
+            (λ slot. (went : WentHome (λ half. H.slot_of (H.name half)) H.done_of (view_of self.old)
+            (view_of self.new)) × (H.slot_of (H.name went.half) ≡ slot)) }
     {
-        let Some(at) = find_due(&self.held, &self.leaving) else {
-            return Attended::Nothing;
+        let Some(at) = find_due(&self.seen, self.known, &self.held, &self.leaving) else {
+            return None;
         };
         let half = self.held.remove(at);
         let slot = half.slot();
@@ -228,11 +224,11 @@ impl<H: Traveller> Worker<H> {
                 forget(&mut self.leaving, slot);
                 self.cursor = cursor_left(self.cursor, at, self.held.len());
                 moved_up(&mut self.seen, &self.held, at);
-                Attended::Went(slot)
+                Some(slot)
             }
             Err(Full(half)) => {
                 put_back(&mut self.held, at, half);
-                Attended::Nothing
+                None
             }
         }
     }
@@ -275,6 +271,7 @@ impl<H: Traveller> Worker<H> {
             leaving: _,
             cursor: _,
             seen: _,
+            known: _,
             orders,
             home,
         } = self;

@@ -4,6 +4,6 @@ use Rattle.worker_core.specs.declared.worker.Leaving.{Leaving}
 use Rattle.std.specs.Prelude.{not, nat_eq}
 use Rattle.worker_core.proofs.turning.forget.Goals as goal
 
-pub returns : goal.returns
-returns c = filter_same _ (λ (leaving : Leaving). not (nat_eq leaving.slot c.args.slot)) _
+pub returns-clause-kept : goal.returns-clause-kept
+returns-clause-kept c = filter_same _ (λ (leaving : Leaving). not (nat_eq leaving.slot c.args.slot)) _
     (λ x b f' k. search rules) _ _ c.retain.ensures.filtered

@@ -2,6 +2,7 @@ use Rattle.std.proofs.Common.{rules, ◌≡◌, List, false, true≢false, refl,
 use Rattle.lane_core.specs.Ends.{sent, taken}
 use Rattle.worker_core.specs.Leaves.{is_held}
 use Rattle.worker_core.proofs.Arrivals.{kept_names}
+use Rattle.worker_core.proofs.Seeing.{seen_still}
 use Rattle.worker_core.proofs.Seeks.{held_there}
 use Rattle.worker_core.proofs.worker.Worker.turn_one.Goals as goal
 
@@ -18,6 +19,10 @@ invariant_of-self-2 g c = record {
       (sent c.args.self.now.home) c.turn_at.ensures.names c.args.self.now.kept;
   told = c.args.self.now.told;
   within = search rules;
+  all_seen = λ known.
+      seen_still (λ half. g.H.Traveller.slot_of (g.H.Traveller.name half)) c.args.self.now.held.items
+      c.args.self.now.seen (c.args.self.now.all_seen known) g.H.Traveller.name g.H.Traveller.slot_of _ (λ half. refl)
+      c.turn_at.ensures.names;
 }
 
 pub returns-clause-none : goal.returns-clause-none
