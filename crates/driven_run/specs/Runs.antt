@@ -63,3 +63,18 @@ OneRunIsDriven = (rooms : Rooms) (slices : ℕ) (turns : List (List (List ℕ)))
 abbrev pub EachRunIsDriven : Type 0
 EachRunIsDriven = (rooms : Rooms) (slices : ℕ) (turns : List (List (List ℕ))) (slots : ℕ) (made : List (List Meaning))
     → (report : Report) × IsDrivenRun rooms slices turns slots made report
+
+-- Behind an epoch the next list of turns is due, and each slot is bound for where its last move sent it, else for
+-- where it was bound before.
+pub record EpochsGoOn : Type 0 where
+  pub turns : (rooms : Rooms) (bounds : ℕ → ℕ) (now : List (List ℕ)) (later : List (List (List ℕ))) (slots first : ℕ)
+      (before : Histories) (made : List Meaning) (epochs : List (List Meaning)) (told : EpochReport)
+      (others : List EpochReport)
+      → AreDriven rooms bounds (now ∷ later) slots first before (made ∷ epochs) (told ∷ others)
+      → IsDriven rooms bounds now slots first before made told
+      × AreDriven rooms (bounds_behind bounds made) later slots (first + length made)
+      (behind before (told_in made told)) epochs others
+  pub moved : (bounds : ℕ → ℕ) (slice later : ℕ) (text : List ℕ)
+      → bounds_behind bounds (move 3 slice text ∷ note text ∷ move 3 later text ∷ []) 3 ≡ later
+  pub unmoved : (bounds : ℕ → ℕ) (slice : ℕ) (text : List ℕ)
+      → bounds_behind bounds (move 3 slice text ∷ []) 4 ≡ bounds 4

@@ -1,7 +1,7 @@
 //! Laws of driven epochs and runs.
 ghost use Rattle.driven_run.specs.Driven.{OneIsDriven, EachScheduleIsDriven, DrivenEpochsAreLawful};
 ghost use Rattle.driven_run.specs.Noted.{NoteIsDriven};
-ghost use Rattle.driven_run.specs.Runs.{OneRunIsDriven, EachRunIsDriven, DrivenRunsAreLawful};
+ghost use Rattle.driven_run.specs.Runs.{OneRunIsDriven, EachRunIsDriven, DrivenRunsAreLawful, EpochsGoOn};
 
 /// A schedule leaves no choice: two epochs of the same lines under the same turns are equal, and so are two runs.
 pub fn one_is_driven()
@@ -25,6 +25,11 @@ pub fn driven_epochs_are_lawful()
 /// So is a run, in which each slot begins an epoch bound for where its last move sent it.
 pub fn driven_runs_are_lawful()
     ensures { DrivenRunsAreLawful }
+{}
+
+/// Turns and destinations go on from epoch to epoch.
+pub fn epochs_go_on()
+    ensures { EpochsGoOn }
 {}
 
 /// Where a line can't be read, its note stands behind the lines of its epoch, and no turns behind it. It changes

@@ -5,5 +5,5 @@ mod laws;
 
 pub use laws::{
     a_note_is_driven, driven_epochs_are_lawful, driven_runs_are_lawful, each_schedule_is_driven,
-    one_is_driven,
+    epochs_go_on, one_is_driven,
 };
