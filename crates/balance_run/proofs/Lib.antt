@@ -3,3 +3,4 @@ pub mod LoadLemmas
 pub mod WriterLemmas
 pub mod ApartLemmas
 pub mod BalanceLemmas
+pub mod LevelLemmas

@@ -9,5 +9,5 @@ mod packets;
 mod writing;
 
 pub use balancing::{Balanced, balance};
-pub use laws::{one_balanced_text, planned_moves_apart};
+pub use laws::{one_balanced_text, planned_moves_apart, plans_level};
 pub use std::alloc::AllocError as NoMemory;
