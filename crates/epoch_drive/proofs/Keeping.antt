@@ -1,7 +1,7 @@
 -- Lines that are taken one after another.
 use Rattle.std.proofs.Common.{◌≡◌, ℕ, ◌+◌, ◌-◌, ◌≤◌, List, [], ◌∷◌, ◌++◌, map, length, take, drop, slice_range, refl, sym, ap, subst, ◌∙◌, arith, length-append, append-nil}
-use Rattle.std.specs.List.{All}
-use Rattle.std.proofs.lemmas.List.{drop-append-le, drop_at, length-drop, length-map, map_push, take-append-le, take_all}
+use Rattle.std.specs.List.{All, flat_map}
+use Rattle.std.proofs.lemmas.List.{drop-append-le, drop_at, flat_map_more, length-drop, length-map, map_push, take-append-le, take_all}
 use Rattle.std.proofs.lemmas.List.Elements.{All-cons, All-head, All-nil, All-push, All-tail, All-weaker}
 use Rattle.ipv4_packet.specs.Packet.{IsPacket}
 use Rattle.trace_lines.specs.Line.{Line}
@@ -14,7 +14,7 @@ use Rattle.schedule_run.specs.declared.ask.Ask.{Ask}
 use Rattle.driven_run.specs.Driven.{asks_of}
 use Rattle.subscriber.specs.Standing.{SubscriberState}
 use Rattle.at_rest.specs.Rest.{Rest}
-use Rattle.epoch_drive.specs.Kept.{Adds, AreBounds, AreKept, AreNone, IsPlaced, Keeps, KeepsLine, IsPlacedPacket, Places, meaning_in, meanings, packet_in}
+use Rattle.epoch_drive.specs.Kept.{Adds, AreBounds, AreKept, AreNone, IsPlaced, Keeps, KeepsLine, IsPlacedPacket, Places, meaning_in, meanings, packet_in, packet_octets}
 use Rattle.at_rest.specs.Coming.{latest_behind}
 use Rattle.at_rest.specs.Meant.{IsWithin, Turned}
 use Rattle.epoch_drive.specs.Turned.{TurnedAll}
@@ -103,23 +103,23 @@ keeps_line old middle new now it keeps same_lines same_asks same_bounds adds = r
 
 -- where no octets come with it
 pub adds_alone : (old new : EpochLines) (now : Meant) (it : Kept)
-    → meaning_in old.octets.items it ≡ meaning_of now → IsPlaced old.octets.items it → Adds old new it
-    → KeepsLine old new now
-adds_alone old new now it means placed adds =
+    → meaning_in old.octets.items it ≡ meaning_of now → IsPlaced old.octets.items it
+    → packet_octets (meaning_of now) ≡ [] → Adds old new it → KeepsLine old new now
+adds_alone old new now it means placed alone adds =
     keeps_line old old new now it (record {
-      more = [];
-      grown = sym (append-nil old.octets.items);
+      grown = sym (append-nil old.octets.items) ∙ ap (λ more. old.octets.items ++ more) (sym alone);
       means = means;
       placed = placed;
     }) refl refl refl adds
 
 -- one line more is kept
 kept_more : (made : List Meaning) (old new : EpochLines) (it : Kept) (ask : Ask) (more : List ℕ)
-    → AreKept made old → new.octets.items ≡ old.octets.items ++ more → new.lines.items ≡ old.lines.items ++ it ∷ []
+    → AreKept made old → new.octets.items ≡ old.octets.items ++ more
+    → packet_octets (meaning_in new.octets.items it) ≡ more → new.lines.items ≡ old.lines.items ++ it ∷ []
     → new.asks.items ≡ old.asks.items ++ ask ∷ [] → IsPlaced new.octets.items it
     → ((octets : List ℕ) → asked ask ≡ asks_of (meaning_in octets it))
     → AreKept (made ++ meaning_in new.octets.items it ∷ []) new
-kept_more made old new it ask more are grown pushed asks placed asks_so =
+kept_more made old new it ask more are grown own pushed asks placed asks_so =
     let now : List ℕ = new.octets.items in
     let before : map (meaning_in now) old.lines.items ≡ made =
     ap (λ xs. map (meaning_in xs) old.lines.items) grown
@@ -129,6 +129,9 @@ kept_more made old new it ask more are grown pushed asks placed asks_so =
     (All-weaker (IsPlaced old.octets.items) (IsPlaced (old.octets.items ++ more))
     (λ k is. placed_still old.octets.items more k is) old.lines.items are.placed) in
     record {
+      octets = grown ∙ ap (λ xs. xs ++ more) are.octets
+          ∙ ap (λ xs. flat_map packet_octets made ++ xs) (sym own)
+          ∙ flat_map_more packet_octets [] made (meaning_in now it);
       mean = ap (map (meaning_in now)) pushed ∙ map_push (meaning_in now) old.lines.items it
           ∙ ap (λ ms. ms ++ meaning_in now it ∷ []) before;
       placed = subst (All (IsPlaced now)) (sym pushed) (All-push (IsPlaced now) old.lines.items it still placed);
@@ -165,8 +168,8 @@ takes_so start taken old now lines lines_now line meant has turned keeps same la
       are = record {
         made = made ++ m ∷ [];
         kept_so = subst (λ x. AreKept (made ++ x ∷ []) lines_now) keeps.keeps.means
-            (kept_more made lines lines_now keeps.it keeps.ask keeps.keeps.more has.are.kept_so keeps.keeps.grown
-            keeps.lines keeps.asks keeps.keeps.placed keeps.asked_so);
+            (kept_more made lines lines_now keeps.it keeps.ask (packet_octets m) has.are.kept_so keeps.keeps.grown
+            (ap packet_octets keeps.keeps.means) keeps.lines keeps.asks keeps.keeps.placed keeps.asked_so);
         bounds = keeps.bounds ∙ has.are.bounds;
         turned = turned_more start.slices start.book old.book now.book start.subscribers old.subscribers.items
             now.subscribers.items taken line made meant has.are.turned

@@ -1,5 +1,6 @@
 -- What lines mean that are kept until their epoch ends.
 use Rattle.std.specs.Prelude.{◌≡◌, ℕ, ◌≤◌, List, [], ◌∷◌, ◌++◌, All, length, map, slice_range}
+use Rattle.std.specs.List.{flat_map}
 use Rattle.ipv4_packet.specs.Packet.{IsPacket}
 use Rattle.demux.specs.Meant.{meaning_of}
 use Rattle.demux.specs.Trace.{Meaning, command, packet, move, note}
@@ -24,6 +25,13 @@ meaning_in octets (kept.Packet slot p) = packet slot (packet_in octets p)
 meaning_in octets (kept.Move slot slice text) = move slot slice text
 meaning_in octets (kept.Note text) = note text
 
+-- the octets of its packet, if it means one
+abbrev pub packet_octets : Meaning → List ℕ
+packet_octets (command slot c) = []
+packet_octets (packet slot p) = p.ip
+packet_octets (move slot slice text) = []
+packet_octets (note text) = []
+
 -- a packet stands among them
 pub record IsPlacedPacket (octets : List ℕ) (p : KeptPacket) : Type 0 where
   pub ordered : p.from ≤ p.to
@@ -42,10 +50,9 @@ pub record Places (old new : List ℕ) (p : LentPacket) (placed : KeptPacket) : 
   pub is : packet_in new placed ≡ p
   pub stands : IsPlacedPacket new placed
 
--- what a line means is kept, with these octets behind those before
+-- what a line means is kept, with the octets of its packet behind those before
 pub record Keeps (old new : List ℕ) (now : Meant) (it : Kept) : Type 0 where
-  pub more : List ℕ
-  pub grown : new ≡ old ++ more
+  pub grown : new ≡ old ++ packet_octets (meaning_of now)
   pub means : meaning_in new it ≡ meaning_of now
   pub placed : IsPlaced new it
 
@@ -72,9 +79,10 @@ pub record KeepsLine (old new : EpochLines) (now : Meant) : Type 0 where
 abbrev pub meanings : EpochLines → List Meaning
 meanings lines = map (meaning_in lines.octets.items) lines.lines.items
 
--- they mean this, their packets stand there, and they ask of the schedule what that asks
+-- they mean this, their packets stand there and nothing else does, and they ask of the schedule what that asks
 pub record AreKept (made : List Meaning) (lines : EpochLines) : Type 0 where
   pub mean : meanings lines ≡ made
+  pub octets : lines.octets.items ≡ flat_map packet_octets made
   pub placed : All (IsPlaced lines.octets.items) lines.lines.items
   pub ask : map asked lines.asks.items ≡ map asks_of made
 

@@ -23,7 +23,7 @@ returns-in_ok-command-in-Command c =
     subst (λ (m : Meant). OnOk c.add.result (KeepsLine old c.add.new.lines m)) (sym c.in-Command.is)
     (on_ok_weaker c.add.result (λ adds.
     adds_alone old c.add.new.lines (meant.Command slot c.in-Command.command)
-    (kept.Command slot c.in_ok-command-in-Command.command) (ap (command slot) same) tt adds) c.add.ensures)
+    (kept.Command slot c.in_ok-command-in-Command.command) (ap (command slot) same) tt refl adds) c.add.ensures)
 
 pub returns-in-Move : goal.returns-in-Move
 returns-in-Move c =
@@ -31,12 +31,12 @@ returns-in-Move c =
     subst (λ (m : Meant). OnOk c.add-in-Move.result (KeepsLine old c.add-in-Move.new.lines m)) (sym c.in-Move.is)
     (on_ok_weaker c.add-in-Move.result (λ adds.
     adds_alone old c.add-in-Move.new.lines (meant.Move c.in-Move.slot c.in-Move.slice c.in-Move.text)
-    (kept.Move c.in-Move.slot c.in-Move.slice c.in-Move.text) refl tt adds) c.add-in-Move.ensures)
+    (kept.Move c.in-Move.slot c.in-Move.slice c.in-Move.text) refl tt refl adds) c.add-in-Move.ensures)
 
 pub returns-in-Note : goal.returns-in-Note
 returns-in-Note c =
     let old : EpochLines = c.args.lines.now in
     subst (λ (m : Meant). OnOk c.add-in-Note.result (KeepsLine old c.add-in-Note.new.lines m)) (sym c.in-Note.is)
     (on_ok_weaker c.add-in-Note.result (λ adds.
-    adds_alone old c.add-in-Note.new.lines (meant.Note c.in-Note.text) (kept.Note c.in-Note.text) refl tt adds)
+    adds_alone old c.add-in-Note.new.lines (meant.Note c.in-Note.text) (kept.Note c.in-Note.text) refl tt refl adds)
     c.add-in-Note.ensures)
