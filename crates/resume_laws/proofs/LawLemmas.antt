@@ -71,7 +71,7 @@ opens_one slot one other most are =
     ∙ ap (λ (v : VersionState). flat_map
     (λ (b : ActiveBearer). open_for slot other.counters.book.opens b.life) v.bearers) are.alike.version
 
-opens_same : (slot : ℕ) (ones others : List SubscriberState) (most : ℕ) → AreAllOne ones others most
+pub opens_same : (slot : ℕ) (ones others : List SubscriberState) (most : ℕ) → AreAllOne ones others most
     → opens_from slot ones ≡ opens_from slot others
 opens_same slot [] [] most each = refl
 opens_same slot [] (other ∷ others) most each = absurd each
@@ -82,7 +82,7 @@ opens_same slot (one ∷ ones) (other ∷ others) most each =
 
 -- ---- the law
 
-none_one : AreGatewaysOne no_subscribers no_subscribers 0
+pub none_one : AreGatewaysOne no_subscribers no_subscribers 0
 none_one = record { book = refl; many = refl; each = tt }
 
 pub reports_go_on : ResumedReportsGoOn

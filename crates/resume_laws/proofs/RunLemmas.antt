@@ -182,7 +182,7 @@ pub record HasTold (begin : Beginning) (may_have : Input → Report → Type 0) 
   pub text_is : IsText may_have false (input_from begin octets) text
   pub ending_is : ending ≡ told_as (input_from begin octets).stop
 
-has_told : (begin : Beginning) (may_have : Input → Report → Type 0) (ending : Status) (source_failed : Type 0)
+pub has_told : (begin : Beginning) (may_have : Input → Report → Type 0) (ending : Status) (source_failed : Type 0)
     (octets left text : List ℕ) → TellsAll ending
     → ReportsFrom begin may_have false ending source_failed octets left text
     → HasTold begin may_have ending octets text
@@ -227,7 +227,7 @@ not_stopped status.BadCapture octets left found tells stopped = tells
 not_stopped status.BadState octets left found tells stopped = tells
 not_stopped status.BadReport octets left found tells stopped = tells
 
-resumed_of : (ending : Status) (source_failed : Type 0) (octets left text : List ℕ) → HasState octets
+pub resumed_of : (ending : Status) (source_failed : Type 0) (octets left text : List ℕ) → HasState octets
     → TellsAll ending → ResumesAs ending source_failed octets left text → Resumed ending source_failed octets left text
 resumed_of ending source_failed octets left text found tells (inr resumed) = resumed
 resumed_of ending source_failed octets left text found tells (inl stopped) =

@@ -12,7 +12,7 @@ use Rattle.state_run.specs.Laws.{LinesSayOneState}
 use Rattle.state_run.proofs.SavedLemmas.{one_front}
 use Rattle.trace_run.specs.declared.status.Status.{Status}
 use Rattle.trace_run.specs.declared.status.Status.TheVariants as status
-use Rattle.resume_laws.specs.Resumes.{HasState, Resumed, StatesAreOne, StatesAreTold, StatesAreToldExactly, StoppedFirst}
+use Rattle.resume_laws.specs.Resumes.{HasState, Resumed, StatesAreOne, StatesAreTold, StatesAreToldExactly, StoppedFirst, TellsTaken}
 
 -- the lines of an input begin with those of its state
 pub begins_so : (octets : List ℕ) (found : HasState octets)
@@ -86,6 +86,7 @@ stopped_told status.ReadFault octets left text stopped none = record {
   bad_is_told = λ bad. inr (inl refl);
   long_is_told = λ is. inr (inl refl);
   big_is_told = λ is. inr (inl refl);
+  fault = λ is. inl (stopped, none);
 }
 stopped_told status.WriteFault octets left text stopped none = absurd stopped
 stopped_told status.NoMemory octets left text stopped none = record {
@@ -93,6 +94,7 @@ stopped_told status.NoMemory octets left text stopped none = record {
   bad_is_told = λ bad. inr (inr refl);
   long_is_told = λ is. inr (inr refl);
   big_is_told = λ is. inr (inr refl);
+  fault = λ is. absurd cc;
 }
 stopped_told status.BadLine octets left text stopped none = absurd stopped
 stopped_told status.LineLong octets left text stopped none = record {
@@ -100,12 +102,14 @@ stopped_told status.LineLong octets left text stopped none = record {
   bad_is_told = λ bad. absurd (not_long octets bad (inl stopped.0) stopped.1);
   long_is_told = λ is. inl refl;
   big_is_told = λ is. absurd (not_both octets stopped is);
+  fault = λ is. absurd cc;
 }
 stopped_told status.TooLong octets left text stopped none = record {
   bad = λ is. absurd cc;
   bad_is_told = λ bad. absurd (not_long octets bad (inr stopped.0) stopped.1);
   long_is_told = λ is. absurd (not_both octets is stopped);
   big_is_told = λ is. inl refl;
+  fault = λ is. absurd cc;
 }
 stopped_told status.Refuted octets left text stopped none = absurd stopped
 stopped_told status.BadCapture octets left text stopped none = absurd stopped
@@ -114,6 +118,7 @@ stopped_told status.BadState octets left text stopped none = record {
   bad_is_told = λ bad. inl refl;
   long_is_told = λ is. absurd (not_long octets stopped (inl is.0) is.1);
   big_is_told = λ is. absurd (not_long octets stopped (inr is.0) is.1);
+  fault = λ is. absurd cc;
 }
 stopped_told status.BadReport octets left text stopped none = absurd stopped
 
@@ -123,6 +128,11 @@ found_told : (ending : Status) (source_failed : Type 0) (octets left text : List
 found_told ending source_failed octets left text resumed is =
     (subst (λ (e : Status). Resumed e source_failed octets left text) is resumed).report
 
+-- behind a failing read it is that of the whole lines taken
+fault_told : (octets left text : List ℕ) (source_failed : Type 0)
+    → Resumed status.ReadFault source_failed octets left text → TellsTaken octets left text
+fault_told octets left text source_failed resumed = record { state = resumed.state; report = resumed.report }
+
 pub told_exactly : StatesAreToldExactly
 told_exactly ending before after octets left text (inl stopped) =
     stopped_told ending octets left text stopped.0 stopped.1
@@ -131,6 +141,8 @@ told_exactly ending before after octets left text (inr resumed) = record {
   bad_is_told = λ bad. absurd (none_bad octets resumed.state bad);
   long_is_told = λ is. absurd (none_stopped octets long resumed.state is);
   big_is_told = λ is. absurd (none_stopped octets big resumed.state is);
+  fault = λ is. inr (fault_told octets left text (Rises before after)
+      (subst (λ (e : Status). Resumed e (Rises before after) octets left text) is resumed));
 }
 
 pub one_state : LinesSayOneState → StatesAreOne

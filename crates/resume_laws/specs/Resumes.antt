@@ -4,15 +4,14 @@ use Rattle.std.specs.Io.KnownBytes.{Appends}
 use Rattle.pc_outside.specs.Faults.{Rises}
 use Rattle.pc_outside.specs.WhereTold.{WhereTold}
 use Rattle.trace_lines.specs.Input.{ended}
-use Rattle.audit_reading.specs.Progress.{IsTaken}
 use Rattle.audit_reading.specs.Texts.{Text}
 use Rattle.record_codec.specs.Saved.{FileState}
 use Rattle.state_run.specs.Front.{SaysState}
-use Rattle.state_run.specs.Reading.{AreRead, IsBadState, IsBig, IsLong}
+use Rattle.state_run.specs.Reading.{AreRead, IsBadState, IsBig, IsLong, IsUndecided}
 use Rattle.trace_run.specs.declared.status.Status.{Status}
 use Rattle.trace_run.specs.declared.status.Status.TheVariants as status
 use Rattle.trace_run.specs.Beginnings.{Beginning, behind, input_from}
-use Rattle.trace_run.specs.Report.{IsDone, ReportsFrom}
+use Rattle.trace_run.specs.Report.{IsDone, IsFaultText, ReportsFrom}
 use Rattle.resume_run.specs.Reports.{IsResumed}
 
 -- octets begin with the lines of a state and the line `TRACE`; what is ahead of these is the trace
@@ -32,7 +31,7 @@ begins_at file room = behind room file.lines file.moment
 abbrev pub StoppedFirst : Status → (octets left : List ℕ) → Type 0
 StoppedFirst status.Ok octets left = ⊥
 StoppedFirst status.Usage octets left = ⊥
-StoppedFirst status.ReadFault octets left = IsTaken octets left
+StoppedFirst status.ReadFault octets left = IsUndecided octets left
 StoppedFirst status.WriteFault octets left = ⊥
 StoppedFirst status.NoMemory octets left = Unit {0}
 StoppedFirst status.BadLine octets left = ⊥
@@ -65,7 +64,13 @@ CompletesResume ending start =
     (octets : List ℕ) → start ≡ Some octets → (found : HasState octets)
     → (input_from (begins_at found.file found.room) found.ahead).stop ≡ ended → IsDone ending
 
--- The status says exactly whether a state was found. What was written without one is nothing.
+-- what was written is the report of the whole lines that were taken behind the line `TRACE`
+pub record TellsTaken (octets left text : List ℕ) : Type 0 where
+  pub state : HasState octets
+  pub report : IsFaultText (begins_at state.file state.room) (IsResumed 64 state.file) false state.ahead left text
+
+-- The status says exactly whether a state was found. What was written without one is nothing. Where the source failed,
+-- nothing was written only if no line but those of a state was taken whole.
 pub record StatesAreTold (ending : Status) (octets left text : List ℕ) : Type 0 where
   pub bad : ending ≡ status.BadState → IsBadState octets × (text ≡ [])
   pub bad_is_told : IsBadState octets
@@ -74,6 +79,8 @@ pub record StatesAreTold (ending : Status) (octets left text : List ℕ) : Type 
       → (ending ≡ status.LineLong) ⊎ ((ending ≡ status.ReadFault) ⊎ (ending ≡ status.NoMemory))
   pub big_is_told : IsBig octets
       → (ending ≡ status.TooLong) ⊎ ((ending ≡ status.ReadFault) ⊎ (ending ≡ status.NoMemory))
+  pub fault : ending ≡ status.ReadFault
+      → (IsUndecided octets left × (text ≡ [])) ⊎ TellsTaken octets left text
 
 abbrev pub StatesAreToldExactly : Type 0
 StatesAreToldExactly = (ending : Status) (before after : ℕ) (octets left text : List ℕ)

@@ -129,7 +129,8 @@ at_read TooLong is = absurd (cc)
 stopped_so : (ending : Ending) (octets left : List ℕ) (lines : List Line) → (ending ≡ Ended → ⊥)
     → Reached ending octets left lines → SavesAs (status_at ending) octets left []
 stopped_so Ended octets left lines stops reached = absurd (stops refl)
-stopped_so ReadFault octets left lines stops reached = (reached.taken, refl)
+stopped_so ReadFault octets left lines stops reached =
+    (reached.taken, stop_is whole_input reached.taken.whole lines ended reached.stops, refl)
 stopped_so (BadLine why) octets left lines stops reached =
     let stop = bad (length lines + 1) why in
     (subst IsBad (sym (stop_is whole_input octets lines stop reached)) tt, refl)
@@ -151,13 +152,14 @@ saves_nothing ending start left old new lines stops reached same = record {
 
 -- memory ran out on the way
 pub saves_cut : (why : Unwritten) (start left old new : Option (List ℕ))
-    → LinesCut (λ (now : Saver) done latest before behind. HasTaken now done latest × (behind ≡ before))
+    → LinesCut (λ (now : Saver) done latest before behind. HasTaken now done latest × (now.told ≡ [])
+    × (behind ≡ before))
     (λ done before behind. ⊥) why start left old new
     → Saves (status_without why) start left old new
 saves_cut unwritten.WriteFault start left old new cuts = absurd cuts.cut
 saves_cut unwritten.NoMemory start left old new cuts = record {
   text = [];
-  written = nothing_as old new cuts.cut.2.1;
+  written = nothing_as old new cuts.cut.2.2;
   said = told_map start left (λ octets rest. Begins octets cuts.done)
       (λ octets rest. SavesAs status.NoMemory octets rest []) (λ octets rest begins. refl) cuts.reached;
 }

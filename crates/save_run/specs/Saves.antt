@@ -48,7 +48,8 @@ SavesAs status.Ok octets left text =
 SavesAs status.WriteFault octets left text =
     ((input_of octets).stop ≡ ended) × (left ≡ [])
     × ((more : List ℕ) × IsSavedText (input_of octets).lines (text ++ more))
-SavesAs status.ReadFault octets left text = Taken octets left × (text ≡ [])
+SavesAs status.ReadFault octets left text =
+    (taken : Taken octets left) × ((input_of taken.whole).stop ≡ ended) × (text ≡ [])
 SavesAs status.NoMemory octets left text = text ≡ []
 SavesAs status.BadLine octets left text = IsBad (input_of octets).stop × (text ≡ [])
 SavesAs status.LineLong octets left text = IsLong (input_of octets).stop × (text ≡ [])

@@ -25,7 +25,8 @@ pub(crate) struct Saver {
 impl Saver {
     /// Before the first line.
     pub(crate) fn new(alloc: Global) -> Saver
-        ensures { HasTaken result [] 0 }
+        ensures taken { HasTaken result [] 0 }
+        ensures emptied { result.told ≡ [] }
     {
         Saver {
             solo: Solo::new(alloc),
@@ -35,11 +36,13 @@ impl Saver {
         }
     }
 
-    /// Answers a line, which is an epoch of its own, and keeps nothing of what is told.
+    /// Answers a line, which is an epoch of its own. Nothing of what is told of it is kept, so that a long trace takes
+    /// no more room than its subscribers.
     pub(crate) fn enter(&mut self, alloc: Global, line: &TraceLine) -> Result<(), AllocError>
         requires { (done : List Line) × (latest : ℕ) × HasTaken self.old done latest × IsNextOf done latest line.now }
-        ensures { (done : List Line) (latest : ℕ) → HasTaken self.old done latest → IsNextOf done latest line.now
+        ensures taken { (done : List Line) (latest : ℕ) → HasTaken self.old done latest → IsNextOf done latest line.now
             → OnOk result (HasTaken self.new (done ++ line.now ∷ []) line.now.moment) }
+        ensures emptied { OnOk result (self.new.told ≡ []) }
     {
         known(line);
         self.solo.enter(alloc, line, &mut self.told)?;
@@ -59,10 +62,10 @@ fn known(line: &TraceLine)
 }
 
 impl LineTaker for Saver {
-    ghost use Rattle.std.specs.Prelude.{◌≡◌};
+    ghost use Rattle.std.specs.Prelude.{◌≡◌, []};
     ghost use Rattle.save_run.specs.Left.{HasTaken};
 
-    ghost represents = { λ first now done latest old new. HasTaken now done latest × (new ≡ old) };
+    ghost represents = { λ first now done latest old new. HasTaken now done latest × (now.told ≡ []) × (new ≡ old) };
 
     ghost begins = { λ first. 1 };
 

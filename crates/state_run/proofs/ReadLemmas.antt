@@ -1,5 +1,6 @@
 -- How far a state was read, line after line.
-use Rattle.std.proofs.Common.{◌≡◌, ℕ, ◌≤◌, Bool, true, false, List, [], ◌∷◌, ◌++◌, Option, None, Some, Result, Ok, Err, IfErr, refl, sym, ap, ◌∙◌, inl, inr, arith, append-nil}
+use Rattle.std.proofs.Common.{◌≡◌, ℕ, ◌≤◌, Bool, true, false, List, [], ◌∷◌, ◌++◌, Option, None, Some, Result, Ok, Err, IfErr, refl, sym, ap, ◌∙◌, subst, inl, inr, arith, append-nil}
+use Rattle.pc_outside.specs.Held.{Held, IsUnfinished}
 use Rattle.pc_outside.specs.Line.{HoldsLine}
 use Rattle.pc_outside.specs.LineReads.{Reads}
 use Rattle.pc_outside.specs.WhereTold.{WhereTold}
@@ -13,7 +14,7 @@ use Rattle.audit_reading.proofs.InputLemmas.{read_more, ends_last, ends_ended, e
 use Rattle.record_codec.specs.Saved.{FileState}
 use Rattle.state_run.specs.declared.reading.StateRead.TheVariants as read
 use Rattle.state_run.specs.Front.{SaysState, SaysNone, others_in}
-use Rattle.state_run.specs.Reading.{AreRead, Found, HasFound, IsBadState, IsBig, IsLong}
+use Rattle.state_run.specs.Reading.{AreRead, Found, HasFound, IsBadState, IsBig, IsLong, IsUndecided}
 
 -- what holds in any case, at an error
 pub in_err : {T E : Type 0} (P : Type 0) (r : Result T E) → P → IfErr r (λ e. P)
@@ -90,6 +91,25 @@ ends_none start a left room after line last front done before reads each =
     told_map start left (λ octets rest. Reached stopped_at.Ended octets rest done) (λ octets rest. IsBadState octets)
     (λ octets rest e. inr (e.0.0, ap others_in e.1 ∙ each))
     (ends_ended start a left room after line last front done before reads)
+
+-- or the source fails
+pub fails_first : (start a left : Option (List ℕ)) (room : ℕ) (now : Held) (line : Text) (last : Bool)
+    (done : List Text) → IsUnfinished now → WhereTold start a (λ octets rest. HasRead octets rest room done)
+    → Reads line_read.ReadFault room now.room a (prepend_known now.front left) line last → others_in done ≡ []
+    → WhereTold start left IsUndecided
+fails_first None a left room now line last done more before reads each = tt
+fails_first (Some octets) None left room now line last done more before reads each = absurd before
+fails_first (Some octets) (Some ahead) None room now line last done more before reads each = absurd reads
+fails_first (Some octets) (Some ahead) (Some rest) room now line last done more before reads each = record {
+  texts = done;
+  unfinished = now.front;
+  room = room;
+  read = subst (λ next. HasRead octets next room done) (sym reads.octets_stay) before;
+  no_newline = more.no_newline;
+  short = more.short;
+  more = omega (arith, more.more, reads.room_stays);
+  each = each;
+}
 
 pub stops_long : (start a left : Option (List ℕ)) (room after : ℕ) (line : Text) (last : Bool) (front : List ℕ)
     (done : List Text) → WhereTold start a (λ octets rest. HasRead octets rest room done)

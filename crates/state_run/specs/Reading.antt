@@ -1,8 +1,10 @@
 -- What came of reading a state.
-use Rattle.std.specs.Prelude.{◌≡◌, ℕ, ◌<◌, ◌⊎◌, List, [], Option}
+use Rattle.std.specs.Prelude.{◌≡◌, ℕ, ◌<◌, ◌≤◌, ◌⊎◌, List, [], ◌++◌, length, Option}
+use Rattle.pc_outside.specs.Limits.{line_max}
+use Rattle.pc_outside.specs.Line.{NoNewline}
 use Rattle.pc_outside.specs.WhereTold.{WhereTold}
 use Rattle.audit_reading.specs.Texts.{Text, Texts, after_lines, texts_of, big, ended, long}
-use Rattle.audit_reading.specs.Progress.{HasRead, IsTaken}
+use Rattle.audit_reading.specs.Progress.{HasRead}
 use Rattle.record_codec.specs.Saved.{FileState}
 use Rattle.state_run.specs.declared.reading.StateRead.{StateRead}
 use Rattle.state_run.specs.declared.reading.StateRead.TheVariants as read
@@ -40,6 +42,18 @@ EndsFirst octets = ((texts_of octets).stop ≡ ended) × (others_in (texts_of oc
 abbrev pub IsBadState : List ℕ → Type 0
 IsBadState octets = BeginsBad octets ⊎ EndsFirst octets
 
+-- The source failed before that was known: what was taken are whole lines of a state alone, and behind them an
+-- unfinished line, which isn't too long; and it is less than what is looked at.
+pub record IsUndecided (octets left : List ℕ) : Type 0 where
+  pub texts : List Text
+  pub unfinished : List ℕ
+  pub room : ℕ
+  pub read : HasRead octets (unfinished ++ left) room texts
+  pub no_newline : NoNewline unfinished
+  pub short : length unfinished ≤ line_max
+  pub more : length unfinished < room
+  pub each : others_in texts ≡ []
+
 abbrev pub IsLong : List ℕ → Type 0
 IsLong octets = ((texts_of octets).stop ≡ long) × (others_in (texts_of octets).lines ≡ [])
 
@@ -50,6 +64,6 @@ IsBig octets = ((texts_of octets).stop ≡ big) × (others_in (texts_of octets).
 abbrev pub Stopped : StateRead → (start left : Option (List ℕ)) → Type 0
 Stopped (read.Found file) start left = Unit {0}
 Stopped read.BadState start left = WhereTold start left (λ octets rest. IsBadState octets)
-Stopped read.ReadFault start left = WhereTold start left IsTaken
+Stopped read.ReadFault start left = WhereTold start left IsUndecided
 Stopped read.LineLong start left = WhereTold start left (λ octets rest. IsLong octets)
 Stopped read.TooLong start left = WhereTold start left (λ octets rest. IsBig octets)

@@ -16,7 +16,7 @@ returns-in-Ended-clause-saves g c =
     saves_whole c.write_file.result start left (g.K.Sink.written c.args.sink.now) new end.done
     (subst (λ (e : Ending). WhereTold start left (λ octets rest. Reached e octets rest end.done)) c.in-Ended.is
     end.reached)
-    (subst (λ (old : Option (List ℕ)). Wrote c.write_file.result end.done old new) end.stands.1
+    (subst (λ (old : Option (List ℕ)). Wrote c.write_file.result end.done old new) end.stands.2
     (c.write_file.ensures.wrote end.done end.latest end.stands.0 end.few))
 
 pub returns-in-Ended-clause-no_usage : goal.returns-in-Ended-clause-no_usage
@@ -44,7 +44,7 @@ returns-in_default g c =
       saves = rw c.status_at.ensures
           (saves_nothing c.in-Ok.ending (g.S.Source.left c.args.source.now)
           (g.S.Source.left c.run_lines.new.source) (g.K.Sink.written c.args.sink.now)
-          (g.K.Sink.written c.run_lines.new.sink) end.done c.in_default.not-Ended end.reached end.stands.1);
+          (g.K.Sink.written c.run_lines.new.sink) end.done c.in_default.not-Ended end.reached end.stands.2);
       no_usage = λ is. usage_never c.in-Ok.ending (sym c.status_at.ensures ∙ is);
       source_later = c.run_lines.ensures.source_later;
       sink_later = c.run_lines.ensures.sink_later;

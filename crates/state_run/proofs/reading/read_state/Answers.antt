@@ -4,9 +4,9 @@ use Rattle.pc_outside.specs.WhereTold.{WhereTold}
 use Rattle.pc_outside.specs.declared.reading.LineRead.TheVariants as line_read
 use Rattle.audit_reading.specs.Progress.{HasRead}
 use Rattle.audit_reading.specs.Texts.{Text}
-use Rattle.audit_reading.proofs.InputLemmas.{ends_fault, read_more, told_still}
+use Rattle.audit_reading.proofs.InputLemmas.{read_more, told_still}
 use Rattle.state_run.specs.Front.{HasHeard, Says, SaysNone, SaysState}
-use Rattle.state_run.proofs.ReadLemmas.{begins_bad, ends_first, ends_none, in_err, less_room, state_read, stops_big, stops_long}
+use Rattle.state_run.proofs.ReadLemmas.{begins_bad, ends_first, ends_none, fails_first, in_err, less_room, state_read, stops_big, stops_long}
 use Rattle.state_run.specs.declared.front.Said.{Said}
 use Rattle.state_run.proofs.reading.read_state.Goals as goal
 
@@ -74,8 +74,8 @@ returns-in-TooLong-clause-stopped g c =
 pub returns-in-ReadFault-clause-stopped : goal.returns-in-ReadFault-clause-stopped
 returns-in-ReadFault-clause-stopped g c =
     let p = c.loop-front.invariant.read in
-    ends_fault _ _ _ _ c.read_line.new.buf _ _ p.0 (c.in-ReadFault.ensures.unfinished refl) p.2
-    c.in-ReadFault.ensures.octets
+    fails_first _ _ _ _ c.read_line.new.buf _ _ p.0 (c.in-ReadFault.ensures.unfinished refl) p.2
+    c.in-ReadFault.ensures.octets p.1.each
 
 pub returns-in_err-file-in-Line-clause-cut : goal.returns-in_err-file-in-Line-clause-cut
 returns-in_err-file-in-Line-clause-cut g c =

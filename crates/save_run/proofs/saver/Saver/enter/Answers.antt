@@ -4,8 +4,8 @@ use Rattle.save_run.specs.Left.{histories}
 use Rattle.save_run.proofs.TakenLemmas.{line_taken}
 use Rattle.save_run.proofs.saver.Saver.enter.Goals as goal
 
-pub returns : goal.returns
-returns c = λ done latest taken due.
+pub returns-clause-taken : goal.returns-clause-taken
+returns-clause-taken c = λ done latest taken due.
     line_taken c.args.self.now _ c.enter.new.self c.args.self.now.told c.enter.new.report done latest c.args.line.now
     taken due c.known.ensures c.in_ok-enter.ensures.answers
     (c.in_ok-enter.ensures.stands done latest (histories done) [] taken.stands due.late)
