@@ -10,3 +10,6 @@ mod EntriesIn
 mod OctetsConfirmed
 mod RunConfirmed
 mod CutRuns
+mod OneResumed
+mod OneResumedRun
+mod OneSaved

@@ -5,3 +5,4 @@ pub mod Octets
 pub mod Ranges
 pub mod Running
 pub mod Resuming
+pub mod OneText
