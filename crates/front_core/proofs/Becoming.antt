@@ -9,11 +9,9 @@ use Rattle.subscriber.specs.Standing.{SubscriberState}
 use Rattle.at_rest.specs.Meant.{Stand, Turned}
 use Rattle.at_rest.specs.Rest.{IsBehind, Rest}
 use Rattle.front_halves.specs.declared.halves.Halves.{Halves}
-use Rattle.front_halves.specs.Tries.{RisesBy}
 use Rattle.front_core.specs.declared.taken.Open.{Open}
 use Rattle.front_core.specs.declared.taken.Taken.{Taken}
 use Rattle.front_core.specs.declared.took.Took.{Took}
-use Rattle.front_core.specs.declared.took.Took.TheVariants as answer
 use Rattle.front_core.specs.Entries.{lines_of, took_of}
 use Rattle.front_core.specs.Keeping.{FrontKeeps}
 use Rattle.front_core.specs.Taking.{MayBecome, Takes}
@@ -46,25 +44,3 @@ becomes opened slices lane lines latest n tries book book_now subs turned after 
     ∙ ap (λ (k : ℕ). meant_next k (prior ++ lines_of entries) line) keeps.slices_are in
     subst (λ (m : Meaning). MayBecome m (took_of open_)) means
     (became n tries (meaning_of it) open_ turned after mid new takes)
-
--- a refusal
-not_full : (took : Took) (parked : Bool) → took ≡ answer.Accepted parked → took ≡ answer.Full → (P : Type 0) → P
-not_full took parked is full P = let both_are = sym is ∙ full in cc
-
-not_answered : (took : Took) → took ≡ answer.Answered → took ≡ answer.Full → (P : Type 0) → P
-not_answered took is full P = let both_are = sym is ∙ full in cc
-
-pub refused_so : (n tries : ℕ) (now : Meaning) (open_ : Open) (subs after : List SubscriberState) (old new : Halves)
-    → Takes n tries now open_ subs after old new → took_of open_ ≡ answer.Full → RisesBy tries old.fulls new.fulls
-refused_so n tries (command slot c) open_ subs after old new takes full = elim takes.came [
-  | inl came ↦ not_full (took_of open_) false (ap took_of came.is) full (RisesBy tries old.fulls new.fulls)
-  | inr came ↦ subst (λ (k : ℕ). RisesBy tries k new.fulls) takes.ready.fulls came.rises
-]
-refused_so n tries (packet slot p) open_ subs after old new takes full = elim takes.came [
-  | inl came ↦ not_full (took_of open_) came.parked (ap took_of came.is) full (RisesBy tries old.fulls new.fulls)
-  | inr came ↦ subst (λ (k : ℕ). RisesBy tries k new.fulls) takes.ready.fulls came.rises
-]
-refused_so n tries (move slot slice text) open_ subs after old new takes full =
-    not_answered (took_of open_) (ap took_of takes.is) full (RisesBy tries old.fulls new.fulls)
-refused_so n tries (note text) open_ subs after old new takes full =
-    not_answered (took_of open_) (ap took_of takes.is) full (RisesBy tries old.fulls new.fulls)

@@ -415,7 +415,7 @@ packets_full room lane slot p old mid new ready settles lanes rooms full =
     }
 
 -- a slot moved, or nothing came of it
-pub goes_so : (slot : ℕ) (old mid new : Halves) → Settles old mid → SlotMoves slot mid new
+pub goes_so : {slice : ℕ} (slot : ℕ) (old mid new : Halves) → Settles old mid → SlotMoves slot slice mid new
     → ((end : FrontEnd) → (view_at mid slot).lot ≡ Some (Split end) → AreAccepted end (view_at mid slot).accepted)
     → Goes slot (parts_of old) (parts_of new) (load_of old) (load_of new)
 goes_so slot old mid new first moves are =

@@ -62,7 +62,8 @@ module _ (slices room lane slots lines latest later : ℕ) (subs : List Subscrib
         (omega arith) (halves_settle slices room lane slots lines latest (2 * lines) old new settles keeps));
   }
 
-  move_goes : (slot : ℕ) (old new : Halves) → SlotMoves slot old new → slot < slots → length new.lots.items ≤ slots
+  move_goes : {slice : ℕ} (slot : ℕ) (old new : Halves) → SlotMoves slot slice old new → slot < slots
+      → length new.lots.items ≤ slots
       → HalvesKeep slices room lane slots lines latest (2 * lines) old
       → GoesOn slices room lane slots lines latest later subs subs old new
   move_goes slot old new moves low lots keeps = record {
@@ -241,7 +242,7 @@ module _ (slices room lane lines latest later n : ℕ) (subs : List SubscriberSt
       })
 
   move_on : (slot slice : ℕ) (text : List ℕ) (open_ : Open) (after : List SubscriberState)
-      → TakesMove slot text open_ subs after mid new → slot < length subs
+      → TakesMove slot slice text open_ subs after mid new → slot < length subs
       → LineGoes slices room lane (length subs) lines latest later n subs after old new (move slot slice text) open_
   move_on slot slice text open_ after takes low =
       let does = goes_so slot old mid new pump takes.moves

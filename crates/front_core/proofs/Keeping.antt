@@ -303,7 +303,8 @@ module _ (slices room lane slots lines latest more later asks many slot : ℕ) (
     asked = asked;
   }
 
-pub halves_move : (slices room lane slots lines latest asks slot : ℕ) (old new : Halves) → SlotMoves slot old new
+pub halves_move : {slice : ℕ} (slices room lane slots lines latest asks slot : ℕ) (old new : Halves)
+    → SlotMoves slot slice old new
     → slot < slots → length new.lots.items ≤ slots
     → HalvesKeep slices room lane slots lines latest asks old
     → HalvesKeep slices room lane slots (lines + 1) latest (asks + 1) new

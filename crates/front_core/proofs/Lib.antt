@@ -1,5 +1,6 @@
 mod Becoming
 pub mod Bridging
+mod Counting
 pub mod Keeping
 pub mod Allowing
 pub mod Starting

@@ -58,7 +58,7 @@ pub others_start : (slot : ℕ) (old new : Halves) → OthersSettle slot old new
 others_start slot old new others other ne =
     start_settles (view_at old other).lot (view_at new other).lot (others other ne).lot
 
-pub starts_move : (slot : ℕ) (old new : Halves) → SlotMoves slot old new → starts_of new ≡ starts_of old
+pub starts_move : {slice : ℕ} (slot : ℕ) (old new : Halves) → SlotMoves slot slice old new → starts_of new ≡ starts_of old
 starts_move slot old new moves =
     at_each (starts_of old) (starts_of new) slot (start_moves (view_at old slot).lot (view_at new slot).lot moves.lot)
     (others_start slot old new moves.others)

@@ -99,6 +99,9 @@ module _ (slot line tries : ℕ) (subs after : List SubscriberState) (old mid ne
       mid = gives.0;
       settles = gives.1;
       received = subst (λ (m : Packet). Received slot line m parked gives.0 new) is gives.2;
+      before = gives.3;
+      fewer = gives.4;
+      often = gives.5;
     });
   }
 
@@ -107,5 +110,17 @@ module _ (slot line tries : ℕ) (subs after : List SubscriberState) (old mid ne
   packet_refused p made gives = record {
     mid = mid;
     ready = ready;
-    came = inr (record { is = refl; settles = gives.0; full = gives.1; rises = gives.2; side_rises = gives.3 });
+    came = inr (record {
+      is = refl;
+      settles = gives.0;
+      full = gives.1;
+      rises = gives.2;
+      side_rises = gives.3;
+      before = gives.4;
+      last = gives.5;
+      all = gives.6;
+      often = gives.7;
+      still = gives.8;
+      full_last = gives.9;
+    });
   }

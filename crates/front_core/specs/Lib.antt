@@ -1,3 +1,4 @@
+pub mod Counting
 pub mod Entries
 pub mod Keeping
 pub mod Ready

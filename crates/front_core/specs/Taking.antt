@@ -1,5 +1,5 @@
 -- What a line does to the subscribers and the halves, and its open entry.
-use Rattle.std.specs.Prelude.{◌≡◌, ℕ, ◌*◌, ◌≤◌, ◌<◌, ◌^◌, ◌⊎◌, Bool, true, false, List, length, get_or, set}
+use Rattle.std.specs.Prelude.{◌≡◌, ℕ, ◌+◌, ◌*◌, ◌≤◌, ◌<◌, ◌^◌, ◌⊎◌, Bool, true, false, List, length, get_or, set}
 use Rattle.control_steps.specs.declared.command.CommandKind.{CommandKind}
 use Rattle.demux.specs.Packets.{numbered}
 use Rattle.demux.specs.Trace.{Meaning, command, packet, move, note}
@@ -8,7 +8,7 @@ use Rattle.subscriber.specs.Standing.{SubscriberState}
 use Rattle.at_rest.specs.Rest.{AreAtRest}
 use Rattle.front_halves.specs.declared.halves.Halves.{Halves}
 use Rattle.front_halves.specs.Steps.{Settles, SlotMoves, IsReady, Commanded, CommandsFull, Received, PacketsFull}
-use Rattle.front_halves.specs.Tries.{RisesBy, lane_fulls, packets_refused}
+use Rattle.front_halves.specs.Tries.{RisesBy, TriedOften, lane_fulls, packets_refused}
 use Rattle.front_core.specs.declared.taken.Open.{Open}
 use Rattle.front_core.specs.declared.taken.Open.TheVariants as entry
 use Rattle.front_core.specs.declared.took.Took.{Took}
@@ -70,13 +70,17 @@ pub record TakesCommand (slot line tries : ℕ) (c : CommandKind) (open_ : Open)
   pub ready : MakesReady slot subs now old mid
   pub came : Accepts slot line c open_ mid new ⊎ Refuses slot tries open_ mid new
 
--- the same of a packet, by the count of the side of counter halves
-pub record AcceptsPacket (slot line : ℕ) (p : LentPacket) (open_ : Open) (old new : Halves) : Type 0 where
+-- the same of a packet, by the count of the side of counter halves; behind each refusal but the last both sides were
+-- pumped
+pub record AcceptsPacket (slot line tries : ℕ) (p : LentPacket) (open_ : Open) (old new : Halves) : Type 0 where
   pub parked : Bool
   pub is : open_ ≡ entry.Packet slot parked
   pub mid : Halves
   pub settles : Settles old mid
   pub received : Received slot line (numbered 0 p) parked mid new
+  pub before : ℕ
+  pub fewer : before < tries
+  pub often : TriedOften slot before old mid
 
 pub record RefusesPacket (slot tries : ℕ) (open_ : Open) (old new : Halves) : Type 0 where
   pub is : open_ ≡ entry.Full slot true
@@ -84,19 +88,25 @@ pub record RefusesPacket (slot tries : ℕ) (open_ : Open) (old new : Halves) : 
   pub full : PacketsFull slot old new
   pub rises : RisesBy tries old.fulls new.fulls
   pub side_rises : RisesBy tries (packets_refused old) (packets_refused new)
+  pub before : ℕ
+  pub last : Halves
+  pub all : before + 1 ≡ tries
+  pub often : TriedOften slot before old last
+  pub still : Settles last new
+  pub full_last : PacketsFull slot last new
 
 pub record TakesPacket (slot line tries : ℕ) (p : LentPacket) (open_ : Open) (subs now : List SubscriberState)
     (old new : Halves) : Type 0 where
   pub mid : Halves
   pub ready : MakesReady slot subs now old mid
-  pub came : AcceptsPacket slot line p open_ mid new ⊎ RefusesPacket slot tries open_ mid new
+  pub came : AcceptsPacket slot line tries p open_ mid new ⊎ RefusesPacket slot tries open_ mid new
 
--- a slot moves
-pub record TakesMove (slot : ℕ) (text : List ℕ) (open_ : Open) (subs now : List SubscriberState) (old new : Halves) :
-    Type 0 where
+-- a slot moves to a slice
+pub record TakesMove (slot slice : ℕ) (text : List ℕ) (open_ : Open) (subs now : List SubscriberState)
+    (old new : Halves) : Type 0 where
   pub is : open_ ≡ entry.Note text
   pub same : now ≡ subs
-  pub moves : SlotMoves slot old new
+  pub moves : SlotMoves slot slice old new
   pub lots : GrowsTo slot old new
 
 -- a note changes nothing
@@ -109,7 +119,7 @@ pub record TakesNote (text : List ℕ) (open_ : Open) (subs now : List Subscribe
 abbrev pub Takes : (line tries : ℕ) → Meaning → Open → (subs now : List SubscriberState) → Halves → Halves → Type 0
 Takes line tries (command slot c) open_ subs now old new = TakesCommand slot line tries c open_ subs now old new
 Takes line tries (packet slot p) open_ subs now old new = TakesPacket slot line tries p open_ subs now old new
-Takes line tries (move slot slice text) open_ subs now old new = TakesMove slot text open_ subs now old new
+Takes line tries (move slot slice text) open_ subs now old new = TakesMove slot slice text open_ subs now old new
 Takes line tries (note text) open_ subs now old new = TakesNote text open_ subs now old new
 
 -- What may become of a line that means this: a note or an instruction to move is answered, and nothing else is; a

@@ -1,5 +1,5 @@
 -- Parts of a front that clauses speak of.
-use Rattle.std.specs.Prelude.{◌≡◌, ℕ, List, ◌∷◌, [], ◌++◌}
+use Rattle.std.specs.Prelude.{◌≡◌, ℕ, zero, suc, List, ◌∷◌, [], ◌++◌}
 use Rattle.worker_core.specs.Workers.{Lanes}
 use Rattle.worker_core.specs.Desks.{lanes_of}
 use Rattle.trace_lines.specs.Line.{Line}
@@ -9,7 +9,7 @@ use Rattle.subscriber.specs.Standing.{SubscriberState}
 use Rattle.at_rest.specs.Meant.{Turned}
 use Rattle.at_rest.specs.Rest.{Rest}
 use Rattle.front_halves.specs.declared.halves.Halves.{Halves}
-use Rattle.front_halves.specs.Steps.{Settles}
+use Rattle.front_halves.specs.Steps.{Pumps}
 use Rattle.front_halves.specs.Views.{both}
 use Rattle.front_core.specs.declared.front.Front.{Front}
 use Rattle.front_core.specs.declared.taken.Taken.{Taken}
@@ -54,6 +54,15 @@ control_lanes front = lanes_of (both front.halves).control_desks
 abbrev pub flow_lanes : Front → List Lanes
 flow_lanes front = lanes_of (both front.halves).desks
 
+-- the numbers of so many slices
+abbrev pub first_slices : ℕ → List ℕ
+first_slices zero = []
+first_slices (suc n) = first_slices n ++ n ∷ []
+
+-- Both sides of a front were pumped.
+abbrev pub PumpsFront : Front → Front → Type 0
+PumpsFront old new = Pumps old.halves new.halves
+
 -- What a line does: behind a pump it is decided, which may bring a subscriber or bind one for another slice, and what
 -- it means is done, with so many tries. Its entry is left open as the answer says.
 pub record TakesLine (line : Line) (tries : ℕ) (took : Took) (old new : Front) : Type 0 where
@@ -62,7 +71,7 @@ pub record TakesLine (line : Line) (tries : ℕ) (took : Took) (old new : Front)
   pub line_is : taken.line.value ≡ line
   pub took_is : took ≡ took_of taken.open
   pub pumped : Halves
-  pub pumps : Settles old.halves pumped
+  pub pumps : Pumps old.halves pumped
   pub now : Meant
   pub turned : List SubscriberState
   pub turns : Turned old.slices old.book old.subscribers.items line now new.book turned

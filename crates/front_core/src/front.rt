@@ -57,13 +57,12 @@ impl Front {
     ghost use Rattle.lawful_run.specs.Merging.{Histories};
     ghost use Rattle.lawful_run.specs.Trace.{meant_next};
     ghost use Rattle.at_rest.specs.Rest.{IsBehind, RepresentsAll};
-    ghost use Rattle.worker_core.specs.Workers.{worker_lanes};
+    ghost use Rattle.worker_core.specs.Workers.{place_of, worker_lanes};
     ghost use Rattle.flow_core.specs.Workers as flow_worker;
-    ghost use Rattle.front_halves.specs.Tries.{RisesBy};
-    ghost use Rattle.front_core.specs.declared.took.Took.TheVariants.{Full};
+    ghost use Rattle.front_core.specs.Counting.{TookTries};
     ghost use Rattle.front_core.specs.Keeping.{FrontKeeps};
     ghost use Rattle.front_core.specs.Words.{IsWhole, opened_of, entries_in, taken_by, lines_in, latest_in, fulls_in};
-    ghost use Rattle.front_core.specs.Words.{control_lanes, flow_lanes, moving_in, TakesLine};
+    ghost use Rattle.front_core.specs.Words.{control_lanes, flow_lanes, moving_in, first_slices, PumpsFront, TakesLine};
     ghost use Rattle.front_core.specs.Entries.{IsLastCommand};
     ghost use Rattle.front_core.specs.Taking.{MayBecome};
     ghost use Rattle.front_halves.specs.Views.{both};
@@ -80,9 +79,11 @@ impl Front {
         ensures counts { IfOk result (λ made. (lines_in made.front ≡ rest.lines) × (latest_in made.front ≡ rest.latest)
             × (fulls_in made.front ≡ rest.fulls)) }
 
-        // The workers are those of the desks, in the order of slices.
+        // The workers are those of the desks, in the order of slices, and each is of its slice.
         ensures controls { IfOk result (λ made. control_lanes made.front ≡ map worker_lanes made.controls.items) }
         ensures flows { IfOk result (λ made. flow_lanes made.front ≡ map flow_worker.worker_lanes made.flows.items) }
+        ensures places { IfOk result (λ made. (map place_of made.controls.items ≡ first_slices rest.slices)
+            × (map flow_worker.place_of made.flows.items ≡ first_slices rest.slices)) }
     {
         let opened = Snapshot::of(&rest);
         let AtRest {
@@ -108,11 +109,11 @@ impl Front {
                 alloc,
                 room,
                 lots: Vec::new(alloc),
-                sides: BothSides {
-                    controls: Side::new(alloc, controls.desks),
-                    flows: FlowSide::new(alloc, flows.desks, room),
-                    moving: Vec::new(alloc),
-                },
+                sides: BothSides::new(
+                    alloc,
+                    Side::new(alloc, controls.desks),
+                    FlowSide::new(alloc, flows.desks, room),
+                ),
                 fulls,
             },
             entries: Vec::new(alloc),
@@ -128,6 +129,7 @@ impl Front {
 
     /// Takes home what came, and gives what orders and items wait.
     pub fn pump<R: Wait>(&mut self, rt: &R)
+        ensures pumps { PumpsFront self.old self.new }
         ensures whole { IsWhole self.old → IsWhole self.new }
         ensures same { (opened_of self.new ≡ opened_of self.old) × (entries_in self.new ≡ entries_in self.old) }
         ensures counts { (lines_in self.new ≡ lines_in self.old) × (latest_in self.new ≡ latest_in self.old)
@@ -164,9 +166,9 @@ impl Front {
         ensures means { (prior : List Line) → IsBehind (opened_of self.old) prior → IfOk result (λ took.
             MayBecome (meant_next (opened_of self.old).slices (prior ++ taken_by self.old) line.now) took) }
 
-        // A refusal is the last of so many tries and one.
-        ensures full { IfOk result (λ took. took ≡ Full
-            → RisesBy (patience + 1) (fulls_in self.old) (fulls_in self.new)) }
+        // The count of full answers rises by one for each try that was refused, and by nothing else: where the line
+        // is, by so many and one.
+        ensures tried { IfOk result (λ took. TookTries (patience + 1) took (fulls_in self.old) (fulls_in self.new)) }
         ensures rises { fulls_in self.old ≤ fulls_in self.new }
 
         // Out of memory nothing is accepted.

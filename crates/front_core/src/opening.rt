@@ -1,8 +1,9 @@
 //! An epoch is opened: each slice gets a worker of each kind.
 ghost use Rattle.std.specs.Prelude.{◌≡◌, ◌≤◌, All, IfOk, length, map, replicate};
 ghost use Rattle.worker_core.specs.Desks.{lanes_of};
-ghost use Rattle.worker_core.specs.Workers.{IsNewDesk, Lanes, worker_lanes};
+ghost use Rattle.worker_core.specs.Workers.{IsNewDesk, Lanes, place_of, worker_lanes};
 ghost use Rattle.flow_core.specs.Workers as flow_worker;
+ghost use Rattle.front_core.specs.Words.{first_slices};
 
 use crate::{Front, NoMemory};
 use control_half::ControlHalf;
@@ -37,6 +38,7 @@ pub(crate) fn controls_of(alloc: Global, slices: u8) -> Result<Controls, NoMemor
     requires { slices ≤ 64 }
     ensures count { IfOk result (λ made. length made.desks.items ≡ slices) }
     ensures lanes { IfOk result (λ made. lanes_of made.desks.items ≡ map worker_lanes made.workers.items) }
+    ensures places { IfOk result (λ made. map place_of made.workers.items ≡ first_slices slices) }
     ensures new { IfOk result (λ made. All IsNewDesk made.desks.items) }
 {
     let mut desks = Vec::new(alloc);
@@ -55,6 +57,7 @@ pub(crate) fn flows_of(alloc: Global, slices: u8, lane: u32) -> Result<Flows, No
     ensures lanes { IfOk result (λ made. lanes_of made.desks.items ≡ map flow_worker.worker_lanes made.workers.items) }
     ensures rooms { IfOk result (λ made. map (λ (lanes : Lanes). lanes.0.room) (lanes_of made.desks.items)
         ≡ replicate slices lane) }
+    ensures places { IfOk result (λ made. map flow_worker.place_of made.workers.items ≡ first_slices slices) }
     ensures new { IfOk result (λ made. All IsNewDesk made.desks.items) }
 {
     let mut desks = Vec::new(alloc);

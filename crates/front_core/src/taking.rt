@@ -1,8 +1,10 @@
 //! What is done with a line, by what it means.
-ghost use Rattle.std.specs.Prelude.{◌≡◌, ◌≤◌, ◌+◌, IfOk};
+ghost use Rattle.std.specs.Prelude.{◌≡◌, ◌≤◌, ◌+◌, ℕ, IfOk};
 ghost use Rattle.demux.specs.Trace.{command, packet};
 ghost use Rattle.demux.specs.Meant.{meaning_of};
 ghost use Rattle.front_halves.specs.Steps.{MayMove, SlotMoves};
+ghost use Rattle.front_core.specs.Counting.{TookTries};
+ghost use Rattle.front_core.specs.Entries.{took_of};
 ghost use Rattle.front_core.specs.Taking.{GrowsTo, MayTake, Takes, TakesCommand, TakesPacket};
 ghost use Rattle.front_core.specs.declared.taken.Open.TheVariants.{Note};
 
@@ -30,6 +32,8 @@ pub(crate) fn take<R: Wait>(
     requires { MayTake (meaning_of meant) subscribers.old halves.old }
     ensures takes { IfOk result (λ open_. Takes line (patience + 1) (meaning_of meant.entry) open_ subscribers.old
         subscribers.new halves.old halves.new) }
+    ensures tried { IfOk result (λ open_. TookTries (patience + 1) (took_of open_) halves.old.fulls
+        halves.new.fulls) }
     ensures rises { halves.old.fulls ≤ halves.new.fulls }
 {
     match meant {
@@ -62,8 +66,10 @@ fn take_move<R: Wait>(
     halves: &mut Halves,
 ) -> Result<Open, NoMemory>
     requires may { MayMove slot slice halves.old }
-    ensures takes { IfOk result (λ open_. (open_ ≡ Note text) × SlotMoves slot halves.old halves.new) }
+    ensures takes { IfOk result (λ open_. (open_ ≡ Note text) × SlotMoves slot slice halves.old halves.new) }
     ensures lots { GrowsTo slot halves.old halves.new }
+    ensures tried { IfOk result (λ open_. (tries : ℕ) → TookTries tries (took_of open_) halves.old.fulls
+        halves.new.fulls) }
     ensures rises { halves.old.fulls ≤ halves.new.fulls }
 {
     halves.go(rt, slot, slice)?;
@@ -82,6 +88,8 @@ fn take_command<R: Wait>(
     requires { MayTake (command slot asks) subscribers.old halves.old }
     ensures takes { IfOk result (λ open_. TakesCommand slot line (patience + 1) asks open_ subscribers.old
         subscribers.new halves.old halves.new) }
+    ensures tried { IfOk result (λ open_. TookTries (patience + 1) (took_of open_) halves.old.fulls
+        halves.new.fulls) }
     ensures rises { halves.old.fulls ≤ halves.new.fulls }
 {
     rest_leaves_room();
@@ -108,6 +116,8 @@ fn take_packet<R: Wait>(
     requires { MayTake (packet slot lent.now) subscribers.old halves.old }
     ensures takes { IfOk result (λ open_. TakesPacket slot line (patience + 1) lent.now open_ subscribers.old
         subscribers.new halves.old halves.new) }
+    ensures tried { IfOk result (λ open_. TookTries (patience + 1) (took_of open_) halves.old.fulls
+        halves.new.fulls) }
     ensures rises { halves.old.fulls ≤ halves.new.fulls }
 {
     let numbered = lent.numbered(alloc, 0)?;

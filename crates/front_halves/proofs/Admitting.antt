@@ -10,6 +10,7 @@ use Rattle.counter_half.specs.Half as flow_half
 use Rattle.counter_half.specs.Named as flow_named
 use Rattle.split_record.specs.declared.front.FrontEnd.{FrontEnd}
 use Rattle.split_record.specs.Rejoined as split
+use Rattle.front_sides.specs.Placing.{HalvesEnter}
 use Rattle.front_sides.specs.Steps as step
 use Rattle.front_halves.specs.declared.lot.Lot.{Lot}
 use Rattle.front_halves.specs.declared.lot.Lot.TheVariants.{Split}
@@ -61,15 +62,16 @@ admitted : (old new : Halves) (mid : List (Option Lot)) (slot room : ℕ) (was i
     → new.lots.items ≡ set mid slot (Some (Split end)) → new.room ≡ old.room → room ≡ old.room
     → end_of (lot_of old.lots.items slot) ≡ None → split.IsSplit was room 0 end control flow
     → was.session.slot ≡ slot
-    → step.SlotAdmits control_half.name_of flow_half.name_of (flow_named.slot_of (flow_half.name_of flow))
-    (lot_moved (lot_of mid slot)) (control_half.name_of control) (flow_half.name_of flow) (both old) (both new)
+    → step.SlotAdmits control_half.name_of flow_half.name_of control_half.hop_of
+    (flow_named.slot_of (flow_half.name_of flow)) was.destination (lot_moved (lot_of mid slot)) control flow (both old)
+    (both new)
     → StandsFor is slot [] 0 → is.destination ≡ was.destination → last_of is ≡ None → SlotAdmits slot was is old new
 admitted old new mid slot room was is end control flow grown low changed rooms room_is unsplit splits own admits stands
     bound last =
-    let at_slot : step.SlotAdmits control_half.name_of flow_half.name_of slot (lot_moved (lot_of mid slot))
-    (control_half.name_of control) (flow_half.name_of flow) (both old) (both new) =
-    subst (λ (n : ℕ). step.SlotAdmits control_half.name_of flow_half.name_of n (lot_moved (lot_of mid slot))
-    (control_half.name_of control) (flow_half.name_of flow) (both old) (both new))
+    let at_slot : step.SlotAdmits control_half.name_of flow_half.name_of control_half.hop_of slot was.destination
+    (lot_moved (lot_of mid slot)) control flow (both old) (both new) =
+    subst (λ (n : ℕ). step.SlotAdmits control_half.name_of flow_half.name_of control_half.hop_of n was.destination
+    (lot_moved (lot_of mid slot)) control flow (both old) (both new))
     (flow_slot slot room 0 was end control flow splits own) admits in
     record {
       others = others_settle old new mid slot (Some (Split end)) grown low changed at_slot.others;
@@ -81,6 +83,10 @@ admitted old new mid slot room was is end control flow grown low changed rooms r
       counter = flow_half.name_of flow;
       control = at_slot.control_is;
       flow = at_slot.flow_is;
+      own_control = control;
+      own_flow = flow;
+      enters = subst (λ (m : Bool). HalvesEnter control_half.name_of control_half.hop_of slot was.destination m control
+          flow (both old) (both new)) (sym at_slot.moved_is) at_slot.enters;
       one = record {
         session = splits.one.session;
         number = splits.one.number;
@@ -109,23 +115,27 @@ admitted old new mid slot room was is end control flow grown low changed rooms r
     }
 
 -- by what was read and made at its place
-pub admits : (old new : Halves) (mid : List (Option Lot)) (at slot : ℕ) (was own is fresh : SubscriberState)
+pub admits : (old new : Halves) (mid : List (Option Lot)) (at slot slice : ℕ) (was own is fresh : SubscriberState)
     (before : Option Lot) (moved : Bool) (end : FrontEnd) (control : ControlHalf) (flow : FlowHalf)
     → Grown old.lots.items mid → at ≡ slot → slot < length mid → lot_of mid slot ≡ before
     → moved ≡ lot_moved before → own ≡ was → is ≡ fresh → MayAdmit slot was old
     → end_of (lot_of old.lots.items slot) ≡ None → split.IsSplit own old.room 0 end control flow
-    → step.SlotAdmits control_half.name_of flow_half.name_of (flow_named.slot_of (flow_half.name_of flow)) moved
-    (control_half.name_of control) (flow_half.name_of flow) (both old) (both new)
+    → slice ≡ was.destination
+    → step.SlotAdmits control_half.name_of flow_half.name_of control_half.hop_of
+    (flow_named.slot_of (flow_half.name_of flow)) slice moved control flow (both old) (both new)
     → new.lots.items ≡ set mid at (Some (Split end)) → new.room ≡ old.room → StandsFor fresh slot [] 0
     → fresh.destination ≡ was.destination → last_of fresh ≡ None → SlotAdmits slot was is old new
-admits old new mid at slot was own is fresh before moved end control flow grown at_is low read has same now may unsplit
-    splits gave changed rooms stands bound last =
+admits old new mid at slot slice was own is fresh before moved end control flow grown at_is low read has same now may
+    unsplit splits slice_is gave changed rooms stands bound last =
     admitted old new mid slot old.room was is end control flow grown low
     (changed ∙ ap (λ (k : ℕ). set mid k (Some (Split end))) at_is) rooms refl unsplit
     (subst (λ (s : SubscriberState). split.IsSplit s old.room 0 end control flow) same splits) may.own
-    (subst (λ (m : Bool). step.SlotAdmits control_half.name_of flow_half.name_of
-    (flow_named.slot_of (flow_half.name_of flow)) m (control_half.name_of control) (flow_half.name_of flow) (both old)
-    (both new)) (has ∙ ap lot_moved (sym read)) gave)
+    (subst (λ (d : ℕ). step.SlotAdmits control_half.name_of flow_half.name_of control_half.hop_of
+    (flow_named.slot_of (flow_half.name_of flow)) d (lot_moved (lot_of mid slot)) control flow (both old) (both new))
+    slice_is
+    (subst (λ (m : Bool). step.SlotAdmits control_half.name_of flow_half.name_of control_half.hop_of
+    (flow_named.slot_of (flow_half.name_of flow)) slice m control flow (both old) (both new))
+    (has ∙ ap lot_moved (sym read)) gave))
     (subst (λ (s : SubscriberState). StandsFor s slot [] 0) (sym now) stands)
     (ap (λ (s : SubscriberState). s.destination) now ∙ bound)
     (ap last_of now ∙ last)

@@ -1,15 +1,17 @@
 -- A slot moved.
 use Rattle.std.proofs.Common.{◌≡◌, ℕ, ◌<◌, true, true≢false, is_some, List, length, get_or, set, sym, ap, subst, ◌∙◌, arith}
-use Rattle.std.specs.Prelude.{Option, None}
+use Rattle.std.specs.Prelude.{Option, Some, None}
 use Rattle.worker_core.specs.BySlot.{Grown}
 use Rattle.control_half.specs.Half as control_half
 use Rattle.counter_half.specs.Half as flow_half
 use Rattle.front_sides.specs.Sides as sides
+use Rattle.front_sides.specs.Placing.{HalvesGo}
 use Rattle.front_sides.specs.Steps as step
 use Rattle.front_halves.specs.declared.lot.Lot.{Lot}
 use Rattle.front_halves.specs.declared.halves.Halves.{Halves}
-use Rattle.front_halves.specs.Lots.{LotMoves, MayMoveLot, lot_of, end_of}
-use Rattle.front_halves.specs.Steps.{MayMove, SlotMoves}
+use Rattle.front_halves.specs.declared.lot.Lot.TheVariants.{Moved, Split}
+use Rattle.front_halves.specs.Lots.{LotMoves, MayMoveLot, commands_at, commands_of, lot_of, end_of}
+use Rattle.front_halves.specs.Steps.{GoesTo, MayMove, SlotMoves}
 use Rattle.front_halves.specs.Views.{both, view_at}
 use Rattle.front_halves.proofs.Lots.{may_move_lot, moved_when}
 use Rattle.front_sides.proofs.Lists.{at_grown}
@@ -25,7 +27,25 @@ module _ (halves : Halves) (mid : List (Option Lot)) (at slot slice : ℕ) (was 
   pub lot_may_move : MayMoveLot was
   lot_may_move = may_move_lot was (λ end found. (may.admitted end (there ∙ found)).2)
 
-module _ (old new : Halves) (mid : List (Option Lot)) (at slot : ℕ) (was lot : Option Lot)
+-- to which slice its halves go
+goes_rest : (slot slice : ℕ) (lot : Option Lot) (old new : Halves) → end_of lot ≡ None → both new ≡ both old
+    → GoesTo slot slice lot old new
+goes_rest slot slice None old new rests same = same
+goes_rest slot slice (Some Moved) old new rests same = same
+goes_rest slot slice (Some (Split end)) old new rests same = absurd (true≢false (ap is_some rests))
+
+no_count : (until : ℕ) → ◌≡◌ {A = Option ℕ} None (Some until) → ⊥
+no_count until is = let none : ⊥ = cc in none
+
+goes_split : (slot slice until : ℕ) (lot : Option Lot) (old new : Halves) → commands_at lot ≡ Some until
+    → HalvesGo slot slice until (both old) (both new) → GoesTo slot slice lot old new
+goes_split slot slice until None old new is goes = absurd (no_count until is)
+goes_split slot slice until (Some Moved) old new is goes = absurd (no_count until is)
+goes_split slot slice until (Some (Split end)) old new is goes =
+    let same : until ≡ commands_of end = cc in
+    subst (λ (n : ℕ). HalvesGo slot slice n (both old) (both new)) same goes
+
+module _ (old new : Halves) (mid : List (Option Lot)) (at slot slice : ℕ) (was lot : Option Lot)
     (grown : Grown old.lots.items mid) (is : at ≡ slot) (low : slot < length mid) (read : was ≡ get_or mid at was)
     (changed : new.lots.items ≡ set mid at lot) (room : new.room ≡ old.room) (moves : LotMoves was lot) where
   before : lot_of old.lots.items slot ≡ was
@@ -40,12 +60,13 @@ module _ (old new : Halves) (mid : List (Option Lot)) (at slot : ℕ) (was lot :
       (subst (LotMoves was) (sym (lot_here old new mid slot lot grown low set_there)) moves)
 
   -- of a subscriber that rests the sides have nothing
-  pub moved_rest : end_of was ≡ None → both new ≡ both old → SlotMoves slot old new
+  pub moved_rest : end_of was ≡ None → both new ≡ both old → SlotMoves slot slice old new
   moved_rest rests same =
       let settles = same_settles old new same in
       let view = settles.views slot in
       let none : end_of (lot_of old.lots.items slot) ≡ None = ap end_of before ∙ rests in
       record {
+        goes = goes_rest slot slice (lot_of old.lots.items slot) old new none same;
         others = others_settle old new mid slot lot grown low set_there (λ other ne. settles.views other);
         sides = keeps_sides old new settles.sides room;
         lot = lot_moves;
@@ -63,12 +84,15 @@ module _ (old new : Halves) (mid : List (Option Lot)) (at slot : ℕ) (was lot :
       }
 
   -- a split one is moved by the sides
-  pub moved_split : is_some (end_of was) ≡ true
-      → step.SlotMoves control_half.name_of flow_half.name_of slot (both old) (both new) → SlotMoves slot old new
-  moved_split split goes =
+  pub moved_split : (until : ℕ) → is_some (end_of was) ≡ true → commands_at was ≡ Some until
+      → step.SlotMoves control_half.name_of flow_half.name_of slot slice until (both old) (both new)
+      → SlotMoves slot slice old new
+  moved_split until split commands goes =
       let asked = goes.asked in
       let control_asked = goes.control_asked in
       record {
+        goes = goes_split slot slice until (lot_of old.lots.items slot) old new (ap commands_at before ∙ commands)
+            goes.goes;
         others = others_settle old new mid slot lot grown low set_there goes.others;
         sides = keeps_sides old new goes.sides room;
         lot = lot_moves;

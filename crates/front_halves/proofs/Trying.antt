@@ -1,19 +1,18 @@
 -- Tries one behind the other.
-use Rattle.std.proofs.Common.{◌≡◌, ℕ, ◌+◌, ◌≤◌, inl, inr, Bool, true, false, true≢false, is_some, List, length, map, replicate, refl, sym, ap, subst, ◌∙◌, arith}
+use Rattle.std.proofs.Common.{◌≡◌, ℕ, zero, suc, ◌+◌, ◌<◌, ◌≤◌, inl, inr, Bool, true, false, true≢false, is_some, List, length, map, replicate, refl, sym, ap, subst, ◌∙◌, add-one, arith}
 use Rattle.std.specs.Prelude.{Option, Some}
 use Rattle.control_steps.specs.declared.command.CommandKind.{CommandKind}
 use Rattle.pc_base.specs.declared.packet.Packet.{Packet}
 use Rattle.lane_core.specs.Ends.{raised}
 use Rattle.worker_core.specs.Workers.{Lanes}
-use Rattle.worker_core.proofs.Rising.{rises_raised}
 use Rattle.split_record.specs.declared.front.FrontEnd.{FrontEnd}
 use Rattle.lines_kept.specs.Kept.{Load}
 use Rattle.front_halves.specs.declared.lot.Lot.{Lot}
 use Rattle.front_halves.specs.declared.lot.Lot.TheVariants.{Split}
 use Rattle.front_halves.specs.declared.halves.Halves.{Halves}
 use Rattle.front_halves.specs.Lots.{EndSettles, LotSettles}
-use Rattle.front_halves.specs.Steps.{AreLanes, Commanded, CommandsFull, IsSamePacket, MayGive, PacketsFull, Received, Settles}
-use Rattle.front_halves.specs.Tries.{GivesCommand, GivesPacket, RisesBy, TriesPacket, lane_fulls, packets_refused}
+use Rattle.front_halves.specs.Steps.{AreLanes, Commanded, CommandsFull, IsSamePacket, MayGive, PacketsFull, Pumps, Received, Settles}
+use Rattle.front_halves.specs.Tries.{CountsTries, GivesCommand, GivesPacket, RisesBy, TriedOften, TriesPacket, lane_fulls, packets_refused, raised_by}
 use Rattle.front_halves.specs.declared.tried.Given.TheVariants as given
 use Rattle.front_halves.specs.declared.tried.Tried.TheVariants as tried
 use Rattle.front_halves.proofs.Settling.{settles_none, settles_then}
@@ -21,16 +20,16 @@ use Rattle.front_halves.specs.Views.{view_at, lane_rooms}
 
 -- a count of answers that was raised by one
 pub rises_one : (old new : ℕ) → new ≡ raised old → RisesBy 1 old new
-rises_one old new is = elim (rises_raised old new is) [
-  | inl less ↦ inl (omega (arith, less))
-  | inr most ↦ inr most
-]
+rises_one old new is = is
+
+pub raised_then : (n m count : ℕ) → raised_by m (raised_by n count) ≡ raised_by (n + m) count
+raised_then n zero count = ap (λ k. raised_by k count) (let e : n ≡ n + 0 = omega arith in e)
+raised_then n (suc m) count =
+    ap raised (raised_then n m count)
+    ∙ ap (λ k. raised_by k count) (let e : suc (n + m) ≡ n + suc m = omega arith in e)
 
 pub rises_then : (n m first mid last : ℕ) → RisesBy n first mid → RisesBy m mid last → RisesBy (n + m) first last
-rises_then n m first mid last (inl some) (inl more) = inl (omega (arith, some, more))
-rises_then n m first mid last (inr most) (inl more) = inr (omega (arith, most, more))
-rises_then n m first mid last (inl some) (inr most) = inr most
-rises_then n m first mid last (inr some) (inr most) = inr most
+rises_then n m first mid last some more = more ∙ ap (raised_by m) some ∙ raised_then n m first
 
 pub was_parked : (old new : Bool) → (old ≡ false → new ≡ false) → new ≡ true → old ≡ true
 was_parked true new rests is = refl
@@ -135,8 +134,8 @@ none_tried slot c start may = record {
   same = refl;
   may = may;
   later = omega arith;
-  rises = inl (omega arith);
-  met = inl (omega arith);
+  rises = refl;
+  met = refl;
 }
 
 module _ (slot : ℕ) (c now : CommandKind) (n : ℕ) (start mid : Halves) (tried : CommandTried slot c now n start mid) where
@@ -164,6 +163,10 @@ module _ (slot : ℕ) (c now : CommandKind) (n : ℕ) (start mid : Halves) (trie
     refl,
   )
 
+  pub command_counted : (tries : ℕ) (new : Halves) → new.fulls ≡ mid.fulls → n < tries
+      → CountsTries tries (given.Accepted false) start.fulls new.fulls
+  command_counted tries new kept few = (n, few, kept ∙ tried.rises)
+
   pub command_full : (line tries : ℕ) (new : Halves) → Settles mid new → CommandsFull slot new
       → RisesBy 1 mid.fulls new.fulls → RisesBy 1 (lane_fulls slot mid) (lane_fulls slot new) → n + 1 ≡ tries
       → GivesCommand slot line c tries given.Full start new
@@ -184,6 +187,7 @@ pub record PacketTried (slot : ℕ) (packet now : Packet) (n : ℕ) (start halve
   pub later : start.fulls ≤ halves.fulls
   pub rises : RisesBy n start.fulls halves.fulls
   pub met : RisesBy n (packets_refused start) (packets_refused halves)
+  pub often : TriedOften slot n start halves
 
 pub no_packet_tried : (slot : ℕ) (packet : Packet) (start : Halves) → MayGive slot start
     → PacketTried slot packet packet 0 start start
@@ -192,9 +196,15 @@ no_packet_tried slot packet start may = record {
   same = refl;
   may = may;
   later = omega arith;
-  rises = inl (omega arith);
-  met = inl (omega arith);
+  rises = refl;
+  met = refl;
+  often = refl;
 }
+
+often_more : (slot n : ℕ) (start before refused new : Halves) → TriedOften slot n start before
+    → Settles before refused → PacketsFull slot before refused → Pumps refused new → TriedOften slot (n + 1) start new
+often_more slot n start before refused new often settles full pumps =
+    subst (λ (k : ℕ). TriedOften slot k start new) (sym (add-one n)) (before, refused, often, settles, full, pumps)
 
 module _ (slot : ℕ) (packet now : Packet) (n : ℕ) (start mid : Halves)
     (was : PacketTried slot packet now n start mid) where
@@ -203,10 +213,11 @@ module _ (slot : ℕ) (packet now : Packet) (n : ℕ) (start mid : Halves)
 
   -- and both sides were pumped
   pub packet_tried : (line : ℕ) (back : Packet) (next new : Halves)
-      → TriesPacket slot line now (tried.Full back) mid next → mid.fulls ≤ next.fulls → Settles next new → new.fulls ≡ next.fulls
+      → TriesPacket slot line now (tried.Full back) mid next → mid.fulls ≤ next.fulls → Pumps next new
+      → new.fulls ≡ next.fulls
       → packets_refused new ≡ packets_refused next → PacketTried slot packet back (n + 1) start new
   packet_tried line back next new tries later pump fulls refused =
-      let settles = settles_then mid next new tries.0 pump in
+      let settles = settles_then mid next new tries.0 pump.settles in
       record {
         settles = settles_then start mid new was.settles settles;
         same = tries.1 ∙ was.same;
@@ -216,13 +227,18 @@ module _ (slot : ℕ) (packet now : Packet) (n : ℕ) (start mid : Halves)
             (rises_then n 1 start.fulls mid.fulls next.fulls was.rises tries.3);
         met = subst (RisesBy (n + 1) (packets_refused start)) (sym refused)
             (rises_then n 1 (packets_refused start) (packets_refused mid) (packets_refused next) was.met tries.4);
+        often = often_more slot n start mid next new was.often tries.0 tries.2 pump;
       }
 
   pub packet_given : (line tries : ℕ) (parked : Bool) (new : Halves)
-      → TriesPacket slot line now (tried.Accepted parked) mid new
+      → TriesPacket slot line now (tried.Accepted parked) mid new → n < tries
       → GivesPacket slot line packet tries (given.Accepted parked) start new
-  packet_given line tries parked new does =
-      (mid, was.settles, received_as slot line now packet parked mid new was.same does)
+  packet_given line tries parked new does fewer =
+      (mid, was.settles, received_as slot line now packet parked mid new was.same does, n, fewer, was.often)
+
+  pub packet_counted : (tries : ℕ) (parked : Bool) (new : Halves) → new.fulls ≡ mid.fulls → n < tries
+      → CountsTries tries (given.Accepted parked) start.fulls new.fulls
+  packet_counted tries parked new kept few = (n, few, kept ∙ was.rises)
 
   pub packet_full : (line tries : ℕ) (back : Packet) (new : Halves)
       → TriesPacket slot line now (tried.Full back) mid new → n + 1 ≡ tries
@@ -234,4 +250,10 @@ module _ (slot : ℕ) (packet now : Packet) (n : ℕ) (start mid : Halves)
         (rises_then n 1 start.fulls mid.fulls new.fulls was.rises does.3),
     subst (λ (k : ℕ). RisesBy k (packets_refused start) (packets_refused new)) same
         (rises_then n 1 (packets_refused start) (packets_refused mid) (packets_refused new) was.met does.4),
+    n,
+    mid,
+    same,
+    was.often,
+    does.0,
+    does.2,
   )

@@ -72,6 +72,15 @@ LotMoves None new = new ≡ Some Moved
 LotMoves (Some Moved) new = new ≡ Some Moved
 LotMoves (Some (Split end)) new = (after : FrontEnd) × (new ≡ Some (Split after)) × EndMoved end after
 
+-- how many of its commands were accepted in all, and so of a lot of a split subscriber
+abbrev pub commands_of : FrontEnd → ℕ
+commands_of end = commands_met end.started.value + length (commands_sent end)
+
+abbrev pub commands_at : Option Lot → Option ℕ
+commands_at None = None
+commands_at (Some Moved) = None
+commands_at (Some (Split end)) = Some (commands_of end)
+
 -- it sent a command; or its lane was full
 pub record EndSends (line : ℕ) (c : CommandKind) (end after : FrontEnd) : Type 0 where
   pub same : IsSameFront end after

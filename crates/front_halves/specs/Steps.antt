@@ -1,21 +1,26 @@
 -- What a step does to what is had of each slot.
-use Rattle.std.specs.Prelude.{◌≡◌, ◌≢◌, ℕ, ◌+◌, ◌≤◌, ◌<◌, ◌⊎◌, ◌^◌, Bool, true, false, Some, None}
+use Rattle.std.specs.Prelude.{◌≡◌, ◌≢◌, ℕ, ◌+◌, ◌≤◌, ◌<◌, ◌⊎◌, ◌^◌, Bool, true, false, Option, Some, None}
 use Rattle.std.specs.Prelude.{[], ◌∷◌, ◌++◌, length, is_some, replicate}
 use Rattle.lane_core.specs.Ends.{sender_lane}
 use Rattle.control_steps.specs.declared.command.CommandKind.{CommandKind}
 use Rattle.pc_base.specs.declared.packet.Packet.{Packet}
 use Rattle.subscriber.specs.Standing.{SubscriberState, StandsFor, HasRoom, commands_met, last_of}
 use Rattle.worker_core.specs.Desks.{lanes_of}
+use Rattle.control_half.specs.Half as control_half
 use Rattle.control_half.specs.Named as control_named
+use Rattle.control_half.specs.declared.half.ControlHalf.{ControlHalf}
 use Rattle.counter_half.specs.Named as flow_named
+use Rattle.counter_half.specs.declared.half.FlowHalf.{FlowHalf}
 use Rattle.counter_half.specs.declared.items.FlowItem.{FlowItem}
 use Rattle.split_record.specs.declared.front.FrontEnd.{FrontEnd}
 use Rattle.split_record.specs.Accepted.{MayStand}
 use Rattle.split_record.specs.Rejoined.{IsItemOf, commands_sent, start_of}
 use Rattle.lines_kept.specs.Lines.{LaneWasFull}
-use Rattle.front_halves.specs.declared.lot.Lot.TheVariants.{Split}
+use Rattle.front_sides.specs.Placing.{ControlsPump, FlowsPump, HalvesEnter, HalvesGo}
+use Rattle.front_halves.specs.declared.lot.Lot.{Lot}
+use Rattle.front_halves.specs.declared.lot.Lot.TheVariants.{Moved, Split}
 use Rattle.front_halves.specs.declared.halves.Halves.{Halves}
-use Rattle.front_halves.specs.Lots.{LotSettles, LotMoves, EndSends, EndAccepts, IsFullEnd, end_of}
+use Rattle.front_halves.specs.Lots.{LotSettles, LotMoves, EndSends, EndAccepts, IsFullEnd, commands_of, end_of}
 use Rattle.front_halves.specs.Views.{both, View, view_at, moved_by, load_of, lane_rooms}
 
 -- all is as it was, but that packets of the slot may no longer be parked
@@ -45,6 +50,12 @@ pub record Settles (old new : Halves) : Type 0 where
   pub load : load_of new ≡ load_of old
   pub asked : (both new).control_asked ≡ (both old).control_asked
 
+-- both sides were pumped, and nothing else was done
+pub record Pumps (old new : Halves) : Type 0 where
+  pub settles : Settles old new
+  pub controls : ControlsPump control_half.name_of control_half.hop_of old.sides.controls new.sides.controls
+  pub flows : FlowsPump old.sides.flows new.sides.flows
+
 -- a slot may be moved to a slice
 pub record MayMove (slot slice : ℕ) (halves : Halves) : Type 0 where
   pub control_slice : slice < length ((both halves).control_desks)
@@ -55,8 +66,16 @@ pub record MayMove (slot slice : ℕ) (halves : Halves) : Type 0 where
       → (is_some (view_at halves slot).control ≡ true) × (is_some (view_at halves slot).flow ≡ true)
       × (end.hop < 2 ^ 61)
 
--- a slot moved
-pub record SlotMoves (slot : ℕ) (old new : Halves) : Type 0 where
+-- Where a subscriber is split, its halves are bound for a slice, and a control half that is at another leaves it once
+-- it has met all commands so far; one that isn't has none.
+abbrev pub GoesTo : ℕ → ℕ → Option Lot → Halves → Halves → Type 0
+GoesTo slot slice None old new = both new ≡ both old
+GoesTo slot slice (Some Moved) old new = both new ≡ both old
+GoesTo slot slice (Some (Split end)) old new = HalvesGo slot slice (commands_of end) (both old) (both new)
+
+-- a slot moved to a slice
+pub record SlotMoves (slot slice : ℕ) (old new : Halves) : Type 0 where
+  pub goes : GoesTo slot slice (view_at old slot).lot old new
   pub others : OthersSettle slot old new
   pub sides : SidesKeep old new
   pub lot : LotMoves (view_at old slot).lot (view_at new slot).lot
@@ -90,7 +109,7 @@ pub record MayAdmit (slot : ℕ) (subscriber : SubscriberState) (halves : Halves
   pub fresh : end_of (view_at halves slot).lot ≡ None
       → ((view_at halves slot).control ≡ None) × ((view_at halves slot).flow ≡ None)
 
--- a subscriber was split and its halves admitted; in its place stands one without events
+-- a subscriber was split and its halves admitted, bound for its slice; in its place stands one without events
 pub record SlotAdmits (slot : ℕ) (was is : SubscriberState) (old new : Halves) : Type 0 where
   pub others : OthersSettle slot old new
   pub sides : SidesKeep old new
@@ -101,6 +120,10 @@ pub record SlotAdmits (slot : ℕ) (was is : SubscriberState) (old new : Halves)
   pub counter : flow_named.Named
   pub control : (view_at new slot).control ≡ Some half
   pub flow : (view_at new slot).flow ≡ Some counter
+  pub own_control : ControlHalf
+  pub own_flow : FlowHalf
+  pub enters : HalvesEnter control_half.name_of control_half.hop_of slot was.destination (view_at new slot).moved
+      own_control own_flow (both old) (both new)
   pub one : AreOneSplit end half counter
   pub started : end.started.value ≡ was
   pub none_sent : commands_sent end ≡ []

@@ -1,5 +1,6 @@
 //! The split subscribers: their front ends, and the two sides that their halves are admitted to.
-ghost use Rattle.std.specs.Prelude.{◌≡◌, ◌<◌, ◌≤◌, ◌+◌, ℕ, None, length, is_some, OnOk, IfOk, IfErr};
+ghost use Rattle.std.specs.Prelude.{◌≡◌, ◌<◌, ◌≤◌, ◌+◌, ℕ, None, length, is_some, vec_len, OnOk, OnErr, IfOk, IfErr};
+ghost use Rattle.worker_core.specs.BySlot.{Grown};
 
 use crate::NoMemory;
 use crate::lot::{self, Lot};
@@ -31,13 +32,14 @@ pub struct Halves {
 
 impl Halves {
     ghost use Rattle.front_halves.specs.Lots.{lot_of, end_of};
-    ghost use Rattle.front_halves.specs.Steps.{Settles, MayMove, SlotMoves, MayAdmit, IsReady, MayGive};
+    ghost use Rattle.front_halves.specs.Steps.{Settles, Pumps, MayMove, SlotMoves, MayAdmit, IsReady, MayGive};
     ghost use Rattle.front_halves.specs.Steps.{Commanded, CommandsFull};
     ghost use Rattle.front_halves.specs.Tries.{GivesCommand, GivesPacket, RisesBy, TriesPacket, lane_fulls};
+    ghost use Rattle.front_halves.specs.Tries.{CountsTries, CountsTry};
 
     /// Takes home what came, and gives what orders and items wait.
     pub fn pump<R: Wait>(&mut self, rt: &R)
-        ensures settles { Settles self.old self.new }
+        ensures pumps { Pumps self.old self.new }
         ensures fulls { self.new.fulls ≡ self.old.fulls }
     {
         self.sides.pump(rt);
@@ -46,16 +48,19 @@ impl Halves {
     /// A slot moves to a slice.
     pub fn go<R: Wait>(&mut self, rt: &R, slot: Slot, slice: SliceNo) -> Result<(), NoMemory>
         requires { MayMove slot slice self.old }
-        ensures moves { OnOk result (SlotMoves slot self.old self.new) }
+        ensures moves { OnOk result (SlotMoves slot slice self.old self.new) }
         ensures lots { (most : ℕ) → slot < most → length self.old.lots.items ≤ most
             → length self.new.lots.items ≤ most }
         ensures fulls { self.new.fulls ≡ self.old.fulls }
+
+        // For a split subscriber it takes no memory.
+        ensures memory { OnErr result (end_of (lot_of self.old.lots.items slot) ≡ None) }
     {
-        grow(&mut self.lots, slot.0 as usize + 1)?;
+        reach(&mut self.lots, slot)?;
         let Some(until) = lot::move_on(&mut self.lots[slot.0 as usize]) else {
             return Ok(());
         };
-        self.sides.go(rt, slot, slice, until)?;
+        self.sides.go(rt, slot, slice, until);
         Ok(())
     }
 
@@ -128,6 +133,7 @@ impl Halves {
     ) -> Given
         requires { MayGive slot self.old }
         ensures gives { GivesCommand slot line command (patience + 1) result self.old self.new }
+        ensures counts { CountsTries (patience + 1) result self.old.fulls self.new.fulls }
         ensures rises { self.old.fulls ≤ self.new.fulls }
     {
         let mut command = command;
@@ -153,6 +159,7 @@ impl Halves {
     ) -> Result<(), Full<BoxedCommand>>
         requires { MayGive slot self.old }
         ensures sent { OnOk result (Commanded slot line command self.old self.new) }
+        ensures counts { OnOk result (self.new.fulls ≡ self.old.fulls) }
         ensures full { IfErr result (λ full. (full.0 ≡ command) × Settles self.old self.new
             × CommandsFull slot self.new × RisesBy 1 self.old.fulls self.new.fulls
             × RisesBy 1 (lane_fulls slot self.old) (lane_fulls slot self.new)) }
@@ -179,6 +186,7 @@ impl Halves {
     ) -> Result<Given, NoMemory>
         requires { MayGive slot self.old }
         ensures gives { IfOk result (λ given. GivesPacket slot line packet (patience + 1) given self.old self.new) }
+        ensures counts { IfOk result (λ given. CountsTries (patience + 1) given self.old.fulls self.new.fulls) }
         ensures rises { self.old.fulls ≤ self.new.fulls }
     {
         let mut packet = packet;
@@ -201,6 +209,7 @@ impl Halves {
     fn try_packet<R: Wait>(&mut self, rt: &R, slot: Slot, line: u64, packet: Packet) -> Tried
         requires { MayGive slot self.old }
         ensures tries { TriesPacket slot line packet result self.old self.new }
+        ensures counts { CountsTry result self.old.fulls self.new.fulls }
         ensures rises { self.old.fulls ≤ self.new.fulls }
     {
         let place = slot.0 as usize;
@@ -218,4 +227,17 @@ impl Halves {
             Err(FlowNo::NoMemory(_)) => Tried::NoMemory,
         }
     }
+}
+
+// Makes places for lots, until there is one for a slot.
+fn reach(lots: &mut Vec<Option<Lot>>, slot: Slot) -> Result<(), NoMemory>
+    ensures grown { Grown lots.old.items lots.new.items }
+    ensures short { (most : ℕ) → slot < most → vec_len lots.old ≤ most → vec_len lots.new ≤ most }
+    ensures enough { OnOk result (slot < vec_len lots.new) }
+    ensures memory { OnErr result (vec_len lots.old ≤ slot) }
+{
+    if (slot.0 as usize) < lots.len() {
+        return Ok(());
+    }
+    grow(lots, slot.0 as usize + 1)
 }

@@ -12,6 +12,7 @@ ghost use Rattle.front_halves.specs.Lots.{
   MayMoveLot,
   MaySend,
   MakesItem,
+  commands_at,
   end_of,
 };
 
@@ -56,6 +57,7 @@ pub fn move_on(lot: &mut Option<Lot>) -> Option<u64>
     requires { MayMoveLot lot.old }
     ensures moves { LotMoves lot.old lot.new }
     ensures split { is_some (end_of lot.old) ≡ is_some result }
+    ensures commands { result ≡ commands_at lot.old }
 {
     match lot {
         Some(Lot::Split(end)) => {

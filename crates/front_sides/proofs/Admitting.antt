@@ -15,7 +15,7 @@ use Rattle.front_sides.proofs.Lists.{at_more, sum_map, sum_more}
 use Rattle.front_sides.proofs.Settling.{views_same}
 
 -- a place that was free is taken
-grown_other : {X : Type 0} (xs : List (Option X)) (more slot other : ℕ) (x : Option X) → other ≢ slot
+pub grown_other : {X : Type 0} (xs : List (Option X)) (more slot other : ℕ) (x : Option X) → other ≢ slot
     → get_or (set (xs ++ replicate more None) slot x) other None ≡ get_or xs other None
 grown_other xs more slot other x ne =
     get_or-set_other (xs ++ replicate more None) slot other x None ne ∙ at_more xs more other
@@ -43,9 +43,9 @@ parks_moved place parks =
     and_first place.moved (not (flow_place.is_placed place.state) || not (nat_eq (length place.queue.items) 0)) parks
 
 module _ {H N F M I : Type 0} (control_name : H → N) (flow_name : F → M) (hop_of : H → ℕ) (old new : Both H F I)
-    (slot slice hop : ℕ) (moved : Bool) (control : H) (flow : F)
+    (slot slice : ℕ) (moved : Bool) (control : H) (flow : F)
     (fresh : (view_of control_name flow_name old slot).flow ≡ None)
-    (control_admits : control_step.Admits control_name hop_of slot slice hop control old.control_places
+    (control_admits : control_step.Admits control_name hop_of slot slice 0 control old.control_places
     new.control_places old.control_desks new.control_desks)
     (control_lanes : lanes_of new.control_desks ≡ lanes_of old.control_desks)
     (control_asked : new.control_asked ≡ old.control_asked + 1)
@@ -88,8 +88,9 @@ module _ {H N F M I : Type 0} (control_name : H → N) (flow_name : F → M) (ho
       ap (λ ps. count_by (λ (name : Option M). is_some name) (flow_place.names_of flow_name ps)) flow_admits.is
       ∙ omega (arith, parts, new_sum, old_sum)
 
-  pub admitted : SlotAdmits control_name flow_name slot moved (control_name control) (flow_name flow) old new
+  pub admitted : SlotAdmits control_name flow_name hop_of slot slice moved control flow old new
   admitted = record {
+    enters = record { control_enters = control_admits; flow_enters = flow_admits };
     others = λ other ne.
         views_same control_name flow_name (control_place.place_at old.control_places other)
         (control_place.place_at new.control_places other) (flow_place.place_at old.places other)

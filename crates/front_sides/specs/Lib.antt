@@ -1,2 +1,4 @@
+pub mod Listing
+pub mod Placing
 pub mod Sides
 pub mod Steps

@@ -3,6 +3,7 @@ use Rattle.std.specs.Prelude.{◌≡◌, ◌≢◌, ℕ, ◌+◌, ◌≤◌, ◌
 use Rattle.std.specs.Prelude.{length, is_some, replicate}
 use Rattle.worker_core.specs.Desks.{lanes_of}
 use Rattle.lines_kept.specs.Lines.{LaneWasFull}
+use Rattle.front_sides.specs.Placing.{HalvesEnter, HalvesGo}
 use Rattle.front_sides.specs.Sides.{Both, View, view_of, load_of, lane_rooms}
 
 -- all of a slot is as it was, but that its items may no longer be parked
@@ -45,8 +46,9 @@ module _ {H N F M I : Type 0} (control_name : H → N) (flow_name : F → M) whe
     pub control_admitted : is_some (view_of control_name flow_name both slot).control ≡ true
     pub flow_admitted : is_some (view_of control_name flow_name both slot).flow ≡ true
 
-  -- a slot moved
-  pub record SlotMoves (slot : ℕ) (old new : Both H F I) : Type 0 where
+  -- a slot moved to a slice, which the control half goes to once it has come to a count
+  pub record SlotMoves (slot slice until : ℕ) (old new : Both H F I) : Type 0 where
+    pub goes : HalvesGo slot slice until old new
     pub others : OthersSettle slot old new
     pub sides : SidesKeep old new
     pub control : (view_of control_name flow_name new slot).control ≡ (view_of control_name flow_name old slot).control
@@ -68,12 +70,14 @@ module _ {H N F M I : Type 0} (control_name : H → N) (flow_name : F → M) whe
     pub no_control : (view_of control_name flow_name both slot).control ≡ None
     pub no_flow : (view_of control_name flow_name both slot).flow ≡ None
 
-  -- it was admitted with two halves, and had moved or not
-  pub record SlotAdmits (slot : ℕ) (moved : Bool) (control : N) (flow : M) (old new : Both H F I) : Type 0 where
+  -- it was admitted with two halves, which are bound for a slice, and had moved or not
+  pub record SlotAdmits (hop_of : H → ℕ) (slot slice : ℕ) (moved : Bool) (control : H) (flow : F)
+      (old new : Both H F I) : Type 0 where
+    pub enters : HalvesEnter control_name hop_of slot slice moved control flow old new
     pub others : OthersSettle slot old new
     pub sides : SidesKeep old new
-    pub control_is : (view_of control_name flow_name new slot).control ≡ Some control
-    pub flow_is : (view_of control_name flow_name new slot).flow ≡ Some flow
+    pub control_is : (view_of control_name flow_name new slot).control ≡ Some (control_name control)
+    pub flow_is : (view_of control_name flow_name new slot).flow ≡ Some (flow_name flow)
     pub accepted : (view_of control_name flow_name new slot).accepted ≡ []
     pub moved_is : (view_of control_name flow_name new slot).moved ≡ moved
     pub parks : (view_of control_name flow_name new slot).parks ≡ true → moved ≡ true

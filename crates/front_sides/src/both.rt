@@ -1,58 +1,74 @@
 //! Both sides of a front.
-ghost use Rattle.std.specs.Prelude.{◌≡◌, ℕ, [], true, OnOk, IfErr};
-ghost use Rattle.migration.specs.Words.{roll_of};
+ghost use Rattle.std.specs.Prelude.{◌≡◌, ◌<◌, ℕ, [], ◌∷◌, ◌++◌, true, not, cond, filter, OnOk, IfErr};
+ghost use Rattle.std.specs.Prelude.{vec_len, vec_capacity};
+ghost use Rattle.migration.specs.Places.{place_at, is_placed_at};
+ghost use Rattle.migration.specs.Words.{roll_of, places_of};
+ghost use Rattle.front_sides.specs.Listing.{ListsMoving};
+ghost use Rattle.front_sides.specs.Placing.{ControlsPump};
 
 use crate::NoMemory;
 use flow_core::Flow;
 use flow_migration::{FlowNo, FlowSide};
 use migration::Side;
 use pc_base::{SliceNo, Slot};
+use std::alloc::Global;
 use std::sync::Wait;
-use worker_core::Traveller;
+use worker_core::{Traveller, widen};
 
 /// The side of the halves that commands meet, and the side of those that packets meet.
 #[derive(Drop)]
 pub struct BothSides<H: Traveller, F: Flow> {
     pub controls: Side<H>,
     pub flows: FlowSide<F>,
-    /// Slots whose control half may be on its way. All others' were sent, and nothing is asked of them.
+    /// Slots whose control half may be on its way, each once. All others' were sent, and nothing is asked of them.
     pub moving: Vec<Slot>,
+    pub ghost listed: { ListsMoving (places_of controls) moving.items (vec_capacity moving) },
 }
 
 impl<H: Traveller, F: Flow> BothSides<H, F> {
     ghost use Rattle.flow_migration.specs.Steps.{no_item, is_full, refused_after};
     ghost use Rattle.flow_migration.specs.Words.{refused_of};
+    ghost use Rattle.front_sides.specs.Placing.{FlowsPump};
     ghost use Rattle.front_sides.specs.Sides.{both_of, view_of};
     ghost use Rattle.front_sides.specs.Steps.{Settles, MayMove, SlotMoves, MayAdmit, SlotAdmits, MayGive, Received};
     ghost use Rattle.front_sides.specs.Steps.{AreLanes, WasFull};
+
+    /// Both sides, without a slot.
+    pub fn new(alloc: Global, controls: Side<H>, flows: FlowSide<F>) -> BothSides<H, F>
+        requires { places_of controls ≡ [] }
+        ensures { (result.controls ≡ controls) × (result.flows ≡ flows) }
+    {
+        BothSides {
+            controls,
+            flows,
+            moving: Vec::new(alloc),
+        }
+    }
 
     /// Pumps both, the control halves' side first; this one only while a control half may be on its way.
     pub fn pump<R: Wait>(&mut self, rt: &R)
         ensures settles { Settles H.name F.name (both_of self.old.controls self.old.flows)
             (both_of self.new.controls self.new.flows) }
+
+        // What waits was offered, and waits on only where that lane was full; what could come home came.
+        ensures controls { ControlsPump H.name H.hop_of self.old.controls self.new.controls }
+        ensures flows { FlowsPump self.old.flows self.new.flows }
         ensures count { refused_of self.new.flows ≡ refused_of self.old.flows }
     {
         pump_controls(rt, &mut self.controls, &mut self.moving);
         self.flows.pump(rt);
     }
 
-    /// Moves an admitted slot to a slice. A control half that is at another one leaves it at this count. Out of
-    /// memory the sides may only be dropped.
-    pub fn go<R: Wait>(
-        &mut self,
-        rt: &R,
-        slot: Slot,
-        slice: SliceNo,
-        until: u64,
-    ) -> Result<(), NoMemory>
+    /// Moves an admitted slot to a slice. A control half that is at another one leaves it at this count.
+    pub fn go<R: Wait>(&mut self, rt: &R, slot: Slot, slice: SliceNo, until: u64)
         requires { MayMove H.name F.name slot slice (both_of self.old.controls self.old.flows) }
-        ensures { OnOk result (SlotMoves H.name F.name slot (both_of self.old.controls self.old.flows)
-            (both_of self.new.controls self.new.flows)) }
+        ensures { SlotMoves H.name F.name slot slice until (both_of self.old.controls self.old.flows)
+            (both_of self.new.controls self.new.flows) }
     {
-        self.moving.push(slot)?;
+        let placed = self.controls.settled(slot);
+        list(&mut self.moving, slot, placed);
         self.controls.go(rt, slot, slice, until);
         self.flows.go(rt, slot, slice);
-        Ok(())
     }
 
     /// Admits the two halves of a slot, the control half first, which are bound for a slice. Out of memory,
@@ -69,17 +85,19 @@ impl<H: Traveller, F: Flow> BothSides<H, F> {
             (both_of self.old.controls self.old.flows) }
         requires one { H.slot_of (H.name control) ≡ F.slot_at (F.name flow) }
         requires unhandled { F.handled flow ≡ [] }
-        ensures { OnOk result (SlotAdmits H.name F.name (F.slot_at (F.name flow)) moved (H.name control) (F.name flow)
+        ensures { OnOk result (SlotAdmits H.name F.name H.hop_of (F.slot_at (F.name flow)) slice moved control flow
             (both_of self.old.controls self.old.flows) (both_of self.new.controls self.new.flows)) }
     {
-        self.moving.push(control.slot())?;
+        let slot = control.slot();
+        widen(&mut self.moving, slot.0 as usize + 1)?;
         let Ok(()) = self.controls.admit(rt, control, slice, 0) else {
             return Err(NoMemory);
         };
+        let placed = self.controls.settled(slot);
+        list(&mut self.moving, slot, !placed);
         let Ok(()) = self.flows.admit(rt, flow, slice, moved) else {
             return Err(NoMemory);
         };
-        settle(&self.controls, &mut self.moving);
         Ok(())
     }
 
@@ -112,7 +130,10 @@ impl<H: Traveller, F: Flow> BothSides<H, F> {
 
 // Pumps the side of control halves, if one of them may be on its way.
 fn pump_controls<H: Traveller, R: Wait>(rt: &R, controls: &mut Side<H>, moving: &mut Vec<Slot>)
-    ensures { roll_of H.name controls.new ≡ roll_of H.name controls.old }
+    requires listed { ListsMoving (places_of controls.old) moving.old.items (vec_capacity moving.old) }
+    ensures roll { roll_of H.name controls.new ≡ roll_of H.name controls.old }
+    ensures pumps { ControlsPump H.name H.hop_of controls.old controls.new }
+    ensures listed { ListsMoving (places_of controls.new) moving.new.items (vec_capacity moving.new) }
 {
     if moving.is_empty() {
         return;
@@ -122,6 +143,21 @@ fn pump_controls<H: Traveller, R: Wait>(rt: &R, controls: &mut Side<H>, moving: 
 }
 
 // Forgets those whose halves were sent.
-fn settle<H: Traveller>(controls: &Side<H>, moving: &mut Vec<Slot>) {
+fn settle<H: Traveller>(controls: &Side<H>, moving: &mut Vec<Slot>)
+    ensures kept { moving.new.items ≡ filter (λ slot. not (is_placed_at (place_at (places_of controls.now) slot)))
+        moving.old.items }
+    ensures room { vec_capacity moving.new ≡ vec_capacity moving.old }
+{
     moving.retain(|slot| !controls.settled(*slot));
+}
+
+// A slot joins those whose halves may be on their way.
+fn list(moving: &mut Vec<Slot>, slot: Slot, joins: bool)
+    requires { joins ≡ true → vec_len moving.old < vec_capacity moving.old }
+    ensures items { moving.new.items ≡ moving.old.items ++ cond joins (slot ∷ []) [] }
+    ensures room { vec_capacity moving.new ≡ vec_capacity moving.old }
+{
+    if joins {
+        moving.push_reserved(slot);
+    }
 }

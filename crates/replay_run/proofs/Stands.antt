@@ -1,5 +1,5 @@
 -- What stands behind one more epoch.
-use Rattle.std.proofs.Common.{◌≡◌, ℕ, ◌+◌, ◌*◌, ◌≤◌, ◌^◌, Bool, Option, List, [], ◌∷◌, ◌++◌, count_by, length, sym, ap, subst, ◌∙◌, arith}
+use Rattle.std.proofs.Common.{◌≡◌, ℕ, ◌+◌, ◌≤◌, ◌^◌, Bool, Option, List, [], ◌∷◌, ◌++◌, count_by, length, sym, ap, subst, ◌∙◌, arith}
 use Rattle.trace_lines.specs.Line.{Line}
 use Rattle.trace_lines.specs.declared.bad.LineBad.{LineBad}
 use Rattle.demux.specs.Trace.{Meaning, book_of}
@@ -16,7 +16,7 @@ use Rattle.lawful_run.proofs.MoreEpochs.{behind_all-push, first_behind-meant, la
 use Rattle.at_rest.specs.Coming.{AreLater, latest_behind}
 use Rattle.at_rest.specs.Rest.{IsBehind, Rest, RepresentsAll}
 use Rattle.front_close.specs.Closing.{Closes}
-use Rattle.front_halves.specs.Tries.{RisesBy}
+use Rattle.slice_runner.specs.Lines.{Counted, is_answered}
 use Rattle.trace_run.specs.Entries.{closing_text, lines_text}
 use Rattle.trace_run.specs.Noted.{noted}
 use Rattle.replay_run.specs.Epoch.{IsReplayed}
@@ -94,7 +94,7 @@ later_so old given lines lent same lent_is later =
 pub replayed_so : (old given : Rest) (lines lent : List Line) (pace : Pace) (bad : Option LineBad) (n : ℕ)
     (places : Bool) (before after : List ℕ) (new : Rest) (told : EpochReport) → given ≡ old → lent ≡ lines
     → Closes given lent new told → new.latest ≡ latest_behind given.latest lent
-    → RisesBy ((pace.patience + 1) * count_by is_refused told.lines) given.fulls new.fulls
+    → Counted (pace.patience + 1) (count_by is_refused told.lines) (count_by is_answered told.lines) given.fulls new.fulls
     → after ≡ before ++ (lines_text places told.lines ++ lines_text places (noted bad n) ++ closing_text places told)
     → IsReplayed old lines pace bad n places before after new
 replayed_so old given lines lent pace bad n places before after new told same lent_is closes latest refusals said =
@@ -104,7 +104,7 @@ replayed_so old given lines lent pace bad n places before after new told same le
           (subst (λ taken. Closes given taken new told) lent_is closes);
       latest = latest ∙ ap (latest_behind given.latest) lent_is
           ∙ ap (λ (rest : Rest). latest_behind rest.latest lines) same;
-      refusals = subst (λ (rest : Rest). RisesBy ((pace.patience + 1) * count_by is_refused told.lines) rest.fulls
-          new.fulls) same refusals;
+      refusals = subst (λ (rest : Rest). Counted (pace.patience + 1) (count_by is_refused told.lines)
+          (count_by is_answered told.lines) rest.fulls new.fulls) same refusals;
       said = said;
     }

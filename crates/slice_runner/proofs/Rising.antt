@@ -1,5 +1,5 @@
 -- Counts of refusals, line after line.
-use Rattle.std.proofs.Common.{◌≡◌, ℕ, ◌+◌, ◌*◌, ◌≤◌, List, [], ◌∷◌, ◌++◌, map, Bool, true, false, cond, inl, inr}
+use Rattle.std.proofs.Common.{◌≡◌, ℕ, ◌+◌, ◌*◌, ◌≤◌, List, [], ◌∷◌, ◌++◌, map, Bool, true, false, cond}
 use Rattle.std.proofs.Common.{refl, sym, ap, subst, ◌∙◌, arith}
 use Rattle.std.specs.List.{count_by}
 use Rattle.std.proofs.Math.Nat.{mul-add}
@@ -7,7 +7,9 @@ use Rattle.std.proofs.lemmas.List.Sums.{sum_by-append, sum_by-cons}
 use Rattle.report_lines.specs.declared.entry.LineEntry.{LineEntry}
 use Rattle.report_lines.specs.declared.entry.LineEntry.TheVariants as line
 use Rattle.lawful_run.specs.Accepted.{is_refused}
-use Rattle.front_halves.specs.Tries.{RisesBy}
+use Rattle.front_halves.specs.Tries.{RisesBy, raised_by}
+use Rattle.front_halves.proofs.Trying.{raised_then}
+use Rattle.front_core.specs.Counting.{TookTries}
 use Rattle.front_core.specs.declared.taken.Open.{Open}
 use Rattle.front_core.specs.declared.taken.Open.TheVariants as entry
 use Rattle.front_core.specs.declared.taken.Taken.{Taken}
@@ -15,7 +17,7 @@ use Rattle.front_core.specs.declared.took.Took.{Took}
 use Rattle.front_core.specs.declared.took.Took.TheVariants as answer
 use Rattle.front_core.specs.Entries.{took_of}
 use Rattle.front_close.specs.Filled.{took_told}
-use Rattle.slice_runner.specs.Lines.{fulls_among, is_full}
+use Rattle.slice_runner.specs.Lines.{Counted, fulls_among, in_among, is_answered, is_full, is_in}
 
 count_by-map : {X Y : Type 0} (p : X → Bool) (q : Y → Bool) (f : X → Y) → ((x : X) → q (f x) ≡ p x) → (xs : List X)
     → count_by q (map f xs) ≡ count_by p xs
@@ -56,31 +58,86 @@ told_so told entries same =
     ∙ ap (count_by is_so) same
     ∙ count_by-map (λ (taken : Taken). is_full taken.open) is_so answer_of (λ taken. full_so taken.open) entries
 
-rises_more : (a b x y z : ℕ) → RisesBy a x y → RisesBy b y z → y ≤ z → RisesBy (a + b) x z
-rises_more a b x y z (inl more) (inl then) low = inl (omega (arith, more, then))
-rises_more a b x y z (inl more) (inr past) low = inr past
-rises_more a b x y z (inr past) then low = inr (omega (arith, past, low))
+-- whether it was accepted
+abbrev is_up : Took → Bool
+is_up (answer.Accepted parked) = true
+is_up answer.Full = false
+is_up answer.Answered = false
 
--- a line whose count never falls, and rises by so many tries where it was answered Full
-once_more : (tries : ℕ) (open_ : Open) (y z : ℕ) → y ≤ z → (took_of open_ ≡ answer.Full → RisesBy tries y z)
-    → RisesBy (tries * cond {A = ℕ} (is_full open_) 1 0) y z
-once_more tries (entry.Note text) y z low full = inl (omega (arith, low))
-once_more tries (entry.Command slot) y z low full = inl (omega (arith, low))
-once_more tries (entry.Packet slot parked) y z low full = inl (omega (arith, low))
-once_more tries (entry.Full slot packet) y z low full = subst (λ n. RisesBy n y z) (omega arith) (full refl)
+answered_so : (told : LineEntry) → is_up (took_told told) ≡ is_answered told
+answered_so (line.N noted) = refl
+answered_so (line.C answered) = refl
+answered_so (line.P judged) = refl
+answered_so (line.F refused) = refl
 
-fulls_more : (entries : List Taken) (taken : Taken)
-    → fulls_among (entries ++ taken ∷ []) ≡ fulls_among entries + cond {A = ℕ} (is_full taken.open) 1 0
-fulls_more entries taken =
-    let both = sum_by-append (λ (t : Taken). cond {A = ℕ} (is_full t.open) 1 0) entries (taken ∷ []) in
-    omega (arith, both)
+in_so : (open_ : Open) → is_up (took_of open_) ≡ is_in open_
+in_so (entry.Note text) = refl
+in_so (entry.Command slot) = refl
+in_so (entry.Packet slot parked) = refl
+in_so (entry.Full slot packet) = refl
+
+pub told_in : (told : List LineEntry) (entries : List Taken) → map took_told told ≡ map answer_of entries
+    → count_by is_answered told ≡ in_among entries
+told_in told entries same =
+    sym (count_by-map is_answered is_up took_told answered_so told)
+    ∙ ap (count_by is_up) same
+    ∙ count_by-map (λ (taken : Taken). is_in taken.open) is_up answer_of (λ taken. in_so taken.open) entries
+
+-- no line yet
+pub counted_none : (tries fulls : ℕ) → Counted tries 0 0 fulls fulls
+counted_none tries fulls = record {
+  failed = 0;
+  few = omega arith;
+  rises = ap (λ n. raised_by n fulls) (let none : 0 ≡ tries * 0 + 0 = omega arith in none);
+}
+
+-- one line more
+abbrev one : Bool → ℕ
+one b = cond {A = ℕ} b 1 0
+
+module _ (tries refused accepted x y z : ℕ) (before : Counted tries refused accepted x y) where
+  rises_on : (more all : ℕ) → RisesBy more y z → tries * refused + before.failed + more ≡ all → RisesBy all x z
+  rises_on more all rises same =
+      rises ∙ ap (raised_by more) before.rises ∙ raised_then (tries * refused + before.failed) more x
+      ∙ ap (λ n. raised_by n x) same
+
+  counted_more : (took : Took) → TookTries tries took y z
+      → Counted tries (refused + one (is_so took)) (accepted + one (is_up took)) x z
+  counted_more answer.Answered is = record {
+    failed = before.failed;
+    few = subst (λ n. before.failed + n ≤ tries * n) (let e : accepted ≡ accepted + 0 = omega arith in e) before.few;
+    rises = rises_on 0 (tries * (refused + 0) + before.failed) is
+        (let e : refused ≡ refused + 0 = omega arith in
+        let all = ap (λ n. tries * n + before.failed) e in omega (arith, all));
+  }
+  counted_more (answer.Accepted parked) is = record {
+    failed = before.failed + is.0;
+    few = omega (arith, before.few, is.1, mul-add tries accepted 1);
+    rises = rises_on is.0 (tries * (refused + 0) + (before.failed + is.0)) is.2
+        (let e : refused ≡ refused + 0 = omega arith in
+        let all = ap (λ n. tries * n + (before.failed + is.0)) e in omega (arith, all));
+  }
+  counted_more answer.Full is = record {
+    failed = before.failed;
+    few = subst (λ n. before.failed + n ≤ tries * n) (let e : accepted ≡ accepted + 0 = omega arith in e) before.few;
+    rises = rises_on tries (tries * (refused + 1) + before.failed) is (omega (arith, mul-add tries refused 1));
+  }
+
+many_more : (p : Taken → Bool) (entries : List Taken) (taken : Taken)
+    → count_by p (entries ++ taken ∷ []) ≡ count_by p entries + one (p taken)
+many_more p entries taken =
+    let both = sum_by-append (λ (t : Taken). one (p t)) entries (taken ∷ []) in omega (arith, both)
 
 pub fulls_rise : (tries : ℕ) (entries : List Taken) (taken : Taken) (x y z : ℕ)
-    → RisesBy (tries * fulls_among entries) x y → y ≤ z → (took_of taken.open ≡ answer.Full → RisesBy tries y z)
-    → RisesBy (tries * fulls_among (entries ++ taken ∷ [])) x z
-fulls_rise tries entries taken x y z before low full =
-    let one : ℕ = cond {A = ℕ} (is_full taken.open) 1 0 in
-    let both = rises_more (tries * fulls_among entries) (tries * one) x y z before
-    (once_more tries taken.open y z low full) low in
-    subst (λ n. RisesBy n x z)
-    (sym (ap (λ n. tries * n) (fulls_more entries taken) ∙ mul-add tries (fulls_among entries) one)) both
+    → Counted tries (fulls_among entries) (in_among entries) x y → TookTries tries (took_of taken.open) y z
+    → Counted tries (fulls_among (entries ++ taken ∷ [])) (in_among (entries ++ taken ∷ [])) x z
+fulls_rise tries entries taken x y z before tried =
+    let full : fulls_among entries + one (is_so (took_of taken.open)) ≡ fulls_among (entries ++ taken ∷ []) =
+    ap (λ b. fulls_among entries + one b) (full_so taken.open)
+    ∙ sym (many_more (λ (t : Taken). is_full t.open) entries taken) in
+    let up : in_among entries + one (is_up (took_of taken.open)) ≡ in_among (entries ++ taken ∷ []) =
+    ap (λ b. in_among entries + one b) (in_so taken.open)
+    ∙ sym (many_more (λ (t : Taken). is_in t.open) entries taken) in
+    subst (λ n. Counted tries n (in_among (entries ++ taken ∷ [])) x z) full
+    (subst (λ n. Counted tries (fulls_among entries + one (is_so (took_of taken.open))) n x z) up
+    (counted_more tries (fulls_among entries) (in_among entries) x y z before (took_of taken.open) tried))

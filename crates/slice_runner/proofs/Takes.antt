@@ -1,19 +1,18 @@
 -- Lines that were taken, and one more.
-use Rattle.std.proofs.Common.{◌≡◌, ℕ, ◌+◌, ◌*◌, ◌≤◌, List, [], ◌∷◌, ◌++◌}
+use Rattle.std.proofs.Common.{◌≡◌, ℕ, ◌+◌, List, [], ◌∷◌, ◌++◌}
 use Rattle.std.proofs.lemmas.List.{length_push}
-use Rattle.std.proofs.Common.{refl, sym, ap, subst, ◌∙◌, inl, arith, append_assoc, append-nil}
+use Rattle.std.proofs.Common.{refl, sym, ap, subst, ◌∙◌, arith, append_assoc, append-nil}
 use Rattle.trace_lines.specs.Line.{Line}
 use Rattle.at_rest.proofs.Coming.{latest-push}
-use Rattle.front_halves.specs.Tries.{RisesBy}
 use Rattle.front_core.specs.declared.front.Front.{Front}
 use Rattle.front_core.specs.declared.taken.Taken.{Taken}
 use Rattle.front_core.specs.declared.took.Took.{Took}
-use Rattle.front_core.specs.declared.took.Took.TheVariants as answer
+use Rattle.front_core.specs.Counting.{TookTries}
 use Rattle.front_core.specs.Entries.{lines_of}
 use Rattle.front_core.specs.Words.{IsWhole, opened_of, entries_in, taken_by, lines_in, latest_in, fulls_in}
 use Rattle.front_core.specs.Words.{control_lanes, flow_lanes, TakesLine}
-use Rattle.slice_runner.specs.Lines.{Pumps, TakesAll, fulls_among}
-use Rattle.slice_runner.proofs.Rising.{fulls_rise}
+use Rattle.slice_runner.specs.Lines.{Counted, Pumps, TakesAll, fulls_among, in_among}
+use Rattle.slice_runner.proofs.Rising.{counted_none, fulls_rise}
 
 -- none yet
 pub takes_none : (tries : ℕ) (front : Front) → IsWhole front → TakesAll tries [] front front
@@ -27,16 +26,15 @@ takes_none tries front whole = record {
   flow = refl;
   entries = [];
   entries_are = sym (append-nil (entries_in front));
-  fulls = inl (omega arith);
+  fulls = counted_none tries (fulls_in front);
 }
 
 pub takes_more : (tries : ℕ) (xs : List Line) (line : Line) (old mid new : Front) (took : Took)
     → TakesAll tries xs old mid → IsWhole new → opened_of new ≡ opened_of mid
     → taken_by new ≡ taken_by mid ++ line ∷ [] → (lines_in new ≡ lines_in mid + 1) × (latest_in new ≡ line.moment)
     → (control_lanes new ≡ control_lanes mid) × (flow_lanes new ≡ flow_lanes mid) → TakesLine line tries took mid new
-    → (took ≡ answer.Full → RisesBy tries (fulls_in mid) (fulls_in new)) → fulls_in mid ≤ fulls_in new
-    → TakesAll tries (xs ++ line ∷ []) old new
-takes_more tries xs line old mid new took before whole opened taken counts lanes takes full low = record {
+    → TookTries tries took (fulls_in mid) (fulls_in new) → TakesAll tries (xs ++ line ∷ []) old new
+takes_more tries xs line old mid new took before whole opened taken counts lanes takes tried = record {
   whole = whole;
   opened = opened ∙ before.opened;
   taken = taken ∙ (ap (λ (ts : List Line). ts ++ line ∷ []) before.taken
@@ -48,8 +46,8 @@ takes_more tries xs line old mid new took before whole opened taken counts lanes
   entries = before.entries ++ takes.taken ∷ [];
   entries_are = takes.entries ∙ (ap (λ (es : List Taken). es ++ takes.taken ∷ []) before.entries_are
       ∙ append_assoc (entries_in old) before.entries (takes.taken ∷ []));
-  fulls = fulls_rise tries before.entries takes.taken (fulls_in old) (fulls_in mid) (fulls_in new) before.fulls low
-      (λ is. full (takes.took_is ∙ is));
+  fulls = fulls_rise tries before.entries takes.taken (fulls_in old) (fulls_in mid) (fulls_in new) before.fulls
+      (subst (λ (t : Took). TookTries tries t (fulls_in mid) (fulls_in new)) takes.took_is tried);
 }
 
 pub pumps_again : (old mid new : Front) → Pumps old mid → Pumps mid new → Pumps old new
@@ -77,5 +75,6 @@ takes_pumped tries xs old mid new before pumps = record {
   flow = pumps.flow ∙ before.flow;
   entries = before.entries;
   entries_are = pumps.entries ∙ before.entries_are;
-  fulls = subst (λ n. RisesBy (tries * fulls_among before.entries) (fulls_in old) n) (sym pumps.fulls) before.fulls;
+  fulls = subst (λ n. Counted tries (fulls_among before.entries) (in_among before.entries) (fulls_in old) n)
+      (sym pumps.fulls) before.fulls;
 }

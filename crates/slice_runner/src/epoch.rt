@@ -1,13 +1,13 @@
 //! An epoch is run.
-ghost use Rattle.std.specs.Prelude.{◌≡◌, ◌+◌, ◌*◌, ◌≤◌, ◌^◌, List, length, count_by, IfOk};
+ghost use Rattle.std.specs.Prelude.{◌≡◌, ◌+◌, ◌≤◌, ◌^◌, List, length, count_by, IfOk};
 ghost use Rattle.trace_lines.specs.Line.{Line};
 ghost use Rattle.lawful_run.specs.Accepted.{is_refused};
 ghost use Rattle.lawful_run.specs.Merging.{Histories};
 ghost use Rattle.at_rest.specs.Coming.{AreLater, latest_behind};
 ghost use Rattle.at_rest.specs.Rest.{IsBehind, RepresentsAll};
-ghost use Rattle.front_halves.specs.Tries.{RisesBy};
 ghost use Rattle.front_close.specs.Closing.{Closes};
 ghost use Rattle.front_close.specs.Filled.{told_by};
+ghost use Rattle.slice_runner.specs.Lines.{Counted, is_answered};
 ghost use Rattle.slice_runner.specs.Serving.{AreServed, Serves};
 
 use crate::NoMemory;
@@ -46,9 +46,10 @@ pub fn run_epoch<G: Gate, R: Threads + Wait + Sync>(
     ensures count { IfOk result (λ ended. ended.rest.lines ≡ rest.lines + length lines.now) }
     ensures latest { IfOk result (λ ended. ended.rest.latest ≡ latest_behind rest.latest lines.now) }
 
-    // Each refusal is as many tries that were answered Full as `patience` says, and one.
-    ensures refusals { IfOk result (λ ended. RisesBy ((patience + 1) * count_by is_refused (told_by ended.epoch).lines)
-        rest.fulls ended.rest.fulls) }
+    // Each refusal is as many tries that were answered Full as `patience` says, and one; a command or packet that was
+    // accepted had at most as many of them as `patience` says. Of nothing else is the count of full answers.
+    ensures refusals { IfOk result (λ ended. Counted (patience + 1) (count_by is_refused (told_by ended.epoch).lines)
+        (count_by is_answered (told_by ended.epoch).lines) rest.fulls ended.rest.fulls) }
 {
     let opened = Front::open(alloc, rest)?;
     let (controls, flows) = (opened.controls.len(), opened.flows.len());

@@ -3,8 +3,8 @@ use Rattle.std.specs.Prelude.{All}
 use Rattle.std.proofs.lemmas.List.Elements.{All-push}
 use Rattle.worker_core.specs.Desks.{lanes_of}
 use Rattle.worker_core.specs.Workers.{IsNewDesk, Lanes}
-use Rattle.flow_core.specs.Workers.{worker_lanes}
-use Rattle.front_core.proofs.Pairs.{lanes_push, rooms_push}
+use Rattle.flow_core.specs.Workers.{place_of, worker_lanes}
+use Rattle.front_core.proofs.Pairs.{lanes_push, places_push, rooms_push}
 use Rattle.front_core.proofs.opening.flows_of.Goals as goal
 
 pub loop-i-preserved : goal.loop-i-preserved
@@ -18,6 +18,8 @@ loop-i-preserved c =
       rooms = ap (λ ds. map (λ (lanes : Lanes). lanes.0.room) (lanes_of ds)) c.in_ok-push.ensures.items
           ∙ rooms_push at.desks.items c.in_ok-desk.desk at.i c.args.lane at.invariant.rooms
           c.in_ok-desk.ensures.rooms.0;
+      places = ap (map place_of) c.in_ok-push-2.ensures.items
+          ∙ places_push place_of at.workers.items c.in_ok-desk.worker at.i at.invariant.places c.in_ok-desk.ensures.place;
       new = subst (All IsNewDesk) (sym c.in_ok-push.ensures.items)
           (All-push IsNewDesk at.desks.items c.in_ok-desk.desk at.invariant.new c.in_ok-desk.ensures.new);
     }

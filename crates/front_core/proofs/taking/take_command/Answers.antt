@@ -1,6 +1,7 @@
-use Rattle.std.proofs.Common.{◌≡◌, ◌+◌, slice_set}
+use Rattle.std.proofs.Common.{◌≡◌, ◌+◌, false, slice_set}
 use Rattle.demux.specs.Trace.{command}
 use Rattle.front_core.proofs.Takings.{admits_at, command_came, command_refused, makes, takes_give}
+use Rattle.front_core.proofs.Counting.{accepted_so, full_so}
 use Rattle.front_core.proofs.taking.take_command.Goals as goal
 
 pub admit-requires : goal.admit-requires
@@ -40,3 +41,13 @@ returns-in-Full-clause-takes g c =
     c.index-subscribers-slot.is c.in_ok-admit.ensures.ready c.admit.ensures.lots c.admit.ensures.fulls in
     command_refused c.args.slot c.args.line (c.args.patience + 1) c.args.subscribers.now after c.args.halves.now
     c.admit.new.self c.give_command.new.self ready c.args.asks c.in-Full.ensures.gives
+
+pub returns-in-Accepted-clause-tried : goal.returns-in-Accepted-clause-tried
+returns-in-Accepted-clause-tried g c =
+    accepted_so (c.args.patience + 1) c.in-Accepted.parked false c.args.halves.now.fulls c.admit.new.self.fulls
+    c.give_command.new.self.fulls c.admit.ensures.fulls c.in-Accepted.ensures.counts
+
+pub returns-in-Full-clause-tried : goal.returns-in-Full-clause-tried
+returns-in-Full-clause-tried g c =
+    full_so (c.args.patience + 1) c.args.halves.now.fulls c.admit.new.self.fulls c.give_command.new.self.fulls
+    c.admit.ensures.fulls c.in-Full.ensures.counts

@@ -1,8 +1,9 @@
 use Rattle.std.proofs.Common.{◌≡◌, ◌+◌, slice_set, subst}
 use Rattle.demux.specs.Trace.{packet}
 use Rattle.front_halves.specs.declared.tried.Given.{Given}
-use Rattle.front_halves.specs.Tries.{GivesPacket}
+use Rattle.front_halves.specs.Tries.{CountsTries, GivesPacket}
 use Rattle.front_core.proofs.Takings.{admits_at, makes, packet_came, packet_refused, takes_give}
+use Rattle.front_core.proofs.Counting.{accepted_so, full_so}
 use Rattle.front_core.proofs.taking.take_packet.Goals as goal
 
 pub admit-requires : goal.admit-requires
@@ -47,3 +48,17 @@ returns-in-Full-clause-takes g c =
     c.admit.new.self c.give_packet.new.self ready c.args.lent.now c.in_ok-numbered.numbered
     (subst (λ (given : Given). GivesPacket c.args.slot c.args.line c.in_ok-numbered.numbered (c.args.patience + 1) given
     c.admit.new.self c.give_packet.new.self) c.in-Full.is c.in_ok-parked.ensures.gives)
+
+pub returns-in-Accepted-clause-tried : goal.returns-in-Accepted-clause-tried
+returns-in-Accepted-clause-tried g c =
+    accepted_so (c.args.patience + 1) c.in-Accepted.parked c.in-Accepted.parked c.args.halves.now.fulls
+    c.admit.new.self.fulls c.give_packet.new.self.fulls c.admit.ensures.fulls
+    (subst (λ (given : Given). CountsTries (c.args.patience + 1) given c.admit.new.self.fulls
+    c.give_packet.new.self.fulls) c.in-Accepted.is c.in_ok-parked.ensures.counts)
+
+pub returns-in-Full-clause-tried : goal.returns-in-Full-clause-tried
+returns-in-Full-clause-tried g c =
+    full_so (c.args.patience + 1) c.args.halves.now.fulls c.admit.new.self.fulls c.give_packet.new.self.fulls
+    c.admit.ensures.fulls
+    (subst (λ (given : Given). CountsTries (c.args.patience + 1) given c.admit.new.self.fulls
+    c.give_packet.new.self.fulls) c.in-Full.is c.in_ok-parked.ensures.counts)

@@ -1,8 +1,9 @@
-use Rattle.std.proofs.Common.{◌≡◌, refl, subst, sym}
+use Rattle.std.proofs.Common.{◌≡◌, ◌+◌, ◌∙◌, length, refl, subst, sym, ap}
 use Rattle.std.specs.Prelude.{Option, Some}
 use Rattle.front_halves.specs.declared.lot.Lot.{Lot}
 use Rattle.front_halves.specs.declared.lot.Lot.TheVariants.{Split}
-use Rattle.front_halves.specs.Lots.{LotMoves}
+use Rattle.subscriber.specs.Standing.{commands_met}
+use Rattle.front_halves.specs.Lots.{LotMoves, commands_at}
 use Rattle.front_halves.proofs.lot.move_on.Goals as goal
 
 pub returns-in-Some-Split-clause-moves : goal.returns-in-Some-Split-clause-moves
@@ -19,3 +20,10 @@ returns-in-Some-Split-clause-moves c =
         floors = c.moved.ensures.floors;
       },
     )
+
+pub returns-in-Some-Split-clause-commands : goal.returns-in-Some-Split-clause-commands
+returns-in-Some-Split-clause-commands c =
+    let is : c.args.lot.now ≡ Some (Split c.in-Some-Split.end) = cc in
+    subst (λ (l : Option Lot). Some c.commands.result ≡ commands_at l) (sym is)
+    (ap Some (c.commands.ensures ∙ (λ i. commands_met (c.moved.ensures.same.started i).value
+    + length (c.moved.ensures.commands.0 i))))

@@ -42,7 +42,7 @@ loop-line-preserved g c =
       takes = subst (λ xs. TakesAll (c.args.patience + 1) xs c.args.front c.line.new.self) (sym next)
           (takes_more (c.args.patience + 1) (take k lines) line c.args.front c.loop-line.front c.line.new.self
           c.in_ok-took.took c.loop-line.invariant.takes known.whole known.opened known.taken known.counts known.lanes
-          known.takes known.full known.rises);
+          known.takes known.tried);
       later = subst (λ n. AreLater n (drop (k + 1) lines)) (sym known.counts.1)
           (subst (AreLater (latest_in c.loop-line.front)) rest c.loop-line.invariant.later).1;
     }

@@ -4,13 +4,13 @@ use Rattle.std.proofs.lemmas.List.{with_items_is}
 use Rattle.demux.specs.Meant.{meaning_of}
 use Rattle.lawful_run.specs.Trace.{meant_next}
 use Rattle.subscriber.specs.Standing.{SubscriberState}
-use Rattle.front_halves.specs.Tries.{RisesBy}
 use Rattle.front_halves.proofs.Settling.{sides_then}
 use Rattle.front_core.specs.declared.taken.Taken.{Taken}
 use Rattle.front_core.specs.declared.took.Took.{Took}
-use Rattle.front_core.specs.Entries.{lines_of}
+use Rattle.front_core.specs.Counting.{TookTries}
+use Rattle.front_core.specs.Entries.{lines_of, took_of}
 use Rattle.front_core.specs.Taking.{MayBecome, MayTake, Takes}
-use Rattle.front_core.proofs.Becoming.{becomes, refused_so}
+use Rattle.front_core.proofs.Becoming.{becomes}
 use Rattle.front_core.proofs.Fronts.{line_may}
 use Rattle.front_core.proofs.LineDone.{line_done, taken_more, takes_as}
 use Rattle.front_core.proofs.Sides.{takes_sides}
@@ -23,7 +23,7 @@ take-requires g c =
     (sym c.as_mut_slice.ensures.value)
     (line_may old.opened.value old.slices old.lane old.lines old.latest old.book c.decide_line.new.book
     old.subscribers.items c.decide_line.new.subscribers.items old.halves c.pump.new.self old.entries.items
-    c.args.line.now c.in_ok-meant.meant c.requires.whole c.pump.ensures.settles c.in_ok-meant.ensures)
+    c.args.line.now c.in_ok-meant.meant c.requires.whole c.pump.ensures.pumps.settles c.in_ok-meant.ensures)
 
 pub returns-clause-whole : goal.returns-clause-whole
 returns-clause-whole g c =
@@ -44,7 +44,7 @@ returns-clause-whole g c =
     line_done old.opened.value old.slices old.lane old.lines old.latest (c.args.patience + 1) old.book
     c.decide_line.new.book old.subscribers.items turned now old.halves c.pump.new.self new old.entries.items
     c.push_reserved.new.self.items taken c.args.line.now it c.line-inside.inside.0.1.0.0 c.requires.whole c.requires.few
-    c.requires.late c.pump.ensures.settles c.in_ok-meant.ensures takes c.of.ensures moment
+    c.requires.late c.pump.ensures.pumps.settles c.in_ok-meant.ensures takes c.of.ensures moment
     (c.push_reserved.ensures.items ∙ ap (λ (e : List Taken). e ++ taken ∷ []) c.reserve.ensures.items)
 
 pub returns-clause-taken : goal.returns-clause-taken
@@ -71,7 +71,7 @@ returns-clause-lanes g c =
     let takes : Takes (old.lines + 1) (c.args.patience + 1) (meaning_of it) open_ turned now c.pump.new.self new =
     takes_as (old.lines + 1) (c.args.patience + 1) it open_ turned c.as_mut_slice.result.now c.take.new.subscribers now
     c.pump.new.self new c.as_mut_slice.ensures.value now_is c.in_ok-open.ensures.takes in
-    let sides = sides_then old.halves c.pump.new.self new c.pump.ensures.settles.sides
+    let sides = sides_then old.halves c.pump.new.self new c.pump.ensures.pumps.settles.sides
     (takes_sides (old.lines + 1) (c.args.patience + 1) (meaning_of it) open_ turned now c.pump.new.self new takes) in
     (sides.control_lanes, sides.flow_lanes)
 
@@ -96,7 +96,7 @@ returns-clause-takes g c =
       line_is = c.of.ensures;
       took_is = c.took-took.ensures;
       pumped = c.pump.new.self;
-      pumps = c.pump.ensures.settles;
+      pumps = c.pump.ensures.pumps;
       now = it;
       turned = turned;
       turns = c.in_ok-meant.ensures;
@@ -123,20 +123,10 @@ returns-clause-means g c = λ prior behind.
     c.decide_line.new.book old.subscribers.items turned now old.halves c.pump.new.self new old.entries.items
     c.args.line.now it open_ c.requires.whole c.in_ok-meant.ensures takes prior behind)
 
-pub returns-clause-full : goal.returns-clause-full
-returns-clause-full g c = λ full.
+pub returns-clause-tried : goal.returns-clause-tried
+returns-clause-tried g c =
     let old = c.args.self.now in
-    let turned = c.decide_line.new.subscribers.items in
-    let it = c.in_ok-meant.meant in
-    let open_ = c.in_ok-open.open in
     let new = c.take.new.halves in
-    let now = (with_items c.decide_line.new.subscribers c.take.new.subscribers).items in
-    let now_is : now ≡ c.take.new.subscribers =
-    with_items_is c.decide_line.new.subscribers c.take.new.subscribers
-    (omega (arith, c.take.auto.subscribers, c.as_mut_slice.ensures.len)) in
-    let takes : Takes (old.lines + 1) (c.args.patience + 1) (meaning_of it) open_ turned now c.pump.new.self new =
-    takes_as (old.lines + 1) (c.args.patience + 1) it open_ turned c.as_mut_slice.result.now c.take.new.subscribers now
-    c.pump.new.self new c.as_mut_slice.ensures.value now_is c.in_ok-open.ensures.takes in
-    subst (λ (k : ℕ). RisesBy (c.args.patience + 1) k new.fulls) c.pump.ensures.fulls
-    (refused_so (old.lines + 1) (c.args.patience + 1) (meaning_of it) open_ turned now c.pump.new.self new takes
-    (sym c.took-took.ensures ∙ full))
+    subst (λ (took : Took). TookTries (c.args.patience + 1) took old.halves.fulls new.fulls) (sym c.took-took.ensures)
+    (subst (λ (k : ℕ). TookTries (c.args.patience + 1) (took_of c.in_ok-open.open) k new.fulls) c.pump.ensures.fulls
+    c.in_ok-open.ensures.tried)

@@ -5,4 +5,4 @@ pub returns-clause-whole : goal.returns-clause-whole
 returns-clause-whole g c = λ whole.
     let old = c.args.self.now in
     pump_keeps old.opened.value old.slices old.lane old.lines old.latest old.book old.subscribers.items old.halves
-    c.pump.new.self old.entries.items c.pump.ensures.settles whole
+    c.pump.new.self old.entries.items c.pump.ensures.pumps.settles whole

@@ -1,7 +1,7 @@
 use Rattle.std.proofs.Common.{◌≡◌, ◌+◌, sym, subst, arith}
 use Rattle.front_halves.specs.declared.tried.Given.{Given}
-use Rattle.front_halves.specs.Tries.{GivesCommand}
-use Rattle.front_halves.proofs.Trying.{command_full, command_given, command_later, command_tried, none_tried}
+use Rattle.front_halves.specs.Tries.{CountsTries, GivesCommand}
+use Rattle.front_halves.proofs.Trying.{command_counted, command_full, command_given, command_later, command_tried, none_tried}
 use Rattle.front_halves.proofs.halves.Halves.give_command.Goals as goal
 use Rattle.front_halves.proofs.halves.Halves.give_command.Goals.{in-Ok-try_command, in-Err-try_command}
 
@@ -48,4 +48,29 @@ returns-clause-gives g c =
           subst gives (sym w.result-is)
           (command_full c.args.slot c.args.command c.loop.command c.loop.counter c.args.self.now c.loop.self
           c.loop.invariant c.args.line (c.args.patience + 1) c.try_command-2.new.self full.1 full.2 full.3 full.4 same)
+    ]
+
+pub returns-in-Ok-clause-counts : goal.returns-in-Ok-clause-counts
+returns-in-Ok-clause-counts g c =
+    command_counted c.args.slot c.args.command c.loop.command c.loop.counter c.args.self.now c.loop.self c.loop.invariant
+    (c.args.patience + 1) c.try_command.new.self c.in-Ok.ensures.counts (omega (arith, c.loop-test.true))
+
+pub returns-clause-counts : goal.returns-clause-counts
+returns-clause-counts g c =
+    let counts = λ (given : Given). CountsTries (c.args.patience + 1) given c.args.self.now.fulls
+    c.try_command-2.new.self.fulls in
+    elim c.match-try_command-2.branch [
+      | in-Ok-try_command w ↦
+          subst counts (sym w.result-is)
+          (command_counted c.args.slot c.args.command c.loop.command c.loop.counter c.args.self.now c.loop.self
+          c.loop.invariant (c.args.patience + 1) c.try_command-2.new.self w.in-Ok-try_command.ensures.counts
+          (omega (arith, c.loop.auto.counter-end)))
+      | in-Err-try_command w ↦
+          let full = w.in-Err-try_command.ensures.full in
+          let same : c.loop.counter + 1 ≡ c.args.patience + 1 =
+          omega (arith, c.loop-test.false, c.loop.auto.counter-end) in
+          subst counts (sym w.result-is)
+          (command_full c.args.slot c.args.command c.loop.command c.loop.counter c.args.self.now c.loop.self
+          c.loop.invariant c.args.line (c.args.patience + 1) c.try_command-2.new.self full.1 full.2 full.3 full.4
+          same).2
     ]

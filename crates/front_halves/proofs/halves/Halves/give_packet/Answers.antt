@@ -1,6 +1,6 @@
 use Rattle.std.proofs.Common.{◌≡◌, ◌+◌, refl, arith}
 use Rattle.front_halves.proofs.Setting.{sides_settle}
-use Rattle.front_halves.proofs.Trying.{no_packet_tried, packet_full, packet_given, packet_later, packet_tried}
+use Rattle.front_halves.proofs.Trying.{no_packet_tried, packet_counted, packet_full, packet_given, packet_later, packet_tried}
 use Rattle.front_halves.proofs.halves.Halves.give_packet.Goals as goal
 use Rattle.front_halves.proofs.halves.Halves.give_packet.Goals.{in-Accepted-try_packet, in-Full-try_packet, in-NoMemory-try_packet}
 
@@ -14,12 +14,17 @@ pub loop-preserved : goal.loop-preserved
 loop-preserved g c =
     packet_tried c.args.slot c.args.packet c.loop.packet c.loop.counter c.args.self.now c.loop.self c.loop.invariant
     c.args.line c.in-Full.back c.try_packet.new.self _ c.in-Full.ensures.tries c.try_packet.ensures.rises
-    (sides_settle c.try_packet.new.self _ c.pump.ensures.settles refl refl) refl c.pump.ensures.count
+    (record {
+      settles = sides_settle c.try_packet.new.self _ c.pump.ensures.settles refl refl;
+      controls = c.pump.ensures.controls;
+      flows = c.pump.ensures.flows;
+    }) refl c.pump.ensures.count
 
 pub returns-in-Accepted-clause-gives : goal.returns-in-Accepted-clause-gives
 returns-in-Accepted-clause-gives g c =
     packet_given c.args.slot c.args.packet c.loop.packet c.loop.counter c.args.self.now c.loop.self c.loop.invariant
     c.args.line (c.args.patience + 1) c.in-Accepted.parked c.try_packet.new.self c.in-Accepted.ensures.tries
+    (omega (arith, c.loop-test.true))
 
 pub returns-in-Accepted-clause-rises : goal.returns-in-Accepted-clause-rises
 returns-in-Accepted-clause-rises g c =
@@ -43,7 +48,7 @@ returns-clause-gives g c =
           rw w.result-is
           (packet_given c.args.slot c.args.packet c.loop.packet c.loop.counter c.args.self.now c.loop.self
           c.loop.invariant c.args.line (c.args.patience + 1) w.in-Accepted-try_packet.parked c.try_packet-2.new.self
-          w.in-Accepted-try_packet.ensures.tries)
+          w.in-Accepted-try_packet.ensures.tries (omega (arith, c.loop.auto.counter-end)))
       | in-Full-try_packet w ↦
           let same : c.loop.counter + 1 ≡ c.args.patience + 1 =
           omega (arith, c.loop-test.false, c.loop.auto.counter-end) in
@@ -51,5 +56,29 @@ returns-clause-gives g c =
           (packet_full c.args.slot c.args.packet c.loop.packet c.loop.counter c.args.self.now c.loop.self
           c.loop.invariant c.args.line (c.args.patience + 1) w.in-Full-try_packet.field-0 c.try_packet-2.new.self
           w.in-Full-try_packet.ensures.tries same)
+      | in-NoMemory-try_packet w ↦ rw w.result-is tt
+    ]
+
+pub returns-in-Accepted-clause-counts : goal.returns-in-Accepted-clause-counts
+returns-in-Accepted-clause-counts g c =
+    packet_counted c.args.slot c.args.packet c.loop.packet c.loop.counter c.args.self.now c.loop.self c.loop.invariant
+    (c.args.patience + 1) c.in-Accepted.parked c.try_packet.new.self c.in-Accepted.ensures.counts
+    (omega (arith, c.loop-test.true))
+
+pub returns-clause-counts : goal.returns-clause-counts
+returns-clause-counts g c =
+    elim c.match-try_packet-2.branch [
+      | in-Accepted-try_packet w ↦
+          rw w.result-is
+          (packet_counted c.args.slot c.args.packet c.loop.packet c.loop.counter c.args.self.now c.loop.self
+          c.loop.invariant (c.args.patience + 1) w.in-Accepted-try_packet.parked c.try_packet-2.new.self
+          w.in-Accepted-try_packet.ensures.counts (omega (arith, c.loop.auto.counter-end)))
+      | in-Full-try_packet w ↦
+          let same : c.loop.counter + 1 ≡ c.args.patience + 1 =
+          omega (arith, c.loop-test.false, c.loop.auto.counter-end) in
+          rw w.result-is
+          (packet_full c.args.slot c.args.packet c.loop.packet c.loop.counter c.args.self.now c.loop.self
+          c.loop.invariant c.args.line (c.args.patience + 1) w.in-Full-try_packet.field-0 c.try_packet-2.new.self
+          w.in-Full-try_packet.ensures.tries same).2
       | in-NoMemory-try_packet w ↦ rw w.result-is tt
     ]

@@ -2,5 +2,9 @@ use Rattle.std.proofs.Common.{refl}
 use Rattle.front_halves.proofs.Setting.{sides_settle}
 use Rattle.front_halves.proofs.halves.Halves.pump.Goals as goal
 
-pub returns-clause-settles : goal.returns-clause-settles
-returns-clause-settles g c = sides_settle c.args.self.now _ c.pump.ensures.settles refl refl
+pub returns-clause-pumps : goal.returns-clause-pumps
+returns-clause-pumps g c = record {
+  settles = sides_settle c.args.self.now _ c.pump.ensures.settles refl refl;
+  controls = c.pump.ensures.controls;
+  flows = c.pump.ensures.flows;
+}

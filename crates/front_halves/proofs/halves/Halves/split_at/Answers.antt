@@ -1,4 +1,4 @@
-use Rattle.std.proofs.Common.{◌<◌, ◌∙◌, inr, length, length-set, refl, sym, arith}
+use Rattle.std.proofs.Common.{◌<◌, ◌∙◌, inr, length, length-set, refl, arith}
 use Rattle.front_halves.proofs.Admitting.{admits, halves_may_enter}
 use Rattle.front_halves.proofs.Setting.{lot_read}
 use Rattle.front_halves.proofs.halves.Halves.split_at.Goals as goal
@@ -13,12 +13,13 @@ pub returns-clause-ready : goal.returns-clause-ready
 returns-clause-ready g c =
     let low : c.args.slot < length c.grow.new.places.items =
     omega (arith, c.in_ok-grow.ensures.enough, c.grow.new.places.ok, c.slot.view_is) in
-    inr (admits c.args.self.now _ c.grow.new.places.items c.slot-2.inside.0 c.args.slot c.args.subscriber.now
+    inr (admits c.args.self.now _ c.grow.new.places.items c.slot-2.inside.0 c.args.slot c.destination-slice.result
+    c.args.subscriber.now
     c.replace-own.result c.replace-own.new.dest c.in_ok-fresh.fresh c.index.result.now c.has_moved-moved.result
     c.in-Ok.end c.in-Ok.control c.in-Ok.flow c.grow.ensures.grown c.slot-2.view_is low
     (lot_read c.grow.new.places.items c.slot.inside.0 c.args.slot c.index.result.now c.slot.view_is low c.index.ensures)
     c.has_moved-moved.ensures c.replace-own.ensures.value c.replace-own.ensures.after c.requires.may
-    c.requires.unsplit c.in-Ok.ensures.ok c.in_ok-admit.ensures refl refl c.in_ok-fresh.ensures.stands
+    c.requires.unsplit c.in-Ok.ensures.ok c.destination-slice.ensures c.in_ok-admit.ensures refl refl c.in_ok-fresh.ensures.stands
     (c.in_ok-fresh.ensures.destination ∙ c.destination-slice.ensures) c.in_ok-fresh.ensures.last)
 
 pub returns-in_default-clause-lots : goal.returns-in_default-clause-lots

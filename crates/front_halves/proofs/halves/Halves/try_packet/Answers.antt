@@ -27,3 +27,6 @@ returns-in-Err-Full-clause-tries g c =
     c.in-Err-Full.item (sym (ap no_item is) ∙ c.in-Err-Full.ensures.refused.0) c.in-Err-Full.ensures.refused.1 refl refl
     (λ lane are. c.in-Err-Full.ensures.full lane are (ap is_full is)) c.saturating_add-self.ensures
     (rw is at c.in-Err-Full.ensures.count)
+
+pub returns-in-Err-Full-clause-counts : goal.returns-in-Err-Full-clause-counts
+returns-in-Err-Full-clause-counts g c = c.saturating_add-self.ensures

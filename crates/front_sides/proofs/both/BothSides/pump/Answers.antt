@@ -8,9 +8,9 @@ use Rattle.front_sides.proofs.both.BothSides.pump.Goals as goal
 pub returns-clause-settles : goal.returns-clause-settles
 returns-clause-settles g c =
     pumped g.H.Traveller.name g.F.Flow.name (both_of c.args.self.now.controls c.args.self.now.flows)
-    (both_of c.pump_controls.new.controls c.pump.new.self) (ap (λ (r : controls.Roll _). r.names) c.pump_controls.ensures)
-    (ap (λ (r : controls.Roll _). r.lanes) c.pump_controls.ensures)
-    (ap (λ (r : controls.Roll _). r.asked) c.pump_controls.ensures)
+    (both_of c.pump_controls.new.controls c.pump.new.self) (ap (λ (r : controls.Roll _). r.names) c.pump_controls.ensures.roll)
+    (ap (λ (r : controls.Roll _). r.lanes) c.pump_controls.ensures.roll)
+    (ap (λ (r : controls.Roll _). r.asked) c.pump_controls.ensures.roll)
     (ap (λ (r : flows.Roll _ _). r.names) c.pump.ensures.roll)
     (ap (λ (r : flows.Roll _ _). r.accepted) c.pump.ensures.roll)
     (ap (λ (r : flows.Roll _ _). r.moved) c.pump.ensures.roll)
@@ -19,3 +19,12 @@ returns-clause-settles g c =
 
 pub returns-clause-count : goal.returns-clause-count
 returns-clause-count g c = ap (λ (r : flows.Roll _ _). r.refused) c.pump.ensures.roll
+
+pub returns-clause-flows : goal.returns-clause-flows
+returns-clause-flows g c = record {
+  states = c.pump.ensures.states;
+  drains = c.pump.ensures.drains;
+  full = c.pump.ensures.full;
+  queues = c.pump.ensures.queues;
+  home = c.pump.ensures.home;
+}
