@@ -7,8 +7,9 @@ use Rattle.pc_outside.specs.Line.{HoldsLine}
 use Rattle.pc_outside.specs.LineReads.{Answers, Reads}
 use Rattle.pc_outside.specs.declared.reading.LineRead.{LineRead}
 use Rattle.pc_outside.specs.declared.reading.LineRead.TheVariants as read
-use Rattle.audit_reading.specs.Progress.{HasRead, Reached}
+use Rattle.audit_reading.specs.Progress.{FailsBehind, HasRead, IsTaken, Reached}
 use Rattle.pc_outside.specs.WhereTold.{WhereTold}
+use Rattle.pc_outside.proofs.ToldLemmas.{told_map}
 use Rattle.audit_reading.specs.Texts.{Texts, Text, Stop, long, big, ended, stopped, after_lines, texts_of, texts_within}
 use Rattle.audit_reading.specs.declared.hearing.Stopped.TheVariants as stopped_at
 use Rattle.audit_reading.proofs.TextLemmas.{at_end, input_big, last_line, line_long, unfinished, whole_line}
@@ -188,21 +189,41 @@ ends_big start a left room after line last front done =
     ∙ input_big says.1.front says.1.rest says.1.no_newline says.1.short) in
     (ap (λ (t : Texts). t.stop) whole, ap (λ (t : Texts). t.lines) whole ∙ append-nil done))
 
-pub ends_fault : (start a left : Option (List ℕ)) (room : ℕ) (now : Held) (line : Text) (last : Bool)
+pub fails_behind : (start a left : Option (List ℕ)) (room : ℕ) (now : Held) (line : Text) (last : Bool)
     (done : List Text) → IsUnfinished now
     → WhereTold start a (λ octets rest. HasRead octets rest room done)
     → Reads read.ReadFault room now.room a (prepend_known now.front left) line last
     → WhereTold start left (λ octets rest. Reached stopped_at.ReadFault octets rest done)
-ends_fault start a left room now line last done more =
+fails_behind start a left room now line last done more =
     told_next start a left room now.room read.ReadFault line last now.front done
     (λ octets rest. Reached stopped_at.ReadFault octets rest done)
     (λ octets ahead rest before says. record {
-      taken = before.gone ++ now.front;
-      parts = before.parts ∙ ap (λ t. before.gone ++ t) (sym says.octets_stay)
-          ∙ sym (append_assoc before.gone now.front rest);
-      stop = ap (λ (t : Texts). t.stop) (before.says now.front)
-          ∙ unfinished room now.front more.no_newline more.short (omega (arith, more.more, says.room_stays));
+      unfinished = now.front;
+      room = room;
+      read = subst (λ next. HasRead octets next room done) (sym says.octets_stay) before;
+      no_newline = more.no_newline;
+      short = more.short;
+      more = omega (arith, more.more, says.room_stays);
     })
+
+-- whatever its lines are, none of what was taken is too long
+pub taken_before : (octets left : List ℕ) (done : List Text) → FailsBehind octets left done → IsTaken octets left
+taken_before octets left done fails = record {
+  taken = fails.read.gone ++ fails.unfinished;
+  parts = fails.read.parts ∙ sym (append_assoc fails.read.gone fails.unfinished left);
+  stop = ap (λ (t : Texts). t.stop) (fails.read.says fails.unfinished)
+      ∙ unfinished fails.room fails.unfinished fails.no_newline fails.short fails.more;
+}
+
+pub ends_fault : (start a left : Option (List ℕ)) (room : ℕ) (now : Held) (line : Text) (last : Bool)
+    (done : List Text) → IsUnfinished now
+    → WhereTold start a (λ octets rest. HasRead octets rest room done)
+    → Reads read.ReadFault room now.room a (prepend_known now.front left) line last
+    → WhereTold start left IsTaken
+ends_fault start a left room now line last done more before says =
+    told_map start left (λ octets rest. Reached stopped_at.ReadFault octets rest done) IsTaken
+    (λ octets rest at. taken_before octets rest done at)
+    (fails_behind start a left room now line last done more before says)
 
 -- how much room a line takes
 pub room_of_whole : (room after : ℕ) (octets rest line : List ℕ) (last : Bool) → last ≡ false

@@ -1,5 +1,7 @@
 -- How far an input was read.
 use Rattle.std.specs.Prelude.{◌≡◌, ℕ, ◌+◌, ◌<◌, ◌≤◌, ◌^◌, List, [], ◌++◌, length, Option, vec_len}
+use Rattle.pc_outside.specs.Limits.{line_max}
+use Rattle.pc_outside.specs.Line.{NoNewline}
 use Rattle.pc_outside.specs.WhereTold.{WhereTold}
 use Rattle.audit_reading.specs.Heard.{HasHeard}
 use Rattle.audit_reading.specs.Texts.{Text, after_lines, big, ended, long, texts_of, texts_within}
@@ -30,10 +32,20 @@ pub record IsTaken (octets left : List ℕ) : Type 0 where
   pub parts : octets ≡ taken ++ left
   pub stop : (texts_of taken).stop ≡ ended
 
+-- What was taken before it failed are these lines, each with its newline, and behind them an unfinished one, which
+-- isn't too long; and it is less than what is looked at.
+pub record FailsBehind (octets left : List ℕ) (done : List Text) : Type 0 where
+  pub unfinished : List ℕ
+  pub room : ℕ
+  pub read : HasRead octets (unfinished ++ left) room done
+  pub no_newline : NoNewline unfinished
+  pub short : length unfinished ≤ line_max
+  pub more : length unfinished < room
+
 -- the octets that a source had and those that it has left, where no more lines come
 abbrev pub Reached : Stopped → List ℕ → List ℕ → List Text → Type 0
 Reached stopped.Ended octets left done = IsReadWhole octets left × ((texts_of octets).lines ≡ done)
-Reached stopped.ReadFault octets left done = IsTaken octets left
+Reached stopped.ReadFault octets left done = FailsBehind octets left done
 Reached stopped.LineLong octets left done = ((texts_of octets).stop ≡ long) × ((texts_of octets).lines ≡ done)
 Reached stopped.TooLong octets left done = ((texts_of octets).stop ≡ big) × ((texts_of octets).lines ≡ done)
 

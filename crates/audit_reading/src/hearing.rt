@@ -1,5 +1,5 @@
 //! The lines of an input, until no more come.
-ghost use Rattle.std.specs.Prelude.{◌≡◌, ◌≤◌, ◌^◌, [], vec_len, false, IfOk, Ok};
+ghost use Rattle.std.specs.Prelude.{◌≡◌, ◌≢◌, ◌≤◌, ◌^◌, [], vec_len, false, IfOk, Ok, OnErr};
 ghost use Rattle.pc_outside.specs.Faults.{Rises};
 ghost use Rattle.pc_outside.specs.WhereTold.{WhereTold};
 ghost use Rattle.audit_reading.specs.Heard.{HasHeard};
@@ -41,6 +41,7 @@ fn hear_lines<S: Source>(
 
     ensures later { S.faults source.old ≤ S.faults source.new }
     ensures fault { result ≡ Ok Stopped.ReadFault → Rises (S.faults source.old) (S.faults source.new) }
+    ensures no_fault { result ≢ Ok Stopped.ReadFault → S.faults source.new ≡ S.faults source.old }
 {
     loop {
         match read_line(source, buf) {
@@ -68,6 +69,11 @@ pub fn hear<S: Source>(alloc: Global, source: &mut S) -> Result<(Heard, Stopped)
     ensures later { S.faults source.old ≤ S.faults source.new }
     ensures fault { IfOk result (λ told. told.1 ≡ Stopped.ReadFault
         → Rises (S.faults source.old) (S.faults source.new)) }
+
+    // A read that fails is told, and none is tried again.
+    ensures no_fault { IfOk result (λ told. told.1 ≢ Stopped.ReadFault
+        → S.faults source.new ≡ S.faults source.old) }
+    ensures no_fault_cut { OnErr result (S.faults source.new ≡ S.faults source.old) }
 {
     let mut buf = LineBuf::new(alloc)?;
     let mut heard = Heard::new(alloc);

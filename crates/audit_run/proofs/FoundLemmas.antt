@@ -20,6 +20,7 @@ use Rattle.audit_run.specs.declared.auditing.Audited.TheVariants as audited
 use Rattle.audit_reading.specs.declared.hearing.Stopped.TheVariants as stopped_at
 use Rattle.audit_reading.specs.declared.heard.Heard.{Heard}
 use Rattle.audit_reading.proofs.HeardLemmas.{entries_heard, said_heard}
+use Rattle.audit_reading.proofs.InputLemmas.{taken_before}
 
 pub confirmed_by : (setup : Setup) (heard : Heard) (texts : List Text) (lines : List Line) (entries : List Entry)
     → heard.outside ≡ false → lines ≡ heard.lines.items → entries ≡ heard.entries.items
@@ -103,7 +104,8 @@ fault_said setup start left old texts reached = record {
   text = [];
   written = Appends-nil old;
   report = told_map start left (λ octets rest. Reached stopped_at.ReadFault octets rest texts)
-      (λ octets rest. Reports audited.ReadFault setup octets rest []) (λ octets rest is. (is, refl)) reached;
+      (λ octets rest. Reports audited.ReadFault setup octets rest [])
+      (λ octets rest is. (taken_before octets rest texts is, refl)) reached;
 }
 
 pub long_said : (setup : Setup) (start left old : Option (List ℕ)) (texts : List Text)

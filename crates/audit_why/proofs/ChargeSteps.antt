@@ -1,9 +1,9 @@
 -- Epoch after epoch: what is told agrees with what is made, or differs first here.
-use Rattle.std.proofs.Common.{◌≡◌, ℕ, suc, ◌+◌, ◌-◌, ◌==◌, ◌<◌, ◌≤◌, Some, None, List, [], ◌∷◌, ◌++◌, length, map, take, drop, filter, cond, refl, sym, ap, ◌∙◌, subst, arith}
+use Rattle.std.proofs.Common.{◌≡◌, ℕ, suc, ◌+◌, ◌-◌, ◌==◌, ◌<◌, ◌≤◌, Some, None, List, [], ◌∷◌, ◌++◌, length, map, take, drop, filter, cond, refl, sym, ap, ◌∙◌, subst, inl, inr, arith}
 use Rattle.std.specs.Borrow.{Bor}
-use Rattle.std.proofs.lemmas.Bool.{eq-eqb}
+use Rattle.std.proofs.lemmas.Bool.{cases_lt, eq-eqb, ne_eqb}
 use Rattle.std.proofs.lemmas.List.{length-take-le, map-append}
-use Rattle.std.proofs.lemmas.List.Elements.{filter-append}
+use Rattle.std.proofs.lemmas.List.Elements.{All-head, All-tail, filter-append}
 use Rattle.demux.specs.Trace.{Meaning}
 use Rattle.report_lines.specs.declared.entry.Entry.{Entry}
 use Rattle.lawful_run.specs.Report.{EpochReport}
@@ -14,7 +14,7 @@ use Rattle.audit_sentences.specs.Sharing.{under}
 use Rattle.audit_reading.specs.Agreeing.{AgreeBySlot, of_slot, slot_effected}
 use Rattle.audit_reading.specs.Made.{lent}
 use Rattle.audit_reading.specs.Placing.{lent_under}
-use Rattle.audit_why.specs.Charges.{AgreeUpTo, BeyondEpochs, BeyondSlots, EpochDiffers, ItemBreak}
+use Rattle.audit_why.specs.Charges.{AgreeUpTo, AreOfSlots, EpochDiffers, ItemBreak, NoEpoch}
 use Rattle.audit_why.specs.Same.{IsBeyond}
 use Rattle.audit_why.specs.Telling.{tells}
 use Rattle.audit_why.specs.declared.telling.Break.{Break}
@@ -81,33 +81,50 @@ is_beyond keyed count i one parts past none =
           (eq-eqb one.key one.key refl));
     }
 
--- what is told of an epoch that there isn't
-pub beyond_epochs : {X : Type 0} (as_entry : X → Entry) (told : ℕ → List X) (keyed : List (Keyed (Bor X))) (count : ℕ)
+-- something is told of an epoch that there isn't only where there is none
+pub no_epoch : {X : Type 0} (as_entry : X → Entry) (told : ℕ → List X) (keyed : List (Keyed (Bor X))) (count : ℕ)
     (item : Bor X) (found : Break)
-    → ((epoch : ℕ) → lent_under epoch keyed ≡ told epoch) → IsBeyond keyed count item
+    → ((epoch : ℕ) → lent_under epoch keyed ≡ told epoch)
+    → ((later : ℕ) → 0 < count + later → told (count + later) ≡ []) → IsBeyond keyed count item
     → found ≡ tells (Some (as_entry item.now)) None
-    → BeyondEpochs as_entry told count found
-beyond_epochs as_entry told keyed count item found are past is = record {
-  later = past.later;
-  item = item.now;
-  others = lent past.others;
-  stands = sym (are (count + past.later)) ∙ ap lent past.stands;
-  is = is;
-}
+    → NoEpoch as_entry told count found
+no_epoch as_entry told keyed count item found are none past is =
+    let stands : told (count + past.later) ≡ item.now ∷ lent past.others =
+    sym (are (count + past.later)) ∙ ap lent past.stands in
+    let nothing : count + past.later ≡ 0 = elim (cases_lt 0 (count + past.later)) [
+      | inl some ↦
+          let clash : item.now ∷ lent past.others ≡ [] = sym stands ∙ none past.later some in
+          absurd cc
+      | inr most ↦ omega (arith, most)
+    ] in
+    record {
+      none = omega (arith, nothing);
+      item = item.now;
+      others = lent past.others;
+      stands = subst (λ k. told k ≡ item.now ∷ lent past.others) nothing stands;
+      is = is;
+    }
 
--- and of a slot that there isn't
-pub beyond_slots : {X : Type 0} (whose : X → ℕ) (as_entry : X → Entry) (slots : ℕ) (told : List X)
-    (keyed : List (Keyed (Bor X))) (item : Bor X) (found : Break)
-    → ((slot : ℕ) → lent_under slot keyed ≡ of_slot whose slot told) → IsBeyond keyed slots item
-    → found ≡ tells (Some (as_entry item.now)) None
-    → BeyondSlots whose as_entry slots told found
-beyond_slots whose as_entry slots told keyed item found are past is = record {
-  later = past.later;
-  item = item.now;
-  others = lent past.others;
-  stands = sym (are (slots + past.later)) ∙ ap lent past.stands;
-  is = is;
-}
+-- none is of a slot that there isn't
+none_of_slot : {X : Type 0} (whose : X → ℕ) (slots later : ℕ) (items : List X) → AreOfSlots whose slots items
+    → of_slot whose (slots + later) items ≡ []
+none_of_slot whose slots later [] known = refl
+none_of_slot whose slots later (item ∷ items) known =
+    let low : whose item < slots = All-head (λ x. whose x < slots) item items known in
+    ap (λ own. cond own (item ∷ of_slot whose (slots + later) items) (of_slot whose (slots + later) items))
+    (ne_eqb (whose item) (slots + later) (λ same. omega (arith, low, same)))
+    ∙ none_of_slot whose slots later items (All-tail (λ x. whose x < slots) item items known)
+
+nothing_lent : {X : Type 0} (items : List (Bor X)) → lent items ≡ [] → items ≡ []
+nothing_lent [] none = refl
+nothing_lent (item ∷ items) none = absurd cc
+
+pub none_keyed : {X : Type 0} (whose : X → ℕ) (slots : ℕ) (told : List X) (keyed : List (Keyed (Bor X)))
+    → ((slot : ℕ) → lent_under slot keyed ≡ of_slot whose slot told) → AreOfSlots whose slots told
+    → (later : ℕ) → under (slots + later) keyed ≡ []
+none_keyed whose slots told keyed are known later =
+    nothing_lent (under (slots + later) keyed)
+    (are (slots + later) ∙ none_of_slot whose slots later told known)
 
 -- the first epoch in which a slot has something else
 pub epoch_differs : {X : Type 0} (whose : X → ℕ) (as_entry : X → Entry) (slots : ℕ) (told : ℕ → List X)

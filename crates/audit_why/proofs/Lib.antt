@@ -13,7 +13,9 @@ pub mod LookLemmas
 pub mod TellLemmas
 pub mod PlayedLemmas
 pub mod ChargeSteps
+pub mod NoEpoch
 pub mod ChargeBreaks
+pub mod OneBreak
 pub mod UnansweredLemmas
 pub mod SurplusLemmas
 pub mod PlaceLemmas

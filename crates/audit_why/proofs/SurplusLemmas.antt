@@ -1,5 +1,5 @@
 -- The first open counters that are told again, or are of no bearer.
-use Rattle.std.proofs.Common.{◌≡◌, ℕ, ◌+◌, ◌<◌, ◌≤◌, ◌↔◌, List, ◌∷◌, ◌++◌, length, take, drop, refl, sym, ap, ◌∙◌, subst, arith, length-append}
+use Rattle.std.proofs.Common.{◌≡◌, ℕ, ◌+◌, ◌<◌, ◌≤◌, ◌↔◌, List, ◌∷◌, ◌++◌, length, take, drop, refl, sym, ap, ◌∙◌, subst, arith, append_assoc, length-append}
 use Rattle.std.proofs.lemmas.List.{drop_all, drop_at, length-take-le, take_at}
 use Rattle.report_lines.specs.declared.entry.ChargeEntry.{ChargeEntry}
 use Rattle.audit_why.specs.Charges.{IsTooMany, IsTooManyAt, Surplus}
@@ -22,11 +22,28 @@ module _ (made told : List ChargeEntry) where
         too_many = many;
       }))
 
-  pub surplus_some : (at : ℕ) → IsTooManyAt made told at → Surplus made told (first_of (drop at told))
-  surplus_some at is =
-      let rest : drop at told ≡ is.open_ ∷ is.later =
-      ap (drop at) is.parts ∙ drop_at is.front (is.open_ ∷ is.later) at is.behind in
-      subst (λ xs. Surplus made told (first_of xs)) (sym rest) (is.front, (is.later, (is.parts, is.too_many)))
+  pub surplus_some : (at : ℕ) → IsTooManyAt made told at → ((k : ℕ) → k < at → IsTooManyAt made told k → ⊥)
+      → Surplus made told (first_of (drop at told))
+  surplus_some at is none =
+      let tail = is.open_ ∷ is.later in
+      let rest : drop at told ≡ tail = ap (drop at) is.parts ∙ drop_at is.front tail at is.behind in
+      subst (λ xs. Surplus made told (first_of xs)) (sym rest) (record {
+        front = is.front;
+        later = is.later;
+        parts = is.parts;
+        before = λ front later open_ parts many.
+            let count : length is.front ≡ length front + length (open_ ∷ later) =
+            ap length parts ∙ length-append front (open_ ∷ later) in
+            none (length front) (omega (arith, count, is.behind)) (record {
+              front = front;
+              open_ = open_;
+              later = later ++ tail;
+              parts = is.parts ∙ ap (λ (xs : List ChargeEntry). xs ++ tail) parts ∙ append_assoc front (open_ ∷ later) tail;
+              behind = refl;
+              too_many = many;
+            });
+        too_many = is.too_many;
+      })
 
   -- the one at a place
   pub too_many_at : (at : ℕ) (open_ : ChargeEntry) → told ≡ take at told ++ open_ ∷ drop (at + 1) told → at < length told

@@ -1,5 +1,5 @@
 -- The fifth sentence: the first effect, charging record or open counter that differs from what the lines lead to.
-use Rattle.std.specs.Prelude.{◌≡◌, ◌≢◌, ℕ, ◌+◌, ◌==◌, ◌&&◌, ◌⊎◌, Bool, false, Option, Some, None}
+use Rattle.std.specs.Prelude.{◌≡◌, ◌≢◌, ℕ, ◌+◌, ◌<◌, ◌≤◌, ◌==◌, ◌&&◌, ◌⊎◌, Bool, false, Option, Some, None}
 use Rattle.std.specs.Prelude.{List, [], ◌∷◌, ◌++◌, length, find, flat_map, All, Contains}
 use Rattle.std.specs.Option.{option_map}
 use Rattle.demux.specs.Trace.{Meaning}
@@ -20,16 +20,25 @@ use Rattle.audit_why.specs.declared.telling.Break.{Break}
 abbrev pub in_slot_order : {X : Type 0} → (X → ℕ) → ℕ → List X → List X
 in_slot_order whose slots items = flat_map (λ slot. of_slot whose slot items) (counted 0 slots)
 
--- An item of a slot that there isn't is told, the first of that slot.
+-- all items are of slots that there are · this one is the first that isn't
+abbrev pub AreOfSlots : {X : Type 0} → (X → ℕ) → ℕ → List X → Type 0
+AreOfSlots whose slots items = All (λ item. whose item < slots) items
+
+pub record IsFirstBeyond {X : Type 0} (whose : X → ℕ) (slots : ℕ) (told : List X) (item : X) : Type 0 where
+  pub front : List X
+  pub later : List X
+  pub parts : told ≡ front ++ item ∷ later
+  pub known : AreOfSlots whose slots front
+  pub beyond : slots ≤ whose item
+
+-- The first item of a slot that there isn't.
 pub record BeyondSlots {X : Type 0} (whose : X → ℕ) (as_entry : X → Entry) (slots : ℕ) (told : List X) (found : Break) :
     Type 0 where
-  pub later : ℕ
   pub item : X
-  pub others : List X
-  pub stands : of_slot whose (slots + later) told ≡ item ∷ others
+  pub first : IsFirstBeyond whose slots told item
   pub is : found ≡ tells (Some (as_entry item)) None
 
--- Or the first one that differs.
+-- Where there is none, the first one that differs, in order of slots.
 pub record ItemDiffers {X : Type 0} (as_entry : X → Entry) (told made : List X) (found : Break) : Type 0 where
   pub stands : Option X
   pub due : Option X
@@ -38,7 +47,8 @@ pub record ItemDiffers {X : Type 0} (as_entry : X → Entry) (told made : List X
 
 abbrev pub ItemBreak : {X : Type 0} → (X → ℕ) → (X → Entry) → ℕ → List X → List X → Break → Type 0
 ItemBreak whose as_entry slots told made found =
-    BeyondSlots whose as_entry slots told found ⊎ ItemDiffers as_entry (in_slot_order whose slots told) made found
+    BeyondSlots whose as_entry slots told found
+    ⊎ (AreOfSlots whose slots told × ItemDiffers as_entry (in_slot_order whose slots told) made found)
 
 -- each slot has the same, epoch by epoch from this one on
 abbrev pub AgreeUpTo : {X : Type 0} → (X → ℕ) → (ℕ → List X) → (EpochReport → List X) → ℕ → List EpochReport → Type 0
@@ -46,12 +56,12 @@ AgreeUpTo whose told made epoch [] = Unit {0}
 AgreeUpTo whose told made epoch (now ∷ epochs) =
     AgreeBySlot whose (told epoch) (made now) × AgreeUpTo whose told made (epoch + 1) epochs
 
--- Something is told of an epoch that there isn't.
-pub record BeyondEpochs {X : Type 0} (as_entry : X → Entry) (told : ℕ → List X) (n : ℕ) (found : Break) : Type 0 where
-  pub later : ℕ
+-- Where there is no epoch, the first item that is told.
+pub record NoEpoch {X : Type 0} (as_entry : X → Entry) (told : ℕ → List X) (n : ℕ) (found : Break) : Type 0 where
+  pub none : n ≡ 0
   pub item : X
   pub others : List X
-  pub stands : told (n + later) ≡ item ∷ others
+  pub stands : told 0 ≡ item ∷ others
   pub is : found ≡ tells (Some (as_entry item)) None
 
 -- Or the first epoch in which a slot has something else.
@@ -67,7 +77,7 @@ pub record EpochDiffers {X : Type 0} (whose : X → ℕ) (as_entry : X → Entry
 abbrev pub EpochsBreak : {X : Type 0} → (X → ℕ) → (X → Entry) → ℕ → (ℕ → List X) → (EpochReport → List X)
     → List EpochReport → Break → Type 0
 EpochsBreak whose as_entry slots told made epochs found =
-    BeyondEpochs as_entry told (length epochs) found ⊎ EpochDiffers whose as_entry slots told made epochs found
+    NoEpoch as_entry told (length epochs) found ⊎ EpochDiffers whose as_entry slots told made epochs found
 
 -- the open counters of the same life of a bearer
 abbrev pub same_life : ChargeEntry → ChargeEntry → Bool
@@ -85,7 +95,7 @@ pub record OpenMissing (told made : List ChargeEntry) (found : Break) : Type 0 w
   pub missing : ¬ Contains told open_
   pub is : found ≡ tells (option_map entry.Charge (find (same_life open_) told)) (Some (entry.Charge open_))
 
--- the first ones that are told again, or are of no bearer
+-- open counters that are told again, behind these, or are of no bearer
 abbrev pub IsTooMany : List ChargeEntry → List ChargeEntry → ChargeEntry → Type 0
 IsTooMany made front open_ = Contains front open_ ⊎ ¬ Contains made open_
 
@@ -98,11 +108,22 @@ pub record IsTooManyAt (made told : List ChargeEntry) (at : ℕ) : Type 0 where
   pub behind : length front ≡ at
   pub too_many : IsTooMany made front open_
 
-abbrev pub Surplus : List ChargeEntry → List ChargeEntry → Option ChargeEntry → Type 0
-Surplus made told None = (front later : List ChargeEntry) (open_ : ChargeEntry) → told ≡ front ++ open_ ∷ later
+-- none of them are · these are, and none before them
+abbrev pub NoneTooMany : List ChargeEntry → List ChargeEntry → Type 0
+NoneTooMany made told = (front later : List ChargeEntry) (open_ : ChargeEntry) → told ≡ front ++ open_ ∷ later
     → ¬ IsTooMany made front open_
-Surplus made told (Some open_) = (front : List ChargeEntry) × ((later : List ChargeEntry)
-    × ((told ≡ front ++ open_ ∷ later) × IsTooMany made front open_))
+
+pub record IsFirstTooMany (made told : List ChargeEntry) (open_ : ChargeEntry) : Type 0 where
+  pub front : List ChargeEntry
+  pub later : List ChargeEntry
+  pub parts : told ≡ front ++ open_ ∷ later
+  pub before : NoneTooMany made front
+  pub too_many : IsTooMany made front open_
+
+-- the first ones that are, if any
+abbrev pub Surplus : List ChargeEntry → List ChargeEntry → Option ChargeEntry → Type 0
+Surplus made told None = NoneTooMany made told
+Surplus made told (Some open_) = IsFirstTooMany made told open_
 
 pub record OpensTooMany (told made : List ChargeEntry) (found : Break) : Type 0 where
   pub each : All (Contains told) made

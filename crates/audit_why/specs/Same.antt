@@ -19,7 +19,7 @@ pub record SameUpTo {X : Type 0} (told made : List X) (count : ℕ) : Type 0 whe
 abbrev pub said_at : {X : Type 0} → (X → Entry) → List X → ℕ → Option Said
 said_at as_entry items at = option_map said_of (option_map as_entry (first_of (drop at items)))
 
--- the first item under a number that isn't below a count
+-- an item under a number that isn't below a count, the first one under that
 pub record IsBeyond {X : Type 0} (keyed : List (Keyed X)) (count : ℕ) (item : X) : Type 0 where
   pub later : ℕ
   pub others : List X

@@ -78,6 +78,11 @@ IsBreak setup slots made entries (suc (suc (suc (suc (suc (suc zero)))))) told =
     LastBreak setup (told_epochs made entries) entries (entries_of (made_report slots (told_epochs made entries))) told
 IsBreak setup slots made entries _ told = ⊥
 
+-- The fifth sentence has one break at most: the first effect that differs, else charging record, else open counter.
+abbrev pub OneBreakOfCharges : Type 0
+OneBreakOfCharges = (setup : Setup) (slots : ℕ) (made : List (List Meaning)) (entries : List Entry) (told other : Break)
+    → IsBreak setup slots made entries 5 told → IsBreak setup slots made entries 5 other → told ≡ other
+
 -- a sentence that has a break is broken
 abbrev pub BreaksAreBroken : Type 0
 BreaksAreBroken = (setup : Setup) (slots : ℕ) (made : List (List Meaning)) (entries : List Entry) (k : ℕ) (told : Break)

@@ -10,8 +10,8 @@ ghost use Rattle.audit_sentences.specs.Sharing.{under};
 ghost use Rattle.audit_reading.specs.Agreeing.{AgreeBySlot, AreBySlot, AreTold, IsBySlot, slot_effected};
 ghost use Rattle.audit_reading.specs.Made.{effected, effects_made, epoch_made, lent, meanings_made, report_made};
 ghost use Rattle.audit_reading.specs.Placing.{IsLine, lent_under};
-ghost use Rattle.audit_why.specs.Charges.{ChargeBreak, EpochsBreak, IsTooMany, ItemBreak, ItemDiffers};
-ghost use Rattle.audit_why.specs.Charges.{OpenBreakOf, OpenMissing, Surplus, same_life};
+ghost use Rattle.audit_why.specs.Charges.{AreOfSlots, ChargeBreak, EpochsBreak, IsFirstBeyond, IsTooMany, ItemBreak};
+ghost use Rattle.audit_why.specs.Charges.{ItemDiffers, OpenBreakOf, OpenMissing, Surplus, same_life};
 ghost use Rattle.audit_why.specs.Places.{first_of};
 ghost use Rattle.audit_why.specs.Same.{IsBeyond, SameUpTo, said_at};
 ghost use Rattle.audit_why.specs.Telling.{said_of, tells};
@@ -98,6 +98,31 @@ fn first_beyond<T: Copy + Drop>(keyed: &[Keyed<T>], count: usize) -> Option<T>
     None
 }
 
+// The first effect of a slot that there isn't, and the first charge.
+fn effect_of_none<'a>(told: &[&'a EffectEntry], slots: u32) -> Option<&'a EffectEntry>
+    ensures some { IfSome result (λ one. IsFirstBeyond slot_effected slots (lent told.now) one.now) }
+    ensures none { IfNone result (AreOfSlots slot_effected slots (lent told.now)) }
+{
+    for one in told {
+        if slot_of_effect(one).0 >= slots {
+            return Some(*one);
+        }
+    }
+    None
+}
+
+fn charge_of_none<'a>(told: &[&'a ChargeEntry], slots: u32) -> Option<&'a ChargeEntry>
+    ensures some { IfSome result (λ one. IsFirstBeyond slot_charged slots (lent told.now) one.now) }
+    ensures none { IfNone result (AreOfSlots slot_charged slots (lent told.now)) }
+{
+    for one in told {
+        if slot_of(one).0 >= slots {
+            return Some(*one);
+        }
+    }
+    None
+}
+
 // How many effects are the same before the first that differs.
 fn same_effects(made: &[EffectMade], told: &[&EffectEntry]) -> usize
     ensures { SameUpTo (lent told.now) (effects_made made.now) result }
@@ -175,11 +200,11 @@ fn epoch_effects(
     ensures none { IfOk result (λ found. IfNone found
         (AgreeBySlot slot_effected (lent told.now) (effects_made made.now))) }
 {
-    let keyed = effects_by_slot(alloc, told)?;
-    match first_beyond(&keyed, slots as usize) {
-        Some(beyond) => Ok(Some(effect_beyond(alloc, beyond)?)),
-        None => effects_differ(alloc, made, &arranged(alloc, slots as usize, &keyed)?),
+    if let Some(beyond) = effect_of_none(told, slots) {
+        return Ok(Some(effect_beyond(alloc, beyond)?));
     }
+    let keyed = effects_by_slot(alloc, told)?;
+    effects_differ(alloc, made, &arranged(alloc, slots as usize, &keyed)?)
 }
 
 fn epoch_rows(
@@ -193,11 +218,11 @@ fn epoch_rows(
         (ItemBreak slot_charged Entry.Charge slots (lent told.now) made.now)) }
     ensures none { IfOk result (λ found. IfNone found (AgreeBySlot slot_charged (lent told.now) made.now)) }
 {
-    let keyed = charges_by_slot(alloc, told)?;
-    match first_beyond(&keyed, slots as usize) {
-        Some(beyond) => Ok(Some(charge_beyond(alloc, beyond)?)),
-        None => rows_differ(alloc, made, &arranged(alloc, slots as usize, &keyed)?),
+    if let Some(beyond) = charge_of_none(told, slots) {
+        return Ok(Some(charge_beyond(alloc, beyond)?));
     }
+    let keyed = charges_by_slot(alloc, told)?;
+    rows_differ(alloc, made, &arranged(alloc, slots as usize, &keyed)?)
 }
 
 fn effects_broken(
@@ -207,7 +232,8 @@ fn effects_broken(
     told: &[Keyed<&EffectEntry>],
 ) -> Result<Option<Break>, NoMemory>
     requires { All (IsBySlot slots) made.now }
-    ensures some { (lines : List (List Meaning)) (entries : List Entry)
+    ensures some { (lines : List (List Meaning)) (entries : List Entry) → length lines ≡ length made.now
+        → All (IsLine (length (all_lines lines))) entries
         → ((epoch : ℕ) → lent_under epoch told.now ≡ effects_told lines epoch entries)
         → IfOk result (λ found. IfSome found (EpochsBreak slot_effected Entry.Effect slots
         (λ epoch. effects_told lines epoch entries) (λ (now : EpochReport). now.effects)
@@ -235,7 +261,8 @@ fn rows_broken(
     told: &[Keyed<&ChargeEntry>],
 ) -> Result<Option<Break>, NoMemory>
     requires { All (IsBySlot slots) made.now }
-    ensures some { (lines : List (List Meaning)) (entries : List Entry)
+    ensures some { (lines : List (List Meaning)) (entries : List Entry) → length lines ≡ length made.now
+        → All (IsLine (length (all_lines lines))) entries
         → ((epoch : ℕ) → lent_under epoch told.now ≡ rows_told lines epoch entries)
         → IfOk result (λ found. IfSome found (EpochsBreak slot_charged Entry.Charge slots
         (λ epoch. rows_told lines epoch entries) (λ (now : EpochReport). now.rows)
@@ -319,6 +346,13 @@ fn surplus_at(made: &[ChargeEntry], told: &[&ChargeEntry]) -> usize
         }
     }
     told.len()
+}
+
+// Whose effect it is.
+fn slot_of_effect(effect: &EffectEntry) -> Slot
+    ensures { result ≡ slot_effected effect.now }
+{
+    effect.slot
 }
 
 // Whose charge it is.

@@ -17,7 +17,7 @@ mod slots;
 mod telling;
 
 pub use judging::{Told, tell};
-pub use laws::breaks_are_broken;
+pub use laws::{breaks_are_broken, one_break_of_charges};
 pub use sentences::why;
 pub use std::alloc::AllocError as NoMemory;
 pub use telling::{Break, push_break};

@@ -1,5 +1,6 @@
 -- What is written of what was heard, and what it comes to.
-use Rattle.std.proofs.Common.{◌≡◌, ℕ, List, [], ◌++◌, Option, None, Some, is_some, true, false, refl, sym, ap, ◌∙◌, subst}
+use Rattle.std.proofs.Common.{◌≡◌, ℕ, ◌+◌, Bool, true, false, cond, List, [], ◌∷◌, ◌++◌, append-nil, Option, None, Some, is_some, Result, Ok, Err, refl, sym, ap, ◌∙◌, subst}
+use Rattle.std.specs.Prelude.{bytes_eq}
 use Rattle.std.specs.Io.KnownBytes.{Appends}
 use Rattle.std.proofs.KnownBytes.{Appends-nil}
 use Rattle.audit_reading.specs.Setups.{input_with}
@@ -8,14 +9,17 @@ use Rattle.audit_reading.specs.Heard.{HasHeard}
 use Rattle.audit_reading.specs.Progress.{Reached}
 use Rattle.pc_outside.specs.WhereTold.{WhereTold}
 use Rattle.pc_outside.proofs.ToldLemmas.{told_map}
-use Rattle.audit_reading.specs.Said.{HasNoEntry, report_texts, trace_said}
-use Rattle.audit_reading.specs.Texts.{Text, texts_of}
+use Rattle.audit_reading.specs.Said.{HasNoEntry, marker, report_texts, trace_from, trace_said, trace_texts}
+use Rattle.audit_reading.specs.Texts.{Text, Texts, texts_of, texts_within}
 use Rattle.audit_reading.specs.declared.hearing.Stopped.{Stopped}
 use Rattle.audit_reading.specs.declared.hearing.Stopped.TheVariants as stopped_at
 use Rattle.audit_reading.specs.declared.heard.Heard.{Heard}
 use Rattle.audit_reading.proofs.HeardLemmas.{entries_heard, outside_heard, said_heard}
 use Rattle.audit_reading.proofs.SaidLemmas.{one_list}
-use Rattle.trace_lines.specs.Input.{Input}
+use Rattle.trace_lines.specs.Input.{Input, bad, ended, line_then}
+use Rattle.trace_lines.specs.Line.{Line}
+use Rattle.trace_lines.specs.Meaning.{line_meaning}
+use Rattle.trace_lines.specs.declared.bad.LineBad.{LineBad}
 use Rattle.balance_run.specs.Balance.{balanced}
 use Rattle.balance_run.specs.Report.{Balances, IsWrittenAs, Reports}
 use Rattle.balance_run.specs.Said.{HasBadLine, IsBalanced, IsTrace}
@@ -38,10 +42,10 @@ trace_heard_whole heard texts hears good =
 
 bad_line_heard : (heard : Heard) (texts : List Text) (at : BadAt) → HasHeard heard texts → heard.bad ≡ Some at
     → HasBadLine texts
-bad_line_heard heard texts at hears bad = record {
+bad_line_heard heard texts at hears is = record {
   number = at.number;
   why = at.why;
-  stop = ap (λ (input : Input). input.stop) (said_heard heard texts hears ∙ ap (input_with heard.lines.items) bad);
+  stop = ap (λ (input : Input). input.stop) (said_heard heard texts hears ∙ ap (input_with heard.lines.items) is);
 }
 
 balanced_heard : (slices most : ℕ) (heard : Heard) (texts : List Text) (text : List ℕ) → HasHeard heard texts
@@ -151,25 +155,76 @@ big_said slices most heard start left old texts hears good =
     (λ octets rest. Reached stopped_at.TooLong octets rest texts)
     (λ octets rest at. (at.0, subst IsTrace (sym at.1) (trace_heard_whole heard texts hears good), refl))
 
--- these lines were read, whatever stopped them but the source
-lines_read : (stop : Stopped) (octets rest : List ℕ) (texts : List Text) → (stop ≡ stopped_at.ReadFault → ⊥)
-    → Reached stop octets rest texts → (texts_of octets).lines ≡ texts
-lines_read stopped_at.Ended octets rest texts other at = at.1
-lines_read stopped_at.ReadFault octets rest texts other at = absurd (other refl)
-lines_read stopped_at.LineLong octets rest texts other at = at.1
-lines_read stopped_at.TooLong octets rest texts other at = at.1
+fault_said : (slices most : ℕ) (heard : Heard) (start left old : Option (List ℕ)) (texts : List Text)
+    → HasHeard heard texts → heard.bad ≡ None
+    → WhereTold start left (λ octets rest. Reached stopped_at.ReadFault octets rest texts)
+    → Balances ending_of.ReadFault slices most start left old old
+fault_said slices most heard start left old texts hears good =
+    nothing_said ending_of.ReadFault slices most start left old
+    (λ octets rest. Reached stopped_at.ReadFault octets rest texts)
+    (λ octets rest at. (texts, at, trace_heard_whole heard texts hears good, refl))
+
+-- the input begins with the lines that were heard, whatever stopped them
+lines_read : (stop : Stopped) (octets rest : List ℕ) (texts : List Text) → Reached stop octets rest texts
+    → (more : List Text) × ((texts_of octets).lines ≡ texts ++ more)
+lines_read stopped_at.Ended octets rest texts at = ([], at.1 ∙ sym (append-nil texts))
+lines_read stopped_at.ReadFault octets rest texts at =
+    let ahead = at.unfinished ++ rest in (
+      (texts_within at.room ahead).lines,
+      ap (λ (os : List ℕ). (texts_of os).lines) at.read.parts
+          ∙ ap (λ (t : Texts). t.lines) (at.read.says ahead),
+    )
+lines_read stopped_at.LineLong octets rest texts at = ([], at.1 ∙ sym (append-nil texts))
+lines_read stopped_at.TooLong octets rest texts at = ([], at.1 ∙ sym (append-nil texts))
+
+-- a refused line is so whatever comes behind it
+trace_more : (texts more : List Text)
+    → (behind : List Text) × (trace_texts (texts ++ more) ≡ trace_texts texts ++ behind)
+trace_more [] more = (trace_texts more, refl)
+trace_more (text ∷ texts) more = by_marker (bytes_eq text marker) (trace_more texts more)
+  where
+    by_marker : (ends : Bool)
+        → (behind : List Text) × (trace_texts (texts ++ more) ≡ trace_texts texts ++ behind)
+        → (behind : List Text) × (cond ends [] (text ∷ trace_texts (texts ++ more))
+        ≡ cond ends [] (text ∷ trace_texts texts) ++ behind)
+    by_marker true rest = ([], refl)
+    by_marker false rest = (rest.0, ap (λ (ts : List Text). text ∷ ts) rest.1)
+
+stays_bad : (number least : ℕ) (texts behind : List Text) (n : ℕ) (why : LineBad)
+    → (trace_from number least texts).stop ≡ bad n why → (trace_from number least (texts ++ behind)).stop ≡ bad n why
+stays_bad number least [] behind n why is = absurd (let clash : ended ≡ bad n why = is in cc)
+stays_bad number least (text ∷ texts) behind n why is =
+    by_read (line_meaning least number text)
+    (λ (line : Line). stays_bad (number + 1) line.moment texts behind n why) is
+  where
+    by_read : (read : Result Line LineBad)
+        → ((line : Line) → (trace_from (number + 1) line.moment texts).stop ≡ bad n why
+        → (trace_from (number + 1) line.moment (texts ++ behind)).stop ≡ bad n why)
+        → (line_then number read (λ (line : Line). trace_from (number + 1) line.moment texts)).stop ≡ bad n why
+        → (line_then number read (λ (line : Line). trace_from (number + 1) line.moment (texts ++ behind))).stop
+        ≡ bad n why
+    by_read (Ok line) later stops = later line stops
+    by_read (Err reason) later stops = stops
+
+bad_more : (texts more : List Text) → HasBadLine texts → HasBadLine (texts ++ more)
+bad_more texts more has =
+    let front = trace_more texts more in
+    record {
+      number = has.number;
+      why = has.why;
+      stop = ap (λ (ts : List Text). (trace_from 1 0 ts).stop) front.1
+          ∙ stays_bad 1 0 (trace_texts texts) front.0 has.number has.why has.stop;
+    }
 
 bad_said : (stop : Stopped) (slices most : ℕ) (heard : Heard) (at : BadAt) (start left old : Option (List ℕ))
-    (texts : List Text) → (stop ≡ stopped_at.ReadFault → ⊥) → HasHeard heard texts → heard.bad ≡ Some at
+    (texts : List Text) → HasHeard heard texts → heard.bad ≡ Some at
     → WhereTold start left (λ octets rest. Reached stop octets rest texts)
     → Balances ending_of.BadLine slices most start left old old
-bad_said stop slices most heard at start left old texts other hears bad =
+bad_said stop slices most heard at start left old texts hears is =
     nothing_said ending_of.BadLine slices most start left old (λ octets rest. Reached stop octets rest texts)
-    (λ octets rest reached. (
-      subst HasBadLine (sym (lines_read stop octets rest texts other reached))
-          (bad_line_heard heard texts at hears bad),
-      refl,
-    ))
+    (λ octets rest reached.
+    let read = lines_read stop octets rest texts reached in
+    (subst HasBadLine (sym read.1) (bad_more texts read.0 (bad_line_heard heard texts at hears is)), refl))
 
 -- a stop behind which nothing is read, unless a line of the trace is refused
 module _ (result : Balanced) (slices most : ℕ) (heard : Heard) (start left old : Option (List ℕ)) (texts : List Text)
@@ -178,10 +233,18 @@ module _ (result : Balanced) (slices most : ℕ) (heard : Heard) (start left old
   abbrev Ends : Balanced → Type 0
   Ends ending = Balances ending slices most start left old old
 
-  refused_so : (stop : Stopped) (at : BadAt) → (stop ≡ stopped_at.ReadFault → ⊥) → heard.bad ≡ Some at
+  refused_so : (stop : Stopped) (at : BadAt) → heard.bad ≡ Some at
       → WhereTold start left (λ octets rest. Reached stop octets rest texts) → Ends result
-  refused_so stop at other is reached =
-      subst Ends (sym (refused at is)) (bad_said stop slices most heard at start left old texts other hears is reached)
+  refused_so stop at is reached =
+      subst Ends (sym (refused at is)) (bad_said stop slices most heard at start left old texts hears is reached)
+
+  pub fault_so : (heard.bad ≡ None → result ≡ ending_of.ReadFault)
+      → WhereTold start left (λ octets rest. Reached stopped_at.ReadFault octets rest texts) → Ends result
+  fault_so other reached = go heard.bad refl
+    where
+      go : (found : Option BadAt) → heard.bad ≡ found → Ends result
+      go None is = subst Ends (sym (other is)) (fault_said slices most heard start left old texts hears is reached)
+      go (Some at) is = refused_so stopped_at.ReadFault at is reached
 
   pub long_so : (heard.bad ≡ None → result ≡ ending_of.LineLong)
       → WhereTold start left (λ octets rest. Reached stopped_at.LineLong octets rest texts) → Ends result
@@ -189,7 +252,7 @@ module _ (result : Balanced) (slices most : ℕ) (heard : Heard) (start left old
     where
       go : (found : Option BadAt) → heard.bad ≡ found → Ends result
       go None is = subst Ends (sym (other is)) (long_said slices most heard start left old texts hears is reached)
-      go (Some at) is = refused_so stopped_at.LineLong at (λ same. cc) is reached
+      go (Some at) is = refused_so stopped_at.LineLong at is reached
 
   pub big_so : (heard.bad ≡ None → result ≡ ending_of.TooLong)
       → WhereTold start left (λ octets rest. Reached stopped_at.TooLong octets rest texts) → Ends result
@@ -197,7 +260,7 @@ module _ (result : Balanced) (slices most : ℕ) (heard : Heard) (start left old
     where
       go : (found : Option BadAt) → heard.bad ≡ found → Ends result
       go None is = subst Ends (sym (other is)) (big_said slices most heard start left old texts hears is reached)
-      go (Some at) is = refused_so stopped_at.TooLong at (λ same. cc) is reached
+      go (Some at) is = refused_so stopped_at.TooLong at is reached
 
 -- and where all was read
 pub refused_said : (slices most : ℕ) (heard : Heard) (at : BadAt) (start left old : Option (List ℕ)) (texts : List Text)
@@ -205,7 +268,7 @@ pub refused_said : (slices most : ℕ) (heard : Heard) (at : BadAt) (start left 
     → WhereTold start left (λ octets rest. Reached stopped_at.Ended octets rest texts)
     → Balances ending_of.BadLine slices most start left old old
 refused_said slices most heard at start left old texts =
-    bad_said stopped_at.Ended slices most heard at start left old texts (λ same. cc)
+    bad_said stopped_at.Ended slices most heard at start left old texts
 
 -- lines have one list of entries, and so one text with planned moves
 pub one_text : (slices most : ℕ) (texts : List Text) (one other : List ℕ) → IsBalanced slices most texts one

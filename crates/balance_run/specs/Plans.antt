@@ -7,7 +7,7 @@ use Rattle.balance_plan.specs.declared.load.Planned.{Planned}
 use Rattle.demux.specs.Trace.{book_of, destination_after}
 use Rattle.report_lines.specs.declared.entry.Entry.{Entry}
 use Rattle.trace_lines.specs.Line.{Line}
-use Rattle.trace_lines.specs.declared.line.LineKind.TheVariants as kind
+use Rattle.trace_lines.specs.Kind as kind
 use Rattle.balance_run.specs.Packets.{packets_between}
 
 -- Behind lines that were written: each slot of their book on its destination, with the packets that the report tells

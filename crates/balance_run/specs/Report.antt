@@ -3,9 +3,9 @@ use Rattle.std.specs.Prelude.{◌≡◌, ℕ, List, [], ◌++◌, Option}
 use Rattle.std.specs.Io.KnownBytes.{Appends}
 use Rattle.pc_outside.specs.Fronts.{AppendsFront}
 use Rattle.pc_outside.specs.WhereTold.{WhereTold}
-use Rattle.audit_reading.specs.Progress.{IsReadWhole, IsTaken}
+use Rattle.audit_reading.specs.Progress.{FailsBehind, IsReadWhole}
 use Rattle.audit_reading.specs.Said.{HasNoEntry, report_texts}
-use Rattle.audit_reading.specs.Texts.{big, long, texts_of}
+use Rattle.audit_reading.specs.Texts.{Text, big, long, texts_of}
 use Rattle.balance_run.specs.Said.{HasBadLine, IsBalanced, IsTrace}
 use Rattle.balance_run.specs.declared.balancing.Balanced.{Balanced}
 use Rattle.balance_run.specs.declared.balancing.Balanced.TheVariants as balanced
@@ -18,7 +18,8 @@ pub record IsFront (slices most : ℕ) (octets text : List ℕ) : Type 0 where
 abbrev pub Reports : Balanced → (slices most : ℕ) → List ℕ → List ℕ → List ℕ → Type 0
 Reports balanced.Written slices most octets left text =
     IsReadWhole octets left × IsBalanced slices most (texts_of octets).lines text
-Reports balanced.ReadFault slices most octets left text = IsTaken octets left × (text ≡ [])
+Reports balanced.ReadFault slices most octets left text =
+    (done : List Text) × FailsBehind octets left done × IsTrace done × (text ≡ [])
 Reports balanced.WriteFault slices most octets left text =
     IsReadWhole octets left × IsFront slices most octets text
 Reports balanced.NoMemory slices most octets left text = text ≡ []

@@ -26,13 +26,13 @@ use trace_lines::TraceLine;
 pub enum Balanced {
     /// The trace was written, with the planned moves.
     Written,
-    /// The source failed; nothing was written.
+    /// The source failed, and no line of the trace that was taken is refused; nothing was written.
     ReadFault,
     /// The sink failed; a prefix of the trace was written.
     WriteFault,
     /// Memory ran out; nothing was written.
     NoMemory,
-    /// A line of the trace is refused; nothing was written.
+    /// A line of the trace is refused, whatever comes behind it; nothing was written.
     BadLine,
     /// A line has more than 132,000 octets; nothing was written.
     LineLong,
@@ -142,7 +142,7 @@ pub fn balance<S: Source, K: Sink>(
 {
     match hear(alloc, source) {
         Ok((heard, Stopped::Ended)) => level(alloc, slices, most, &heard, sink),
-        Ok((_, Stopped::ReadFault)) => Balanced::ReadFault,
+        Ok((heard, Stopped::ReadFault)) => unless_refused(&heard, Balanced::ReadFault),
         Ok((heard, Stopped::LineLong)) => unless_refused(&heard, Balanced::LineLong),
         Ok((heard, Stopped::TooLong)) => unless_refused(&heard, Balanced::TooLong),
         Err(AllocError) => Balanced::NoMemory,

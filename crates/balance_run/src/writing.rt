@@ -66,7 +66,7 @@ fn bind(bound: &mut Vec<SliceNo>, slot: Slot, slice: SliceNo)
 }
 
 // The line of a planned move.
-fn move_of(imsis: &[Imsi], fence: &TraceLine, step: &Planned) -> TraceLine
+fn move_of(alloc: Global, imsis: &[Imsi], fence: &TraceLine, step: &Planned) -> TraceLine
     requires slot { step.now.slot < length imsis.now }
     requires slice { step.now.slice ≤ 63 }
     ensures { result ≡ move_line fence.now imsis.now step.now }
@@ -81,6 +81,7 @@ fn move_of(imsis: &[Imsi], fence: &TraceLine, step: &Planned) -> TraceLine
         number: fence.number,
         moment: fence.moment,
         kind,
+        octets: Text::new(alloc),
     }
 }
 
@@ -272,7 +273,8 @@ impl Writer {
     {
         // At most 65,533 are in it, each once.
         let _known = self.book.len();
-        let line = move_of(&self.imsis, fence, step);
+        let alloc = *self.imsis.allocator();
+        let line = move_of(alloc, &self.imsis, fence, step);
         bind(&mut self.bound, step.slot, step.slice);
         push_line(&mut self.text, &line)
     }

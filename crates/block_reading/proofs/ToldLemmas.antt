@@ -4,14 +4,14 @@ use Rattle.std.proofs.lemmas.Bool.{le-ltb}
 use Rattle.text_fields.specs.Fields.{fields_of, has_empty_field}
 use Rattle.trace_lines.specs.declared.bad.LineBad.{LineBad}
 use Rattle.trace_lines.specs.declared.bad.LineBad.TheVariants.{Field, NoMemory}
-use Rattle.trace_lines.specs.declared.line.LineKind.{LineKind}
+use Rattle.trace_lines.specs.Kind.{LineKind}
 use Rattle.trace_lines.specs.Line.{Line}
 use Rattle.trace_lines.specs.Refused.{◌>>=◌}
 use Rattle.trace_lines.specs.Meaning.{number_meaning, kind_meaning, moment_meaning, line_of_fields, line_meaning, not_before}
 use Rattle.trace_lines.proofs.AloneLemmas.{meant_alone}
 use Rattle.pc_outside.proofs.ToldLemmas.{told_map}
-use Rattle.trace_run.specs.declared.reading.Next.{Next}
-use Rattle.trace_run.specs.declared.reading.Next.TheVariants as next
+use Rattle.trace_run.specs.Coming.{Next}
+use Rattle.trace_run.specs.Coming as next
 use Rattle.trace_run.specs.Next.{Says, Tells}
 use Rattle.block_reading.specs.Apart.{MeansApart, numbered}
 

@@ -4,7 +4,7 @@ ghost use Rattle.std.specs.Io.KnownBytes.{prepend_known};
 ghost use Rattle.std.specs.Vec.Iter.{into_iter_items};
 ghost use Rattle.pc_outside.specs.Limits.{input_max};
 ghost use Rattle.trace_lines.specs.Meaning.{not_before};
-ghost use Rattle.trace_run.specs.Next.{Gives, Tells, TakesRoom};
+ghost use Rattle.trace_run.specs.Next.{Gives, Tells, TakesRoom, said_in};
 ghost use Rattle.block_reading.specs.Apart.{AreFirst, IsFirst, numbered};
 
 use crate::buffer::BlockBuf;
@@ -68,14 +68,14 @@ impl<'r, R: Threads + Sync> LineReader for BlockReader<'r, R> {
     fn next<S: Source>(
         &mut self,
         source: &mut S,
-        room: &mut Vec<u8>,
+        line: &mut TraceLine,
         number: u64,
         least: Moment,
     ) -> Next {
         match self.lines.next() {
-            Some(one) => give(&mut self.buf, one, number, least),
+            Some(one) => give(&mut self.buf, one, line, number, least),
             None => {
-                let next = next_line(room, source, &mut self.buf, number, least);
+                let next = next_line(line, source, &mut self.buf, number, least);
                 self.lines = ahead(self.rt, self.alloc, is_line(&next), self.buf.front());
                 next
             }
@@ -116,20 +116,23 @@ fn none_read(alloc: Global) -> IntoIter<Apart, Global>
 }
 
 // Gives the first line held, of which this was read.
-fn give(buf: &mut BlockBuf, one: Apart, number: u64, least: Moment) -> Next
+fn give(buf: &mut BlockBuf, one: Apart, place: &mut TraceLine, number: u64, least: Moment) -> Next
     requires { (behind : List ℕ) × IsFirst one buf.old.front behind }
 
-    ensures tells { (left : Option (List ℕ)) → Tells result number least buf.old.room buf.new.room
+    ensures tells { (left : Option (List ℕ)) → Tells (said_in result place.new) number least buf.old.room buf.new.room
         (prepend_known buf.old.front left) (prepend_known buf.new.front left) }
-    ensures room { TakesRoom result buf.old.room buf.new.room }
-    ensures given { Gives result number least }
+    ensures room { TakesRoom (said_in result place.new) buf.old.room buf.new.room }
+    ensures given { Gives (said_in result place.new) number least }
     ensures no_fault { result ≡ Next.ReadFault → ⊥ }
     ensures behind { (behind : List ℕ) → IsFirst one buf.old.front behind → buf.new.front ≡ behind }
 {
     let len = one.len;
     buf.give(len);
     match in_order(one.line, number, least) {
-        Ok(line) => given(line, len, false),
+        Ok(line) => {
+            *place = line;
+            given(len, false)
+        }
         Err(why) => refused(why),
     }
 }
@@ -150,5 +153,6 @@ fn in_order(
         number,
         moment: line.moment,
         kind: line.kind,
+        octets: line.octets,
     })
 }

@@ -117,6 +117,7 @@ impl Book {
     }
 
     // The same for the life that stands at a place.
+    #[inline(always)]
     fn count_at(&mut self, place: usize, up: bool, octets: u32, at: Moment) -> Result<(), NoMemory>
         requires within { place < length self.old.opens }
         requires room { HoldsAt HasRoom self.old.opens place }
@@ -225,6 +226,9 @@ impl Book {
         ensures pieces { self.new ≡ record self.old { rows = [] } }
     {
         let alloc = *self.rows.allocator();
+        if self.rows.is_empty() {
+            return Vec::new(alloc);
+        }
         std::mem::replace(&mut self.rows, Vec::new(alloc))
     }
 
@@ -251,6 +255,7 @@ pub fn counts_are_bounded()
 {}
 
 // Where a life stands among the open ones, if it does.
+#[inline(always)]
 fn find_place(opens: &[Open], life: u64) -> Option<usize>
     ensures within { IfSome result (λ place. place < length opens.now) }
     ensures found { IfSome result (λ place. slice_index (map (λ counters. counters.life) opens.now) place ≡ life) }
@@ -272,6 +277,7 @@ fn find_place(opens: &[Open], life: u64) -> Option<usize>
 }
 
 // Where a life stands if none between it and the first open one is over.
+#[inline(always)]
 fn guess_of(opens: &[Open], life: u64) -> usize {
     match opens.first() {
         Some(first) => life.wrapping_sub(first.life) as usize,

@@ -2,6 +2,8 @@
 use Rattle.std.proofs.Common.{◌≡◌, ℕ, List, [], ◌∷◌, ◌++◌, length, map, set, get_or, refl, sym, ap, ◌∙◌, append-nil, append_assoc, arith}
 use Rattle.std.specs.Prelude.{reverse}
 use Rattle.std.proofs.lemmas.List.{map-set, map_push, reverse-reverse, set-get_or}
+use Rattle.flow_core.specs.declared.flow.Flow.{Ghosts}
+use Rattle.flow_core.specs.declared.worker.FlowEnd.{FlowEnd}
 use Rattle.front_close.proofs.Popping.{popped_some}
 
 -- none of a list that has none
@@ -9,6 +11,11 @@ pub nothing_left : {X : Type 0} (xs : List X) → length xs ≡ 0 → xs ≡ []
 nothing_left [] none = refl
 nothing_left (x ∷ xs) none = absurd (omega arith)
 
+-- the slice of a worker that stopped
+abbrev pub end_place : {H N I : Type 0} {g : Ghosts H N I} → FlowEnd H N I g → ℕ
+end_place end = end.place
+
+-- by the lanes of workers, or by their slices
 module _ {W E L : Type 0} (lanes : W → L) (end_lanes : E → L) where
   -- some have ended, and others, the first one last, are left
   abbrev pub HaveEnded : List W → List W → List E → Type 0
@@ -34,7 +41,7 @@ module _ {W E L : Type 0} (lanes : W → L) (end_lanes : E → L) where
       sym (append-nil (map end_lanes ends)) ∙ sym (ap (λ (ws : List W). map end_lanes ends ++ map lanes (reverse ws)) none)
       ∙ ended
 
--- a turn of one worker keeps its lanes, and so those of all
+-- a turn of one worker keeps its lanes or its slice, and so those of all
 pub turned : {W L : Type 0} (lanes : W → L) (all : List W) (at : ℕ) (was now : W) → was ≡ get_or all at was
     → lanes now ≡ lanes was → map lanes (set all at now) ≡ map lanes all
 turned lanes all at was now read same =

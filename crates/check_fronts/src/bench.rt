@@ -124,7 +124,7 @@ impl Bench {
         requires { Stands self.old }
         ensures { OnOk result (Stands self.new) }
     {
-        let line = fence_at(self.next(), self.latest);
+        let line = fence_at(self.alloc, self.next(), self.latest);
         self.take(rt, line)
     }
 
@@ -190,11 +190,12 @@ impl Bench {
 }
 
 // The order to end an epoch.
-fn fence_at(number: u64, moment: Moment) -> TraceLine {
+fn fence_at(alloc: Global, number: u64, moment: Moment) -> TraceLine {
     TraceLine {
         number,
         moment,
         kind: LineKind::Fence,
+        octets: Text::new(alloc),
     }
 }
 

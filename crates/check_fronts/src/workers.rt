@@ -2,6 +2,7 @@
 ghost use Rattle.std.specs.Prelude.{◌≡◌, map, IfOk};
 ghost use Rattle.worker_core.specs.Workers as control_worker;
 ghost use Rattle.flow_core.specs.Workers as flow_worker;
+ghost use Rattle.flow_home.specs.Placed.{slices_served};
 
 use crate::stop::Stop;
 use control_half::ControlHalf;
@@ -32,7 +33,8 @@ pub fn turn_flow<R: Wait>(
     workers: &mut Vec<FlowWorker<FlowHalf>>,
     slice: usize,
 ) -> Result<(), Stop>
-    ensures { map flow_worker.worker_lanes workers.new.items ≡ map flow_worker.worker_lanes workers.old.items }
+    ensures lanes { map flow_worker.worker_lanes workers.new.items ≡ map flow_worker.worker_lanes workers.old.items }
+    ensures places { map flow_worker.place_of workers.new.items ≡ map flow_worker.place_of workers.old.items }
 {
     if slice >= workers.len() {
         return Err(Stop::Row);
@@ -62,8 +64,9 @@ pub fn flow_ends(
     alloc: Global,
     mut workers: Vec<FlowWorker<FlowHalf>>,
 ) -> Result<Vec<FlowEnd<FlowHalf>>, AllocError>
-    ensures { IfOk result (λ ends. map flow_worker.end_lanes ends.items
+    ensures lanes { IfOk result (λ ends. map flow_worker.end_lanes ends.items
         ≡ map flow_worker.worker_lanes workers.items) }
+    ensures places { IfOk result (λ ends. slices_served ends.items ≡ map flow_worker.place_of workers.items) }
 {
     let mut ends = Vec::new(alloc);
     workers.reverse();

@@ -1,6 +1,6 @@
 -- What a line of a kind asks.
 use Rattle.std.proofs.Common.{◌≡◌, ap}
-use Rattle.trace_lines.specs.declared.line.LineKind.{LineKind}
+use Rattle.trace_lines.specs.Kind.{LineKind}
 use Rattle.trace_lines.specs.Line.{Line}
 use Rattle.demux.specs.Line.{kind_asks, asked}
 

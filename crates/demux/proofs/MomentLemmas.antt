@@ -20,8 +20,8 @@ use Rattle.ipv4_packet.specs.Refusal.{first_fault as ip_fault}
 use Rattle.ipv4_packet.specs.declared.fault.IpBad.{IpBad}
 use Rattle.control_steps.specs.declared.command.CommandKind.{CommandKind}
 use Rattle.trace_lines.specs.Line.{Line}
-use Rattle.trace_lines.specs.declared.line.LineKind.{LineKind}
-use Rattle.trace_lines.specs.declared.line.LineKind.TheVariants as kind
+use Rattle.trace_lines.specs.Kind.{LineKind}
+use Rattle.trace_lines.specs.Kind as kind
 use Rattle.pc_base.specs.declared.packet.Way.TheVariants.{Down}
 use Rattle.demux.specs.declared.decision.Decision.{Decision}
 use Rattle.demux.specs.declared.decision.Decision.TheVariants.{Move, Note}
@@ -201,9 +201,13 @@ line_at : (line : Line) → AskedAt line.moment (asked line)
 unfolding asked
 line_at line = kind_at line.number line.moment line.kind
 
+pub moment_decided : (slices : ℕ) (book : List (List ℕ)) (line : Line)
+    → HasMoment line.moment (decided slices book line)
+moment_decided slices book line = has_moment slices line.moment book (asked line) (line_at line)
+
 -- the same of an answer
 pub moment_if_ok : {E : Type 0} (slices : ℕ) (book : List (List ℕ)) (line : Line) (answer : Result Decision E)
     → IfOk answer (λ decision. decision ≡ decided slices book line) → IfOk answer (HasMoment line.moment)
 moment_if_ok slices book line (Ok decision) is =
-    subst (HasMoment line.moment) (sym is) (has_moment slices line.moment book (asked line) (line_at line))
+    subst (HasMoment line.moment) (sym is) (moment_decided slices book line)
 moment_if_ok slices book line (Err e) is = tt

@@ -53,8 +53,8 @@ use Rattle.tft_codec.specs.declared.fault.TBad.{TBad}
 use Rattle.tft_codec.specs.declared.tft.Tft.{Tft}
 use Rattle.tft_codec.proofs.TftLemmas.{tft_taken}
 use Rattle.trace_lines.specs.Line.{IsKind, IsLine, Line}
-use Rattle.trace_lines.specs.declared.line.LineKind.{LineKind}
-use Rattle.trace_lines.specs.declared.line.LineKind.TheVariants as kind
+use Rattle.trace_lines.specs.Kind.{LineKind}
+use Rattle.trace_lines.specs.Kind as kind
 use Rattle.wire_octets.specs.Numbers.{AreOctets, be16_at, be16_octets, be32_octets}
 use Rattle.demux.specs.Asked.{Asked, Whom, Wish, command, packet, move, noted, note, admission, of}
 use Rattle.demux.specs.Destinations.{destination}

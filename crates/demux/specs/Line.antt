@@ -1,7 +1,7 @@
 -- What a line asks, by its kind.
 use Rattle.std.specs.Prelude.{ℕ, codes}
-use Rattle.trace_lines.specs.declared.line.LineKind.{LineKind}
-use Rattle.trace_lines.specs.declared.line.LineKind.TheVariants as kind
+use Rattle.trace_lines.specs.Kind.{LineKind}
+use Rattle.trace_lines.specs.Kind as kind
 use Rattle.trace_lines.specs.Line.{Line}
 use Rattle.control_steps.specs.declared.command.CommandKind.TheVariants as commands
 use Rattle.demux.specs.Asked.{Asked, note, admission, command, move}

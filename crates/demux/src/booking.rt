@@ -9,6 +9,7 @@ use address_book::{AddressBook, AdmitNo};
 use pc_base::{Imsi, LAST_SLOT, NoMemory, Slot};
 
 /// A slot, if it is one of the book.
+#[inline(always)]
 pub fn in_book(book: &AddressBook, slot: Slot) -> Option<Slot>
     ensures { result ≡ found_in book.now (asked.slot slot) }
 {

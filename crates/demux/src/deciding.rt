@@ -50,9 +50,9 @@ fn decide_kind<'a>(
 {
     let seq = seq_of_line(line.number);
     match &line.kind {
-        LineKind::S11(octets) => decide_mme(alloc, book, octets.as_slice()),
-        LineKind::S1u(octets) => decide_tunnel(alloc, book, line.moment, octets.as_slice()),
-        LineKind::Sgi(octets) => decide_packet(alloc, book, line.moment, octets.as_slice()),
+        LineKind::S11 => decide_mme(alloc, book, line.octets.as_slice()),
+        LineKind::S1u => decide_tunnel(alloc, book, line.moment, line.octets.as_slice()),
+        LineKind::Sgi => decide_packet(alloc, book, line.moment, line.octets.as_slice()),
         LineKind::Attach {
             imsi,
             enb,
@@ -66,7 +66,6 @@ fn decide_kind<'a>(
             mbr_down,
             gbr_up,
             gbr_down,
-            tft,
         } => {
             let bearer = NewBearer {
                 qci: *qci,
@@ -75,15 +74,15 @@ fn decide_kind<'a>(
                 gbr_up: *gbr_up,
                 gbr_down: *gbr_down,
             };
-            decide_bearer(alloc, book, imsi, seq, bearer, tft.as_slice())
+            decide_bearer(alloc, book, imsi, seq, bearer, line.octets.as_slice())
         }
-        LineKind::Filters { imsi, ebi, tft } => decide_filters(
+        LineKind::Filters { imsi, ebi } => decide_filters(
             alloc,
             book,
             imsi,
             seq,
             *ebi,
-            tft.as_slice(),
+            line.octets.as_slice(),
         ),
         LineKind::Drop { imsi, ebi } => decide_instruction(
             alloc,

@@ -16,6 +16,7 @@ pub fn control_slot(teid: Teid) -> Option<Slot>
 }
 
 /// The slot whose bearer TEID it is, and the bearer's index.
+#[inline(always)]
 pub fn bearer_end(teid: Teid) -> Option<(Slot, u8)>
     ensures { result ≡ bearer_end teid }
 {
@@ -27,6 +28,7 @@ pub fn bearer_end(teid: Teid) -> Option<(Slot, u8)>
 }
 
 /// The slot whose address it is.
+#[inline(always)]
 pub fn addressee(addr: Addr4) -> Option<Slot>
     ensures { result ≡ addressee addr }
 {

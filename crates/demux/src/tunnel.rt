@@ -2,10 +2,9 @@
 ghost use Rattle.std.specs.Prelude.{◌≡◌, ℕ, Option, unwrap_or, IfOk};
 ghost use Rattle.demux.specs.Tunnel.{tunnel_echo_note, unknown_note, carried, tunnelled};
 ghost use Rattle.demux.specs.Tunnel.{tunnel_asked, delivered, packet_asked};
-ghost use Rattle.demux.specs.Resolved.{granted, bearer_in, addressee_in, resolved};
+ghost use Rattle.demux.specs.Resolved.{granted, resolved};
 
-use crate::booking::in_book;
-use crate::ends::{addressee, bearer_end};
+use crate::packets::{addressee_in_book, bearer_in_book};
 use crate::texts::{carried_note, octets_note, packet_note, tunnel_note, words};
 use crate::{Decision, LentPacket};
 use address_book::AddressBook;
@@ -56,15 +55,6 @@ fn decide_tunnelled<'a>(
         Some((slot, index)) => decide_carried(alloc, moment, slot, index, payload),
         None => Ok(Decision::Note(unknown_note(alloc, teid)?)),
     }
-}
-
-// The slot of the book whose bearer TEID it is, and the bearer's index.
-fn bearer_in_book(book: &AddressBook, teid: Teid) -> Option<(Slot, u8)>
-    ensures { result ≡ bearer_in book.now teid }
-{
-    let (slot, index) = bearer_end(teid)?;
-    let slot = in_book(book, slot)?;
-    Some((slot, index))
 }
 
 // What came up on a bearer of a slot.
@@ -128,13 +118,6 @@ fn decide_delivered<'a>(
         Some(slot) => Ok(Decision::Packet { slot, packet }),
         None => Ok(Decision::Note(words(alloc, "sgi unknown")?)),
     }
-}
-
-// The slot of the book whose address it is.
-fn addressee_in_book(book: &AddressBook, addr: Addr4) -> Option<Slot>
-    ensures { result ≡ addressee_in book.now addr }
-{
-    in_book(book, addressee(addr)?)
 }
 
 fn echo_note(alloc: Global, seq: u16) -> Result<Octets, NoMemory>

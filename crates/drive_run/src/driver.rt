@@ -136,14 +136,8 @@ impl Reporter for Driver {
 
     ghost represents = { Drove };
 
-    fn take(
-        &mut self,
-        line: TraceLine,
-        room: &mut Vec<u8>,
-        _text: &mut Text,
-    ) -> Result<(), AllocError> {
-        self.gateway.take(&mut self.lines, &line)?;
-        line.give_room(room);
+    fn take(&mut self, line: &TraceLine, _text: &mut Text) -> Result<(), AllocError> {
+        self.gateway.take(&mut self.lines, line)?;
         Ok(())
     }
 

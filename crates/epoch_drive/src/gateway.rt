@@ -55,7 +55,7 @@ struct Decided<'d, 'a> {
 
 // Whether a line comes from a tunnel or from the internet.
 fn is_tunnelled(kind: &LineKind) -> bool {
-    matches!(kind, LineKind::S1u(_) | LineKind::Sgi(_))
+    matches!(kind, LineKind::S1u | LineKind::Sgi)
 }
 
 // The packet that was decided on.

@@ -494,6 +494,33 @@ module _ {H I : Type 0} (slot : H → ℕ) (item_slot : I → ℕ) (handled : H 
     quiet = λ some none. quiet_now none;
   }
 
+-- what halves weigh as the lanes of the last desk are closed, if the worker's orders weigh what it held and sent home
+pub weights_closed : {H I : Type 0} (hand next : Hand H I) (out : List H) (desks first : List (FlowDesk H I))
+    (desk : FlowDesk H I) (came : List (FlowOrder H I)) (gone_home : List H) → desks ≡ first ++ desk ∷ []
+    → IsEmptied hand → next.found.items ≡ hand.found.items → next.lefts.items ≡ hand.lefts.items
+    → sent desk.orders ≡ came ++ orders_left next → gone_home ≡ taken desk.home ++ out
+    → (f : H → ℕ) → sum_by f (halves_in came) ≡ sum_by f next.held.items
+    + sum_by f (gone_home ++ option_to_list next.waiting)
+    → (fronts asides homes_are names : ℕ)
+    → fronts + hand_sum f hand + 0 + asides + homes_are + sum_by (sent_weight f) desks
+    ≡ names + sum_by (home_weight f) desks
+    → fronts + hand_sum f next + sum_by f out + asides + homes_are + sum_by (sent_weight f) first
+    ≡ names + sum_by (home_weight f) first
+weights_closed hand next out desks first desk came gone_home last emptied found lefts whole home f kept fronts asides
+    homes_are names was =
+    let a = hand_more hand next emptied found lefts f in
+    let s = ap (sum_by (sent_weight f)) last ∙ sum_by_push (sent_weight f) first desk in
+    let t = ap (sum_by (home_weight f)) last ∙ sum_by_push (home_weight f) first desk in
+    let b : sum_by f (halves_in (sent desk.orders)) ≡ sum_by f (halves_in came)
+    + sum_by f (halves_in (orders_left next)) =
+    ap (λ l. sum_by f (halves_in l)) whole ∙ ap (sum_by f) (halves-append came (orders_left next))
+    ∙ sum_by-append f (halves_in came) (halves_in (orders_left next)) in
+    let d : sum_by f (gone_home ++ option_to_list next.waiting) ≡ sum_by f (taken desk.home) + sum_by f out
+    + sum_by f (option_to_list next.waiting) =
+    sum_by-append f gone_home (option_to_list next.waiting)
+    ∙ ap (λ n. n + sum_by f (option_to_list next.waiting)) (ap (sum_by f) home
+    ∙ sum_by-append f (taken desk.home) out) in omega arith
+
 -- all slots, and the names
 module _ {H N I : Type 0} (name : H → N) (slot_at : N → ℕ) (item_slot : I → ℕ) (handled : H → List I)
     (told : (a b : List (List I)) → Same a b → a ≡ b)
@@ -510,33 +537,11 @@ module _ {H N I : Type 0} (name : H → N) (slot_at : N → ℕ) (item_slot : I 
     (holds : Holds (λ half. slot_at (name half)) item_slot handled came next.held.items next.item)
     (sends : Sends (λ half. slot_at (name half)) item_slot handled came (gone_home ++ option_to_list next.waiting))
     (stands : KeptStands (λ half. slot_at (name half)) item_slot handled came next.item) where
-  names_closed : (h : N → ℕ) (fronts asides homes_are names : ℕ)
-      → fronts + hand_sum (λ half. h (name half)) hand + 0 + asides + homes_are
-      + sum_by (sent_weight (λ half. h (name half))) desks
-      ≡ names + sum_by (home_weight (λ half. h (name half))) desks
-      → fronts + hand_sum (λ half. h (name half)) next + sum_by (λ half. h (name half)) out + asides + homes_are
-      + sum_by (sent_weight (λ half. h (name half))) first
-      ≡ names + sum_by (home_weight (λ half. h (name half))) first
-  names_closed h fronts asides homes_are names was =
-      let f : H → ℕ = λ half. h (name half) in
-      let a = hand_more hand next emptied found lefts f in
-      let s = ap (sum_by (sent_weight f)) last ∙ sum_by_push (sent_weight f) first desk in
-      let t = ap (sum_by (home_weight f)) last ∙ sum_by_push (home_weight f) first desk in
-      let b : sum_by f (halves_in (sent desk.orders)) ≡ sum_by f (halves_in came)
-      + sum_by f (halves_in (orders_left next)) =
-      ap (λ l. sum_by f (halves_in l)) whole ∙ ap (sum_by f) (halves-append came (orders_left next))
-      ∙ sum_by-append f (halves_in came) (halves_in (orders_left next)) in
-      let c = kept h in
-      let d : sum_by f (gone_home ++ option_to_list next.waiting) ≡ sum_by f (taken desk.home) + sum_by f out
-      + sum_by f (option_to_list next.waiting) =
-      sum_by-append f gone_home (option_to_list next.waiting)
-      ∙ ap (λ n. n + sum_by f (option_to_list next.waiting)) (ap (sum_by f) home
-      ∙ sum_by-append f (taken desk.home) out) in omega arith
-
   pub closes : IsLaid name slot_at item_slot handled admitted places aside hand [] desks homes
       → IsLaid name slot_at item_slot handled admitted places aside next out first homes
   closes laid = record {
-    names = λ h. names_closed h (sum_by (front_at (λ half. h (name half))) places)
+    names = λ h. weights_closed hand next out desks first desk came gone_home last emptied found lefts whole home
+        (λ half. h (name half)) (kept h) (sum_by (front_at (λ half. h (name half))) places)
         (sum_by (λ (kept : HalfAside H). h (name kept.half)) aside)
         (sum_by (λ (home : Home H I). h (name home.half)) homes) (sum_by (weight_at h) (names_of name admitted))
         (laid.names h);

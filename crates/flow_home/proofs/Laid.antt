@@ -19,7 +19,7 @@ use Rattle.flow_home.specs.declared.hand.Hand.{Hand}
 use Rattle.flow_home.specs.declared.home.Home.{Home}
 use Rattle.worker_core.specs.declared.home_lane.HomeLane.{HomeLane}
 use Rattle.flow_home.specs.Lefts.{items_in, kept_in, lefts_at}
-use Rattle.flow_home.specs.Homecomings.{orders_left, rest_at, IsLaid, AllLaid, AreHome, IsEmptied, HandKeeps, ComesHome}
+use Rattle.flow_home.specs.Homecomings.{halves_sum, orders_left, rest_at, IsLaid, AllLaid, AreHome, IsEmptied, HandKeeps, ComesHome}
 use Rattle.worker_core.specs.Opened.{IsRest}
 use Rattle.flow_home.proofs.Begins.{IsNew, begins}
 use Rattle.flow_home.proofs.Moves.{moved_laid, aside_laid}
@@ -39,6 +39,42 @@ pub record SameOrders {H I : Type 0} (hand next : Hand H I) : Type 0 where
   pub item : next.item ≡ hand.item
   pub left : next.left.items ≡ hand.left.items
   pub waiting : next.waiting ≡ hand.waiting
+
+-- what halves weigh that are at the front, in hand or on the way, after a step
+module _ {H I : Type 0} (places : List (Option (FlowPlace H I))) (hand next : Hand H I) (f : H → ℕ) where
+  pub kept_halves : (out : List H) → SameOrders hand next → next.held.items ≡ hand.held.items
+      → next.found.items ≡ hand.found.items → halves_sum f places next out ≡ halves_sum f places hand out
+  kept_halves out same held found =
+      let a = ap (sum_by f) found in let b = ap (λ o. sum_by f (option_to_list o)) same.waiting in
+      let c : sum_by f (halves_in (reverse next.left.items)) ≡ sum_by f (halves_in (reverse hand.left.items)) =
+      ap (λ l. sum_by f (halves_in (reverse l))) same.left in
+      let d = ap (sum_by f) held in omega arith
+
+  pub home_halves : (out : List H) → IsEmptied hand → SameOrders hand next → next.found.items ≡ hand.found.items
+      → halves_sum f places next out ≡ halves_sum f places hand (next.held.items ++ out)
+  home_halves out emptied same found =
+      let a = ap (sum_by f) found in let b = ap (λ o. sum_by f (option_to_list o)) same.waiting in
+      let c : sum_by f (halves_in (reverse next.left.items)) ≡ sum_by f (halves_in (reverse hand.left.items)) =
+      ap (λ l. sum_by f (halves_in (reverse l))) same.left in
+      let d = sum_by-append f next.held.items out in let e = ap (sum_by f) emptied.held in omega arith
+
+  pub aside_halves : (out : List H) (aside kept : List (HalfAside H)) → SameOrders hand next
+      → next.held.items ≡ hand.held.items
+      → sum_by (λ (x : HalfAside H). f x.half) kept + sum_by f next.found.items
+      ≡ sum_by (λ (x : HalfAside H). f x.half) aside + sum_by f hand.found.items
+      → halves_sum f places next out + sum_by (λ (x : HalfAside H). f x.half) kept
+      ≡ halves_sum f places hand out + sum_by (λ (x : HalfAside H). f x.half) aside
+  aside_halves out aside kept same held halves =
+      let b = ap (λ o. sum_by f (option_to_list o)) same.waiting in
+      let c : sum_by f (halves_in (reverse next.left.items)) ≡ sum_by f (halves_in (reverse hand.left.items)) =
+      ap (λ l. sum_by f (halves_in (reverse l))) same.left in
+      let d = ap (sum_by f) held in omega arith
+
+  pub place_halves : (out : List H) (later : List (Option (FlowPlace H I))) → IsEmptied hand → IsEmptied next
+      → sum_by (front_at f) later + sum_by f next.found.items ≡ sum_by (front_at f) places + sum_by f hand.found.items
+      → halves_sum f later next out ≡ halves_sum f places hand out
+  place_halves out later emptied still halves =
+      let b = hand_emptied hand emptied f in let c = hand_emptied next still f in omega arith
 
 module _ {H I : Type 0} (item_slot : I → ℕ) (hand next : Hand H I) where
   rest_same : SameOrders hand next → next.lefts.items ≡ hand.lefts.items
@@ -83,12 +119,7 @@ module _ {H N I : Type 0} (name : H → N) (slot_at : N → ℕ) (item_slot : I 
         moved_laid name slot_at item_slot handled admitted desks homes places places hand next (next.held.items
         ++ out) out
         (λ s. rest_same item_slot hand next same lefts s places) (λ s some. refl) aside
-        (λ f.
-        let a = ap (sum_by f) found in let b = ap (λ o. sum_by f (option_to_list o)) same.waiting in
-        let c : sum_by f (halves_in (reverse next.left.items)) ≡ sum_by f (halves_in (reverse hand.left.items)) =
-        ap (λ l. sum_by f (halves_in (reverse l))) same.left in
-        let d = sum_by-append f next.held.items out in let e = ap (sum_by f) emptied.held in omega arith)
-        (laid (next.held.items ++ out) (rests out rest))
+        (λ f. home_halves places hand next f out emptied same found) (laid (next.held.items ++ out) (rests out rest))
 
     pub asides_all : (places : List (Option (FlowPlace H I))) (aside kept : List (HalfAside H)) (hand next : Hand H I)
         (opened : Option (HomeLane H)) → desks ≡ [] → SameOrders hand next → next.lefts.items ≡ hand.lefts.items
@@ -99,12 +130,7 @@ module _ {H N I : Type 0} (name : H → N) (slot_at : N → ℕ) (item_slot : I 
     asides_all places aside kept hand next opened none same lefts held halves laid out rest =
         aside_laid name slot_at item_slot handled admitted desks homes places places hand next out out
         (λ s. rest_same item_slot hand next same lefts s places) (λ s some. refl) aside kept (ap length none)
-        (λ f.
-        let a = halves f in let b = ap (λ o. sum_by f (option_to_list o)) same.waiting in
-        let c : sum_by f (halves_in (reverse next.left.items)) ≡ sum_by f (halves_in (reverse hand.left.items)) =
-        ap (λ l. sum_by f (halves_in (reverse l))) same.left in
-        let d = ap (sum_by f) held in omega arith)
-        (laid out rest)
+        (λ f. aside_halves places hand next f out aside kept same held (halves f)) (laid out rest)
 
     pub place_all : (places later : List (Option (FlowPlace H I))) (aside : List (HalfAside H)) (hand next : Hand H I)
         (opened : Option (HomeLane H)) → desks ≡ [] → IsEmptied hand → IsEmptied next
@@ -117,9 +143,7 @@ module _ {H N I : Type 0} (name : H → N) (slot_at : N → ℕ) (item_slot : I 
         moved_laid name slot_at item_slot handled admitted desks homes places later hand next out out
         (λ s. rest_emptied next still item_slot s later ∙ items s ∙ sym (rest_emptied hand emptied item_slot s places))
         (λ s some. absurd (let e = ap length none in omega arith)) aside
-        (λ f.
-        let a = halves f in let b = hand_emptied hand emptied f in let c = hand_emptied next still f in omega arith)
-        (laid out rest)
+        (λ f. place_halves places hand next f out later emptied still (halves f)) (laid out rest)
 
     module _ (coded : Coded (List I)) (places : List (Option (FlowPlace H I))) (aside : List (HalfAside H))
         (hand : Hand H I)
@@ -150,12 +174,7 @@ module _ {H N I : Type 0} (name : H → N) (slot_at : N → ℕ) (item_slot : I 
           hs) (sym is.2)
           (moved_laid name slot_at item_slot handled admitted desks homes places places hand next out out
           (λ s. rest_same item_slot hand next same is.1 s places) (λ s some. refl) aside
-          (λ f.
-          let a = ap (sum_by f) is.0 in let b = ap (λ o. sum_by f (option_to_list o)) same.waiting in
-          let c : sum_by f (halves_in (reverse next.left.items)) ≡ sum_by f (halves_in (reverse hand.left.items)) =
-          ap (λ l. sum_by f (halves_in (reverse l))) same.left in
-          let d = ap (sum_by f) held in omega arith)
-          (laid out rest))
+          (λ f. kept_halves places hand next f out same held is.0) (laid out rest))
 
       pub home_all : {E : Type 0} (answer : Result (Unit {0}) E) (next : Hand H I) (later : List (Home H I))
           → SameOrders hand next

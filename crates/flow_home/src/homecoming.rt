@@ -3,7 +3,8 @@ ghost use Rattle.std.specs.Prelude.{◌≡◌, ◌++◌, map, All, IfOk, IfErr};
 ghost use Rattle.gather_home.specs.Homecomings.{somes};
 ghost use Rattle.flow_migration.specs.Places.{names_of};
 ghost use Rattle.flow_home.specs.Homecomings.{AreEnds, AtSlots, ComeToAccepted};
-ghost use Rattle.flow_home.specs.Words.{admitted_of};
+ghost use Rattle.flow_home.specs.Placed.{AllPlaced, slices_served};
+ghost use Rattle.flow_home.specs.Words.{admitted_of, slices_of};
 
 use crate::FlowParts;
 use crate::home::Home;
@@ -29,7 +30,11 @@ pub fn gather_flow<H: Flow, R: Wait>(
 
     ensures items { IfOk result (λ homes. ComeToAccepted H.name H.slot_at H.handled side.places.items homes.items) }
 
-    ensures parts { IfErr result (λ parts. admitted_of parts ≡ side.places.items) }
+    // Where the slices of all workers are below a number, so is each slice at which a half handled an item.
+    ensures placed { IfOk result (λ homes. AllPlaced H.places (slices_served ends.items) homes.items) }
+
+    ensures parts { IfErr result (λ parts. (admitted_of parts ≡ side.places.items)
+        × (slices_of parts ≡ slices_served ends.items)) }
 {
     FlowParts::new(alloc, side, ends).again(rt)
 }

@@ -5,6 +5,7 @@ ghost use Rattle.gather_home.specs.Homecomings.{somes};
 ghost use Rattle.flow_migration.specs.Places.{names_of};
 ghost use Rattle.flow_migration.specs.Sides.{BySlot};
 ghost use Rattle.flow_home.specs.Homecomings.{AreEnds, AtSlots, ComeToAccepted, AllLaid, AreHome, IsEmptied};
+ghost use Rattle.flow_home.specs.Placed.{AllEven, AllPlaced, AreLeft, slices_served};
 
 use crate::hand::Hand;
 use crate::home::Home;
@@ -23,6 +24,8 @@ pub struct FlowParts<H: Flow> {
     alloc: Global,
     /// The places as they were when the side stopped, for clauses alone.
     admitted: Snapshot<Vec<Option<FlowPlace<H>>>>,
+    /// The ends of all workers, for clauses alone.
+    stopped: Snapshot<Vec<FlowEnd<H>>>,
     /// Those that were not looked at yet.
     places: Vec<Option<FlowPlace<H>>>,
     aside: Vec<HalfAside<H>>,
@@ -36,14 +39,18 @@ pub struct FlowParts<H: Flow> {
         opened desks.items homes.items },
     ghost slots: { BySlot H.slot_at (names_of H.name admitted.value.items) },
     ghost ends_of: { AreEnds desks.items ends.items },
+    ghost even: { AllEven H.places (slices_served stopped.value.items) places.items aside.items hand opened desks.items
+        homes.items },
+    ghost left: { AreLeft (slices_served stopped.value.items) (slices_served ends.items) },
 }
 
 impl<H: Flow> FlowParts<H> {
-    ghost use Rattle.flow_home.specs.Words.{admitted_of, AreClosed};
+    ghost use Rattle.flow_home.specs.Words.{admitted_of, origin_of, slices_of, AreClosed, IsBare};
 
     pub(crate) fn new(alloc: Global, side: FlowEnded<H>, ends: Vec<FlowEnd<H>>) -> FlowParts<H>
         requires { AreEnds side.desks.items ends.items }
-        ensures { admitted_of result ≡ side.places.items }
+        ensures admitted { admitted_of result ≡ side.places.items }
+        ensures slices { slices_of result ≡ slices_served ends.items }
     {
         let FlowEnded {
             desks,
@@ -51,6 +58,7 @@ impl<H: Flow> FlowParts<H> {
             aside,
         } = side;
         let admitted = Snapshot::of(&places);
+        let stopped = Snapshot::of(&ends);
         let hand = Hand {
             found: Vec::new(alloc),
             lefts: Vec::new(alloc),
@@ -62,6 +70,7 @@ impl<H: Flow> FlowParts<H> {
         FlowParts {
             alloc,
             admitted,
+            stopped,
             places,
             aside,
             hand,
@@ -79,7 +88,8 @@ impl<H: Flow> FlowParts<H> {
         ensures each { IfOk result (λ homes. AtSlots H.name H.slot_at (admitted_of self) homes.items) }
         ensures items { IfOk result
             (λ homes. ComeToAccepted H.name H.slot_at H.handled (admitted_of self) homes.items) }
-        ensures parts { IfErr result (λ parts. admitted_of parts ≡ admitted_of self) }
+        ensures placed { IfOk result (λ homes. AllPlaced H.places (slices_of self) homes.items) }
+        ensures parts { IfErr result (λ parts. origin_of parts ≡ origin_of self) }
     {
         match self.collect(rt) {
             Ok(()) => Ok(self.sorted()),
@@ -89,10 +99,12 @@ impl<H: Flow> FlowParts<H> {
 
     // The halves by slot, once all are home.
     fn sorted(self) -> Vec<Home<H>>
-        requires { AreHome H.name H.slot_at H.handled (admitted_of self) self.homes.items }
+        requires home { AreHome H.name H.slot_at H.handled (admitted_of self) self.homes.items }
+        requires bare { IsBare self }
         ensures home { map (λ home. H.name home.half) result.items ≡ somes (names_of H.name (admitted_of self)) }
         ensures each { AtSlots H.name H.slot_at (admitted_of self) result.items }
         ensures items { ComeToAccepted H.name H.slot_at H.handled (admitted_of self) result.items }
+        ensures placed { AllPlaced H.places (slices_of self) result.items }
     {
         let FlowParts { mut homes, .. } = self;
         steps::sort(&mut homes);
@@ -101,8 +113,9 @@ impl<H: Flow> FlowParts<H> {
 
     // Brings all halves and all items home: first what the lanes have, and then what is at the front.
     fn collect<R: Wait>(&mut self, rt: &R) -> Result<(), NoMemory>
-        ensures same { admitted_of self.new ≡ admitted_of self.old }
+        ensures same { origin_of self.new ≡ origin_of self.old }
         ensures home { OnOk result (AreHome H.name H.slot_at H.handled (admitted_of self.new) self.new.homes.items) }
+        ensures bare { OnOk result (IsBare self.new) }
     {
         self.close_all(rt)?;
         self.take_asides()?;
@@ -112,7 +125,7 @@ impl<H: Flow> FlowParts<H> {
 
     // Closes all lanes.
     fn close_all<R: Wait>(&mut self, rt: &R) -> Result<(), NoMemory>
-        ensures same { admitted_of self.new ≡ admitted_of self.old }
+        ensures same { origin_of self.new ≡ origin_of self.old }
         ensures closed { OnOk result (AreClosed self.new) }
     {
         self.empty_out()?;
@@ -128,7 +141,7 @@ impl<H: Flow> FlowParts<H> {
     fn close_slice<R: Wait>(&mut self, rt: &R) -> Result<(), NoMemory>
         requires some { 0 < vec_len self.old.desks }
         requires empty { IsEmptied self.old.hand × (self.old.opened ≡ None) }
-        ensures same { admitted_of self.new ≡ admitted_of self.old }
+        ensures same { origin_of self.new ≡ origin_of self.old }
         ensures one { OnOk result (vec_len self.new.desks + 1 ≡ vec_len self.old.desks) }
         ensures empty { OnOk result (IsEmptied self.new.hand × (self.new.opened ≡ None)) }
     {
@@ -140,7 +153,7 @@ impl<H: Flow> FlowParts<H> {
 
     // What is in hand is found.
     fn empty_out(&mut self) -> Result<(), NoMemory>
-        ensures same { admitted_of self.new ≡ admitted_of self.old }
+        ensures same { origin_of self.new ≡ origin_of self.old }
         ensures desks { vec_len self.new.desks ≡ vec_len self.old.desks }
         ensures opened { self.new.opened ≡ self.old.opened }
         ensures empty { OnOk result (IsEmptied self.new.hand) }
@@ -151,7 +164,7 @@ impl<H: Flow> FlowParts<H> {
     // Closes the lane home that is open.
     fn close_home<R: Wait>(&mut self, rt: &R) -> Result<(), NoMemory>
         requires { IsEmptied self.old.hand }
-        ensures same { admitted_of self.new ≡ admitted_of self.old }
+        ensures same { origin_of self.new ≡ origin_of self.old }
         ensures desks { vec_len self.new.desks ≡ vec_len self.old.desks }
         ensures closed { OnOk result (self.new.opened ≡ None) }
     {
@@ -162,7 +175,7 @@ impl<H: Flow> FlowParts<H> {
     fn close_orders<R: Wait>(&mut self, rt: &R) -> Result<(), NoMemory>
         requires some { 0 < vec_len self.old.desks }
         requires empty { IsEmptied self.old.hand × (self.old.opened ≡ None) }
-        ensures same { admitted_of self.new ≡ admitted_of self.old }
+        ensures same { origin_of self.new ≡ origin_of self.old }
         ensures one { OnOk result (vec_len self.new.desks + 1 ≡ vec_len self.old.desks) }
     {
         let Some(desk) = self.desks.pop() else {
@@ -213,7 +226,7 @@ impl<H: Flow> FlowParts<H> {
     // The halves that were kept aside are found.
     fn take_asides(&mut self) -> Result<(), NoMemory>
         requires { AreClosed self.old }
-        ensures same { admitted_of self.new ≡ admitted_of self.old }
+        ensures same { origin_of self.new ≡ origin_of self.old }
         ensures closed { AreClosed self.new }
         ensures empty { OnOk result (self.new.aside.items ≡ []) }
     {
@@ -223,7 +236,7 @@ impl<H: Flow> FlowParts<H> {
     // The halves at the front are found, and the items of all queues.
     fn take_places(&mut self) -> Result<(), NoMemory>
         requires { AreClosed self.old }
-        ensures same { admitted_of self.new ≡ admitted_of self.old }
+        ensures same { origin_of self.new ≡ origin_of self.old }
         ensures closed { AreClosed self.new }
         ensures aside { self.new.aside ≡ self.old.aside }
         ensures empty { OnOk result (self.new.places.items ≡ []) }
@@ -238,7 +251,7 @@ impl<H: Flow> FlowParts<H> {
     fn take_place(&mut self) -> Result<(), NoMemory>
         requires some { 0 < vec_len self.old.places }
         requires closed { AreClosed self.old }
-        ensures same { admitted_of self.new ≡ admitted_of self.old }
+        ensures same { origin_of self.new ≡ origin_of self.old }
         ensures closed { AreClosed self.new }
         ensures aside { self.new.aside ≡ self.old.aside }
         ensures one { OnOk result (vec_len self.new.places + 1 ≡ vec_len self.old.places) }
@@ -255,8 +268,9 @@ impl<H: Flow> FlowParts<H> {
     fn bring_all(&mut self) -> Result<(), NoMemory>
         requires closed { AreClosed self.old }
         requires empty { (self.old.aside.items ≡ []) × (self.old.places.items ≡ []) }
-        ensures same { admitted_of self.new ≡ admitted_of self.old }
+        ensures same { origin_of self.new ≡ origin_of self.old }
         ensures home { OnOk result (AreHome H.name H.slot_at H.handled (admitted_of self.new) self.new.homes.items) }
+        ensures bare { OnOk result (IsBare self.new) }
     {
         for _ in 0..self.hand.found.len() {
             self.bring_home()?;
@@ -269,7 +283,7 @@ impl<H: Flow> FlowParts<H> {
         requires some { 0 < vec_len self.old.hand.found }
         requires closed { AreClosed self.old }
         requires empty { (self.old.aside.items ≡ []) × (self.old.places.items ≡ []) }
-        ensures same { admitted_of self.new ≡ admitted_of self.old }
+        ensures same { origin_of self.new ≡ origin_of self.old }
         ensures closed { AreClosed self.new }
         ensures empty { (self.new.aside.items ≡ []) × (self.new.places.items ≡ []) }
         ensures one { OnOk result (vec_len self.new.hand.found + 1 ≡ vec_len self.old.hand.found) }

@@ -193,6 +193,13 @@ module _ {H N I : Type 0} (name : H → N) (slot_at : N → ℕ) (item_slot : I 
                   let k = sum_by-through (name_at name) (weight_at h) (set places s (Some after)) in
                   let o = came.out f in let p = came.home f in
                   omega arith;
+              weighed = λ f none.
+                  let a = side.weighed f none in
+                  let b = ap (front_weight f) w.9 in let c = ap (front_weight f) w.10 in
+                  let u = ap (front_at f) was in
+                  let d = sum_by-set (front_at f) places s (Some after) None within in
+                  let o = came.out f in let p = came.home f in
+                  omega arith;
               slots = by_slot name slot_at item_slot handled (set places s (Some after))
                   (at_each name slot_at item_slot handled (λ t p. slot_at_place slot_at t (name_at name p) ≡ t)
                   places s (Some after) within
@@ -246,6 +253,11 @@ module _ {H N I : Type 0} (name : H → N) (slot_at : N → ℕ) (item_slot : I 
             let f : H → ℕ = λ half. h (name half) in
             let g : HalfAside H → ℕ = λ kept. h (name kept.half) in
             let a = side.balanced h in
+            let b = ap (sum_by g) made in let c = sum_by_push g aside kept in let d = ap f is in
+            let o = came.out f in let p = came.home f in omega arith;
+        weighed = λ f none.
+            let g : HalfAside H → ℕ = λ kept. f kept.half in
+            let a = side.weighed f none in
             let b = ap (sum_by g) made in let c = sum_by_push g aside kept in let d = ap f is in
             let o = came.out f in let p = came.home f in omega arith;
         slots = side.slots;
@@ -311,6 +323,12 @@ module _ {H N I : Type 0} (name : H → N) (slot_at : N → ℕ) (item_slot : I 
         balanced = λ h.
             let f : H → ℕ = λ half. h (name half) in
             let a = side.balanced h in
+            let b = changed_sum slice none.before none.now desks now none.desk (sent_weight f) in
+            let c = ap (λ orders. sum_by f (halves_in (sent orders))) none.orders in
+            let d = changed_sum slice none.before none.now desks now none.desk (home_weight f) in
+            let e = ap (sum_by f) none.taken in omega arith;
+        weighed = λ f nothing.
+            let a = side.weighed f nothing in
             let b = changed_sum slice none.before none.now desks now none.desk (sent_weight f) in
             let c = ap (λ orders. sum_by f (halves_in (sent orders))) none.orders in
             let d = changed_sum slice none.before none.now desks now none.desk (home_weight f) in

@@ -203,6 +203,12 @@ module _ {H N I : Type 0} (name : H → N) (slot_at : N → ℕ) (item_slot : I 
             let g = sum_by-through (name_at name) (weight_at h) new in
             let k = homes_sum (sum_by f) desks now step.ends in
             omega arith;
+        weighed = λ f none.
+            let a = side.weighed f none in
+            let b = step.weight f in
+            let c = sum_by-set (front_at f) places s place None within in
+            let k = homes_sum (sum_by f) desks now step.ends in
+            omega arith;
         slots = by_slot new (at_each (λ t p. slot_at_place slot_at t (name_at name p) ≡ t) places s place within
             (ap (slot_at_place slot_at s) step.named ∙ at_slot places side.slots s)
             (λ t apart. at_slot places side.slots t));
@@ -318,6 +324,11 @@ module _ {H N I : Type 0} (name : H → N) (slot_at : N → ℕ) (item_slot : I 
         (λ desk is. ap (λ l. sum_by f (halves_in l)) is.0) desks new in
         let b : sum_by (home_weight {I = I} f) desks ≡ 0 = new_sum (home_weight f) (λ desk is. ap (sum_by f) is.1)
         desks new in omega arith;
+    weighed = λ f none.
+        let a : sum_by (sent_weight {I = I} f) desks ≡ 0 = new_sum (sent_weight f)
+        (λ desk is. ap (λ l. sum_by f (halves_in l)) is.0) desks new in
+        let b : sum_by (home_weight {I = I} f) desks ≡ 0 = new_sum (home_weight f) (λ desk is. ap (sum_by f) is.1)
+        desks new in omega arith;
     slots = λ s. refl;
     fits = All-nil (Fits (length desks) room);
     short = omega arith;
@@ -381,6 +392,8 @@ module _ {H N I : Type 0} (name : H → N) (slot_at : N → ℕ) (item_slot : I 
             let e = sum_by-through (name_at name) (weight_at h) places in
             let g = sum_by-through (name_at name) (weight_at h) new in
             omega arith;
+        weighed = λ f none.
+            let a = side.weighed f none in let c = grown_sum (front_at f) places more refl in omega arith;
         slots = by_slot new (λ s. ap (λ x. slot_at_place slot_at s (name_at name x)) (place_grown places more s)
             ∙ at_slot places side.slots s);
         fits = All-append (Fits (length desks) room) places (replicate more None) side.fits
@@ -460,6 +473,13 @@ module _ {H N I : Type 0} (name : H → N) (slot_at : N → ℕ) (item_slot : I 
                   let d = sum_by-set named places s (Some now) None within in
                   let e = sum_by-through (name_at name) (weight_at h) places in
                   let g = sum_by-through (name_at name) (weight_at h) new in
+                  omega arith;
+              weighed = λ f none.
+                  let a = side.weighed f none in
+                  let b = ap (front_weight f) enters.state in
+                  let n = none half unhandled in
+                  let u = ap (front_at f) was in
+                  let c = sum_by-set (front_at f) places s (Some now) None within in
                   omega arith;
               slots = by_slot new (at_each (λ t p. slot_at_place slot_at t (name_at name p) ≡ t) places s
                   (Some now) within

@@ -60,6 +60,14 @@ Balanced {H} {N} {I} name places aside desks =
     + sum_by (sent_weight (λ half. h (name half))) desks
     ≡ sum_by (weight_at h) (names_of name places) + sum_by (home_weight (λ half. h (name half))) desks
 
+-- However halves are weighed, if one that has handled nothing weighs nothing: those that are at the front or kept aside
+-- there, or were sent to a slice, weigh as much as those that came home.
+abbrev pub Weighed : {H I : Type 0} → (H → List I) → List (Option (FlowPlace H I)) → List (HalfAside H)
+    → List (FlowDesk H I) → Type 0
+Weighed {H} {I} handled places aside desks = (f : H → ℕ) → ((half : H) → handled half ≡ [] → f half ≡ 0)
+    → sum_by (front_at f) places + sum_by (λ kept. f kept.half) aside + sum_by (sent_weight f) desks
+    ≡ sum_by (home_weight f) desks
+
 -- the slot of the name at a place, and the place itself where there is none
 abbrev pub slot_at_place : {N : Type 0} → (N → ℕ) → ℕ → Option N → ℕ
 slot_at_place slot_at slot None = slot
@@ -76,6 +84,7 @@ pub record IsFlowSide {H N I : Type 0} (name : H → N) (slot_at : N → ℕ) (i
     (room admitted asked : ℕ) : Type 0 where
   pub known : AllKnown (λ half. slot_at (name half)) item_slot handled places desks aside
   pub balanced : Balanced name places aside desks
+  pub weighed : Weighed handled places aside desks
   pub slots : BySlot slot_at (names_of name places)
   pub fits : All (Fits (length desks) room) places
   pub short : length places ≤ 65533

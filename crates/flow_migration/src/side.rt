@@ -5,7 +5,7 @@ ghost use Rattle.std.specs.List.{sum_by};
 ghost use Rattle.worker_core.specs.Workers.{IsNewDesk};
 ghost use Rattle.flow_migration.specs.Due.{is_among, Lists};
 ghost use Rattle.flow_migration.specs.Places.{names_of, Fits};
-ghost use Rattle.flow_migration.specs.Sides.{AllKnown, Balanced, BySlot, IsFlowSide};
+ghost use Rattle.flow_migration.specs.Sides.{AllKnown, Balanced, BySlot, IsFlowSide, Weighed};
 ghost use Rattle.flow_migration.specs.Steps.{asked_after, refused_after};
 
 use crate::place::{FlowNo, FlowPlace, FlowState, HalfAside};
@@ -55,6 +55,7 @@ pub struct FlowEnded<H: Flow> {
     pub ghost known: { AllKnown (λ half. H.slot_at (H.name half)) H.item_slot H.handled places.items desks.items
         aside.items },
     pub ghost balanced: { Balanced H.name places.items aside.items desks.items },
+    pub ghost weighed: { Weighed H.handled places.items aside.items desks.items },
     pub ghost slots: { BySlot H.slot_at (names_of H.name places.items) },
     pub ghost fits: { All (Fits (length desks.items) 256) places.items },
 }

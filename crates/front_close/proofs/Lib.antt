@@ -3,6 +3,7 @@ pub mod Resting
 pub mod Joining
 pub mod Epochs
 pub mod Pairing
+pub mod Placed
 pub mod Closed
 pub mod Pushing
 pub mod Popping

@@ -1,3 +1,4 @@
 pub mod Closing
 pub mod Ending
 pub mod Filled
+pub mod Placed

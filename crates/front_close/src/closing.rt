@@ -1,13 +1,15 @@
 //! An epoch is closed.
-ghost use Rattle.std.specs.Prelude.{◌≡◌, map, IfOk};
+ghost use Rattle.std.specs.Prelude.{◌≡◌, All, map, IfOk};
 ghost use Rattle.worker_core.specs.Workers as worker;
 ghost use Rattle.flow_core.specs.Workers as flow_worker;
 ghost use Rattle.front_core.specs.declared.taken.Taken.{Taken};
 ghost use Rattle.front_core.specs.Entries.{took_of};
 ghost use Rattle.front_core.specs.Words.{IsWhole, control_lanes, entries_in, flow_lanes, opened_of, taken_by};
-ghost use Rattle.front_core.specs.Words.{fulls_in, latest_in, lines_in};
+ghost use Rattle.front_core.specs.Words.{first_slices, fulls_in, latest_in, lines_in};
+ghost use Rattle.flow_home.specs.Placed.{slices_served};
 ghost use Rattle.front_close.specs.Closing.{Closes};
 ghost use Rattle.front_close.specs.Filled.{told_by, took_told};
+ghost use Rattle.front_close.specs.Placed.{IsEntryBelow};
 
 use crate::NoMemory;
 use crate::epoch::{Ended, Epoch};
@@ -37,6 +39,7 @@ pub fn close<R: Wait>(
     requires whole { IsWhole front }
     requires controls { map worker.end_lanes controls.items ≡ control_lanes front }
     requires flows { map flow_worker.end_lanes flows.items ≡ flow_lanes front }
+    requires places { slices_served flows.items ≡ first_slices (opened_of front).slices }
 
     ensures closes { IfOk result (λ ended. Closes (opened_of front) (taken_by front) ended.rest (told_by ended.epoch)) }
     ensures counts { IfOk result (λ ended. (ended.rest.lines ≡ lines_in front)
@@ -45,6 +48,9 @@ pub fn close<R: Wait>(
     // Each entry says what was answered when its line was taken.
     ensures answered { IfOk result (λ ended. map took_told (told_by ended.epoch).lines
         ≡ map (λ (taken : Taken). took_of taken.open) (entries_in front)) }
+
+    // Each packet was handled at one of the slices, or as the epoch was closed.
+    ensures placed { IfOk result (λ ended. All (IsEntryBelow (opened_of front).slices) (told_by ended.epoch).lines) }
 {
     sessions_keep_their_slot();
     let Parts {

@@ -1,8 +1,10 @@
 //! The subscribers are one again, slot after slot.
 ghost use Rattle.std.specs.Prelude.{◌≡◌, ℕ, ◌≤◌, ◌<◌, ◌++◌, ◌∷◌, List, Option, Some, length, vec_len, reverse};
 ghost use Rattle.std.specs.Prelude.{IfOk, OnOk};
-ghost use Rattle.counter_half.specs.Half.{handled_by};
+ghost use Rattle.counter_half.specs.Half.{handled_by, places_of};
+ghost use Rattle.counter_half.specs.Handled.{places_in};
 ghost use Rattle.counter_half.specs.declared.items.FlowItem.{FlowItem};
+ghost use Rattle.split_record.specs.Places.{at_closing};
 ghost use Rattle.split_record.specs.Rejoined.{AreAccepted, AreOfOneSplit, Finishes, commands_sent, start_of};
 ghost use Rattle.front_halves.specs.declared.lot.Lot as lot;
 ghost use Rattle.front_halves.specs.declared.lot.Lot.TheVariants.{Split};
@@ -15,6 +17,7 @@ ghost use Rattle.front_close.specs.Ending.{
   came_of,
   nothing_came,
 };
+ghost use Rattle.front_close.specs.Placed.{AnswersBelow, HomesBelow};
 
 use crate::NoMemory;
 use crate::told::{Told, tell, tell_nothing};
@@ -39,8 +42,9 @@ pub(crate) fn finish_all<R: Wait>(
 ) -> Result<Told, NoMemory>
     requires may { (items : ℕ → List FlowItem) × CanEndAll 0 items lots.items controls.items homes.items }
     requires lots { vec_len lots ≤ length subscribers.old }
-    ensures { (items : ℕ → List FlowItem) → CanEndAll 0 items lots.items controls.items homes.items
+    ensures ends { (items : ℕ → List FlowItem) → CanEndAll 0 items lots.items controls.items homes.items
         → IfOk result (λ told. HaveEnded items lots.items subscribers.old subscribers.new told) }
+    ensures below { (n : ℕ) → HomesBelow n homes.items → IfOk result (λ told. AnswersBelow n told.answers.items) }
 {
     let mut told = Told {
         answers: Vec::with_capacity(alloc, lots.len())?,
@@ -77,10 +81,12 @@ fn finish_next<R: Wait>(
     requires some { 0 < vec_len lots.old }
     requires may { (slot : ℕ) × (items : ℕ → List FlowItem) × CanEndAll slot items (reverse lots.old.items)
         (reverse controls.old.items) (reverse homes.old.items) }
-    ensures { (slot : ℕ) (items : ℕ → List FlowItem) → CanEndAll slot items (reverse lots.old.items)
+    ensures ends { (slot : ℕ) (items : ℕ → List FlowItem) → CanEndAll slot items (reverse lots.old.items)
         (reverse controls.old.items) (reverse homes.old.items)
         → OnOk result (EndsNext slot items lots.old.items lots.new.items controls.new.items homes.new.items
         subscriber.old subscriber.new told.old told.new) }
+    ensures below { (n : ℕ) → HomesBelow n homes.old.items → AnswersBelow n told.old.answers.items
+        → OnOk result (HomesBelow n homes.new.items × AnswersBelow n told.new.answers.items) }
 {
     let Some(lot) = lots.pop() else {
         unreachable!()
@@ -104,10 +110,12 @@ fn finish_split<R: Wait>(
 ) -> Result<(), NoMemory>
     requires may { (slot : ℕ) × (items : ℕ → List FlowItem) × (lots : List (Option lot.Lot))
         × CanEndAll slot items (Some (Split end) ∷ lots) (reverse controls.old.items) (reverse homes.old.items) }
-    ensures { (slot : ℕ) (items : ℕ → List FlowItem) (lots : List (Option lot.Lot))
+    ensures ends { (slot : ℕ) (items : ℕ → List FlowItem) (lots : List (Option lot.Lot))
         → CanEndAll slot items (Some (Split end) ∷ lots) (reverse controls.old.items) (reverse homes.old.items)
         → OnOk result (EndsSplit slot end items lots controls.new.items homes.new.items
         subscriber.old subscriber.new told.old told.new) }
+    ensures below { (n : ℕ) → HomesBelow n homes.old.items → AnswersBelow n told.old.answers.items
+        → OnOk result (HomesBelow n homes.new.items × AnswersBelow n told.new.answers.items) }
 {
     let Some(control) = controls.pop() else {
         unreachable!()
@@ -130,8 +138,10 @@ fn finish_slot<R: Wait>(
 ) -> Result<Finished, NoMemory>
     requires one { AreOfOneSplit end control home.half }
     requires accepted { AreAccepted end (handled_by home.half ++ home.left.items) }
-    ensures { IfOk result (λ made. Finishes (start_of end) (commands_sent end)
+    ensures finishes { IfOk result (λ made. Finishes (start_of end) (commands_sent end)
         (handled_by home.half ++ home.left.items) end.destination made) }
+    ensures placed { IfOk result (λ made. places_in made.packets.items
+        ≡ places_of home.half ++ at_closing home.left.items) }
 {
     let Home { half, left } = home;
     match finish(rt, alloc, end, control, half, left) {

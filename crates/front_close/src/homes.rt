@@ -3,6 +3,7 @@ ghost use Rattle.std.specs.Prelude.{◌≡◌, map, IfOk};
 ghost use Rattle.gather_home.specs.Homecomings as control_home;
 ghost use Rattle.gather_home.specs.Homecomings.{somes};
 ghost use Rattle.flow_home.specs.Homecomings as flow_home_of;
+ghost use Rattle.flow_home.specs.Placed.{AllPlaced, slices_served};
 ghost use Rattle.migration.specs.Places as control_place;
 ghost use Rattle.flow_migration.specs.Places as flow_place;
 ghost use Rattle.control_half.specs.Half as control_half_of;
@@ -58,6 +59,7 @@ pub(crate) fn flows_home<R: Wait>(
         side.places.items homes.items) }
     ensures items { IfOk result (λ homes. flow_home_of.ComeToAccepted flow_half_of.name_of flow_named.slot_of
         flow_half_of.handled_by side.places.items homes.items) }
+    ensures placed { IfOk result (λ homes. AllPlaced flow_half_of.places_of (slices_served ends.items) homes.items) }
 {
     match gather_flow(rt, alloc, side, ends) {
         Ok(homes) => Ok(homes),

@@ -55,6 +55,7 @@ pub fn has_options(flags: u8) -> bool
 
 /// The sequence number and the body among the octets that the length counts; None where the chain of
 /// extension headers breaks.
+#[inline(always)]
 pub fn read_counted(flags: u8, counted: &[u8]) -> Option<(Option<u16>, &[u8])>
     requires { IsTrue (has_options flags) → 4 ≤ length counted.now }
     ensures found { IfSome result (λ r. SpellsCounted flags (has_options flags) counted.now r.0 r.1.now) }

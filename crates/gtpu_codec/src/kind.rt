@@ -15,6 +15,7 @@ pub enum GtpUKind {
 
 impl GtpUKind {
     /// The type of message with this type octet; None where it isn't spoken here.
+    #[inline(always)]
     #[tactic(auto, unfolding(crate::specs::Kind::kind_of))]
     pub fn from_octet(octet: u8) -> Option<GtpUKind>
         ensures value { IfSome result (λ kind. type_octet kind ≡ octet) }

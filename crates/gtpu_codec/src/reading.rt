@@ -13,6 +13,7 @@ use wire_octets::{be16_at, be32_at};
 
 /// The head of the message at the front, and the octets behind its extension headers: the last ones that its length
 /// counts. Octets past its length don't count (TS 29.281, section 5.1).
+#[inline(always)]
 pub fn read(bytes: &[u8]) -> Result<(GtpUHead, &[u8]), UBad>
     // What is read is spelled so, and what is spelled so is read.
     ensures found { IfOk result (λ r. Spells bytes.now r.0 r.1.now) }
@@ -34,6 +35,7 @@ pub fn read(bytes: &[u8]) -> Result<(GtpUHead, &[u8]), UBad>
     parse(bytes)
 }
 
+#[inline(always)]
 fn parse(bytes: &[u8]) -> Result<(GtpUHead, &[u8]), UBad>
     ensures found { IfOk result (λ r. Spells bytes.now r.0 r.1.now) }
     ensures refused { IfErr result (λ bad. first_fault bytes.now ≡ Some bad) }

@@ -48,6 +48,7 @@ impl<'a> Model for Ip4<'a> {
 
 impl<'a> Ip4<'a> {
     /// The packet at the front of octets. What follows its total length is no part of it.
+    #[inline(always)]
     pub fn read(bytes: &'a [u8]) -> Result<Ip4<'a>, IpBad>
         // What is read is spelled so, and what is spelled so is read.
         ensures found { IfOk result (Spells bytes.now) }
@@ -102,6 +103,7 @@ impl<'a> Ip4<'a> {
     }
 
     /// How many octets the packet has, as it says itself: its total length, 20 to 65,535.
+    #[inline(always)]
     pub fn total_len(&self) -> u16
         ensures total { result ≡ total_length self.now }
         ensures len { result ≡ length self.now }
@@ -110,6 +112,7 @@ impl<'a> Ip4<'a> {
     }
 
     /// All octets of the packet, header and payload.
+    #[inline(always)]
     pub fn octets(&self) -> &'a [u8]
         ensures octets { result.now ≡ self.now }
         ensures whole { IsPacket result.now }
@@ -148,6 +151,7 @@ impl<'a> Ip4<'a> {
     }
 
     /// The source address.
+    #[inline(always)]
     pub fn source(&self) -> u32
         ensures { result ≡ source_of self.now }
     {
@@ -155,6 +159,7 @@ impl<'a> Ip4<'a> {
     }
 
     /// The destination address.
+    #[inline(always)]
     pub fn destination(&self) -> u32
         ensures { result ≡ destination_of self.now }
     {

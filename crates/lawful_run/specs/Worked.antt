@@ -11,8 +11,8 @@ use Rattle.tft_codec.specs.declared.tft.Tft.TheVariants.{Create}
 use Rattle.control_steps.specs.declared.command.CommandKind.TheVariants as commands
 use Rattle.demux.specs.Trace.{Meaning, command, packet, move}
 use Rattle.trace_lines.specs.Line.{Line}
-use Rattle.trace_lines.specs.declared.line.LineKind.{LineKind}
-use Rattle.trace_lines.specs.declared.line.LineKind.TheVariants as kind
+use Rattle.trace_lines.specs.Kind.{LineKind}
+use Rattle.trace_lines.specs.Kind as kind
 use Rattle.report_lines.specs.declared.entry.LineEntry.{LineEntry}
 use Rattle.report_lines.specs.declared.entry.LineEntry.TheVariants as line
 use Rattle.report_lines.specs.declared.entry.ChargeEntry.{ChargeEntry}

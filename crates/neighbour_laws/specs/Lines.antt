@@ -4,7 +4,7 @@ use Rattle.std.specs.Prelude.{length, map}
 use Rattle.trace_lines.specs.Epochs.{ends_epoch, is_fence}
 use Rattle.trace_lines.specs.Input.{Input}
 use Rattle.trace_lines.specs.Line.{Line}
-use Rattle.trace_lines.specs.declared.line.LineKind.TheVariants as kind
+use Rattle.trace_lines.specs.Kind as kind
 use Rattle.demux.specs.Resolved.{book_after, decided, slot_of}
 use Rattle.demux.specs.declared.decision.Decision.{Decision}
 use Rattle.demux.specs.declared.decision.Decision.TheVariants.{Command, Packet, Move, Note}

@@ -34,14 +34,14 @@ pub fn advance(
 {
     let alloc = *counters.held.allocator();
     let bearers = after.bearers();
-    let meters = counters.meters.learnt(before, after);
     let postings = marks(alloc, before, after)?;
     let effects = markers(alloc, before, after)?;
     let mut release = Release {
-        meters,
+        meters: counters.meters,
         postings,
         effects,
     };
+    release.meters.learn(before, after);
     let at = last_moment(counters.last);
     look_at_all(&mut release, alloc, after, at, &counters.held)?;
     counters.book.post(&release.postings)?;

@@ -1,5 +1,5 @@
 //! What a new version brings for the charging book, and for eNodeBs that are left.
-ghost use Rattle.std.specs.Prelude.{◌≡◌, [], ◌++◌, map, filter, IfOk, OnOk, if◌then◌else◌};
+ghost use Rattle.std.specs.Prelude.{◌≡◌, [], ◌∷◌, ◌++◌, map, filter, IfOk, OnOk, if◌then◌else◌};
 ghost use Rattle.std.specs.Option.{option_copied};
 ghost use Rattle.charging_book.specs.Postings.{happening_of};
 ghost use Rattle.packet_steps.specs.Change.{has_life, bearer_of, enb_of, same_peer, shares_ambr, shared_with};
@@ -34,10 +34,8 @@ fn marks_between(
     ensures { IfOk result (λ postings. map happening_of postings.items ≡ marks_between was_set before.now after.now) }
 {
     let mut postings = ended(alloc, before, after)?;
-    let cut_off = cut(alloc, was_set, before, after)?;
-    postings.extend_from_slice(&cut_off)?;
-    let lives = begun(alloc, before, after)?;
-    postings.extend_from_slice(&lives)?;
+    push_cut(&mut postings, was_set, before, after)?;
+    push_begun(&mut postings, before, after)?;
     Ok(postings)
 }
 
@@ -61,60 +59,80 @@ fn ended(
 }
 
 /// Where the AMBR was set, the pieces of the lives that go on without a guaranteed rate.
-fn cut(
-    alloc: Global,
+fn push_cut(
+    postings: &mut Vec<Posting>,
     was_set: bool,
     before: &[ActiveBearer],
     after: &[ActiveBearer],
-) -> Result<Vec<Posting>, NoMemory>
-    ensures { IfOk result (λ postings. postings.items
-        ≡ (if was_set then map (λ bearer. Posting.Close bearer.life Why.Qos)
+) -> Result<(), NoMemory>
+    ensures { OnOk result (postings.new.items ≡ postings.old.items
+        ++ (if was_set then map (λ bearer. Posting.Close bearer.life Why.Qos)
         (filter shares_ambr (shared_with after.now before.now)) else [])) }
 {
-    if was_set {
-        pieces(alloc, before, after)
-    } else {
-        Ok(Vec::new(alloc))
+    if !was_set {
+        return Ok(());
     }
+    for bearer in before {
+        push_piece(postings, after, bearer)?;
+    }
+    Ok(())
 }
 
-fn pieces(
-    alloc: Global,
-    before: &[ActiveBearer],
+fn push_piece(
+    postings: &mut Vec<Posting>,
     after: &[ActiveBearer],
-) -> Result<Vec<Posting>, NoMemory>
-    ensures { IfOk result (λ postings. postings.items
-        ≡ map (λ bearer. Posting.Close bearer.life Why.Qos) (filter shares_ambr (shared_with after.now before.now))) }
+    bearer: &ActiveBearer,
+) -> Result<(), NoMemory>
+    ensures { OnOk result (postings.new.items ≡ postings.old.items
+        ++ map (λ bearer. Posting.Close bearer.life Why.Qos)
+        (filter shares_ambr (shared_with after.now (bearer.now ∷ [])))) }
 {
-    before
-        .iter()
-        .filter(|bearer| has_life(after, bearer.life))
-        .filter(|bearer| !is_guaranteed(bearer.qos.qci))
-        .map(|bearer| Posting::Close {
-            life: bearer.life,
-            why: Why::Qos,
-        })
-        .collect(alloc)
+    if !has_life(after, bearer.life) {
+        return Ok(());
+    }
+    if is_guaranteed(bearer.qos.qci) {
+        return Ok(());
+    }
+    postings.push(Posting::Close {
+        life: bearer.life,
+        why: Why::Qos,
+    })?;
+    Ok(())
 }
 
 /// The lives that begin.
-fn begun(
-    alloc: Global,
+fn push_begun(
+    postings: &mut Vec<Posting>,
     before: &[ActiveBearer],
     after: &[ActiveBearer],
-) -> Result<Vec<Posting>, NoMemory>
-    ensures { IfOk result (λ postings. postings.items
-        ≡ map (λ bearer. Posting.Start bearer.life bearer.ebi bearer.qos.qci) (lacking_in before.now after.now)) }
+) -> Result<(), NoMemory>
+    ensures { OnOk result (postings.new.items ≡ postings.old.items
+        ++ map (λ bearer. Posting.Start bearer.life bearer.ebi bearer.qos.qci) (lacking_in before.now after.now)) }
 {
-    after
-        .iter()
-        .filter(|bearer| !has_life(before, bearer.life))
-        .map(|bearer| Posting::Start {
-            life: bearer.life,
-            ebi: bearer.ebi,
-            qci: bearer.qos.qci,
-        })
-        .collect(alloc)
+    for bearer in after {
+        push_start(postings, before, bearer)?;
+    }
+    Ok(())
+}
+
+fn push_start(
+    postings: &mut Vec<Posting>,
+    before: &[ActiveBearer],
+    bearer: &ActiveBearer,
+) -> Result<(), NoMemory>
+    ensures { OnOk result (postings.new.items ≡ postings.old.items
+        ++ map (λ bearer. Posting.Start bearer.life bearer.ebi bearer.qos.qci)
+        (lacking_in before.now (bearer.now ∷ []))) }
+{
+    if has_life(before, bearer.life) {
+        return Ok(());
+    }
+    postings.push(Posting::Start {
+        life: bearer.life,
+        ebi: bearer.ebi,
+        qci: bearer.qos.qci,
+    })?;
+    Ok(())
 }
 
 /// The End Markers of a new version.

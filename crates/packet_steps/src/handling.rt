@@ -16,6 +16,7 @@ use pc_base::{Moment, Packet, Verdict, Way};
 
 /// What becomes of a packet by a version, its octets lent. The moment isn't earlier than that of the
 /// last packet. Where memory runs out, the counters are as before.
+#[inline(always)]
 pub fn judge<'a>(
     counters: &mut Counters,
     version: &Version,

@@ -135,6 +135,7 @@ impl Counters {
         }
     }
 
+    #[inline(always)]
     fn plan_waiting(
         &self,
         version: &Version,
@@ -157,6 +158,7 @@ impl Counters {
         })
     }
 
+    #[inline(never)]
     fn notice(&self, version: &Version, number: u64, ebi: u8) -> Result<Option<Octets>, NoMemory>
         requires { IsEbi ebi }
         ensures notice { (past : Past) → self.now.held ≡ past.held → past.version.mme ≡ version.now.mme

@@ -89,27 +89,23 @@ impl Meters {
     ghost use Rattle.packet_steps.specs.Plans.{Tries};
     ghost use Rattle.packet_steps.specs.Running.{left_for};
 
-    /// The meters at a new version.
-    pub(crate) fn learnt(&self, before: &Version, after: &Version) -> Meters
-        ensures { result ≡ learnt_meters before.now after.now self.now }
+    /// Learns a new version.
+    pub(crate) fn learn(&mut self, before: &Version, after: &Version)
+        ensures { self.new ≡ learnt_meters before.now after.now self.old }
     {
-        let mut meters = self.rerated(before.rates < after.rates, after.up, after.down);
+        self.rerate(before.rates < after.rates, after.up, after.down);
         for bearer in after.bearers() {
-            meters.begin(before, bearer);
+            self.begin(before, bearer);
         }
-        meters
     }
 
     /// The shared meter is new where the AMBR was set.
-    fn rerated(&self, was_set: bool, up: Kbps, down: Kbps) -> Meters
-        ensures { result ≡ (if was_set then record self.now { shared = new_meter up down } else self.now) }
+    fn rerate(&mut self, was_set: bool, up: Kbps, down: Kbps)
+        ensures { self.new ≡ (if was_set then record self.old { shared = new_meter up down } else self.old) }
     {
-        let mut meters = *self;
         if was_set {
-            meters.shared = Meter::new(up, down);
-            return meters;
+            self.shared = Meter::new(up, down);
         }
-        meters
     }
 
     fn begin(&mut self, before: &Version, bearer: &ActiveBearer)

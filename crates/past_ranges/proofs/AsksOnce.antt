@@ -27,8 +27,8 @@ use Rattle.tft_codec.specs.Refusal.{first_fault as template_fault}
 use Rattle.tft_codec.specs.declared.fault.TBad.{TBad}
 use Rattle.tft_codec.specs.declared.tft.Tft.{Tft}
 use Rattle.trace_lines.specs.Line.{Line}
-use Rattle.trace_lines.specs.declared.line.LineKind.{LineKind}
-use Rattle.trace_lines.specs.declared.line.LineKind.TheVariants as kind
+use Rattle.trace_lines.specs.Kind.{LineKind}
+use Rattle.trace_lines.specs.Kind as kind
 use Rattle.demux.specs.Asked.{Asked, Whom, Wish, command, packet, move, noted, note, admission, of}
 use Rattle.demux.specs.Ends.{addressee, bearer_end, control_slot}
 use Rattle.demux.specs.Instructions.{templated, templated_where}

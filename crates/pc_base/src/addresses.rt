@@ -13,6 +13,7 @@ pub fn addr_of(slot: Slot) -> Addr4
 }
 
 /// The slot that has an address; None exactly outside 10.45.0.2 to 10.45.255.254.
+#[inline(always)]
 pub fn slot_of_addr(addr: Addr4) -> Option<Slot>
     // What is found is the one source of the address, and each source is found.
     ensures source { IfSome result (λ slot. IsSlot slot × (addr ≡ addr_of slot)) }

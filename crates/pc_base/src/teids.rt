@@ -19,6 +19,7 @@ pub fn teid_of(slot: Slot, usage: TeidUse) -> Teid
 }
 
 /// The slot and the use that a TEID was given out for; None where it was given out for none.
+#[inline(always)]
 pub fn slot_of_teid(teid: Teid) -> Option<(Slot, TeidUse)>
     // What is found is the one source of the TEID, and each source is found.
     ensures source { IfSome result (λ found. IsSlot found.0 × IsTeidUse found.1

@@ -67,7 +67,7 @@ impl Model for LineBuf {
 }
 
 impl LineBuf {
-    ghost use Rattle.std.specs.Prelude.{◌≡◌, ◌+◌, ◌≤◌, [], false, length, take, IfOk, IfSome, IfNone, OnErr};
+    ghost use Rattle.std.specs.Prelude.{◌≡◌, ◌+◌, ◌≤◌, [], false, length, take, IfOk, IfSome, IfNone, OnOk, OnErr};
     ghost use Rattle.std.specs.Io.KnownBytes.{IsAtEnd, Keeps};
     ghost use Rattle.pc_outside.specs.Faults.{Rises};
     ghost use Rattle.pc_outside.specs.Limits.{line_max, input_max};
@@ -164,6 +164,7 @@ impl LineBuf {
 
         ensures later { S.faults source.old ≤ S.faults source.new }
         ensures cause { OnErr result (Rises (S.faults source.old) (S.faults source.new)) }
+        ensures no_fault { OnOk result (S.faults source.new ≡ S.faults source.old) }
     {
         self.line_from = 0;
         self.line_to = 0;

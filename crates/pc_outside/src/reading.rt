@@ -1,5 +1,5 @@
 // Octets read in pieces are given out line by line.
-ghost use Rattle.std.specs.Prelude.{◌≡◌, ◌⊎◌, ◌≤◌, ℕ, List, [], ◌++◌, false};
+ghost use Rattle.std.specs.Prelude.{◌≡◌, ◌≢◌, ◌⊎◌, ◌≤◌, ℕ, List, [], ◌++◌, false};
 ghost use Rattle.std.specs.Io.KnownBytes.{prepend_known};
 ghost use Rattle.pc_outside.specs.Faults.{Rises};
 ghost use Rattle.pc_outside.specs.LineReads.{Answers, Reads};
@@ -41,9 +41,10 @@ pub fn read_line<S: Source>(source: &mut S, buf: &mut LineBuf) -> LineRead
     ensures held { (given : List ℕ) × Answers result buf.old.room buf.new.room (buf.old.front ++ given)
         buf.new.front buf.new.line buf.new.last }
 
-    // A fault is the source's, and comes only where more octets are needed.
+    // A fault is the source's, comes only where more octets are needed, and is told at once.
     ensures later { S.faults source.old ≤ S.faults source.new }
     ensures fault { result ≡ LineRead.ReadFault → Rises (S.faults source.old) (S.faults source.new) }
+    ensures no_fault { result ≢ LineRead.ReadFault → S.faults source.new ≡ S.faults source.old }
     ensures unfinished { result ≡ LineRead.ReadFault → IsUnfinished buf.new }
 
     // After the last two answers each later one is the same, and nothing is read.
@@ -72,6 +73,7 @@ fn read_more<S: Source>(source: &mut S, buf: &mut LineBuf) -> LineRead
 
     ensures later { S.faults source.old ≤ S.faults source.new }
     ensures fault { result ≡ LineRead.ReadFault → Rises (S.faults source.old) (S.faults source.new) }
+    ensures no_fault { result ≢ LineRead.ReadFault → S.faults source.new ≡ S.faults source.old }
     ensures unfinished { result ≡ LineRead.ReadFault → IsUnfinished buf.new }
     ensures stopped { (result ≡ LineRead.LineLong) ⊎ (result ≡ LineRead.TooLong) → HasStopped result buf.new }
 {

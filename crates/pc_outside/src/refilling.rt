@@ -1,6 +1,6 @@
 //! More octets of a source behind those that are held.
 ghost use Rattle.std.specs.Prelude.{◌≡◌, ◌+◌, ◌-◌, ◌<◌, ◌≤◌, ◌++◌, take, slice_range, vec_len};
-ghost use Rattle.std.specs.Prelude.{IfOk, OnErr};
+ghost use Rattle.std.specs.Prelude.{IfOk, OnOk, OnErr};
 ghost use Rattle.std.specs.Io.KnownBytes.{Consumes, IsAtEnd, Keeps};
 ghost use Rattle.pc_outside.specs.Faults.{Rises};
 
@@ -33,6 +33,7 @@ pub fn read_behind<S: Source>(
 
     ensures later { S.faults source.old ≤ S.faults source.new }
     ensures cause { OnErr result (Rises (S.faults source.old) (S.faults source.new)) }
+    ensures no_fault { OnOk result (S.faults source.new ≡ S.faults source.old) }
 {
     move_to_start(octets, from, to);
     read_between(source, octets, to - from, to - from + most)
@@ -58,6 +59,7 @@ fn read_between<S: Source>(
 
     ensures later { S.faults source.old ≤ S.faults source.new }
     ensures cause { OnErr result (Rises (S.faults source.old) (S.faults source.new)) }
+    ensures no_fault { OnOk result (S.faults source.new ≡ S.faults source.old) }
 {
     source.read(&mut octets[at..end])
 }

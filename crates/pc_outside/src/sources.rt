@@ -1,5 +1,5 @@
 // Where octets come from.
-ghost use Rattle.std.specs.Prelude.{ℕ, ◌≤◌, List, Option, length, IfOk, OnErr};
+ghost use Rattle.std.specs.Prelude.{◌≡◌, ℕ, ◌≤◌, List, Option, length, IfOk, OnOk, OnErr};
 ghost use Rattle.std.specs.Io.KnownBytes.{ReadConsumes};
 ghost use Rattle.pc_outside.specs.Faults.{Rises};
 
@@ -21,7 +21,8 @@ pub trait Source {
         ensures count { IfOk result (λ n. n ≤ length into.old) }
         ensures octets { ReadConsumes (left self.old) (left self.new) result into.new }
 
-        // A failure is counted, and no count falls.
+        // A failure is counted, and nothing else is.
         ensures later { faults self.old ≤ faults self.new }
-        ensures cause { OnErr result (Rises (faults self.old) (faults self.new)) };
+        ensures cause { OnErr result (Rises (faults self.old) (faults self.new)) }
+        ensures no_fault { OnOk result (faults self.new ≡ faults self.old) };
 }

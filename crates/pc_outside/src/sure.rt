@@ -1,5 +1,6 @@
 // A source and a sink over memory that never fail.
-ghost use Rattle.std.specs.Prelude.{◌≡◌, ◌≤◌, ◌<◌, ◌++◌, [], Some, None, length, take, min, IfOk, IsOkAnd, OnErr};
+ghost use Rattle.std.specs.Prelude.{◌≡◌, ◌≤◌, ◌<◌, ◌++◌, ℕ, [], Some, None, length, take, min};
+ghost use Rattle.std.specs.Prelude.{IfOk, IsOkAnd, OnOk, OnErr};
 ghost use Rattle.std.specs.Io.KnownBytes.{ReadConsumes, WriteAppends};
 ghost use Rattle.pc_outside.specs.Faults.{Rises};
 
@@ -49,6 +50,7 @@ impl Source for SureSource {
         ensures octets { ReadConsumes (Some self.old) (Some self.new) result into.new }
         ensures later { 0 ≤ 0 }
         ensures cause { OnErr result (Rises 0 0) }
+        ensures no_fault { OnOk result (◌≡◌ {A = ℕ} 0 0) }
         // As many as the slice and the rest allow.
         ensures sure { IsOkAnd result (λ n. n ≡ min (length into.old) (length self.old)) }
     {

@@ -8,7 +8,7 @@ use Rattle.ipv4_packet.specs.Packet.{packet_of}
 use Rattle.ipv4_packet.specs.Payload.{payload_of}
 use Rattle.ipv4_packet.specs.Refusal.{first_fault}
 use Rattle.ipv4_packet.specs.declared.fault.IpBad.TheVariants as bad
-use Rattle.trace_lines.specs.declared.line.LineKind.TheVariants as kind
+use Rattle.trace_lines.specs.Kind as kind
 use Rattle.pc_base.specs.Addresses.{gateway_addr}
 use Rattle.pcap_form.specs.Packet.{is_datagram, is_for_user, ip_kind, length_of, message_kind, message_of, packet_kind, port_of}
 use Rattle.pcap_form.specs.Export.{is_packet, wrapped, wrapped_head}

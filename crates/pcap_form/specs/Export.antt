@@ -4,8 +4,8 @@ use Rattle.std.specs.Prelude.{◌++◌, length, flat_map, is_none, nat_le, if◌
 use Rattle.wire_octets.specs.Numbers.{be16_octets, be32_octets}
 use Rattle.ipv4_packet.specs.Fields.{total_length}
 use Rattle.ipv4_packet.specs.Refusal.{first_fault}
-use Rattle.trace_lines.specs.declared.line.LineKind.{LineKind}
-use Rattle.trace_lines.specs.declared.line.LineKind.TheVariants as kind
+use Rattle.trace_lines.specs.Kind.{LineKind}
+use Rattle.trace_lines.specs.Kind as kind
 use Rattle.trace_lines.specs.Line.{Line}
 use Rattle.pcap_form.specs.Packet.{control_port, user_port, is_for_user}
 use Rattle.pcap_form.specs.Trace.{Stamped}

@@ -1,8 +1,8 @@
 -- What lent octets say, as a line's own.
 use Rattle.std.specs.Option.{option_map}
 use Rattle.std.specs.Prelude.{Option}
-use Rattle.trace_lines.specs.declared.line.LineKind.{LineKind}
-use Rattle.trace_lines.specs.declared.line.LineKind.TheVariants as kind
+use Rattle.trace_lines.specs.Kind.{LineKind}
+use Rattle.trace_lines.specs.Kind as kind
 use Rattle.pcap_form.specs.declared.lent.LentKind.{LentKind}
 use Rattle.pcap_form.specs.declared.lent.LentKind.TheVariants as lent
 

@@ -7,8 +7,8 @@ use Rattle.ipv4_packet.specs.Packet.{packet_of}
 use Rattle.ipv4_packet.specs.Payload.{payload_of}
 use Rattle.ipv4_packet.specs.Refusal.{first_fault}
 use Rattle.pc_base.specs.Addresses.{gateway_addr}
-use Rattle.trace_lines.specs.declared.line.LineKind.{LineKind}
-use Rattle.trace_lines.specs.declared.line.LineKind.TheVariants as kind
+use Rattle.trace_lines.specs.Kind.{LineKind}
+use Rattle.trace_lines.specs.Kind as kind
 
 -- the ports of GTPv2-C (TS 29.274, 4.1) and GTP-U (TS 29.281, 4.4.2)
 abbrev pub control_port : ℕ

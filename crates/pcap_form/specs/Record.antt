@@ -1,7 +1,7 @@
 -- The records behind a header: each a head of 16 octets, and the captured octets.
 -- 0-3: seconds   4-7: fraction of a second   8-11: captured length   12-15: original length, which is ignored
 use Rattle.std.specs.Prelude.{ℕ, ◌+◌, ◌*◌, ◌/◌, List, drop, take, length, nat_lt, if◌then◌else◌, Option}
-use Rattle.trace_lines.specs.declared.line.LineKind.{LineKind}
+use Rattle.trace_lines.specs.Kind.{LineKind}
 use Rattle.pcap_form.specs.declared.head.CaptureHead.{CaptureHead}
 use Rattle.pcap_form.specs.Numbers.{number32_at}
 use Rattle.pcap_form.specs.Packet.{kind_in}

@@ -1,7 +1,7 @@
 -- The trace of records: a line for each that carries one, with its moment.
 use Rattle.std.specs.Prelude.{ℕ, ◌-◌, ◌^◌, max, min, List, [], ◌∷◌, ◌++◌, flat_map, Option, None, Some}
 use Rattle.pc_outside.specs.Limits.{newline}
-use Rattle.trace_lines.specs.declared.line.LineKind.{LineKind}
+use Rattle.trace_lines.specs.Kind.{LineKind}
 use Rattle.trace_lines.specs.Text.{line_text}
 use Rattle.pcap_form.specs.Record.{Record}
 

@@ -28,9 +28,9 @@ pub fn export_one(alloc: Global, line: &TraceLine) -> Result<Option<Octets>, NoM
     ensures { IfOk result (λ one. one ≡ captured line.now.kind) }
 {
     match &line.kind {
-        LineKind::S11(message) => message_in(alloc, S11_PORT, message.as_slice()),
-        LineKind::S1u(message) => message_in(alloc, S1U_PORT, message.as_slice()),
-        LineKind::Sgi(octets) => packet_in(alloc, octets.as_slice()),
+        LineKind::S11 => message_in(alloc, S11_PORT, line.octets.as_slice()),
+        LineKind::S1u => message_in(alloc, S1U_PORT, line.octets.as_slice()),
+        LineKind::Sgi => packet_in(alloc, line.octets.as_slice()),
         _ => Ok(None),
     }
 }
@@ -77,9 +77,9 @@ fn push_parts(out: &mut Vec<u8>, line: &TraceLine) -> Result<(), NoMemory>
     ensures before { OnErr result (take (length out.old.items) out.new.items ≡ out.old.items) }
 {
     match &line.kind {
-        LineKind::S11(message) => push_message(out, line.moment, S11_PORT, message.as_slice()),
-        LineKind::S1u(message) => push_message(out, line.moment, S1U_PORT, message.as_slice()),
-        LineKind::Sgi(octets) => push_packet(out, line.moment, octets.as_slice()),
+        LineKind::S11 => push_message(out, line.moment, S11_PORT, line.octets.as_slice()),
+        LineKind::S1u => push_message(out, line.moment, S1U_PORT, line.octets.as_slice()),
+        LineKind::Sgi => push_packet(out, line.moment, line.octets.as_slice()),
         _ => Ok(()),
     }
 }

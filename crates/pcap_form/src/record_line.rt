@@ -1,7 +1,9 @@
 //! What the captured octets of a record say.
 ghost use Rattle.std.specs.Prelude.{◌≡◌, ◌%◌, ◌^◌, ◌==◌, not, IfOk, if◌then◌else◌};
+ghost use Rattle.std.specs.Option.{option_map};
 ghost use Rattle.wire_octets.specs.Numbers.{be16_at};
 ghost use Rattle.ipv4_packet.specs.Payload.{payload_of};
+ghost use Rattle.trace_lines.specs.Beside.{with_octets};
 ghost use Rattle.pcap_form.specs.Lent.{kind_of, said_by};
 ghost use Rattle.pcap_form.specs.Packet.{frame_kind, ip_kind, is_datagram, is_ipv4_frame, is_for_user, kind_in};
 ghost use Rattle.pcap_form.specs.Packet.{message_kind};
@@ -30,14 +32,15 @@ const IPV4_TYPE: u16 = 0x0800;
 // What stands before the message in a datagram (RFC 768).
 const UDP_LEN: usize = 8;
 
-/// The line that the captured octets of a record are: None where they carry no IPv4 packet, or one
-/// that is neither a message to the gateway nor a packet to a user's address.
+/// The line that the captured octets of a record are, as its kind and the octets beside it: None where they carry no
+/// IPv4 packet, or one that is neither a message to the gateway nor a packet to a user's address.
 pub fn import_one(
     alloc: Global,
     head: &CaptureHead,
     octets: &[u8],
-) -> Result<Option<LineKind>, NoMemory>
-    ensures { IfOk result (λ one. one ≡ kind_in head.now.ethernet octets.now) }
+) -> Result<Option<(LineKind, Octets)>, NoMemory>
+    ensures { IfOk result (λ one. option_map (λ said. with_octets said.0 said.1) one
+        ≡ kind_in head.now.ethernet octets.now) }
 {
     match lent_kind(head, octets) {
         Some(said) => Ok(Some(owned(alloc, said)?)),
@@ -45,13 +48,13 @@ pub fn import_one(
     }
 }
 
-fn owned(alloc: Global, said: LentKind<'_>) -> Result<LineKind, NoMemory>
-    ensures { IfOk result (λ kind. kind ≡ kind_of said.entry) }
+fn owned(alloc: Global, said: LentKind<'_>) -> Result<(LineKind, Octets), NoMemory>
+    ensures { IfOk result (λ one. with_octets one.0 one.1 ≡ kind_of said.entry) }
 {
     match said {
-        LentKind::S11(message) => Ok(LineKind::S11(copied(alloc, message)?)),
-        LentKind::S1u(message) => Ok(LineKind::S1u(copied(alloc, message)?)),
-        LentKind::Sgi(octets) => Ok(LineKind::Sgi(copied(alloc, octets)?)),
+        LentKind::S11(message) => Ok((LineKind::S11, copied(alloc, message)?)),
+        LentKind::S1u(message) => Ok((LineKind::S1u, copied(alloc, message)?)),
+        LentKind::Sgi(octets) => Ok((LineKind::Sgi, copied(alloc, octets)?)),
     }
 }
 

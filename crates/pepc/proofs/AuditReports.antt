@@ -6,6 +6,7 @@ use Rattle.lawful_run.specs.Setup.{Setup}
 use Rattle.audit_run.specs.Findings.{Finds}
 use Rattle.audit_run.specs.Report.{Reports}
 use Rattle.audit_run.specs.Report.{Audits as AuditsThere, SaysWhole as SaysThere}
+use Rattle.audit_reading.proofs.InputLemmas.{taken_before}
 use Rattle.audit_reading.specs.Progress.{Reached}
 use Rattle.audit_reading.specs.Texts.{Text, big, ended, long, texts_of}
 use Rattle.audit_reading.specs.declared.hearing.Stopped.TheVariants as stopped_at
@@ -131,7 +132,8 @@ pub fault_told : (setup : Setup) (start left old : Option (List ℕ)) (texts : L
     → Audits true setup status.ReadFault start left old old
 fault_told setup start left old texts =
     nothing_told status.ReadFault true setup start left old
-    (λ octets rest. Reached stopped_at.ReadFault octets rest texts) (λ octets rest at. (at, refl))
+    (λ octets rest. Reached stopped_at.ReadFault octets rest texts)
+    (λ octets rest at. (taken_before octets rest texts at, refl))
 
 pub long_told : (setup : Setup) (start left old : Option (List ℕ)) (texts : List Text)
     → WhereTold start left (λ octets rest. Reached stopped_at.LineLong octets rest texts)

@@ -59,13 +59,11 @@ impl LineTaker for Capture {
     // Appends the record of the line. A piece that is long enough is written.
     fn take<K: Sink>(
         &mut self,
-        line: TraceLine,
+        line: &TraceLine,
         _len: usize,
-        room: &mut Vec<u8>,
         sink: &mut K,
     ) -> Result<(), Unwritten> {
-        push_record(&mut self.waiting, &line)?;
-        line.give_room(room);
+        push_record(&mut self.waiting, line)?;
         if self.waiting.len() < PIECE_LEN {
             return Ok(());
         }

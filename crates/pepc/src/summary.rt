@@ -28,10 +28,9 @@ pub fn counted(alloc: Global, seed: u64, subs: u32, lines: u32) -> Result<EntryC
     let mut maker = Maker::new(seed, subs, lines);
     let mut epochs = Epochs::new(alloc, Solo::new(alloc));
     let mut text = Text::new(alloc);
-    let mut room = Vec::new(alloc);
     let mut counts = EntryCounts::new();
     while let Some(line) = made_line(alloc, &mut maker)? {
-        count_line(&mut epochs, line, &mut text, &mut room, &mut counts)?;
+        count_line(&mut epochs, &line, &mut text, &mut counts)?;
     }
     epochs.finish(Ending::Ended, u64::from(subs) + u64::from(lines))?;
     counts.add(epochs.text.as_slice());
@@ -41,25 +40,24 @@ pub fn counted(alloc: Global, seed: u64, subs: u32, lines: u32) -> Result<EntryC
 // Answers a line. An epoch that it ends is counted; the text of the line is used for its length alone.
 fn count_line(
     epochs: &mut Epochs<Solo>,
-    line: TraceLine,
+    line: &TraceLine,
     text: &mut Text,
-    room: &mut Vec<u8>,
     counts: &mut EntryCounts,
 ) -> Result<(), AllocError>
     requires next { (done : List Line) × (latest : ℕ) × CountedSoFar epochs.old.reporter epochs.old.size
-        epochs.old.text counts.old done latest × IsNextOf done latest line }
-    requires short { length (line_text line) ≤ line_max }
+        epochs.old.text counts.old done latest × IsNextOf done latest line.now }
+    requires short { length (line_text line.now) ≤ line_max }
 
     ensures { (done : List Line) (latest : ℕ)
         → CountedSoFar epochs.old.reporter epochs.old.size epochs.old.text counts.old done latest
-        → IsNextOf done latest line
+        → IsNextOf done latest line.now
         → OnOk result (CountedSoFar epochs.new.reporter epochs.new.size epochs.new.text counts.new
-        (done ++ line ∷ []) line.moment) }
+        (done ++ line.now ∷ []) line.now.moment) }
 {
     text.clear();
-    push_text(text, &line)?;
+    push_text(text, line)?;
     let len = text.as_slice().len();
-    if !epochs.answer(line, len, room)? {
+    if !epochs.answer(line, len)? {
         return Ok(());
     }
     counts.add(epochs.text.as_slice());

@@ -56,15 +56,16 @@ impl Replay {
         }
     }
 
-    /// Keeps a line.
-    pub(crate) fn keep(&mut self, line: TraceLine) -> Result<(), AllocError>
+    /// Keeps a copy of a line.
+    pub(crate) fn keep(&mut self, line: &TraceLine) -> Result<(), AllocError>
         ensures { (first : Replay) (done : List Line) (latest : ℕ) (closed : List (List Line)) (open_ : List Line)
             (sent waiting : List ℕ) → Replayed first self.old done latest closed open_ sent waiting
-            → IsNextOf done latest line
-            → OnOk result (Replayed first self.new (done ++ line ∷ []) line.moment closed (open_ ++ line ∷ []) sent
-            waiting) }
+            → IsNextOf done latest line.now
+            → OnOk result (Replayed first self.new (done ++ line.now ∷ []) line.now.moment closed
+            (open_ ++ line.now ∷ []) sent waiting) }
     {
-        self.lines.push(line)?;
+        let copy = line.try_clone()?;
+        self.lines.push(copy)?;
         Ok(())
     }
 

@@ -59,12 +59,7 @@ impl<'r, R: Threads + Wait + Sync> Reporter for Replayer<'r, R> {
     ghost represents = { λ first now done latest closed open_ sent waiting. IsSync R.row
         × Replayed first.replay now.replay done latest closed open_ sent waiting };
 
-    fn take(
-        &mut self,
-        line: TraceLine,
-        _room: &mut Vec<u8>,
-        _text: &mut Text,
-    ) -> Result<(), AllocError> {
+    fn take(&mut self, line: &TraceLine, _text: &mut Text) -> Result<(), AllocError> {
         self.replay.keep(line)
     }
 

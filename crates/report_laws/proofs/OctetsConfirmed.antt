@@ -352,7 +352,7 @@ cut_few full octets (first ∷ rest) is =
       length-append octets (newline ∷ []),
     )
 
-lines_few : (octets : List ℕ) → length (input_of octets).lines + 3 < 2 ^ 40
+pub lines_few : (octets : List ℕ) → length (input_of octets).lines + 3 < 2 ^ 40
 unfolding input_within
 lines_few octets =
     let looked : List ℕ = take input_max octets in

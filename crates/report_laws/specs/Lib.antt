@@ -6,3 +6,4 @@ pub mod Ranges
 pub mod Running
 pub mod Resuming
 pub mod OneText
+pub mod Sequential

@@ -49,6 +49,32 @@ headed (Ok done) word fields out head first second last new is whole appended =
     ∙ ap (λ text. out ++ text) (sym (joined-behind (word ∷ []) (fields ++ last ∷ [])))
 headed (Err why) word fields out head first second last new is whole appended = tt
 
+-- the fields, and more whose text is the end of the head and what stands behind it
+pub told_behind : (answer : Result (Unit {0}) AllocError) (word : ℕ) (fields more : List (List ℕ))
+    (out head first second new : List ℕ)
+    → head ≡ word ∷ led fields first → first ++ second ≡ behind more → OnOk answer (new ≡ (out ++ head) ++ second)
+    → OnOk answer (new ≡ out ++ joined ((word ∷ []) ∷ (fields ++ more)))
+told_behind (Ok done) word fields more out head first second new is whole appended =
+    appended ∙ append_assoc out head second
+    ∙ ap (λ text. out ++ (text ++ second)) (is ∙ ap (λ text. word ∷ text) (led-behind fields first))
+    ∙ ap (λ text. out ++ (word ∷ text)) (append_assoc (behind fields) first second
+    ∙ ap (λ text. behind fields ++ text) whole ∙ sym (behind-append fields more))
+    ∙ ap (λ text. out ++ text) (sym (joined-behind (word ∷ []) (fields ++ more)))
+told_behind (Err why) word fields more out head first second new is whole appended = tt
+
+-- fields in a head, and a last one whose first part is in it · all of them in a head
+pub last_behind : (fields : List (List ℕ)) (head first second last : List ℕ) → head ≡ led fields (32 ∷ first)
+    → last ≡ first ++ second → head ++ second ≡ behind (fields ++ last ∷ [])
+last_behind fields head first second last is whole =
+    ap (λ text. text ++ second) (is ∙ led-behind fields (32 ∷ first))
+    ∙ append_assoc (behind fields) (32 ∷ first) second
+    ∙ ap (λ text. behind fields ++ 32 ∷ text) (sym whole ∙ sym (append-nil last))
+    ∙ sym (behind-append fields (last ∷ []))
+
+pub all_behind : (fields : List (List ℕ)) (head : List ℕ) → head ≡ led fields [] → head ++ [] ≡ behind fields
+all_behind fields head is =
+    append-nil head ∙ is ∙ led-behind fields [] ∙ append-nil (behind fields)
+
 -- the fields alone
 pub all_in_head : (answer : Result (Unit {0}) AllocError) (word : ℕ) (fields : List (List ℕ))
     (out head new : List ℕ)

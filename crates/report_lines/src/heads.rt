@@ -1,15 +1,18 @@
 //! The entries of packets, which most entries are: a head put together from its last field to its first, and the
 //! octets behind it.
-ghost use Rattle.std.specs.Prelude.{◌≡◌, ◌+◌, ◌≤◌, ◌<◌, ◌^◌, ◌++◌, ◌∷◌, [], codes, decimal, length, OnOk, OnErr};
+ghost use Rattle.std.specs.Prelude.{◌≡◌, ◌+◌, ◌≤◌, ◌++◌, ◌∷◌, [], codes, decimal, length, OnOk, OnErr};
 ghost use Rattle.hex.specs.Hex.{encode_lower};
-ghost use Rattle.packet_steps.specs.Messages.{gpdu};
+ghost use Rattle.packet_steps.specs.Lent.{verdict_of};
 ghost use Rattle.text_fields.specs.Address.{dotted};
-ghost use Rattle.text_fields.specs.Fields.{joined};
+ghost use Rattle.text_fields.specs.Fields.{behind, joined};
+ghost use Rattle.report_lines.specs.Lent.{IsShort};
+ghost use Rattle.report_lines.specs.Text.{verdict_fields};
 ghost use Rattle.report_lines.specs.Words.{message_word};
 
 use crate::NoMemory;
 use gtpu_codec::gpdu_head;
-use pc_base::{Addr4, Octets, Peer, Slot};
+use packet_steps::LentVerdict;
+use pc_base::{Addr4, Octets, Slot};
 use text_fields::{Head, Text};
 
 /// A slot's packet of this number, behind so many of its commands, on a line.
@@ -44,29 +47,97 @@ pub(crate) fn push_octets(
     out.push_headed(head.as_slice(), octets)
 }
 
-/// A packet that goes down is in the tunnel to its eNodeB: its G-PDU is written from its two parts.
-pub(crate) fn push_down(
+/// A packet's entry: its verdict is put first, since a head is put together from its last field to its first.
+#[inline(always)]
+pub(crate) fn push_verdict(
     out: &mut Text,
     packet: Which,
-    life: u64,
-    peer: Peer,
-    octets: &[u8],
+    verdict: &LentVerdict<'_>,
 ) -> Result<(), NoMemory>
-    requires { length octets.now < 2 ^ 16 }
+    requires { IsShort verdict.now }
     ensures appended { OnOk result (out.new ≡ out.old ++ joined (codes "P" ∷ decimal packet.line ∷ decimal packet.slot
-        ∷ decimal packet.number ∷ decimal packet.commands ∷ codes "down" ∷ decimal life ∷ dotted peer.addr
-        ∷ encode_lower (gpdu peer octets.now) ∷ [])) }
+        ∷ decimal packet.number ∷ decimal packet.commands ∷ verdict_fields (verdict_of verdict.now) [])) }
     ensures kept { OnErr result (out.new ≡ out.old) }
 {
-    let tunnel = gpdu_head(peer.teid, octets.len() as u16);
     let mut head = Head::new();
-    head.put_eight(tunnel);
-    head.put(b' ');
-    head.put_address(peer.addr.0);
-    head.put_number(life);
-    head.put_word(b"down");
+    let octets = put_verdict(&mut head, verdict);
     put_counts(&mut head, packet);
     out.push_headed(head.as_slice(), octets)
+}
+
+// The fields of a verdict, but for the octets that stand behind them in hexadecimal. A packet that goes down is in the
+// tunnel to its eNodeB: its G-PDU is written from its two parts.
+#[inline(always)]
+fn put_verdict<'a>(head: &mut Head, verdict: &'a LentVerdict<'_>) -> &'a [u8]
+    requires short { IsShort verdict.now }
+    requires empty { head.old ≡ [] }
+    ensures told { head.new ++ encode_lower result.now ≡ behind (verdict_fields (verdict_of verdict.now) []) }
+    ensures room { length head.new ≤ 75 }
+{
+    match verdict {
+        LentVerdict::Up { life, octets } => {
+            head.put(b' ');
+            put_life(head, b"up", *life);
+            octets
+        }
+        LentVerdict::Down { life, octets, peer } => {
+            head.put_eight(gpdu_head(peer.teid, octets.len() as u16));
+            head.put(b' ');
+            head.put_address(peer.addr.0);
+            put_life(head, b"down", *life);
+            octets
+        }
+        LentVerdict::Held { life, message } => put_held(head, *life, message),
+        LentVerdict::Idle { life } => {
+            put_life(head, b"idle", *life);
+            &[]
+        }
+        LentVerdict::Policed { life } => {
+            put_life(head, b"policed", *life);
+            &[]
+        }
+        LentVerdict::NoBearer => {
+            head.put_word(b"nobearer");
+            &[]
+        }
+        LentVerdict::Spoof => {
+            head.put_word(b"spoof");
+            &[]
+        }
+    }
+}
+
+// A packet that is held, and the message that told of it, if one did.
+fn put_held<'a>(head: &mut Head, life: u64, message: &'a Option<Octets>) -> &'a [u8]
+    requires { head.old ≡ [] }
+    ensures told { head.new ++ encode_lower result.now
+        ≡ behind (codes "held" ∷ decimal life ∷ message_word message.now ∷ []) }
+    ensures room { length head.new ≤ 75 }
+{
+    match message {
+        Some(message) => {
+            head.put(b' ');
+            put_life(head, b"held", life);
+            message.as_slice()
+        }
+        None => {
+            head.put_word(b"-");
+            put_life(head, b"held", life);
+            &[]
+        }
+    }
+}
+
+// A word and a life.
+#[inline(always)]
+fn put_life(head: &mut Head, word: &[u8], life: u64)
+    requires word { length word.now ≤ 8 }
+    requires room { length head.old ≤ 40 }
+    ensures value { head.new ≡ 32 ∷ word.now ++ (32 ∷ decimal life ++ head.old) }
+    ensures len { length head.new ≤ length head.old + 30 }
+{
+    head.put_number(life);
+    head.put_word(word);
 }
 
 /// A packet that went down, by the octets of its G-PDU.

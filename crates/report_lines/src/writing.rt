@@ -14,7 +14,7 @@ ghost use Rattle.report_lines.specs.Text.{line_shown, without_place, shown};
 ghost use Rattle.report_lines.specs.Words.{outcome_word, refused_word};
 
 use crate::charges::{push_open, push_row};
-use crate::heads::{Which, push_down, push_held, push_life, push_octets, push_sent, push_word};
+use crate::heads::{Which, push_held, push_life, push_octets, push_sent, push_verdict, push_word};
 use crate::packets::push_place_behind;
 use crate::words::{outcome_word, refused_word};
 use crate::{ChargeEntry, Entry, Judgement, LineEntry, NoMemory};
@@ -217,6 +217,7 @@ pub fn push_judged_placed(
 
 /// Appends the entry without a place, of a verdict whose octets are lent. A packet that goes down is in the tunnel to
 /// its eNodeB.
+#[inline(always)]
 pub fn push_packet(
     out: &mut Text,
     line: u64,
@@ -243,15 +244,7 @@ pub fn push_packet(
         number,
         commands,
     };
-    match verdict {
-        LentVerdict::Up { life, octets } => push_octets(out, packet, b"up", *life, octets),
-        LentVerdict::Down { life, peer, octets } => push_down(out, packet, *life, *peer, octets),
-        LentVerdict::NoBearer => push_word(out, packet, b"nobearer"),
-        LentVerdict::Spoof => push_word(out, packet, b"spoof"),
-        LentVerdict::Idle { life } => push_life(out, packet, b"idle", *life),
-        LentVerdict::Held { life, message } => push_held(out, packet, *life, message),
-        LentVerdict::Policed { life } => push_life(out, packet, b"policed", *life),
-    }
+    push_verdict(out, packet, verdict)
 }
 
 /// Appends the same entry with its place, and with the word of a packet that was parked, which only one with a

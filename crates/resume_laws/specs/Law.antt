@@ -2,7 +2,7 @@
 use Rattle.std.specs.Prelude.{◌≡◌, ℕ, ◌<◌, ◌^◌, ◌+◌, ◌-◌, false, List, [], ◌∷◌, ◌++◌, length, flat_map, All}
 use Rattle.trace_lines.specs.Input.{Stop, ended, input_of, input_within}
 use Rattle.trace_lines.specs.Line.{Line}
-use Rattle.trace_lines.specs.declared.line.LineKind.TheVariants.{Fence}
+use Rattle.trace_lines.specs.Kind.{Fence}
 use Rattle.pc_outside.specs.Faults.{Rises}
 use Rattle.pc_outside.specs.Limits.{newline}
 use Rattle.lawful_run.specs.Cut.{IsCut}

@@ -38,14 +38,14 @@ impl Saver {
 
     /// Answers a line, which is an epoch of its own. Nothing of what is told of it is kept, so that a long trace takes
     /// no more room than its subscribers.
-    pub(crate) fn enter(&mut self, alloc: Global, line: &TraceLine) -> Result<(), AllocError>
+    pub(crate) fn enter(&mut self, line: &TraceLine) -> Result<(), AllocError>
         requires { (done : List Line) × (latest : ℕ) × HasTaken self.old done latest × IsNextOf done latest line.now }
         ensures taken { (done : List Line) (latest : ℕ) → HasTaken self.old done latest → IsNextOf done latest line.now
             → OnOk result (HasTaken self.new (done ++ line.now ∷ []) line.now.moment) }
         ensures emptied { OnOk result (self.new.told ≡ []) }
     {
         known(line);
-        self.solo.enter(alloc, line, &mut self.told)?;
+        self.solo.enter(line, &mut self.told)?;
         self.solo.end_epoch(&mut self.told)?;
         self.told.clear();
         self.lines = line.number;
@@ -73,13 +73,11 @@ impl LineTaker for Saver {
 
     fn take<K: Sink>(
         &mut self,
-        line: TraceLine,
+        line: &TraceLine,
         len: usize,
-        room: &mut Vec<u8>,
         sink: &mut K,
     ) -> Result<(), Unwritten> {
-        self.enter(*room.allocator(), &line)?;
-        line.give_room(room);
+        self.enter(line)?;
         Ok(())
     }
 }

@@ -5,7 +5,7 @@ use Rattle.std.proofs.lemmas.List.{length-set, get_or-set_same, get_or-set_other
 use Rattle.slice_schedule.specs.World.{World, HeldControl, slot_at}
 use Rattle.slice_schedule.specs.ControlTurns.{is_done, stays, place_done, without}
 use Rattle.slice_schedule.specs.FlowTurns.{place_of}
-use Rattle.schedule_run.specs.Owing.{is_in}
+use Rattle.schedule_run.specs.Waiting.{is_in}
 use Rattle.schedule_run.specs.Rosters.{present, entry, place_at, Lacks, Indexed, OnlyCalled, Stays, FirstDone}
 use Rattle.schedule_run.proofs.Places.{none_half, same_half, half_within, place_all, first_at, none_fails}
 

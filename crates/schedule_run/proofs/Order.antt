@@ -1,15 +1,14 @@
 -- Halves in the order of their turns, each of a slot of its own, and their slots alone.
-use Rattle.std.proofs.Common.{◌≡◌, ℕ, zero, suc, ◌+◌, ◌<◌, ◌≤◌, ◌==◌, ◌||◌, Bool, true, false, not, nat_lt, Option, Some, None, is_some, List, [], ◌∷◌, ◌++◌, length, get_or, cond, refl, sym, ap, ◌∙◌, inl, inr, arith}
+use Rattle.std.proofs.Common.{◌≡◌, ℕ, zero, suc, ◌+◌, ◌<◌, ◌≤◌, ◌==◌, ◌||◌, true, false, not, nat_lt, Option, Some, None, is_some, List, [], ◌∷◌, ◌++◌, length, get_or, cond, refl, sym, ap, ◌∙◌, inl, inr, arith}
 use Rattle.std.proofs.lemmas.Bool.{cases_lt, ne_eqb, lt-ltb, le-ltb}
 use Rattle.std.proofs.lemmas.List.{length-map}
 use Rattle.slice_schedule.specs.World.{World, HeldControl, cursor_behind}
 use Rattle.slice_schedule.specs.ControlTurns.{place_done, without, held_at}
 use Rattle.slice_schedule.specs.FlowTurns.{place_of}
-use Rattle.schedule_run.specs.Owing.{is_in}
+use Rattle.schedule_run.specs.Waiting.{is_in}
 use Rattle.schedule_run.specs.Rosters.{present, entry, place_at, Lacks, Indexed, FirstDone}
-use Rattle.schedule_run.specs.Rounds.{slots_held, EachOnce, IsOrderly, place_held, distance}
-use Rattle.schedule_run.proofs.Skipped.{both_on, both_round, on_first, round_last}
-use Rattle.schedule_run.proofs.Places.{is_half, place_all, place_few, place_below, place_rises, place_less}
+use Rattle.schedule_run.specs.Rounds.{slots_held, EachOnce, IsOrderly, place_held}
+use Rattle.schedule_run.proofs.Places.{is_half, place_all, place_below, place_rises, place_less}
 
 -- each of a slot of its own
 lacks_in : (halves : List (Option HeldControl)) (slot : ℕ) → Lacks halves slot
@@ -66,40 +65,20 @@ order_same halves i j here there = elim (cases_lt i j) [
       le-ltb i j more ∙ sym (le-ltb (place_at halves i) (place_at halves j) (place_rises halves j i more))
 ]
 
-module _ (halves : List (Option HeldControl)) (next i j : ℕ) (here : is_some (entry halves i) ≡ true)
-    (there : is_some (entry halves j) ≡ true) where
-  abbrev first_of : Bool
-  first_of =
-      nat_lt (distance (place_at halves next) (place_at halves i) (length (present halves)))
-      (distance (place_at halves next) (place_at halves j) (length (present halves)))
+pub half_there : (halves : List (Option HeldControl)) (i : ℕ) (half : HeldControl) → entry halves i ≡ Some half
+    → is_some (entry halves i) ≡ true
+half_there halves i half here = ap is_some here
 
-  below : (k : ℕ) → is_some (entry halves k) ≡ true → k < next → place_at halves k < place_at halves next
-  below k is less = let own = is_half halves k is in place_less halves k next own.half own.here less
-
-  within : (k : ℕ) → is_some (entry halves k) ≡ true → place_at halves k < length (present halves)
-  within k is = let own = is_half halves k is in place_below halves k own.half own.here
-
-  pub first_both : i < next → j < next → nat_lt i j ≡ first_of
-  first_both one other =
-      order_same halves i j here there
-      ∙ sym (both_round (place_at halves next) (place_at halves i) (place_at halves j) (length (present halves))
-      (below i here one) (below j there other) (place_few halves next))
-
-  pub first_late : i < next → next ≤ j → false ≡ first_of
-  first_late one other =
-      sym (round_last (place_at halves next) (place_at halves i) (place_at halves j) (length (present halves))
-      (below i here one) (place_rises halves next j other) (within j there))
-
-  pub first_soon : next ≤ i → j < next → true ≡ first_of
-  first_soon one other =
-      sym (on_first (place_at halves next) (place_at halves i) (place_at halves j) (length (present halves))
-      (place_rises halves next i one) (below j there other) (within i here))
-
-  pub first_on : next ≤ i → next ≤ j → nat_lt i j ≡ first_of
-  first_on one other =
-      order_same halves i j here there
-      ∙ sym (both_on (place_at halves next) (place_at halves i) (place_at halves j) (length (present halves))
-      (place_rises halves next i one) (place_rises halves next j other))
+pub order_next : (halves : List (Option HeldControl)) (i next : ℕ) → is_some (entry halves i) ≡ true
+    → nat_lt i next ≡ nat_lt (place_at halves i) (place_at halves next)
+order_next halves i next here = elim (cases_lt i next) [
+  | inl less ↦
+      let own = is_half halves i here in
+      lt-ltb i next less ∙ sym (lt-ltb (place_at halves i) (place_at halves next)
+      (place_less halves i next own.half own.here less))
+  | inr more ↦
+      le-ltb i next more ∙ sym (le-ltb (place_at halves i) (place_at halves next) (place_rises halves next i more))
+]
 
 pub orderly_by : (last : ℕ) (halves : List (Option HeldControl)) (index : List ℕ) (at next : ℕ)
     → Indexed halves index → length index ≤ last → is_some (entry halves at) ≡ true

@@ -3,7 +3,7 @@ use Rattle.std.proofs.Common.{◌≡◌, ℕ, zero, suc, ◌+◌, ◌<◌, ◌�
 use Rattle.std.proofs.lemmas.List.{length-set, length-map}
 use Rattle.slice_schedule.specs.World.{HeldControl, cursor_within, cursor_behind}
 use Rattle.slice_schedule.specs.ControlTurns.{marked, without}
-use Rattle.schedule_run.specs.Owing.{is_in}
+use Rattle.schedule_run.specs.Waiting.{is_in}
 use Rattle.schedule_run.specs.Rosters.{RosterNow, left, present, entry, place_at, Lacks, Indexed, OnlyCalled, IsRoster, mark_entry}
 use Rattle.schedule_run.specs.Rounds.{place_held}
 use Rattle.schedule_run.proofs.Places.{none_half, same_half, present_next, present_still, length_more, place_few, none_left, cursor_stays, lacks_place}

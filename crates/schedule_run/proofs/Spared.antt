@@ -1,17 +1,12 @@
 -- What changes nothing, and is left out.
-use Rattle.std.proofs.Common.{◌≡◌, ℕ, ◌<◌, false, None, List, [], ◌∷◌, length, cond, fold, refl, sym, ap, ◌∙◌, arith}
+use Rattle.std.proofs.Common.{◌≡◌, ℕ, ◌<◌, false, List, [], ◌∷◌, length, cond, fold, refl, sym, ap, ◌∙◌, arith}
 use Rattle.slice_schedule.specs.Numbers.{put_at}
 use Rattle.slice_schedule.specs.Slots.{SlotNow, fresh_slot, is_absent}
 use Rattle.slice_schedule.specs.Halves.{learn_one, batches_learnt, learn}
 use Rattle.slice_schedule.specs.World.{World, Rooms, ControlNow, FlowNow, fresh_control, fresh_flow, slot_at, on_slot, control_at, on_control, flow_at, on_flow}
 use Rattle.slice_schedule.specs.Front.{packet, control_back, control_home, controls_home, flow_back, flow_home, flows_home, flow_offer, made, parks, park_packet, send_packet, is_front, arrived_first, offer_packet, line_done}
-use Rattle.slice_schedule.specs.ControlTurns.{work_all}
-use Rattle.schedule_run.specs.Owing.{IsOwing}
-use Rattle.schedule_run.specs.Rosters.{roster_at}
-use Rattle.schedule_run.specs.Rounds.{IsOrderly}
 use Rattle.schedule_run.proofs.Loops.{each_none, times_stuck}
-use Rattle.schedule_run.proofs.Passed.{put_same}
-use Rattle.schedule_run.proofs.Skipped.{quiet_ahead, begins, works_none}
+use Rattle.schedule_run.proofs.Touched.{put_same}
 
 -- no half was sent home
 none_in : (xs : List ℕ) → length xs ≡ 0 → xs ≡ []
@@ -77,12 +72,3 @@ sent_at_once rooms bounds world s has_control has_none has_flow =
     ap (λ test. offer_packet rooms bounds (cond test (made rooms bounds world s) world) s) has_control
     ∙ ap (λ test. cond test (park_packet rooms world s) (send_packet rooms (arrived_first rooms bounds world s) s)) has_none
     ∙ ap (λ test. send_packet rooms (cond test (flow_offer rooms bounds world s) world) s) has_flow
-
--- no half has a turn that changes anything
-pub none_works : (owing : List ℕ) (rooms : Rooms) (slice : ℕ) (world : World) → IsOwing owing world
-    → IsOrderly (length world.slots) (roster_at world slice) → length owing ≡ 0 → world ≡ work_all rooms slice world
-none_works owing rooms slice world owed orderly none =
-    let roster = roster_at world slice in
-    works_none owing rooms slice (work_all rooms slice world) world None (begins owing rooms slice world owed orderly)
-    (quiet_ahead world.slots roster 0 (length roster.held) owing (λ s off. (owed.only.each s).quiet off) orderly.once
-    (λ j below. absurd (omega (arith, below, none))))

@@ -7,6 +7,8 @@ pub mod Growing
 pub mod Lanes
 pub mod Setups
 pub mod Worlds
-pub mod Owing
+pub mod Waiting
+pub mod Busy
+pub mod Listed
 pub mod Rounds
 pub mod Rosters

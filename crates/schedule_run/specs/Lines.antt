@@ -1,5 +1,5 @@
 -- The lines of an epoch as its schedule takes them.
-use Rattle.std.specs.Prelude.{ℕ, ◌%◌, List, [], ◌∷◌, get_or}
+use Rattle.std.specs.Prelude.{ℕ, ◌<◌, ◌%◌, ◌==◌, List, [], ◌∷◌, ⊤, cond, get_or}
 use Rattle.slice_schedule.specs.Front.{Asks, nothing, command, packet, move}
 use Rattle.slice_schedule.specs.Schedule.{Driven}
 use Rattle.schedule_run.specs.declared.ask.Ask.{Ask}
@@ -21,3 +21,17 @@ driven_by (asks ∷ others) (first ∷ turns) = record { asks = asks; turns = fi
 -- where a slot is bound for as the epoch begins: by the list, and else for its home slice
 abbrev pub bound_in : (slices : ℕ) → List ℕ → ℕ → ℕ
 bound_in slices bounds slot = get_or bounds slot (slot % slices)
+
+-- whether a line is a packet of this slot: one or none
+abbrev pub packet_asked : (slot : ℕ) → Ask → ℕ
+packet_asked slot ask.Nothing = 0
+packet_asked slot (ask.Command own) = 0
+packet_asked slot (ask.Packet own) = cond (own == slot) 1 0
+packet_asked slot (ask.Move own slice) = 0
+
+-- a packet of no slot from this number on
+abbrev pub IsPacketBelow : (slots : ℕ) → Ask → Type 0
+IsPacketBelow slots ask.Nothing = ⊤
+IsPacketBelow slots (ask.Command slot) = ⊤
+IsPacketBelow slots (ask.Packet slot) = slot < slots
+IsPacketBelow slots (ask.Move slot slice) = ⊤

@@ -3,7 +3,7 @@ use Rattle.std.specs.Prelude.{◌≡◌, ℕ, ◌+◌, ◌<◌, ◌≤◌, ◌==
 use Rattle.std.specs.Prelude.{length, take, get_or}
 use Rattle.slice_schedule.specs.World.{World, HeldControl, control_at, cursor_behind}
 use Rattle.slice_schedule.specs.ControlTurns.{marked, stays, without}
-use Rattle.schedule_run.specs.Owing.{is_in}
+use Rattle.schedule_run.specs.Waiting.{is_in}
 
 -- what a worker holds, and the place of the half whose turn is next
 pub record RosterNow : Type 0 where

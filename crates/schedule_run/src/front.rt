@@ -1,22 +1,16 @@
 //! What the front does: it takes halves home, offers orders, and accepts or refuses.
-ghost use Rattle.std.specs.Prelude.{◌≡◌, ℕ, ◌-◌, OnOk, IfOk, IfSome, length, min};
+ghost use Rattle.std.specs.Prelude.{◌≡◌, ℕ, ◌-◌, OnOk, IfOk, length, min};
 ghost use Rattle.std.specs.Bool.{OnFalse};
 ghost use Rattle.slice_schedule.specs.World as world;
 ghost use Rattle.slice_schedule.specs.Slots as slots;
 ghost use Rattle.slice_schedule.specs.Front as front;
 ghost use Rattle.schedule_run.specs.Lines.{asked};
 ghost use Rattle.schedule_run.specs.Numbers.{standing_of, control_order, flow_order};
-ghost use Rattle.schedule_run.specs.Owing.{IsOwing};
 ghost use Rattle.schedule_run.specs.Setups.{bounds_of};
 ghost use Rattle.schedule_run.specs.Worlds.{world_of};
 
-use crate::owing::{mark, mark_asked, settle};
 use crate::setup::Setup;
-use crate::sides::{
-    are_control_homes_empty, are_flow_homes_empty, clear_control_home, clear_flow_home,
-    control_sent, flow_sent, is_control_home_empty, is_flow_home_empty, lane_of, order_control,
-    order_flow, order_items, orders_of,
-};
+use crate::sides::{lane_of, order_control, order_flow, order_items, orders_of};
 use crate::slot::{is_absent, is_front};
 use crate::standing::{ControlOrder, FlowOrder, Standing};
 use crate::world::{
@@ -26,133 +20,6 @@ use crate::world::{
 };
 use crate::{Ask, Outcome};
 use std::alloc::AllocError;
-
-/// Where a half is that was sent home, if it was.
-fn back(standing: Standing) -> Standing
-    ensures { standing_of result ≡ front.back (standing_of standing) }
-{
-    match standing {
-        Standing::Absent => Standing::Absent,
-        Standing::Front => Standing::Front,
-        Standing::Placed(slice) => Standing::Placed(slice),
-        Standing::Recalled(slice, until) => Standing::Recalled(slice, until),
-        Standing::Leaving => Standing::Front,
-    }
-}
-
-fn control_back(numbers: &mut Numbers<'_>, slot: usize) -> Result<(), AllocError>
-    ensures { OnOk result (world_of numbers.new ≡ front.control_back (world_of numbers.old) slot) }
-{
-    let standing = back(control_of(numbers, slot));
-    set_control(numbers, slot, standing)
-}
-
-/// The control half of a slot is home: it may owe an order.
-fn control_at_home(
-    numbers: &mut Numbers<'_>,
-    owing: &mut Vec<usize>,
-    slot: usize,
-) -> Result<(), AllocError>
-    requires { IsOwing owing.old.items (world_of numbers.old) }
-    ensures world { OnOk result (world_of numbers.new ≡ front.control_back (world_of numbers.old) slot) }
-    ensures owing { OnOk result (IsOwing owing.new.items (world_of numbers.new)) }
-{
-    control_back(numbers, slot)?;
-    mark(numbers, owing, slot)
-}
-
-fn flow_back(numbers: &mut Numbers<'_>, slot: usize) -> Result<(), AllocError>
-    ensures { OnOk result (world_of numbers.new ≡ front.flow_back (world_of numbers.old) slot) }
-{
-    let standing = back(flow_of(numbers, slot));
-    set_flow(numbers, slot, standing)
-}
-
-/// The counter half of a slot is home: it may owe an order.
-fn flow_at_home(
-    numbers: &mut Numbers<'_>,
-    owing: &mut Vec<usize>,
-    slot: usize,
-) -> Result<(), AllocError>
-    requires { IsOwing owing.old.items (world_of numbers.old) }
-    ensures world { OnOk result (world_of numbers.new ≡ front.flow_back (world_of numbers.old) slot) }
-    ensures owing { OnOk result (IsOwing owing.new.items (world_of numbers.new)) }
-{
-    flow_back(numbers, slot)?;
-    mark(numbers, owing, slot)
-}
-
-/// Takes the control halves home that a slice sent, where any stands there.
-#[inline(never)]
-fn take_control_home(
-    numbers: &mut Numbers<'_>,
-    owing: &mut Vec<usize>,
-    slice: usize,
-) -> Result<(), AllocError>
-    requires { IsOwing owing.old.items (world_of numbers.old) }
-    ensures world { OnOk result (world_of numbers.new ≡ front.control_home (world_of numbers.old) slice) }
-    ensures owing { OnOk result (IsOwing owing.new.items (world_of numbers.new)) }
-{
-    let count = control_sent(numbers, slice).len();
-    for place in 0..count {
-        let home = control_sent(numbers, slice);
-        let slot = home[place];
-        control_at_home(numbers, owing, slot)?;
-    }
-    clear_control_home(numbers, slice)
-}
-
-/// Takes the control halves home that a slice sent.
-fn control_home(
-    numbers: &mut Numbers<'_>,
-    owing: &mut Vec<usize>,
-    slice: usize,
-) -> Result<(), AllocError>
-    requires { IsOwing owing.old.items (world_of numbers.old) }
-    ensures world { OnOk result (world_of numbers.new ≡ front.control_home (world_of numbers.old) slice) }
-    ensures owing { OnOk result (IsOwing owing.new.items (world_of numbers.new)) }
-{
-    if is_control_home_empty(numbers, slice) {
-        return Ok(());
-    }
-    take_control_home(numbers, owing, slice)
-}
-
-/// Takes the counter halves home that a slice sent, where any stands there.
-#[inline(never)]
-fn take_flow_home(
-    numbers: &mut Numbers<'_>,
-    owing: &mut Vec<usize>,
-    slice: usize,
-) -> Result<(), AllocError>
-    requires { IsOwing owing.old.items (world_of numbers.old) }
-    ensures world { OnOk result (world_of numbers.new ≡ front.flow_home (world_of numbers.old) slice) }
-    ensures owing { OnOk result (IsOwing owing.new.items (world_of numbers.new)) }
-{
-    let count = flow_sent(numbers, slice).len();
-    for place in 0..count {
-        let home = flow_sent(numbers, slice);
-        let slot = home[place];
-        flow_at_home(numbers, owing, slot)?;
-    }
-    clear_flow_home(numbers, slice)
-}
-
-/// Takes the counter halves home that a slice sent.
-fn flow_home(
-    numbers: &mut Numbers<'_>,
-    owing: &mut Vec<usize>,
-    slice: usize,
-) -> Result<(), AllocError>
-    requires { IsOwing owing.old.items (world_of numbers.old) }
-    ensures world { OnOk result (world_of numbers.new ≡ front.flow_home (world_of numbers.old) slice) }
-    ensures owing { OnOk result (IsOwing owing.new.items (world_of numbers.new)) }
-{
-    if is_flow_home_empty(numbers, slice) {
-        return Ok(());
-    }
-    take_flow_home(numbers, owing, slice)
-}
 
 /// Offers an order to a control worker.
 #[inline(always)]
@@ -237,7 +104,7 @@ fn owes_control(numbers: &Numbers<'_>, slot: usize) -> bool
 
 /// Offers what the control half of a slot owes: mostly it owes nothing.
 #[inline(always)]
-fn control_offer(
+pub fn control_offer(
     numbers: &mut Numbers<'_>,
     setup: &Setup<'_>,
     slot: usize,
@@ -331,7 +198,11 @@ fn owes_flow(numbers: &Numbers<'_>, slot: usize) -> bool
 
 /// Offers what the counter half of a slot owes: mostly it owes nothing.
 #[inline(always)]
-fn flow_offer(numbers: &mut Numbers<'_>, setup: &Setup<'_>, slot: usize) -> Result<(), AllocError>
+pub fn flow_offer(
+    numbers: &mut Numbers<'_>,
+    setup: &Setup<'_>,
+    slot: usize,
+) -> Result<(), AllocError>
     ensures { OnOk result (world_of numbers.new
         ≡ front.flow_offer setup.now.rooms (bounds_of setup.now) (world_of numbers.old) slot) }
 {
@@ -360,7 +231,7 @@ fn drain_on(
 }
 
 #[inline(never)]
-fn drain(numbers: &mut Numbers<'_>, setup: &Setup<'_>, slot: usize) -> Result<(), AllocError>
+pub fn drain(numbers: &mut Numbers<'_>, setup: &Setup<'_>, slot: usize) -> Result<(), AllocError>
     ensures { OnOk result (world_of numbers.new ≡ front.drain setup.now.rooms (world_of numbers.old) slot) }
 {
     match flow_of(numbers, slot) {
@@ -370,105 +241,6 @@ fn drain(numbers: &mut Numbers<'_>, setup: &Setup<'_>, slot: usize) -> Result<()
         Standing::Recalled(_, _) => Ok(()),
         Standing::Leaving => Ok(()),
     }
-}
-
-fn controls_home(numbers: &mut Numbers<'_>, owing: &mut Vec<usize>) -> Result<(), AllocError>
-    requires { IsOwing owing.old.items (world_of numbers.old) }
-    ensures world { OnOk result (world_of numbers.new ≡ front.controls_home (world_of numbers.old)) }
-    ensures owing { OnOk result (IsOwing owing.new.items (world_of numbers.new)) }
-{
-    if are_control_homes_empty(numbers.controls.as_slice()) {
-        return Ok(());
-    }
-    for slice in 0..numbers.controls.len() {
-        control_home(numbers, owing, slice)?;
-    }
-    Ok(())
-}
-
-fn controls_offered(
-    numbers: &mut Numbers<'_>,
-    setup: &Setup<'_>,
-    owing: &[usize],
-) -> Result<(), AllocError>
-    requires { IsOwing owing.now (world_of numbers.old) }
-    ensures world { OnOk result (world_of numbers.new
-        ≡ front.controls_offered (bounds_of setup.now) (world_of numbers.old)) }
-    ensures owing { OnOk result (IsOwing owing.now (world_of numbers.new)) }
-{
-    for slot in owing {
-        control_offer(numbers, setup, *slot)?;
-    }
-    Ok(())
-}
-
-fn flows_home(numbers: &mut Numbers<'_>, owing: &mut Vec<usize>) -> Result<(), AllocError>
-    requires { IsOwing owing.old.items (world_of numbers.old) }
-    ensures world { OnOk result (world_of numbers.new ≡ front.flows_home (world_of numbers.old)) }
-    ensures owing { OnOk result (IsOwing owing.new.items (world_of numbers.new)) }
-{
-    if are_flow_homes_empty(numbers.flows.as_slice()) {
-        return Ok(());
-    }
-    for slice in 0..numbers.flows.len() {
-        flow_home(numbers, owing, slice)?;
-    }
-    Ok(())
-}
-
-fn flows_offered(
-    numbers: &mut Numbers<'_>,
-    setup: &Setup<'_>,
-    owing: &[usize],
-) -> Result<(), AllocError>
-    requires { IsOwing owing.now (world_of numbers.old) }
-    ensures world { OnOk result (world_of numbers.new
-        ≡ front.flows_offered setup.now.rooms (bounds_of setup.now) (world_of numbers.old)) }
-    ensures owing { OnOk result (IsOwing owing.now (world_of numbers.new)) }
-{
-    for slot in owing {
-        flow_offer(numbers, setup, *slot)?;
-    }
-    Ok(())
-}
-
-fn all_drained(
-    numbers: &mut Numbers<'_>,
-    setup: &Setup<'_>,
-    owing: &[usize],
-) -> Result<(), AllocError>
-    requires { IsOwing owing.now (world_of numbers.old) }
-    ensures world { OnOk result (world_of numbers.new
-        ≡ front.all_drained setup.now.rooms (world_of numbers.old)) }
-    ensures owing { OnOk result (IsOwing owing.now (world_of numbers.new)) }
-{
-    for slot in owing {
-        drain(numbers, setup, *slot)?;
-    }
-    Ok(())
-}
-
-/// Before each line: the control side, then the data side. Slots that owe nothing are passed.
-pub fn pump(
-    numbers: &mut Numbers<'_>,
-    owing: &mut Vec<usize>,
-    setup: &Setup<'_>,
-) -> Result<(), AllocError>
-    requires { IsOwing owing.old.items (world_of numbers.old) }
-    ensures world { OnOk result (world_of numbers.new
-        ≡ front.pumped setup.now.rooms (bounds_of setup.now) (world_of numbers.old)) }
-    ensures owing { OnOk result (IsOwing owing.new.items (world_of numbers.new)) }
-{
-    controls_home(numbers, owing)?;
-    controls_offered(numbers, setup, owing.as_slice())?;
-    flows_home(numbers, owing)?;
-    if owing.is_empty() {
-        return Ok(());
-    }
-    flows_offered(numbers, setup, owing.as_slice())?;
-    all_drained(numbers, setup, owing.as_slice())?;
-    settle(numbers, owing);
-    Ok(())
 }
 
 /// Makes the halves of a slot.
@@ -571,7 +343,7 @@ fn send_on(
 }
 
 #[inline(always)]
-fn send_packet(
+pub fn send_packet(
     numbers: &mut Numbers<'_>,
     setup: &Setup<'_>,
     slot: usize,
@@ -656,7 +428,11 @@ fn move_slot(
 }
 
 /// What becomes of a line, behind the pump.
-fn line_asked(numbers: &mut Numbers<'_>, setup: &Setup<'_>, ask: Ask) -> Result<Outcome, AllocError>
+pub fn line_asked(
+    numbers: &mut Numbers<'_>,
+    setup: &Setup<'_>,
+    ask: Ask,
+) -> Result<Outcome, AllocError>
     ensures { IfOk result (λ outcome. record { world = world_of numbers.new; outcome = outcome }
         ≡ front.line_done setup.now.rooms (bounds_of setup.now) (world_of numbers.old) (asked ask)) }
 {
@@ -674,63 +450,5 @@ fn line_asked(numbers: &mut Numbers<'_>, setup: &Setup<'_>, ask: Ask) -> Result<
             move_slot(numbers, setup, slot as usize, slice)?;
             Ok(TAKEN)
         }
-    }
-}
-
-/// The same of any line.
-#[inline(never)]
-fn any_line(
-    numbers: &mut Numbers<'_>,
-    owing: &mut Vec<usize>,
-    setup: &Setup<'_>,
-    ask: Ask,
-) -> Result<Outcome, AllocError>
-    requires { IsOwing owing.old.items (world_of numbers.old) }
-    ensures done { IfOk result (λ outcome. record { world = world_of numbers.new; outcome = outcome }
-        ≡ front.line_done setup.now.rooms (bounds_of setup.now) (world_of numbers.old) (asked ask)) }
-    ensures owing { OnOk result (IsOwing owing.new.items (world_of numbers.new)) }
-{
-    let outcome = line_asked(numbers, setup, ask)?;
-    mark_asked(numbers, owing, ask)?;
-    Ok(outcome)
-}
-
-/// The slot of a packet that goes into the lane of its slice at once: its half is there, and no other waits.
-fn slot_sent(numbers: &Numbers<'_>, ask: Ask) -> Option<usize>
-    ensures { IfSome result (λ slot. (rooms : world.Rooms) → (bounds : ℕ → ℕ)
-        → front.line_done rooms bounds (world_of numbers.now) (asked ask)
-        ≡ front.send_packet rooms (world_of numbers.now) slot) }
-{
-    match ask {
-        Ask::Nothing => None,
-        Ask::Command(_) => None,
-        Ask::Packet(slot) => {
-            if is_settled(numbers, slot as usize) {
-                return Some(slot as usize);
-            }
-            None
-        }
-        Ask::Move(_, _) => None,
-    }
-}
-
-/// What becomes of a line, behind the pump; its slot may owe something then, but for a packet that is sent at once.
-pub fn line_done(
-    numbers: &mut Numbers<'_>,
-    owing: &mut Vec<usize>,
-    setup: &Setup<'_>,
-    ask: Ask,
-) -> Result<Outcome, AllocError>
-    requires { IsOwing owing.old.items (world_of numbers.old) }
-    ensures done { IfOk result (λ outcome. record { world = world_of numbers.new; outcome = outcome }
-        ≡ front.line_done setup.now.rooms (bounds_of setup.now) (world_of numbers.old) (asked ask)) }
-    ensures owing { OnOk result (IsOwing owing.new.items (world_of numbers.new)) }
-{
-    match slot_sent(numbers, ask) {
-        Some(slot) => {
-            let outcome = send_packet(numbers, setup, slot)?;
-            Ok(outcome)
-        }
-        None => any_line(numbers, owing, setup, ask),
     }
 }

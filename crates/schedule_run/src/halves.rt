@@ -1,10 +1,9 @@
 //! What the halves of a slot do when they are turned, and what is left of a slot as its epoch closes.
-ghost use Rattle.std.specs.Prelude.{◌≡◌, ◌+◌, ◌-◌, ◌==◌, ◌<◌, ◌≤◌, if◌then◌else◌, Some, None, ◌∷◌, [], ◌++◌};
+ghost use Rattle.std.specs.Prelude.{◌≡◌, ◌+◌, ◌==◌, ◌≤◌, if◌then◌else◌, Some, None, ◌∷◌, [], ◌++◌};
 ghost use Rattle.std.specs.Prelude.{IfOk, OnOk, OnErr, length, min, get_or, nat_le};
 ghost use Rattle.std.specs.Bool.{OnTrue};
 ghost use Rattle.slice_schedule.specs.Halves as halves;
-ghost use Rattle.schedule_run.specs.Numbers.{standing_of};
-ghost use Rattle.schedule_run.specs.Owing as owed;
+ghost use Rattle.schedule_run.specs.Busy as busy;
 ghost use Rattle.schedule_run.specs.Parts.{sent_behind, unsent_behind, all_learnt, met_behind};
 
 use crate::Met;
@@ -86,13 +85,6 @@ fn send(
     Ok(Some(batch))
 }
 
-/// Whether an order is owed to a half that stands there.
-fn is_owed(standing: Standing) -> bool
-    ensures { result ≡ owed.is_owed (standing_of standing) }
-{
-    matches!(standing, Standing::Front | Standing::Recalled(_, _))
-}
-
 /// The packets that a command waits for.
 fn floor_at(commands: &[CommandTags], number: usize) -> usize
     ensures { result ≡ (get_or commands.now number (record { hop = 0; floor = 0 })).floor }
@@ -167,16 +159,15 @@ impl SlotNumbers<'_> {
         }
     }
 
-    /// Whether the slot owes nothing, and a turn of its control half changes nothing.
-    pub fn is_quiet(&self) -> bool
-        ensures { OnTrue result (owed.IsQuiet self.now) }
+    /// Whether a turn of the control half changes nothing: it has nothing to apply, or keeps a batch and its lane of so
+    /// many is full.
+    pub fn is_still(&self, room: usize) -> bool
+        ensures { result ≡ busy.is_still room self.now }
     {
-        !is_owed(self.control)
-            && !is_owed(self.flow)
-            && self.queued == 0
-            && self.unsent.is_none()
-            && self.has_looked()
-            && self.next_batch() == 0
+        match self.unsent {
+            None => self.has_looked() && self.next_batch() == 0,
+            Some(_) => room <= self.sent.len(),
+        }
     }
 
     fn take_batch(&mut self)

@@ -1,22 +1,24 @@
 //! The schedule of an epoch.
-ghost use Rattle.std.specs.Prelude.{◌≡◌, ℕ, ◌*◌, ◌<◌, ◌≤◌, IfOk, OnOk, get_or, length, map};
+ghost use Rattle.std.specs.Prelude.{◌≡◌, ℕ, ◌+◌, ◌*◌, ◌<◌, ◌≤◌, ◌==◌, false, All, IfOk, OnOk, get_or, length, map};
+ghost use Rattle.std.specs.List.{sum_by};
 ghost use Rattle.slice_schedule.specs.Slots.{SlotNow};
 ghost use Rattle.slice_schedule.specs.Halves.{closed};
 ghost use Rattle.slice_schedule.specs.World.{start};
 ghost use Rattle.slice_schedule.specs.Turns as draw;
 ghost use Rattle.slice_schedule.specs.Schedule as epoch;
-ghost use Rattle.schedule_run.specs.Lines.{asked, driven_by, bound_in};
-ghost use Rattle.schedule_run.specs.Owing.{IsOwing};
+ghost use Rattle.schedule_run.specs.Lines.{IsPacketBelow, asked, bound_in, driven_by, packet_asked};
+ghost use Rattle.schedule_run.specs.Listed.{AreListed};
 ghost use Rattle.schedule_run.specs.Plan.{mets_of};
 ghost use Rattle.schedule_run.specs.Setups.{bounds_of};
 ghost use Rattle.schedule_run.specs.TurnsTold.{AreWorkers, turns_told, turns_behind, told_first, turns_after, lines_of};
 ghost use Rattle.schedule_run.specs.Worlds.{world_of};
 
-use crate::front::{line_done, pump};
+use crate::pumping::{line_done, pump};
 use crate::roster::reach;
 use crate::setup::Setup;
 use crate::slot::SlotNumbers;
 use crate::turning::{turn, turn_all};
+use crate::waiting::Waiting;
 use crate::world::Numbers;
 use crate::{Ask, Met, Outcome, Rooms, Turns};
 use bumpalo::Bump;
@@ -95,25 +97,25 @@ fn drawn(limit: u64, state: u64) -> u32
 /// Draws so many workers, of which each has its turn, and returns the state behind them.
 fn draw_turns(
     numbers: &mut Numbers<'_>,
-    owing: &[usize],
+    waiting: &mut Waiting,
     setup: &Setup<'_>,
     slices: u8,
     state: u64,
     count: u32,
 ) -> Result<u64, AllocError>
     requires slices { (1 ≤ slices) × (slices ≤ 64) }
-    requires owing { IsOwing owing.now (world_of numbers.old) }
+    requires listed { AreListed setup.now waiting.old (world_of numbers.old) }
     ensures world { OnOk result (world_of numbers.new ≡ epoch.turned_all setup.now.rooms (world_of numbers.old)
         (draw.draws (2 * slices) state count)) }
     ensures state { IfOk result (λ behind. behind ≡ draw.state_behind state count) }
-    ensures owing { OnOk result (IsOwing owing.now (world_of numbers.new)) }
+    ensures listed { OnOk result (AreListed setup.now waiting.new (world_of numbers.new)) }
 {
     let limit = 2 * u64::from(slices);
     let mut behind = state;
     for _ in 0..count {
         behind = next_state(behind);
         let worker = drawn(limit, behind);
-        turn(numbers, owing, setup, worker)?;
+        turn(numbers, waiting, setup, worker)?;
     }
     Ok(behind)
 }
@@ -121,23 +123,23 @@ fn draw_turns(
 /// The turns behind a line.
 fn turn_behind(
     numbers: &mut Numbers<'_>,
-    owing: &[usize],
+    waiting: &mut Waiting,
     setup: &Setup<'_>,
     slices: u8,
     turns: &mut Turns,
 ) -> Result<(), AllocError>
     requires slices { (1 ≤ slices) × (slices ≤ 64) }
     requires workers { AreWorkers slices turns.old }
-    requires owing { IsOwing owing.now (world_of numbers.old) }
+    requires listed { AreListed setup.now waiting.old (world_of numbers.old) }
     ensures world { OnOk result (world_of numbers.new ≡ epoch.turned_all setup.now.rooms (world_of numbers.old)
         (told_first turns.old slices)) }
     ensures turns { OnOk result (turns.new ≡ turns_after turns.old) }
-    ensures owing { OnOk result (IsOwing owing.now (world_of numbers.new)) }
+    ensures listed { OnOk result (AreListed setup.now waiting.new (world_of numbers.new)) }
 {
     match turns {
-        Turns::List(listed) => turn_all(numbers, owing, setup, listed.as_slice()),
+        Turns::List(listed) => turn_all(numbers, waiting, setup, listed.as_slice()),
         Turns::Drawn { state, per } => {
-            *state = draw_turns(numbers, owing, setup, slices, *state, *per)?;
+            *state = draw_turns(numbers, waiting, setup, slices, *state, *per)?;
             Ok(())
         }
     }
@@ -146,7 +148,7 @@ fn turn_behind(
 /// A line, and the turns behind it.
 fn line(
     numbers: &mut Numbers<'_>,
-    owing: &mut Vec<usize>,
+    waiting: &mut Waiting,
     setup: &Setup<'_>,
     slices: u8,
     ask: Ask,
@@ -154,24 +156,24 @@ fn line(
 ) -> Result<Outcome, AllocError>
     requires slices { (1 ≤ slices) × (slices ≤ 64) }
     requires workers { AreWorkers slices turns.old }
-    requires owing { IsOwing owing.old.items (world_of numbers.old) }
+    requires listed { AreListed setup.now waiting.old (world_of numbers.old) }
     ensures outcome { IfOk result (λ outcome. outcome ≡ (epoch.line_of setup.now.rooms (bounds_of setup.now)
         (world_of numbers.old) (record { asks = asked ask; turns = told_first turns.old slices })).outcome) }
     ensures world { OnOk result (world_of numbers.new ≡ epoch.behind_line setup.now.rooms (bounds_of setup.now)
         (world_of numbers.old) (record { asks = asked ask; turns = told_first turns.old slices })) }
     ensures turns { OnOk result (turns.new ≡ turns_after turns.old) }
-    ensures owing { OnOk result (IsOwing owing.new.items (world_of numbers.new)) }
+    ensures listed { OnOk result (AreListed setup.now waiting.new (world_of numbers.new)) }
 {
-    pump(numbers, owing, setup)?;
-    let outcome = line_done(numbers, owing, setup, ask)?;
-    turn_behind(numbers, owing.as_slice(), setup, slices, turns)?;
+    pump(numbers, waiting, setup)?;
+    let outcome = line_done(numbers, waiting, setup, ask)?;
+    turn_behind(numbers, waiting, setup, slices, turns)?;
     Ok(outcome)
 }
 
 /// All lines.
 fn lines(
     numbers: &mut Numbers<'_>,
-    owing: &mut Vec<usize>,
+    waiting: &mut Waiting,
     setup: &Setup<'_>,
     slices: u8,
     asks: &[Ask],
@@ -179,7 +181,7 @@ fn lines(
 ) -> Result<Vec<Outcome>, AllocError>
     requires slices { (1 ≤ slices) × (slices ≤ 64) }
     requires workers { AreWorkers slices turns.old }
-    requires owing { IsOwing owing.old.items (world_of numbers.old) }
+    requires listed { AreListed setup.now waiting.old (world_of numbers.old) }
     ensures outcomes { IfOk result (λ outcomes. outcomes.items ≡ epoch.outcomes setup.now.rooms (bounds_of setup.now)
         (world_of numbers.old) (lines_of turns.old slices asks.now)) }
     ensures world { OnOk result (world_of numbers.new ≡ epoch.behind_lines setup.now.rooms (bounds_of setup.now)
@@ -188,20 +190,37 @@ fn lines(
 {
     let mut outcomes = Vec::with_capacity(numbers.alloc, asks.len())?;
     for ask in asks {
-        let outcome = line(numbers, owing, setup, slices, *ask, turns)?;
+        let outcome = line(numbers, waiting, setup, slices, *ask, turns)?;
         outcomes.push(outcome)?;
     }
     Ok(outcomes)
 }
 
-/// How many packets are asked of each slot, mostly of so many.
-fn count_packets(alloc: Global, slots: usize, asks: &[Ask]) -> Result<Vec<u32>, AllocError> {
+/// Counts a packet of a slot.
+fn count_packet(counts: &mut Vec<u32>, slot: usize) -> Result<(), AllocError>
+    ensures own { OnOk result (get_or counts.new.items slot 0 ≤ get_or counts.old.items slot 0 + 1) }
+    ensures others { OnOk result ((s : ℕ) → (slot == s) ≡ false
+        → get_or counts.new.items s 0 ≡ get_or counts.old.items s 0) }
+    ensures least { OnOk result ((slots : ℕ) → slot < slots → length counts.old.items ≤ slots
+        → length counts.new.items ≤ slots) }
+{
+    reach(counts, slot)?;
+    let count = counts[slot];
+    counts[slot] = count.saturating_add(1);
+    Ok(())
+}
+
+/// How many packets are asked of each slot, as far as a slot of a packet, mostly of so many: no slot has more.
+fn count_packets(alloc: Global, slots: usize, asks: &[Ask]) -> Result<Vec<u32>, AllocError>
+    ensures counts { IfOk result (λ counts. (slot : ℕ)
+        → get_or counts.items slot 0 ≤ sum_by (packet_asked slot) asks.now) }
+    ensures many { IfOk result (λ counts. (slots : ℕ) → All (IsPacketBelow slots) asks.now
+        → length counts.items ≤ slots) }
+{
     let mut counts = Vec::with_capacity(alloc, slots)?;
     for ask in asks {
         if let Ask::Packet(slot) = ask {
-            let slot = *slot as usize;
-            reach(&mut counts, slot)?;
-            counts[slot] = counts[slot].saturating_add(1);
+            count_packet(&mut counts, *slot as usize)?;
         }
     }
     Ok(counts)
@@ -251,8 +270,8 @@ pub fn schedule<'b>(
         controls: Vec::new(alloc),
         flows: Vec::new(alloc),
     };
-    let mut owing = Vec::new(alloc);
-    let outcomes = lines(&mut numbers, &mut owing, &setup, slices, asks, turns)?;
+    let mut waiting = Waiting::new(alloc);
+    let outcomes = lines(&mut numbers, &mut waiting, &setup, slices, asks, turns)?;
     let mut slots = numbers.slots;
     close_all(&mut slots)?;
     Ok(Scheduled { outcomes, slots })

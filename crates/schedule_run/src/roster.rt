@@ -1,12 +1,12 @@
 //! The halves that a worker holds.
 ghost use Rattle.std.specs.Prelude.{◌≡◌, ℕ, ◌+◌, ◌<◌, ◌≤◌, ◌==◌, ◌^◌, List, ◌++◌, ◌∷◌, [], Option, Some, None};
 ghost use Rattle.std.specs.Prelude.{true, false, map};
-ghost use Rattle.std.specs.Prelude.{OnOk, IfOk, IfNone, IfSome, length, nat_lt, take, set, get_or, is_some};
+ghost use Rattle.std.specs.Prelude.{OnOk, IfOk, IfNone, IfSome, length, nat_lt, set, get_or, is_some};
 ghost use Rattle.std.specs.Bool.{OnTrue, OnFalse};
 ghost use Rattle.slice_schedule.specs.World as world;
 ghost use Rattle.slice_schedule.specs.ControlTurns as control;
 ghost use Rattle.slice_schedule.specs.FlowTurns as flow;
-ghost use Rattle.schedule_run.specs.Owing.{is_in};
+ghost use Rattle.schedule_run.specs.Waiting.{is_in};
 ghost use Rattle.schedule_run.specs.Rosters as roster;
 ghost use Rattle.schedule_run.specs.Rounds as rounds;
 
@@ -154,47 +154,44 @@ fn index_at(halves: &[Option<HeldControl>], place: usize) -> usize
     halves.len()
 }
 
-/// Whether the half at an index has its turn before that at another, from the cursor on.
-fn turns_first(halves: &[Option<HeldControl>], next: usize, one: usize, other: usize) -> bool
-    requires one { is_some (roster.entry halves.now one) ≡ true }
-    requires other { is_some (roster.entry halves.now other) ≡ true }
-    ensures { result ≡ nat_lt
-        (rounds.distance (roster.place_at halves.now next) (roster.place_at halves.now one)
-        (length (roster.present halves.now)))
-        (rounds.distance (roster.place_at halves.now next) (roster.place_at halves.now other)
-        (length (roster.present halves.now))) }
-{
-    if one < next {
-        if other < next { one < other } else { false }
-    } else {
-        if other < next { true } else { one < other }
-    }
-}
-
-/// The same by slots whose halves are there.
+/// Whether the half of a slot stands before that of another; both are there.
 fn is_first(
     halves: &[Option<HeldControl>],
     index: &[u32],
     once: bool,
-    next: usize,
     one: usize,
     other: usize,
 ) -> bool
     requires indexed { once ≡ true → roster.Indexed halves.now index.now }
     requires one { rounds.place_held one (roster.present halves.now) < length (roster.present halves.now) }
     requires other { rounds.place_held other (roster.present halves.now) < length (roster.present halves.now) }
-    ensures { result ≡ nat_lt
-        (rounds.distance (roster.place_at halves.now next) (rounds.place_held one (roster.present halves.now))
-        (length (roster.present halves.now)))
-        (rounds.distance (roster.place_at halves.now next) (rounds.place_held other (roster.present halves.now))
-        (length (roster.present halves.now))) }
+    ensures { result ≡ nat_lt (rounds.place_held one (roster.present halves.now))
+        (rounds.place_held other (roster.present halves.now)) }
 {
     match index_of(halves, index, once, one) {
         None => false,
         Some(own) => match index_of(halves, index, once, other) {
             None => false,
-            Some(another) => turns_first(halves, next, own, another),
+            Some(another) => own < another,
         },
+    }
+}
+
+/// Whether the half of a slot stands before an index; it is there.
+fn stands_before(
+    halves: &[Option<HeldControl>],
+    index: &[u32],
+    once: bool,
+    next: usize,
+    slot: usize,
+) -> bool
+    requires indexed { once ≡ true → roster.Indexed halves.now index.now }
+    requires there { rounds.place_held slot (roster.present halves.now) < length (roster.present halves.now) }
+    ensures { result ≡ nat_lt (rounds.place_held slot (roster.present halves.now)) (roster.place_at halves.now next) }
+{
+    match index_of(halves, index, once, slot) {
+        None => false,
+        Some(own) => own < next,
     }
 }
 
@@ -318,6 +315,7 @@ pub fn reach(index: &mut Vec<u32>, slot: usize) -> Result<(), AllocError>
     ensures same { (s : ℕ) → get_or index.new.items s 0 ≡ get_or index.old.items s 0 }
     ensures more { length index.old.items ≤ length index.new.items }
     ensures within { OnOk result (slot < length index.new.items) }
+    ensures least { (slots : ℕ) → slot < slots → length index.old.items ≤ slots → length index.new.items ≤ slots }
 {
     if slot < index.len() {
         return Ok(());
@@ -332,6 +330,7 @@ fn grow_index(index: &mut Vec<u32>, slot: usize) -> Result<(), AllocError>
     ensures same { (s : ℕ) → get_or index.new.items s 0 ≡ get_or index.old.items s 0 }
     ensures more { length index.old.items ≤ length index.new.items }
     ensures within { OnOk result (slot < length index.new.items) }
+    ensures least { (slots : ℕ) → slot < slots → length index.old.items ≤ slots → length index.new.items ≤ slots }
 {
     if slot == usize::MAX {
         return Err(AllocError);
@@ -566,21 +565,32 @@ impl Roster {
         )
     }
 
-    /// Whether the half of a slot has its turn before that of another, from the cursor on.
-    pub fn comes_before(&self, one: usize, other: usize) -> bool
+    /// Whether the half of a slot came before that of another.
+    pub fn is_before(&self, one: usize, other: usize) -> bool
         requires one { rounds.place_held one self.now.held < length self.now.held }
         requires other { rounds.place_held other self.now.held < length self.now.held }
-        ensures { result ≡ nat_lt
-            (rounds.distance self.now.cursor (rounds.place_held one self.now.held) (length self.now.held))
-            (rounds.distance self.now.cursor (rounds.place_held other self.now.held) (length self.now.held)) }
+        ensures { result ≡ nat_lt (rounds.place_held one self.now.held) (rounds.place_held other self.now.held) }
     {
         is_first(
             self.halves.as_slice(),
             self.index.as_slice(),
             self.once,
-            self.next,
             one,
             other,
+        )
+    }
+
+    /// Whether the half of a slot stands before the cursor.
+    pub fn is_past(&self, slot: usize) -> bool
+        requires { rounds.place_held slot self.now.held < length self.now.held }
+        ensures { result ≡ nat_lt (rounds.place_held slot self.now.held) self.now.cursor }
+    {
+        stands_before(
+            self.halves.as_slice(),
+            self.index.as_slice(),
+            self.once,
+            self.next,
+            slot,
         )
     }
 
@@ -696,6 +706,15 @@ impl Roster {
             (length self.now.held) }
     {
         is_any_done(slots, self.halves.as_slice(), self.called.as_slice())
+    }
+
+    /// The slot of the first half that is done.
+    pub fn done_slot(&self, slots: &[SlotNumbers<'_>]) -> usize
+        ensures { result ≡ (control.held_at self.now.held
+            (control.place_done (record { slots = slots.now; controls = []; flows = [] }) self.now.held)).slot }
+    {
+        let index = first_done(slots, self.halves.as_slice(), self.called.as_slice());
+        slot_in(self.halves.as_slice(), index)
     }
 
     /// The first half that is done leaves.

@@ -279,6 +279,19 @@ pub fn may_send(numbers: &Numbers<'_>, slice: usize) -> bool
     }
 }
 
+/// The slot of the first half of a control worker that is done.
+pub fn done_slot(numbers: &Numbers<'_>, slice: usize) -> usize
+    ensures { result ≡ (control.held_at (world.control_at (world_of numbers.now) slice).held
+        (control.place_done (world_of numbers.now) (world.control_at (world_of numbers.now) slice).held)).slot }
+{
+    if slice < numbers.controls.len() {
+        let worker = &numbers.controls[slice];
+        worker.roster().done_slot(numbers.slots.as_slice())
+    } else {
+        0
+    }
+}
+
 /// The first half of a control worker that is done goes home.
 #[inline(never)]
 pub fn send_done(numbers: &mut Numbers<'_>, slice: usize) -> Result<(), AllocError>
@@ -341,6 +354,8 @@ pub fn take_control(numbers: &mut Numbers<'_>, slice: usize) -> Option<ControlOr
 
 /// Takes the next order of a data worker: a kept packet comes first.
 pub fn take_next(numbers: &mut Numbers<'_>, slice: usize) -> Option<FlowOrder>
+    ensures slots { (world_of numbers.new).slots ≡ (world_of numbers.old).slots }
+    ensures controls { (world_of numbers.new).controls ≡ (world_of numbers.old).controls }
     ensures none { IfNone result (flow.doing (world_of numbers.new) flow.round
         ≡ flow.next_order slice (world_of numbers.old) (world.flow_at (world_of numbers.old) slice).kept
         (world.flow_at (world_of numbers.old) slice).orders) }

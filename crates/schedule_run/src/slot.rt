@@ -1,5 +1,5 @@
 //! The numbers of a slot.
-ghost use Rattle.std.specs.Prelude.{◌≡◌, ◌+◌, ◌-◌, ◌^◌, ◌<◌, false, OnOk, get_or, length, nat_lt};
+ghost use Rattle.std.specs.Prelude.{◌≡◌, ◌+◌, ◌-◌, ◌^◌, ◌<◌, ◌==◌, false, OnOk, get_or, length, nat_lt};
 ghost use Rattle.std.specs.Bool.{OnTrue};
 ghost use Rattle.slice_schedule.specs.Slots.{SlotNow, fresh_slot};
 ghost use Rattle.slice_schedule.specs.Slots as slots;
@@ -133,6 +133,13 @@ impl<'b> SlotNumbers<'b> {
         ensures { self.new ≡ record self.old { flow = standing_of standing } }
     {
         self.flow = standing;
+    }
+
+    /// Whether the control half knows of all moves.
+    pub fn is_told(&self) -> bool
+        ensures { result ≡ (self.now.arrived == self.now.hop) }
+    {
+        self.arrived == self.moves.len()
     }
 
     /// The control half is told of all moves.

@@ -1,25 +1,28 @@
 //! The turns of workers.
-ghost use Rattle.std.specs.Prelude.{◌≡◌, ℕ, ◌<◌, ◌≤◌, OnOk, IfOk, length, All};
+ghost use Rattle.std.specs.Prelude.{◌≡◌, ℕ, ◌<◌, ◌≤◌, [], OnOk, IfOk, length, All};
 ghost use Rattle.std.specs.Bool.{OnFalse};
 ghost use Rattle.slice_schedule.specs.World as world;
 ghost use Rattle.slice_schedule.specs.ControlTurns as control;
 ghost use Rattle.slice_schedule.specs.FlowTurns as flow;
+ghost use Rattle.slice_schedule.specs.Halves as halves;
 ghost use Rattle.slice_schedule.specs.Schedule as epoch;
+ghost use Rattle.schedule_run.specs.Busy.{AreBusyBut};
+ghost use Rattle.schedule_run.specs.Listed.{AreListed};
 ghost use Rattle.schedule_run.specs.Numbers.{control_order, flow_order};
-ghost use Rattle.schedule_run.specs.Owing.{IsOwing};
 ghost use Rattle.schedule_run.specs.Rosters.{roster_at};
-ghost use Rattle.schedule_run.specs.Rounds.{IsOrderly, gone, ahead, IsHeld, IsNext, QuietSpan};
+ghost use Rattle.schedule_run.specs.Rounds.{IsOrderly};
 ghost use Rattle.schedule_run.specs.Worlds.{world_of, going_of};
 
-use crate::busy::next_busy;
+use crate::busy::{BusyList, busy_at, has_busy, leave, next_half, rest_at, wake};
 use crate::setup::Setup;
 use crate::sides::{
-    control_count, control_cursor, flow_sent, flow_waiting, go_round, hold_control, hold_flow,
-    is_orderly, keep, let_go, mark_control, may_send, send_done, send_flow, set_behind,
+    control_count, control_cursor, done_slot, flow_sent, flow_waiting, go_round, hold_control,
+    hold_flow, is_orderly, keep, let_go, mark_control, may_send, send_done, send_flow, set_behind,
     set_behind_place, slot_held, take_control, take_next,
 };
 use crate::standing::{ControlOrder, FlowOrder, Going};
-use crate::world::{Numbers, handle, learn, may_handle, turn_half};
+use crate::waiting::Waiting;
+use crate::world::{Numbers, handle, has_learnt, learn, may_handle, turn_half};
 use std::alloc::AllocError;
 
 /// The place behind this one, round a list of so many.
@@ -66,96 +69,113 @@ fn work_round(
     Ok(())
 }
 
-/// The slot of the next control half behind the last one whose turn may change something.
-fn next_half(
-    numbers: &Numbers<'_>,
-    owing: &[usize],
-    slice: usize,
-    last: Option<usize>,
-) -> Option<usize>
-    requires owing { IsOwing owing.now (world_of numbers.now) }
-    requires orderly { IsOrderly (length (world_of numbers.now).slots) (roster_at (world_of numbers.now) slice) }
-    requires last { IsHeld (roster_at (world_of numbers.now) slice) last }
-    ensures next { IsNext (roster_at (world_of numbers.now) slice) last result }
-    ensures quiet { QuietSpan (world_of numbers.now).slots (roster_at (world_of numbers.now) slice)
-        (gone (roster_at (world_of numbers.now) slice) last) (ahead (roster_at (world_of numbers.now) slice) result) }
-{
-    if slice < numbers.controls.len() {
-        let worker = &numbers.controls[slice];
-        next_busy(worker.roster(), numbers.slots.as_slice(), owing, last)
-    } else {
-        None
-    }
-}
-
 /// Turns the control halves whose turn may change something until one works.
 #[inline(never)]
 fn work_busy(
     numbers: &mut Numbers<'_>,
-    owing: &[usize],
+    busy: &mut Vec<BusyList>,
     setup: &Setup<'_>,
     slice: usize,
 ) -> Result<(), AllocError>
-    requires owing { IsOwing owing.now (world_of numbers.old) }
+    requires busy { AreBusyBut setup.now.rooms.room [] busy.old.items (world_of numbers.old) }
     requires orderly { IsOrderly (length (world_of numbers.old).slots) (roster_at (world_of numbers.old) slice) }
-    ensures { OnOk result (world_of numbers.new ≡ control.work_all setup.now.rooms slice (world_of numbers.old)) }
+    ensures world { OnOk result (world_of numbers.new
+        ≡ control.work_all setup.now.rooms slice (world_of numbers.old)) }
+    ensures busy { OnOk result (AreBusyBut setup.now.rooms.room [] busy.new.items (world_of numbers.new)) }
 {
-    let mut last = None;
-    while let Some(slot) = next_half(numbers, owing, slice, last) {
+    while has_busy(busy, slice) {
+        let at = next_half(numbers, busy, slice);
+        let slot = busy_at(busy, slice, at);
         let worked = turn_half(numbers, setup, slot)?;
+        rest_at(numbers, busy, setup, slice, at, slot);
         if worked {
             set_behind(numbers, slice, slot)?;
             return Ok(());
         }
-        last = Some(slot);
     }
     Ok(())
 }
 
 fn work_all(
     numbers: &mut Numbers<'_>,
-    owing: &[usize],
+    busy: &mut Vec<BusyList>,
     setup: &Setup<'_>,
     slice: usize,
 ) -> Result<(), AllocError>
-    requires { IsOwing owing.now (world_of numbers.old) }
-    ensures { OnOk result (world_of numbers.new ≡ control.work_all setup.now.rooms slice (world_of numbers.old)) }
+    requires { AreBusyBut setup.now.rooms.room [] busy.old.items (world_of numbers.old) }
+    ensures world { OnOk result (world_of numbers.new
+        ≡ control.work_all setup.now.rooms slice (world_of numbers.old)) }
+    ensures busy { OnOk result (AreBusyBut setup.now.rooms.room [] busy.new.items (world_of numbers.new)) }
 {
     if is_orderly(numbers, slice) {
-        if owing.is_empty() {
-            return Ok(());
+        if has_busy(busy, slice) {
+            return work_busy(numbers, busy, setup, slice);
         }
-        return work_busy(numbers, owing, setup, slice);
+        return Ok(());
     }
     let first = control_cursor(numbers, slice);
     let count = control_count(numbers, slice);
     work_round(numbers, setup, slice, first, count)
 }
 
-/// A control half goes home, if one is done and there is room; else the halves are turned.
-fn go_or_work(
+/// A control half goes home, the first that is done.
+#[inline(never)]
+fn send_home(
     numbers: &mut Numbers<'_>,
-    owing: &[usize],
+    busy: &mut Vec<BusyList>,
     setup: &Setup<'_>,
     slice: usize,
 ) -> Result<(), AllocError>
-    requires { IsOwing owing.now (world_of numbers.old) }
-    ensures { OnOk result (world_of numbers.new ≡ control.go_or_work setup.now.rooms slice (world_of numbers.old)) }
+    requires done { control.place_done (world_of numbers.old) (world.control_at (world_of numbers.old) slice).held
+        < length (world.control_at (world_of numbers.old) slice).held }
+    requires busy { AreBusyBut setup.now.rooms.room [] busy.old.items (world_of numbers.old) }
+    ensures world { OnOk result (world_of numbers.new ≡ world.on_control (world_of numbers.old) slice
+        (λ worker. control.sent_home worker (control.place_done (world_of numbers.old) worker.held))) }
+    ensures busy { OnOk result (AreBusyBut setup.now.rooms.room [] busy.new.items (world_of numbers.new)) }
+{
+    let slot = done_slot(numbers, slice);
+    leave(numbers, busy, slice, slot);
+    send_done(numbers, slice)?;
+    wake(numbers, busy, setup, slot)
+}
+
+/// A control half goes home, if one is done and there is room; else the halves are turned.
+fn go_or_work(
+    numbers: &mut Numbers<'_>,
+    busy: &mut Vec<BusyList>,
+    setup: &Setup<'_>,
+    slice: usize,
+) -> Result<(), AllocError>
+    requires { AreBusyBut setup.now.rooms.room [] busy.old.items (world_of numbers.old) }
+    ensures world { OnOk result (world_of numbers.new
+        ≡ control.go_or_work setup.now.rooms slice (world_of numbers.old)) }
+    ensures busy { OnOk result (AreBusyBut setup.now.rooms.room [] busy.new.items (world_of numbers.new)) }
 {
     if may_send(numbers, slice) {
-        return send_done(numbers, slice);
+        return send_home(numbers, busy, setup, slice);
     }
-    work_all(numbers, owing, setup, slice)
+    work_all(numbers, busy, setup, slice)
 }
 
 /// Does an order of a control worker.
 #[inline(never)]
-fn tell(numbers: &mut Numbers<'_>, slice: usize, order: ControlOrder) -> Result<(), AllocError>
-    ensures { OnOk result (world_of numbers.new ≡ world.on_control (world_of numbers.old) slice
+fn tell(
+    numbers: &mut Numbers<'_>,
+    busy: &mut Vec<BusyList>,
+    setup: &Setup<'_>,
+    slice: usize,
+    order: ControlOrder,
+) -> Result<(), AllocError>
+    requires { AreBusyBut setup.now.rooms.room [] busy.old.items (world_of numbers.old) }
+    ensures world { OnOk result (world_of numbers.new ≡ world.on_control (world_of numbers.old) slice
         (λ worker. control.behind_order worker (control_order order))) }
+    ensures busy { OnOk result (AreBusyBut setup.now.rooms.room [] busy.new.items (world_of numbers.new)) }
 {
     match order {
-        ControlOrder::Come(slot) => hold_control(numbers, slice, slot),
+        ControlOrder::Come(slot) => {
+            hold_control(numbers, slice, slot)?;
+            wake(numbers, busy, setup, slot)
+        }
         ControlOrder::Go(slot, until) => mark_control(numbers, slice, slot, until),
     }
 }
@@ -163,19 +183,18 @@ fn tell(numbers: &mut Numbers<'_>, slice: usize, order: ControlOrder) -> Result<
 /// A turn of the control worker of a slice.
 fn control_turn(
     numbers: &mut Numbers<'_>,
-    owing: &[usize],
+    busy: &mut Vec<BusyList>,
     setup: &Setup<'_>,
     slice: usize,
 ) -> Result<(), AllocError>
-    requires { IsOwing owing.now (world_of numbers.old) }
-    ensures { OnOk result (world_of numbers.new ≡ control.control_turn setup.now.rooms slice (world_of numbers.old)) }
+    requires { AreBusyBut setup.now.rooms.room [] busy.old.items (world_of numbers.old) }
+    ensures world { OnOk result (world_of numbers.new
+        ≡ control.control_turn setup.now.rooms slice (world_of numbers.old)) }
+    ensures busy { OnOk result (AreBusyBut setup.now.rooms.room [] busy.new.items (world_of numbers.new)) }
 {
     match take_control(numbers, slice) {
-        Some(order) => {
-            tell(numbers, slice, order)?;
-            Ok(())
-        }
-        None => go_or_work(numbers, owing, setup, slice),
+        Some(order) => tell(numbers, busy, setup, slice, order),
+        None => go_or_work(numbers, busy, setup, slice),
     }
 }
 
@@ -196,6 +215,25 @@ fn go_home(numbers: &mut Numbers<'_>, slice: usize) -> Result<Going, AllocError>
     }
 }
 
+/// The counter half of a slot learns what it may: its control half may have work then.
+#[inline(always)]
+fn learn_on(
+    numbers: &mut Numbers<'_>,
+    busy: &mut Vec<BusyList>,
+    setup: &Setup<'_>,
+    slot: usize,
+) -> Result<(), AllocError>
+    requires { AreBusyBut setup.now.rooms.room [] busy.old.items (world_of numbers.old) }
+    ensures world { OnOk result (world_of numbers.new ≡ world.on_slot (world_of numbers.old) slot halves.learn) }
+    ensures busy { OnOk result (AreBusyBut setup.now.rooms.room [] busy.new.items (world_of numbers.new)) }
+{
+    if has_learnt(numbers, slot) {
+        return Ok(());
+    }
+    learn(numbers, slot)?;
+    wake(numbers, busy, setup, slot)
+}
+
 /// A packet is handled, or kept.
 fn handle_or_keep(numbers: &mut Numbers<'_>, slice: usize, slot: usize) -> Result<Going, AllocError>
     requires { slice ≤ 63 }
@@ -212,10 +250,18 @@ fn handle_or_keep(numbers: &mut Numbers<'_>, slice: usize, slot: usize) -> Resul
 }
 
 /// Does an order of a slice's lane.
-fn obey(numbers: &mut Numbers<'_>, slice: usize, order: FlowOrder) -> Result<Going, AllocError>
-    requires { slice ≤ 63 }
-    ensures { IfOk result (λ going. flow.doing (world_of numbers.new) (going_of going)
+fn obey(
+    numbers: &mut Numbers<'_>,
+    busy: &mut Vec<BusyList>,
+    setup: &Setup<'_>,
+    slice: usize,
+    order: FlowOrder,
+) -> Result<Going, AllocError>
+    requires slice { slice ≤ 63 }
+    requires busy { AreBusyBut setup.now.rooms.room [] busy.old.items (world_of numbers.old) }
+    ensures world { IfOk result (λ going. flow.doing (world_of numbers.new) (going_of going)
         ≡ flow.obeyed slice (world_of numbers.old) (flow_order order)) }
+    ensures busy { OnOk result (AreBusyBut setup.now.rooms.room [] busy.new.items (world_of numbers.new)) }
 {
     match order {
         FlowOrder::Arrive(slot) => {
@@ -223,7 +269,7 @@ fn obey(numbers: &mut Numbers<'_>, slice: usize, order: FlowOrder) -> Result<Goi
             Ok(Going::More)
         }
         FlowOrder::Item(slot) => {
-            learn(numbers, slot)?;
+            learn_on(numbers, busy, setup, slot)?;
             handle_or_keep(numbers, slice, slot)
         }
         FlowOrder::Leave(slot) => {
@@ -234,25 +280,40 @@ fn obey(numbers: &mut Numbers<'_>, slice: usize, order: FlowOrder) -> Result<Goi
 }
 
 /// Does the next order, if there is one.
-fn next_order(numbers: &mut Numbers<'_>, slice: usize) -> Result<Going, AllocError>
-    requires { slice ≤ 63 }
-    ensures { IfOk result (λ going. flow.doing (world_of numbers.new) (going_of going)
+fn next_order(
+    numbers: &mut Numbers<'_>,
+    busy: &mut Vec<BusyList>,
+    setup: &Setup<'_>,
+    slice: usize,
+) -> Result<Going, AllocError>
+    requires slice { slice ≤ 63 }
+    requires busy { AreBusyBut setup.now.rooms.room [] busy.old.items (world_of numbers.old) }
+    ensures world { IfOk result (λ going. flow.doing (world_of numbers.new) (going_of going)
         ≡ flow.next_order slice (world_of numbers.old) (world.flow_at (world_of numbers.old) slice).kept
         (world.flow_at (world_of numbers.old) slice).orders) }
+    ensures busy { OnOk result (AreBusyBut setup.now.rooms.room [] busy.new.items (world_of numbers.new)) }
 {
     match take_next(numbers, slice) {
         None => Ok(Going::Round),
-        Some(order) => obey(numbers, slice, order),
+        Some(order) => obey(numbers, busy, setup, slice, order),
     }
 }
 
-fn order_step(numbers: &mut Numbers<'_>, slice: usize, going: Going) -> Result<Going, AllocError>
-    requires { slice ≤ 63 }
-    ensures { IfOk result (λ next. flow.doing (world_of numbers.new) (going_of next)
+fn order_step(
+    numbers: &mut Numbers<'_>,
+    busy: &mut Vec<BusyList>,
+    setup: &Setup<'_>,
+    slice: usize,
+    going: Going,
+) -> Result<Going, AllocError>
+    requires slice { slice ≤ 63 }
+    requires busy { AreBusyBut setup.now.rooms.room [] busy.old.items (world_of numbers.old) }
+    ensures world { IfOk result (λ next. flow.doing (world_of numbers.new) (going_of next)
         ≡ flow.order_step slice (flow.doing (world_of numbers.old) (going_of going))) }
+    ensures busy { OnOk result (AreBusyBut setup.now.rooms.room [] busy.new.items (world_of numbers.new)) }
 {
     match going {
-        Going::More => next_order(numbers, slice),
+        Going::More => next_order(numbers, busy, setup, slice),
         Going::Round => Ok(Going::Round),
         Going::Over => Ok(Going::Over),
     }
@@ -271,89 +332,120 @@ fn goes_on(going: Going) -> bool
 }
 
 /// Does at most eight orders.
-fn take_orders(numbers: &mut Numbers<'_>, slice: usize, first: Going) -> Result<Going, AllocError>
-    requires { slice ≤ 63 }
-    ensures { IfOk result (λ next. flow.doing (world_of numbers.new) (going_of next)
+fn take_orders(
+    numbers: &mut Numbers<'_>,
+    busy: &mut Vec<BusyList>,
+    setup: &Setup<'_>,
+    slice: usize,
+    first: Going,
+) -> Result<Going, AllocError>
+    requires slice { slice ≤ 63 }
+    requires busy { AreBusyBut setup.now.rooms.room [] busy.old.items (world_of numbers.old) }
+    ensures world { IfOk result (λ next. flow.doing (world_of numbers.new) (going_of next)
         ≡ flow.take_orders slice (flow.doing (world_of numbers.old) (going_of first))) }
+    ensures busy { OnOk result (AreBusyBut setup.now.rooms.room [] busy.new.items (world_of numbers.new)) }
 {
     let mut going = first;
     for _ in 0..8u32 {
         if !goes_on(going) {
             return Ok(going);
         }
-        going = order_step(numbers, slice, going)?;
+        going = order_step(numbers, busy, setup, slice, going)?;
     }
     Ok(going)
 }
 
 /// The half whose turn is next learns.
-fn learn_next(numbers: &mut Numbers<'_>, slice: usize) -> Result<(), AllocError>
-    ensures { OnOk result (world_of numbers.new ≡ flow.learn_next slice (world_of numbers.old)
+fn learn_next(
+    numbers: &mut Numbers<'_>,
+    busy: &mut Vec<BusyList>,
+    setup: &Setup<'_>,
+    slice: usize,
+) -> Result<(), AllocError>
+    requires { AreBusyBut setup.now.rooms.room [] busy.old.items (world_of numbers.old) }
+    ensures world { OnOk result (world_of numbers.new ≡ flow.learn_next slice (world_of numbers.old)
         (world.flow_at (world_of numbers.old) slice).held) }
+    ensures busy { OnOk result (AreBusyBut setup.now.rooms.room [] busy.new.items (world_of numbers.new)) }
 {
     match go_round(numbers, slice) {
         None => Ok(()),
-        Some(slot) => learn(numbers, slot),
+        Some(slot) => learn_on(numbers, busy, setup, slot),
     }
 }
 
-fn end_turn(numbers: &mut Numbers<'_>, slice: usize, going: Going) -> Result<(), AllocError>
-    ensures { OnOk result (world_of numbers.new
+fn end_turn(
+    numbers: &mut Numbers<'_>,
+    busy: &mut Vec<BusyList>,
+    setup: &Setup<'_>,
+    slice: usize,
+    going: Going,
+) -> Result<(), AllocError>
+    requires { AreBusyBut setup.now.rooms.room [] busy.old.items (world_of numbers.old) }
+    ensures world { OnOk result (world_of numbers.new
         ≡ flow.ended slice (flow.doing (world_of numbers.old) (going_of going))) }
+    ensures busy { OnOk result (AreBusyBut setup.now.rooms.room [] busy.new.items (world_of numbers.new)) }
 {
     match going {
-        Going::More => learn_next(numbers, slice),
-        Going::Round => learn_next(numbers, slice),
+        Going::More => learn_next(numbers, busy, setup, slice),
+        Going::Round => learn_next(numbers, busy, setup, slice),
         Going::Over => Ok(()),
     }
 }
 
 /// A turn of the data worker of a slice.
-fn flow_turn(numbers: &mut Numbers<'_>, slice: usize) -> Result<(), AllocError>
-    requires { slice ≤ 63 }
-    ensures { OnOk result (world_of numbers.new ≡ flow.flow_turn slice (world_of numbers.old)) }
+fn flow_turn(
+    numbers: &mut Numbers<'_>,
+    busy: &mut Vec<BusyList>,
+    setup: &Setup<'_>,
+    slice: usize,
+) -> Result<(), AllocError>
+    requires slice { slice ≤ 63 }
+    requires busy { AreBusyBut setup.now.rooms.room [] busy.old.items (world_of numbers.old) }
+    ensures world { OnOk result (world_of numbers.new ≡ flow.flow_turn slice (world_of numbers.old)) }
+    ensures busy { OnOk result (AreBusyBut setup.now.rooms.room [] busy.new.items (world_of numbers.new)) }
 {
     let home = go_home(numbers, slice)?;
-    let going = take_orders(numbers, slice, home)?;
-    end_turn(numbers, slice, going)
+    let going = take_orders(numbers, busy, setup, slice, home)?;
+    end_turn(numbers, busy, setup, slice, going)
 }
 
 /// A worker's turn: of control, or of data.
 #[inline(always)]
 pub fn turn(
     numbers: &mut Numbers<'_>,
-    owing: &[usize],
+    waiting: &mut Waiting,
     setup: &Setup<'_>,
     worker: u32,
 ) -> Result<(), AllocError>
     requires worker { worker < 128 }
-    requires owing { IsOwing owing.now (world_of numbers.old) }
+    requires listed { AreListed setup.now waiting.old (world_of numbers.old) }
     ensures world { OnOk result (world_of numbers.new ≡ epoch.turned setup.now.rooms (world_of numbers.old) worker) }
-    ensures owing { OnOk result (IsOwing owing.now (world_of numbers.new)) }
+    ensures listed { OnOk result (AreListed setup.now waiting.new (world_of numbers.new)) }
 {
     let slice = (worker / 2) as usize;
     if worker % 2 == 0 {
-        control_turn(numbers, owing, setup, slice)
-    } else {
-        flow_turn(numbers, slice)
+        control_turn(numbers, &mut waiting.busy, setup, slice)?;
+        return Ok(());
     }
+    flow_turn(numbers, &mut waiting.busy, setup, slice)?;
+    Ok(())
 }
 
 /// The turns of these workers.
 pub fn turn_all(
     numbers: &mut Numbers<'_>,
-    owing: &[usize],
+    waiting: &mut Waiting,
     setup: &Setup<'_>,
     workers: &[u32],
 ) -> Result<(), AllocError>
     requires workers { All (λ worker. worker < 128) workers.now }
-    requires owing { IsOwing owing.now (world_of numbers.old) }
+    requires listed { AreListed setup.now waiting.old (world_of numbers.old) }
     ensures world { OnOk result (world_of numbers.new
         ≡ epoch.turned_all setup.now.rooms (world_of numbers.old) workers.now) }
-    ensures owing { OnOk result (IsOwing owing.now (world_of numbers.new)) }
+    ensures listed { OnOk result (AreListed setup.now waiting.new (world_of numbers.new)) }
 {
     for worker in workers {
-        turn(numbers, owing, setup, *worker)?;
+        turn(numbers, waiting, setup, *worker)?;
     }
     Ok(())
 }

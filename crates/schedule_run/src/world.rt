@@ -1,5 +1,5 @@
 //! The numbers of all slots and workers: what is read and changed of one slot.
-ghost use Rattle.std.specs.Prelude.{◌≡◌, ◌-◌, false, OnOk, IfOk, length, nat_lt, [], ◌≤◌, ◌<◌, ◌+◌, ◌^◌};
+ghost use Rattle.std.specs.Prelude.{◌≡◌, ◌-◌, ◌==◌, false, OnOk, IfOk, length, nat_lt, [], ◌≤◌, ◌<◌, ◌+◌, ◌^◌};
 ghost use Rattle.std.specs.Bool.{OnTrue};
 ghost use Rattle.slice_schedule.specs.Slots.{destination, is_absent};
 ghost use Rattle.slice_schedule.specs.World as world;
@@ -54,6 +54,19 @@ pub fn flow_of(numbers: &Numbers<'_>, slot: usize) -> Standing
     }
 }
 
+/// Whether the control half of a slot knows of all moves.
+pub fn is_told(numbers: &Numbers<'_>, slot: usize) -> bool
+    ensures { result ≡ ((world.slot_at (world_of numbers.now) slot).arrived
+        == (world.slot_at (world_of numbers.now) slot).hop) }
+{
+    if slot < numbers.slots.len() {
+        let one = &numbers.slots[slot];
+        one.is_told()
+    } else {
+        true
+    }
+}
+
 /// How many packets of a slot wait at the front.
 pub fn queued_of(numbers: &Numbers<'_>, slot: usize) -> usize
     ensures { result ≡ (world.slot_at (world_of numbers.now) slot).queued }
@@ -93,7 +106,7 @@ pub fn is_settled(numbers: &Numbers<'_>, slot: usize) -> bool
 }
 
 /// Whether the counter half of a slot has nothing to learn.
-fn has_learnt(numbers: &Numbers<'_>, slot: usize) -> bool
+pub fn has_learnt(numbers: &Numbers<'_>, slot: usize) -> bool
     ensures { OnTrue result (world.on_slot (world_of numbers.now) slot halves.learn ≡ world_of numbers.now) }
 {
     if slot < numbers.slots.len() {
@@ -295,18 +308,8 @@ pub fn turn_half(
 }
 
 /// The counter half of a slot learns what it may.
-#[inline(always)]
-pub fn learn(numbers: &mut Numbers<'_>, slot: usize) -> Result<(), AllocError>
-    ensures { OnOk result (world_of numbers.new ≡ world.on_slot (world_of numbers.old) slot halves.learn) }
-{
-    if has_learnt(numbers, slot) {
-        return Ok(());
-    }
-    learn_more(numbers, slot)
-}
-
 #[inline(never)]
-fn learn_more(numbers: &mut Numbers<'_>, slot: usize) -> Result<(), AllocError>
+pub fn learn(numbers: &mut Numbers<'_>, slot: usize) -> Result<(), AllocError>
     ensures { OnOk result (world_of numbers.new ≡ world.on_slot (world_of numbers.old) slot halves.learn) }
 {
     reach_slot(&mut numbers.slots, numbers.room, slot)?;

@@ -1,7 +1,7 @@
 -- What holds of an epoch that was closed.
 use Rattle.std.proofs.Common.{◌≡◌, ℕ, length, ◌+◌, List, [], ◌++◌, map, Result}
 use Rattle.std.proofs.Common.{Ok, Err, IfOk, sym, ap, subst, ◌∙◌}
-use Rattle.std.specs.List.{count_by}
+use Rattle.std.specs.List.{All, count_by}
 use Rattle.trace_lines.specs.Line.{Line}
 use Rattle.lawful_run.specs.Accepted.{is_refused}
 use Rattle.at_rest.specs.Coming.{latest_behind}
@@ -12,6 +12,7 @@ use Rattle.front_core.specs.Entries.{lines_of}
 use Rattle.front_core.specs.Words.{entries_in, fulls_in, latest_in, lines_in, opened_of, taken_by}
 use Rattle.front_close.specs.Closing.{Closes}
 use Rattle.front_close.specs.Filled.{took_told, told_by}
+use Rattle.front_close.specs.Placed.{IsEntryBelow}
 use Rattle.front_close.specs.declared.epoch.Ended.{Ended}
 use Rattle.slice_runner.specs.Lines.{Counted, TakesAll, fulls_among, in_among, is_answered}
 use Rattle.slice_runner.proofs.Rising.{answer_of, told_in, told_so}
@@ -73,3 +74,9 @@ module _ {E : Type 0} where
   latest_is tries latest lines old new (Err e) at takes counts = tt
   latest_is tries latest lines old new (Ok ended) at takes counts =
       counts.1 ∙ (takes.latest ∙ ap (λ n. latest_behind n lines) at)
+
+  pub placed_are : (rest : Rest) (front : Front) (closed : Result Ended E) → opened_of front ≡ rest
+      → IfOk closed (λ ended. All (IsEntryBelow (opened_of front).slices) (told_by ended.epoch).lines)
+      → IfOk closed (λ ended. All (IsEntryBelow rest.slices) (told_by ended.epoch).lines)
+  placed_are rest front closed is placed =
+      subst (λ (r : Rest). IfOk closed (λ ended. All (IsEntryBelow r.slices) (told_by ended.epoch).lines)) is placed

@@ -4,6 +4,7 @@ use Rattle.trace_lines.specs.Line.{Line}
 use Rattle.at_rest.specs.Coming.{AreLater}
 use Rattle.worker_core.specs.Workers as worker
 use Rattle.flow_core.specs.Workers as flow_worker
+use Rattle.flow_home.specs.Placed.{slices_served}
 use Rattle.front_core.specs.declared.opening.Opened.{Opened}
 use Rattle.front_core.specs.Words.{IsWhole, latest_in, lines_in}
 use Rattle.slice_runner.specs.declared.served.Places.{Places}
@@ -34,8 +35,9 @@ pub record AreServed (opened : Opened) (places : Places) (shared : Posts) (lines
   pub room : HasRoomFor (vec_len opened.controls) (vec_len opened.flows) places
   pub posts : AreFor (vec_len opened.controls) (vec_len opened.flows) shared
 
--- The ends are those of the workers; and where the front had memory, it took all lines.
+-- The ends are those of the workers, in their order; and where the front had memory, it took all lines.
 pub record Serves (opened : Opened) (tries : ℕ) (lines : List Line) (served : Served) : Type 0 where
   pub takes : IfOk served.front (TakesAll tries lines opened.front)
   pub controls : map worker.end_lanes served.controls.items ≡ map worker.worker_lanes opened.controls.items
   pub flows : map flow_worker.end_lanes served.flows.items ≡ map flow_worker.worker_lanes opened.flows.items
+  pub places : slices_served served.flows.items ≡ map flow_worker.place_of opened.flows.items

@@ -1,5 +1,5 @@
 //! An epoch is run.
-ghost use Rattle.std.specs.Prelude.{◌≡◌, ◌+◌, ◌≤◌, ◌^◌, List, length, count_by, IfOk};
+ghost use Rattle.std.specs.Prelude.{◌≡◌, ◌+◌, ◌≤◌, ◌^◌, All, List, length, count_by, IfOk};
 ghost use Rattle.trace_lines.specs.Line.{Line};
 ghost use Rattle.lawful_run.specs.Accepted.{is_refused};
 ghost use Rattle.lawful_run.specs.Merging.{Histories};
@@ -7,6 +7,7 @@ ghost use Rattle.at_rest.specs.Coming.{AreLater, latest_behind};
 ghost use Rattle.at_rest.specs.Rest.{IsBehind, RepresentsAll};
 ghost use Rattle.front_close.specs.Closing.{Closes};
 ghost use Rattle.front_close.specs.Filled.{told_by};
+ghost use Rattle.front_close.specs.Placed.{IsEntryBelow};
 ghost use Rattle.slice_runner.specs.Lines.{Counted, is_answered};
 ghost use Rattle.slice_runner.specs.Serving.{AreServed, Serves};
 
@@ -50,6 +51,9 @@ pub fn run_epoch<G: Gate, R: Threads + Wait + Sync>(
     // accepted had at most as many of them as `patience` says. Of nothing else is the count of full answers.
     ensures refusals { IfOk result (λ ended. Counted (patience + 1) (count_by is_refused (told_by ended.epoch).lines)
         (count_by is_answered (told_by ended.epoch).lines) rest.fulls ended.rest.fulls) }
+
+    // Each packet was handled at one of the slices, or as the epoch was closed.
+    ensures placed { IfOk result (λ ended. All (IsEntryBelow rest.slices) (told_by ended.epoch).lines) }
 {
     let opened = Front::open(alloc, rest)?;
     let (controls, flows) = (opened.controls.len(), opened.flows.len());

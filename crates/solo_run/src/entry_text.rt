@@ -33,6 +33,7 @@ pub fn push_move(
 }
 
 /// Appends the entry of a slot's packet.
+#[inline(always)]
 pub fn push_handled(
     report: &mut Text,
     line: u64,

@@ -53,14 +53,8 @@ impl Reporter for Resumer {
 
     ghost represents = { λ first now done latest. HasTold (gateway_of first.solo) now.solo (length done) latest };
 
-    fn take(
-        &mut self,
-        line: TraceLine,
-        room: &mut Vec<u8>,
-        text: &mut Text,
-    ) -> Result<(), AllocError> {
-        self.solo.enter(*room.allocator(), &line, text)?;
-        line.give_room(room);
+    fn take(&mut self, line: &TraceLine, text: &mut Text) -> Result<(), AllocError> {
+        self.solo.enter(line, text)?;
         Ok(())
     }
 

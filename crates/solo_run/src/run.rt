@@ -25,14 +25,8 @@ impl Reporter for Solo {
 
     ghost represents = { λ first now. HasAnswered now };
 
-    fn take(
-        &mut self,
-        line: TraceLine,
-        room: &mut Vec<u8>,
-        text: &mut Text,
-    ) -> Result<(), AllocError> {
-        self.enter(*room.allocator(), &line, text)?;
-        line.give_room(room);
+    fn take(&mut self, line: &TraceLine, text: &mut Text) -> Result<(), AllocError> {
+        self.enter(line, text)?;
         Ok(())
     }
 

@@ -24,7 +24,7 @@ use crate::entry_text::{push_handled, push_move};
 use crate::gathered::Gathered;
 use address_book::AddressBook;
 use control_steps::Command;
-use demux::{Decision, LentPacket, Whose, decide, home_slice};
+use demux::{Decision, LentPacket, Whose, decide, home_slice, packet_of};
 use pc_base::{Imsi, SliceNo, Slot};
 use record_codec::StateFile;
 use std::alloc::{AllocError, Global};
@@ -77,12 +77,8 @@ impl Solo {
 
     /// Answers a line: its entry's text is appended to the report. After running out of memory the gateway
     /// may only be dropped.
-    pub fn enter(
-        &mut self,
-        alloc: Global,
-        line: &TraceLine,
-        report: &mut Text,
-    ) -> Result<(), AllocError>
+    #[inline(always)]
+    pub fn enter(&mut self, line: &TraceLine, report: &mut Text) -> Result<(), AllocError>
         requires room { HasRoom self.old }
         requires late { IsLate self.old line.now.moment }
 
@@ -100,6 +96,31 @@ impl Solo {
         ensures answers { OnOk result (Tells line.now.number (decided slices self.old.book line.now) self.old
             self.new report.old report.new) }
     {
+        match packet_of(&self.book, line) {
+            Some(found) => self.packet(line.number, found.0, &found.1, report),
+            None => self.enter_decided(line, report),
+        }
+    }
+
+    // The same of any line.
+    #[inline(never)]
+    fn enter_decided(&mut self, line: &TraceLine, report: &mut Text) -> Result<(), AllocError>
+        requires room { HasRoom self.old }
+        requires late { IsLate self.old line.now.moment }
+
+        ensures told { (done : List Line) (latest : ℕ) (before : Histories) (made : List Meaning)
+            → Stands self.old (story_of done latest before made) → line.now.number ≡ length done + 1
+            → OnOk result (report.new ≡ report.old
+            ++ entry_line (story_of done latest before made) (meant_next done line.now)) }
+        ensures stands { (done : List Line) (latest : ℕ) (before : Histories) (made : List Meaning)
+            → Stands self.old (story_of done latest before made)
+            → latest ≤ line.now.moment
+            → OnOk result (Stands self.new (story_of (done ++ line.now ∷ []) line.now.moment before
+            (made ++ meant_next done line.now ∷ []))) }
+        ensures answers { OnOk result (Tells line.now.number (decided slices self.old.book line.now) self.old
+            self.new report.old report.new) }
+    {
+        let alloc = *self.subscribers.allocator();
         let number = line.number;
         match decide(alloc, &self.book, SLICES, line)? {
             Decision::Packet { slot, packet } => self.packet(number, slot, &packet, report),
@@ -167,6 +188,7 @@ impl Solo {
     }
 
     // A packet of a slot in the book.
+    #[inline(always)]
     fn packet(
         &mut self,
         number: u64,

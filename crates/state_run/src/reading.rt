@@ -1,5 +1,5 @@
 //! A state before a trace, read line by line.
-ghost use Rattle.std.specs.Prelude.{◌≡◌, ◌≤◌, ◌^◌, [], false, IfErr, IfOk};
+ghost use Rattle.std.specs.Prelude.{◌≡◌, ◌≢◌, ◌≤◌, ◌^◌, [], false, IfErr, IfOk, OnErr};
 ghost use Rattle.std.specs.Io.KnownBytes.{prepend_known};
 ghost use Rattle.pc_outside.specs.Faults.{Rises};
 ghost use Rattle.pc_outside.specs.WhereTold.{WhereTold};
@@ -48,6 +48,11 @@ pub fn read_state<S: Source>(
     ensures later { S.faults source.old ≤ S.faults source.new }
     ensures fault { IfOk result (λ read. read ≡ StateRead.ReadFault
         → Rises (S.faults source.old) (S.faults source.new)) }
+
+    // A read that fails is told, and none is tried again.
+    ensures no_fault { IfOk result (λ read. read ≢ StateRead.ReadFault
+        → S.faults source.new ≡ S.faults source.old) }
+    ensures no_fault_cut { OnErr result (S.faults source.new ≡ S.faults source.old) }
 {
     let mut front = Front::new(alloc);
     loop {

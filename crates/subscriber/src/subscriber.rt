@@ -150,6 +150,7 @@ impl Subscriber {
     }
 
     /// The same of a packet whose octets lie elsewhere, and are lent again: it takes the next number.
+    #[inline(always)]
     pub fn judge<'a>(
         &mut self,
         moment: Moment,

@@ -16,19 +16,10 @@ pub fn read_octets(alloc: Global, text: &[u8]) -> Result<Option<Vec<u8>>, AllocE
     // Memory is asked for only where the number of octets in the text is even, and not 0.
     ensures memory { OnErr result ((length text.now % 2 ≡ 0) × (0 < length text.now)) }
 {
-    read_octets_into(Vec::new(alloc), text)
-}
-
-/// The same, in the memory of a list that isn't wanted any more.
-#[inline(always)]
-pub fn read_octets_into(room: Vec<u8>, text: &[u8]) -> Result<Option<Vec<u8>>, AllocError>
-    ensures value { IfOk result (λ octets. option_map (λ v. v.items) octets ≡ octets_of text.now) }
-    ensures memory { OnErr result ((length text.now % 2 ≡ 0) × (0 < length text.now)) }
-{
     if text.is_empty() || text.len() % 2 == 1 {
         return Ok(None);
     }
-    let mut octets = room;
+    let mut octets = Vec::new(alloc);
     octets.resize(text.len() / 2, 0)?;
     if decode(text, octets.as_mut_slice()) {
         Ok(Some(octets))

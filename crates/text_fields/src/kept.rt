@@ -1,11 +1,14 @@
 //! A text that is kept from line to line: its room is asked for once, and each part is written where it stands.
-ghost use Rattle.std.specs.Prelude.{◌≡◌, ◌+◌, ◌*◌, ◌≤◌, ◌++◌, ◌∷◌, [], length, take, decimal, IfOk, OnOk, OnErr};
+ghost use Rattle.std.specs.Prelude.{◌≡◌, ◌≢◌, ◌+◌, ◌*◌, ◌%◌, ◌<◌, ◌≤◌, ◌++◌, ◌∷◌, [], length, take, decimal};
+ghost use Rattle.std.specs.Prelude.{Some, None, Ok, true, if◌then◌else◌, IfOk, OnOk, OnErr};
+ghost use Rattle.std.specs.List.{list_all};
 ghost use Rattle.std.specs.Vec.{vec_len};
-ghost use Rattle.hex.specs.Hex.{encode_lower};
+ghost use Rattle.hex.specs.Hex.{decode_of, encode_lower, is_hex_digit};
 ghost use Rattle.text_fields.specs.Address.{dotted};
+ghost use Rattle.text_fields.specs.Hexadecimal.{octets_of};
 
 use crate::head::Head;
-use crate::hexadecimal::encode;
+use crate::hexadecimal::{decode, encode};
 use std::alloc::{AllocError, Global};
 use std::marker::Model;
 
@@ -13,7 +16,7 @@ use std::marker::Model;
 const SPARE: usize = 1_536;
 
 /// A text that is appended to and emptied; contracts see it as its octets. What is emptied keeps its room.
-#[derive(Drop)]
+#[derive(Debug, Drop)]
 pub struct Text {
     room: Vec<u8>,
     len: usize,
@@ -39,6 +42,44 @@ impl Text {
             room: Vec::new(alloc),
             len: 0,
         }
+    }
+
+    /// A text of these octets; no memory is taken.
+    pub fn of(octets: Vec<u8>) -> Text
+        ensures { result ≡ octets.items }
+    {
+        let len = octets.len();
+        Text { room: octets, len }
+    }
+
+    /// A copy, with just the room that it needs.
+    pub fn try_clone(&self) -> Result<Text, AllocError>
+        ensures { IfOk result (λ copy. copy ≡ self.now) }
+    {
+        let octets = self.as_slice().to_vec(*self.room.allocator())?;
+        Ok(Text::of(octets))
+    }
+
+    /// Reads the octets that digits are in place of what stood in it: whether they are some, an even number of digits
+    /// in either case, at least two. Else nothing stands in it.
+    #[inline(always)]
+    pub fn read_octets(&mut self, digits: &[u8]) -> Result<bool, AllocError>
+        ensures value { IfOk result (λ read. (if read then Some self.new else None) ≡ octets_of digits.now) }
+        ensures emptied { result ≢ Ok true → self.new ≡ [] }
+        // Memory is asked for only where the number of digits is even, and not 0.
+        ensures memory { OnErr result ((length digits.now % 2 ≡ 0) × (0 < length digits.now)) }
+    {
+        self.len = 0;
+        if digits.is_empty() || digits.len() % 2 == 1 {
+            return Ok(false);
+        }
+        let count = digits.len() / 2;
+        hold(&mut self.room, count)?;
+        if !put_decoded(&mut self.room, count, digits) {
+            return Ok(false);
+        }
+        self.len = count;
+        Ok(true)
     }
 
     /// What stands in it.
@@ -213,6 +254,24 @@ fn grow(room: &mut Vec<u8>, more: usize) -> Result<(), AllocError>
     room.resize(len.saturating_add(SPARE), 0)
 }
 
+// Makes room for so many octets in all, and for no more.
+#[inline(always)]
+fn hold(room: &mut Vec<u8>, len: usize) -> Result<(), AllocError>
+    ensures { OnOk result (len ≤ vec_len room.new) }
+{
+    if room.len() >= len {
+        return Ok(());
+    }
+    lengthen(room, len)
+}
+
+#[inline(never)]
+fn lengthen(room: &mut Vec<u8>, len: usize) -> Result<(), AllocError>
+    ensures { OnOk result (len ≤ vec_len room.new) }
+{
+    room.resize(len, 0)
+}
+
 // Writes octets at a place: where they end.
 #[inline(always)]
 fn put(room: &mut Vec<u8>, at: usize, octets: &[u8]) -> usize
@@ -237,4 +296,27 @@ fn put_digits(room: &mut Vec<u8>, at: usize, octets: &[u8]) -> usize
     let end = at + 2 * octets.len();
     encode(octets, &mut room.as_mut_slice()[at..end]);
     end
+}
+
+// Writes the octets that digits are at the front; whether all of them are digits.
+#[inline(always)]
+fn put_decoded(room: &mut Vec<u8>, len: usize, digits: &[u8]) -> bool
+    requires digits { length digits.now ≡ 2 * len }
+    requires room { len ≤ vec_len room.old }
+    ensures digits { result ≡ list_all is_hex_digit digits.now }
+    ensures value { result ≡ true → decode_of digits.now ≡ Ok (take len room.new.items) }
+    ensures len { vec_len room.new ≡ vec_len room.old }
+{
+    decode_front(room.as_mut_slice(), len, digits)
+}
+
+// The same of a slice.
+#[inline(always)]
+fn decode_front(room: &mut [u8], len: usize, digits: &[u8]) -> bool
+    requires digits { length digits.now ≡ 2 * len }
+    requires room { len ≤ length room.old }
+    ensures digits { result ≡ list_all is_hex_digit digits.now }
+    ensures value { result ≡ true → decode_of digits.now ≡ Ok (take len room.new) }
+{
+    decode(digits, &mut room[..len])
 }

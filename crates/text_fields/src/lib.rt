@@ -31,7 +31,7 @@ mod number;
 pub use address::read_address;
 pub use fields::{cut, has_empty_field, next_piece};
 pub use head::{HEAD_LEN, Head};
-pub use hexadecimal::{decode, read_lower_octets, read_octets, read_octets_into};
+pub use hexadecimal::{decode, read_lower_octets, read_octets};
 pub use kept::Text;
 pub use laws::{
     fields_stand_apart, one_lower_text_of_octets, one_text_of_a_number, one_text_of_an_address,

@@ -15,8 +15,8 @@ use Rattle.text_fields.proofs.DigitLemmas.{number_read, number_only}
 use Rattle.text_fields.proofs.FieldLemmas.{pieces-joined, joined-pieces, pieces_lack}
 use Rattle.trace_lines.specs.declared.bad.LineBad.{LineBad}
 use Rattle.trace_lines.specs.declared.bad.LineBad.TheVariants.{Number, Field, MomentBack}
-use Rattle.trace_lines.specs.declared.line.LineKind.{LineKind}
-use Rattle.trace_lines.specs.declared.line.LineKind.TheVariants as kind
+use Rattle.trace_lines.specs.Kind.{LineKind}
+use Rattle.trace_lines.specs.Kind as kind
 use Rattle.trace_lines.specs.Line.{Line, IsLine, IsKind}
 use Rattle.trace_lines.specs.Text.{Means, kind_word, arguments, line_fields, line_text, lowered_fields, lowered}
 use Rattle.trace_lines.specs.Refused.{◌>>=◌}

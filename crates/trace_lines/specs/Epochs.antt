@@ -1,8 +1,8 @@
 -- Epochs: runs of lines that are closed together. A line is as long as its text, its newline not counted.
 use Rattle.std.specs.Prelude.{◌≡◌, ℕ, ◌+◌, ◌<◌, ◌||◌, ◌⊎◌, Bool, true, false, List, [], ◌∷◌}
 use Rattle.std.specs.Prelude.{◌++◌, length, sum_by, nat_le, if◌then◌else◌}
-use Rattle.trace_lines.specs.declared.line.LineKind.{LineKind}
-use Rattle.trace_lines.specs.declared.line.LineKind.TheVariants as kind
+use Rattle.trace_lines.specs.Kind.{LineKind}
+use Rattle.trace_lines.specs.Kind as kind
 use Rattle.std.specs.List.{flat_map}
 use Rattle.trace_lines.specs.Line.{Line}
 use Rattle.trace_lines.specs.Text.{line_text}

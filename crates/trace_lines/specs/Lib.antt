@@ -1,5 +1,7 @@
 pub mod Word
+pub mod Kind
 pub mod Line
+pub mod Beside
 pub mod Text
 pub mod Arguments
 pub mod Refused
@@ -8,4 +10,3 @@ pub mod Refusal
 pub mod Memory
 pub mod Epochs
 pub mod Input
-pub mod Room

@@ -1,8 +1,8 @@
 -- What a line of a trace says, as a value, and the ranges that it keeps.
 use Rattle.std.specs.Prelude.{ℕ, ◌<◌, ◌≤◌, ◌^◌, List, length, All}
 use Rattle.pc_base.specs.Imsi.{IsImsi}
-use Rattle.trace_lines.specs.declared.line.LineKind.{LineKind}
-use Rattle.trace_lines.specs.declared.line.LineKind.TheVariants as kind
+use Rattle.trace_lines.specs.Kind.{LineKind}
+use Rattle.trace_lines.specs.Kind as kind
 
 -- its number in the trace, its moment in microseconds, and the rest by kind
 pub record Line : Type 0 where

@@ -9,8 +9,8 @@ use Rattle.text_fields.specs.Address.{address_of}
 use Rattle.text_fields.specs.Hexadecimal.{octets_of}
 use Rattle.trace_lines.specs.declared.bad.LineBad.{LineBad}
 use Rattle.trace_lines.specs.declared.bad.LineBad.TheVariants.{Field, Number, Hex, Kind, MomentBack}
-use Rattle.trace_lines.specs.declared.line.LineKind.{LineKind}
-use Rattle.trace_lines.specs.declared.line.LineKind.TheVariants as kind
+use Rattle.trace_lines.specs.Kind.{LineKind}
+use Rattle.trace_lines.specs.Kind as kind
 use Rattle.trace_lines.specs.Refused.{◌>>=◌}
 use Rattle.trace_lines.specs.Arguments.{imsi_of, teid_of}
 use Rattle.trace_lines.specs.Line.{Line}

@@ -5,8 +5,8 @@ use Rattle.hex.specs.Hex.{encode_lower}
 use Rattle.text_fields.specs.Fields.{fields_of, joined}
 use Rattle.text_fields.specs.Address.{dotted}
 use Rattle.text_fields.specs.Hexadecimal.{in_lower_case}
-use Rattle.trace_lines.specs.declared.line.LineKind.{LineKind}
-use Rattle.trace_lines.specs.declared.line.LineKind.TheVariants as kind
+use Rattle.trace_lines.specs.Kind.{LineKind}
+use Rattle.trace_lines.specs.Kind as kind
 use Rattle.trace_lines.specs.Line.{Line, IsLine}
 
 abbrev pub kind_word : LineKind → List ℕ

@@ -18,13 +18,13 @@ pub fn ends_epoch(line: &TraceLine, len: u64, lines: u64, octets: u64) -> bool
         → octets ≡ octets_in before
         → result ≡ ends_epoch before line.now }
 {
-    is_fence(&line.kind)
+    is_fence(line)
         || lines.saturating_add(1) >= EPOCH_LINES
         || octets.saturating_add(len) >= EPOCH_OCTETS
 }
 
-fn is_fence(kind: &LineKind) -> bool
-    ensures { result ≡ is_fence kind.now }
+fn is_fence(line: &TraceLine) -> bool
+    ensures { result ≡ is_fence line.now.kind }
 {
-    matches!(kind, LineKind::Fence)
+    matches!(line.kind, LineKind::Fence)
 }

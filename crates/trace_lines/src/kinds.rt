@@ -1,6 +1,7 @@
 //! The kinds of line with their arguments.
-ghost use Rattle.std.specs.Prelude.{◌≡◌, ◌≢◌, ◌⊎◌, ◌∷◌, [], Err, IfOk, IfErr, MatchResult, true, false};
+ghost use Rattle.std.specs.Prelude.{◌≡◌, ◌≢◌, ◌⊎◌, ◌∷◌, [], ℕ, List, Ok, Err, IfOk, IfErr, MatchResult, true, false};
 ghost use Rattle.text_fields.specs.Fields.{space, pieces_left};
+ghost use Rattle.trace_lines.specs.Beside.{with_octets};
 ghost use Rattle.trace_lines.specs.Memory.{is_message, has_octets};
 ghost use Rattle.trace_lines.specs.Meaning.{kind_meaning, attach_meaning, bearer_meaning};
 ghost use Rattle.trace_lines.specs.Meaning.{filters_meaning, drop_meaning};
@@ -14,37 +15,41 @@ use crate::arguments::{
 use crate::message::{read_message, read_octets};
 use crate::{LineBad, LineKind};
 use pc_base::Peer;
-use text_fields::next_piece;
+use text_fields::{Text, next_piece};
 
+// Its octets, if it has some, are read in place of those that stood there.
+#[inline(always)]
 pub(crate) fn read_kind(
-    room: &mut Vec<u8>,
+    octets: &mut Text,
     word: &[u8],
     arguments: Option<&[u8]>,
 ) -> Result<LineKind, LineBad>
-    ensures kind { IfOk result (λ kind. kind_meaning word.now (pieces_left space arguments.entry) ≡ Ok kind) }
+    ensures kind { IfOk result (λ kind. kind_meaning word.now (pieces_left space arguments.entry)
+        ≡ Ok (with_octets kind octets.new)) }
     ensures refusal { IfErr result (λ why. (why ≡ NoMemory)
         ⊎ (kind_meaning word.now (pieces_left space arguments.entry) ≡ Err why)) }
     ensures memory { result ≡ Err NoMemory → has_octets word.now ≡ true }
 {
     if word == b"S1U".as_slice() {
-        Ok(LineKind::S1u(read_message(room, arguments)?))
+        read_message(octets, arguments)?;
+        Ok(LineKind::S1u)
     } else if word == b"SGI".as_slice() {
-        Ok(LineKind::Sgi(read_message(room, arguments)?))
+        read_message(octets, arguments)?;
+        Ok(LineKind::Sgi)
     } else if word == b"S11".as_slice() {
-        Ok(LineKind::S11(read_message(room, arguments)?))
+        read_message(octets, arguments)?;
+        Ok(LineKind::S11)
     } else {
-        read_order(room, word, arguments)
+        read_order(octets, word, arguments)
     }
 }
 
 // The operator's orders.
-fn read_order(
-    room: &mut Vec<u8>,
-    word: &[u8],
-    arguments: Option<&[u8]>,
-) -> Result<LineKind, LineBad>
+#[inline(never)]
+fn read_order(octets: &mut Text, word: &[u8], arguments: Option<&[u8]>) -> Result<LineKind, LineBad>
     requires { is_message word.now ≡ false }
-    ensures kind { IfOk result (λ kind. kind_meaning word.now (pieces_left space arguments.entry) ≡ Ok kind) }
+    ensures kind { IfOk result (λ kind. kind_meaning word.now (pieces_left space arguments.entry)
+        ≡ Ok (with_octets kind octets.new)) }
     ensures refusal { IfErr result (λ why. (why ≡ NoMemory)
         ⊎ (kind_meaning word.now (pieces_left space arguments.entry) ≡ Err why)) }
     ensures memory { result ≡ Err NoMemory → has_octets word.now ≡ true }
@@ -52,9 +57,9 @@ fn read_order(
     if word == b"ATTACH".as_slice() {
         read_attach(arguments)
     } else if word == b"BEARER".as_slice() {
-        read_bearer(room, arguments)
+        read_bearer(octets, arguments)
     } else if word == b"FILTERS".as_slice() {
-        read_filters(room, arguments)
+        read_filters(octets, arguments)
     } else if word == b"DROP".as_slice() {
         read_drop(arguments)
     } else if word == b"AMBR".as_slice() {
@@ -80,7 +85,9 @@ fn field(left: Option<&[u8]>) -> Result<(&[u8], Option<&[u8]>), LineBad>
 }
 
 fn read_attach(arguments: Option<&[u8]>) -> Result<LineKind, LineBad>
-    ensures kind { result ≡ attach_meaning (pieces_left space arguments.entry) }
+    ensures kind { (octets : List ℕ) → IfOk result (λ kind. attach_meaning (pieces_left space arguments.entry)
+        ≡ Ok (with_octets kind octets)) }
+    ensures refusal { IfErr result (λ why. attach_meaning (pieces_left space arguments.entry) ≡ Err why) }
     ensures no_memory { IfErr result (λ why. why ≢ NoMemory) }
 {
     let (imsi, rest) = field(arguments)?;
@@ -105,8 +112,9 @@ fn read_attach(arguments: Option<&[u8]>) -> Result<LineKind, LineBad>
     })
 }
 
-fn read_bearer(room: &mut Vec<u8>, arguments: Option<&[u8]>) -> Result<LineKind, LineBad>
-    ensures kind { IfOk result (λ kind. bearer_meaning (pieces_left space arguments.entry) ≡ Ok kind) }
+fn read_bearer(octets: &mut Text, arguments: Option<&[u8]>) -> Result<LineKind, LineBad>
+    ensures kind { IfOk result (λ kind. bearer_meaning (pieces_left space arguments.entry)
+        ≡ Ok (with_octets kind octets.new)) }
     ensures refusal { IfErr result (λ why. (why ≡ NoMemory)
         ⊎ (bearer_meaning (pieces_left space arguments.entry) ≡ Err why)) }
 {
@@ -126,7 +134,7 @@ fn read_bearer(room: &mut Vec<u8>, arguments: Option<&[u8]>) -> Result<LineKind,
     let mbr_down = read_bearer_rate(mbr_down)?;
     let gbr_up = read_bearer_rate(gbr_up)?;
     let gbr_down = read_bearer_rate(gbr_down)?;
-    let tft = read_octets(room, tft)?;
+    read_octets(octets, tft)?;
     Ok(LineKind::Bearer {
         imsi,
         qci,
@@ -134,12 +142,12 @@ fn read_bearer(room: &mut Vec<u8>, arguments: Option<&[u8]>) -> Result<LineKind,
         mbr_down,
         gbr_up,
         gbr_down,
-        tft,
     })
 }
 
-fn read_filters(room: &mut Vec<u8>, arguments: Option<&[u8]>) -> Result<LineKind, LineBad>
-    ensures kind { IfOk result (λ kind. filters_meaning (pieces_left space arguments.entry) ≡ Ok kind) }
+fn read_filters(octets: &mut Text, arguments: Option<&[u8]>) -> Result<LineKind, LineBad>
+    ensures kind { IfOk result (λ kind. filters_meaning (pieces_left space arguments.entry)
+        ≡ Ok (with_octets kind octets.new)) }
     ensures refusal { IfErr result (λ why. (why ≡ NoMemory)
         ⊎ (filters_meaning (pieces_left space arguments.entry) ≡ Err why)) }
 {
@@ -151,12 +159,14 @@ fn read_filters(room: &mut Vec<u8>, arguments: Option<&[u8]>) -> Result<LineKind
     };
     let imsi = read_imsi(imsi)?;
     let ebi = read_ebi(ebi)?;
-    let tft = read_octets(room, tft)?;
-    Ok(LineKind::Filters { imsi, ebi, tft })
+    read_octets(octets, tft)?;
+    Ok(LineKind::Filters { imsi, ebi })
 }
 
 fn read_drop(arguments: Option<&[u8]>) -> Result<LineKind, LineBad>
-    ensures kind { result ≡ drop_meaning (pieces_left space arguments.entry) }
+    ensures kind { (octets : List ℕ) → IfOk result (λ kind. drop_meaning (pieces_left space arguments.entry)
+        ≡ Ok (with_octets kind octets)) }
+    ensures refusal { IfErr result (λ why. drop_meaning (pieces_left space arguments.entry) ≡ Err why) }
     ensures no_memory { IfErr result (λ why. why ≢ NoMemory) }
 {
     let (imsi, rest) = field(arguments)?;
@@ -170,7 +180,9 @@ fn read_drop(arguments: Option<&[u8]>) -> Result<LineKind, LineBad>
 }
 
 fn read_ambr(arguments: Option<&[u8]>) -> Result<LineKind, LineBad>
-    ensures kind { result ≡ ambr_meaning (pieces_left space arguments.entry) }
+    ensures kind { (octets : List ℕ) → IfOk result (λ kind. ambr_meaning (pieces_left space arguments.entry)
+        ≡ Ok (with_octets kind octets)) }
+    ensures refusal { IfErr result (λ why. ambr_meaning (pieces_left space arguments.entry) ≡ Err why) }
     ensures no_memory { IfErr result (λ why. why ≢ NoMemory) }
 {
     let (imsi, rest) = field(arguments)?;
@@ -186,7 +198,9 @@ fn read_ambr(arguments: Option<&[u8]>) -> Result<LineKind, LineBad>
 }
 
 fn read_move(arguments: Option<&[u8]>) -> Result<LineKind, LineBad>
-    ensures kind { result ≡ move_meaning (pieces_left space arguments.entry) }
+    ensures kind { (octets : List ℕ) → IfOk result (λ kind. move_meaning (pieces_left space arguments.entry)
+        ≡ Ok (with_octets kind octets)) }
+    ensures refusal { IfErr result (λ why. move_meaning (pieces_left space arguments.entry) ≡ Err why) }
     ensures no_memory { IfErr result (λ why. why ≢ NoMemory) }
 {
     let (imsi, rest) = field(arguments)?;
@@ -200,7 +214,9 @@ fn read_move(arguments: Option<&[u8]>) -> Result<LineKind, LineBad>
 }
 
 fn read_fence(arguments: Option<&[u8]>) -> Result<LineKind, LineBad>
-    ensures kind { result ≡ fence_meaning (pieces_left space arguments.entry) }
+    ensures kind { (octets : List ℕ) → IfOk result (λ kind. fence_meaning (pieces_left space arguments.entry)
+        ≡ Ok (with_octets kind octets)) }
+    ensures refusal { IfErr result (λ why. fence_meaning (pieces_left space arguments.entry) ≡ Err why) }
     ensures no_memory { IfErr result (λ why. why ≢ NoMemory) }
 {
     let None = next_piece(b' ', arguments) else {

@@ -14,7 +14,7 @@
 //!     };
 //!     assert_eq!(rt; (line.moment, &line.kind), (Moment(40), &LineKind::Fence));
 //!     assert_eq!(rt; text(alloc, &line)?.as_slice(), b"40 FENCE".as_slice());
-//!     assert_eq!(rt; read_line(alloc, b"39 FENCE", 2, Moment(40)), Err(LineBad::MomentBack));
+//!     assert_eq!(rt; read_line(alloc, b"39 FENCE", 2, Moment(40)).err(), Some(LineBad::MomentBack));
 //!     Ok(())
 //! }
 //! ```
@@ -28,7 +28,6 @@ mod laws;
 mod line;
 mod message;
 mod reading;
-mod room;
 mod writing;
 
 pub use bad::LineBad;

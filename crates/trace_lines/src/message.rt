@@ -1,5 +1,5 @@
 //! Octets as an argument.
-ghost use Rattle.std.specs.Prelude.{◌≡◌, ◌⊎◌, Err, IfOk, IfErr};
+ghost use Rattle.std.specs.Prelude.{◌≡◌, ◌⊎◌, Ok, Err, OnOk, IfErr};
 ghost use Rattle.std.specs.Option.{ok_or};
 ghost use Rattle.text_fields.specs.Fields.{space, pieces, pieces_left};
 ghost use Rattle.text_fields.specs.Hexadecimal.{octets_of};
@@ -7,48 +7,48 @@ ghost use Rattle.trace_lines.specs.Meaning.{message_meaning};
 ghost use Rattle.trace_lines.specs.declared.bad.LineBad.TheVariants.{NoMemory, Hex};
 
 use crate::LineBad;
-use pc_base::Octets;
-use std::mem;
-use text_fields::cut;
+use text_fields::{Text, cut};
 
-// Octets are read into the room, and owned with it then.
+// Octets are read in place of those that stood there.
 #[inline(always)]
-pub(crate) fn read_octets(room: &mut Vec<u8>, text: &[u8]) -> Result<Octets, LineBad>
-    ensures value { IfOk result (λ octets. ok_or (octets_of text.now) Hex ≡ Ok octets) }
+pub(crate) fn read_octets(octets: &mut Text, text: &[u8]) -> Result<(), LineBad>
+    ensures value { OnOk result (ok_or (octets_of text.now) Hex ≡ Ok octets.new) }
     ensures refusal { IfErr result (λ why. (why ≡ NoMemory) ⊎ (ok_or (octets_of text.now) Hex ≡ Err why)) }
 {
-    let alloc = *room.allocator();
-    let room = mem::replace(room, Vec::new(alloc));
-    match text_fields::read_octets_into(room, text)? {
-        Some(octets) => Ok(Octets::of(octets)),
-        None => Err(LineBad::Hex),
+    if octets.read_octets(text)? {
+        Ok(())
+    } else {
+        Err(LineBad::Hex)
     }
 }
 
 // The one argument that is left.
-pub(crate) fn read_message(room: &mut Vec<u8>, arguments: Option<&[u8]>) -> Result<Octets, LineBad>
-    ensures value { IfOk result (λ octets. message_meaning (pieces_left space arguments.entry) ≡ Ok octets) }
+#[inline(always)]
+pub(crate) fn read_message(octets: &mut Text, arguments: Option<&[u8]>) -> Result<(), LineBad>
+    ensures value { OnOk result (message_meaning (pieces_left space arguments.entry) ≡ Ok octets.new) }
     ensures refusal { IfErr result (λ why. (why ≡ NoMemory)
         ⊎ (message_meaning (pieces_left space arguments.entry) ≡ Err why)) }
 {
     match arguments {
-        Some(text) => read_rest(room, text),
+        Some(text) => read_rest(octets, text),
         None => Err(LineBad::Field),
     }
 }
 
 // The rest of the line is taken for the argument, since a space is no digit.
-fn read_rest(room: &mut Vec<u8>, text: &[u8]) -> Result<Octets, LineBad>
-    ensures value { IfOk result (λ octets. message_meaning (pieces space text.now) ≡ Ok octets) }
+#[inline(always)]
+fn read_rest(octets: &mut Text, text: &[u8]) -> Result<(), LineBad>
+    ensures value { OnOk result (message_meaning (pieces space text.now) ≡ Ok octets.new) }
     ensures refusal { IfErr result (λ why. (why ≡ NoMemory) ⊎ (message_meaning (pieces space text.now) ≡ Err why)) }
 {
-    match read_octets(room, text) {
-        Ok(octets) => Ok(octets),
+    match read_octets(octets, text) {
+        Ok(()) => Ok(()),
         Err(why) => Err(refused(text, why)),
     }
 }
 
 // Why a text with no octets in it is refused: it may be two arguments.
+#[inline(never)]
 fn refused(text: &[u8], why: LineBad) -> LineBad
     ensures memory { why ≡ NoMemory → result ≡ NoMemory }
     ensures refusal { ok_or (octets_of text.now) Hex ≡ Err why → message_meaning (pieces space text.now) ≡ Err result }

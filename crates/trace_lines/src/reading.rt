@@ -1,5 +1,7 @@
-ghost use Rattle.std.specs.Prelude.{◌≡◌, ◌≤◌, ◌⊎◌, Some, Err, Ok, IfOk, IfErr, IfSome, true, length, if◌then◌else◌};
+ghost use Rattle.std.specs.Prelude.{◌≡◌, ◌≤◌, ◌⊎◌, ℕ, Some, Err, Ok, IfOk, OnOk, IfErr, IfSome, true, length};
+ghost use Rattle.std.specs.Prelude.{if◌then◌else◌};
 ghost use Rattle.text_fields.specs.Fields.{fields_of, has_empty_field};
+ghost use Rattle.trace_lines.specs.Beside.{with_octets};
 ghost use Rattle.trace_lines.specs.Line.{Line};
 ghost use Rattle.trace_lines.specs.Text.{Means, line_text};
 ghost use Rattle.trace_lines.specs.Refusal.{first_fault};
@@ -10,10 +12,10 @@ ghost use Rattle.trace_lines.specs.declared.bad.LineBad.TheVariants.{NoMemory, F
 
 use crate::arguments::read_in;
 use crate::kinds::read_kind;
-use crate::{LineBad, TraceLine};
+use crate::{LineBad, LineKind, TraceLine};
 use pc_base::{LAST_MOMENT, Moment};
 use std::alloc::Global;
-use text_fields::{cut, has_empty_field};
+use text_fields::{Text, cut, has_empty_field};
 
 /// What the line of this number says, where no moment below the least one may come: the text is the
 /// line without its newline.
@@ -48,45 +50,56 @@ pub fn read_line(
     ensures refusal { IfErr result (λ why. (why ≡ NoMemory)
         ⊎ (line_meaning least number text.now ≡ Err why)) }
 {
-    read_whole(&mut Vec::new(alloc), text, number, least)
+    read_whole(alloc, text, number, least)
 }
 
-/// The same, with its octets in memory that is lent: the line owns it then, and `give_room` gives it back.
+/// The same, read into a line in place of what it was: its octets go where those before them were. A line that is
+/// refused leaves some line there.
+#[inline(always)]
 pub fn read_line_in(
-    room: &mut Vec<u8>,
+    line: &mut TraceLine,
     text: &[u8],
     number: u64,
     least: Moment,
-) -> Result<TraceLine, LineBad>
-    ensures line { IfOk result (λ line. line_meaning least number text.now ≡ Ok line) }
-    ensures in_order { IfOk result (λ line. least ≤ line.moment) }
-    ensures as_long { IfOk result (λ line. length (line_text line) ≡ length text.now) }
+) -> Result<(), LineBad>
+    ensures line { OnOk result (line_meaning least number text.now ≡ Ok line.new) }
+    ensures in_order { OnOk result (least ≤ line.new.moment) }
+    ensures as_long { OnOk result (length (line_text line.new) ≡ length text.now) }
     ensures refusal { IfErr result (λ why. (why ≡ NoMemory)
         ⊎ (line_meaning least number text.now ≡ Err why)) }
     ensures memory { result ≡ Err NoMemory → wants_octets (fields_of text.now) ≡ true }
 {
-    read_whole(room, text, number, least)
+    match read_fields(&mut line.octets, text, least) {
+        Ok((moment, kind)) => {
+            line.number = number;
+            line.moment = moment;
+            line.kind = kind;
+            Ok(())
+        }
+        Err(why) => {
+            // Its octets may have been lost.
+            line.kind = LineKind::Fence;
+            Err(refused(text, why))
+        }
+    }
 }
 
-// In one word.
-fn read_whole(
-    room: &mut Vec<u8>,
-    text: &[u8],
-    number: u64,
-    least: Moment,
-) -> Result<TraceLine, LineBad>
+// A line of its own.
+fn read_whole(alloc: Global, text: &[u8], number: u64, least: Moment) -> Result<TraceLine, LineBad>
     ensures line { IfOk result (λ line. line_meaning least number text.now ≡ Ok line) }
     ensures refusal { IfErr result (λ why. (why ≡ NoMemory)
         ⊎ (line_meaning least number text.now ≡ Err why)) }
     ensures memory { result ≡ Err NoMemory → wants_octets (fields_of text.now) ≡ true }
 {
-    match read_fields(room, text, number, least) {
-        Ok(line) => Ok(line),
-        Err(why) => Err(refused(text, why)),
+    let mut line = TraceLine::new(alloc);
+    match read_line_in(&mut line, text, number, least) {
+        Ok(()) => Ok(line),
+        Err(why) => Err(why),
     }
 }
 
 // Why a line is refused that has no fault but this, or an empty field.
+#[inline(never)]
 fn refused(text: &[u8], why: LineBad) -> LineBad
     ensures { result ≡ (if has_empty_field text.now then Field else why) }
 {
@@ -97,15 +110,12 @@ fn refused(text: &[u8], why: LineBad) -> LineBad
     }
 }
 
-// The same, where no field is empty.
-fn read_fields(
-    room: &mut Vec<u8>,
-    text: &[u8],
-    number: u64,
-    least: Moment,
-) -> Result<TraceLine, LineBad>
-    ensures line { IfOk result (λ line. line_of_fields least number (fields_of text.now) ≡ Ok line) }
-    ensures refusal { IfErr result (λ why. (why ≡ NoMemory)
+// The moment and the kind of a line, with its octets in their place, where no field is empty.
+#[inline(always)]
+fn read_fields(octets: &mut Text, text: &[u8], least: Moment) -> Result<(Moment, LineKind), LineBad>
+    ensures line { (number : ℕ) → IfOk result (λ read. line_of_fields least number (fields_of text.now)
+        ≡ Ok (record { number = number; moment = read.0; kind = with_octets read.1 octets.new })) }
+    ensures refusal { (number : ℕ) → IfErr result (λ why. (why ≡ NoMemory)
         ⊎ (line_of_fields least number (fields_of text.now) ≡ Err why)) }
     ensures memory { result ≡ Err NoMemory → wants_octets (fields_of text.now) ≡ true }
 {
@@ -116,13 +126,9 @@ fn read_fields(
     let (word, arguments) = cut(b' ', rest);
     let moment = read_in(moment, 0, LAST_MOMENT)?;
     let moment = Moment(moment);
-    let kind = read_kind(room, word, arguments)?;
+    let kind = read_kind(octets, word, arguments)?;
     if moment < least {
         return Err(LineBad::MomentBack);
     }
-    Ok(TraceLine {
-        number,
-        moment,
-        kind,
-    })
+    Ok((moment, kind))
 }

@@ -3,6 +3,7 @@ ghost use Rattle.std.specs.Prelude.{◌≡◌, ◌≤◌, ◌++◌, ◌∷◌, [
 ghost use Rattle.std.specs.Fmt.{WritesOnOk};
 ghost use Rattle.hex.specs.Hex.{encode_lower};
 ghost use Rattle.text_fields.specs.Fields.{behind, joined};
+ghost use Rattle.trace_lines.specs.Beside.{with_octets};
 ghost use Rattle.trace_lines.specs.Text.{arguments, kind_word, line_text};
 
 use crate::{LineKind, TraceLine};
@@ -43,8 +44,8 @@ fn push_fields(out: &mut Text, line: &TraceLine) -> Result<(), NoMemory>
 {
     let mut buffer = itoa::Buffer::new();
     out.extend_from_slice(buffer.format(line.moment.0).as_bytes())?;
-    out.push_field(kind_word(&line.kind).as_bytes())?;
-    push_arguments(out, &line.kind)
+    out.push_field(kind_word(line).as_bytes())?;
+    push_arguments(out, &line.kind, line.octets.as_slice())
 }
 
 /// Appends the text of a line of this moment that says octets under this word.
@@ -67,13 +68,13 @@ pub fn push_message(
     out.push_headed(&head.as_slice()[1..], octets)
 }
 
-fn kind_word(kind: &LineKind) -> &'static str
-    ensures { result.now ≡ kind_word kind.now }
+fn kind_word(line: &TraceLine) -> &'static str
+    ensures { result.now ≡ kind_word line.now.kind }
 {
-    match kind {
-        LineKind::S11(_) => "S11",
-        LineKind::S1u(_) => "S1U",
-        LineKind::Sgi(_) => "SGI",
+    match &line.kind {
+        LineKind::S11 => "S11",
+        LineKind::S1u => "S1U",
+        LineKind::Sgi => "SGI",
         LineKind::Attach { .. } => "ATTACH",
         LineKind::Bearer { .. } => "BEARER",
         LineKind::Filters { .. } => "FILTERS",
@@ -84,14 +85,12 @@ fn kind_word(kind: &LineKind) -> &'static str
     }
 }
 
-fn push_arguments(out: &mut Text, kind: &LineKind) -> Result<(), NoMemory>
-    ensures appended { OnOk result (out.new ≡ out.old ++ behind (arguments kind.now)) }
+fn push_arguments(out: &mut Text, kind: &LineKind, octets: &[u8]) -> Result<(), NoMemory>
+    ensures appended { OnOk result (out.new ≡ out.old ++ behind (arguments (with_octets kind.now octets.now))) }
     ensures before { OnErr result (take (length out.old) out.new ≡ out.old) }
 {
     match kind {
-        LineKind::S11(octets) | LineKind::S1u(octets) | LineKind::Sgi(octets) => {
-            out.push_octets(octets.as_slice())
-        }
+        LineKind::S11 | LineKind::S1u | LineKind::Sgi => out.push_octets(octets),
         LineKind::Attach {
             imsi,
             enb,
@@ -111,7 +110,6 @@ fn push_arguments(out: &mut Text, kind: &LineKind) -> Result<(), NoMemory>
             mbr_down,
             gbr_up,
             gbr_down,
-            tft,
         } => {
             out.push_field(imsi.digits())?;
             out.push_number(u64::from(*qci))?;
@@ -119,12 +117,12 @@ fn push_arguments(out: &mut Text, kind: &LineKind) -> Result<(), NoMemory>
             out.push_number(mbr_down.0)?;
             out.push_number(gbr_up.0)?;
             out.push_number(gbr_down.0)?;
-            out.push_octets(tft.as_slice())
+            out.push_octets(octets)
         }
-        LineKind::Filters { imsi, ebi, tft } => {
+        LineKind::Filters { imsi, ebi } => {
             out.push_field(imsi.digits())?;
             out.push_number(u64::from(*ebi))?;
-            out.push_octets(tft.as_slice())
+            out.push_octets(octets)
         }
         LineKind::Drop { imsi, ebi } => {
             out.push_field(imsi.digits())?;
@@ -147,18 +145,20 @@ impl fmt::Display for TraceLine {
     ghost output = { λ line. Some (line_text line) };
 
     fn fmt<W: fmt::Write>(&self, f: &mut fmt::Formatter<W>) -> fmt::Result {
-        write!(f, "{} {}", self.moment, kind_word(&self.kind))?;
-        write_arguments(&self.kind, f)
+        write!(f, "{} {}", self.moment, kind_word(self))?;
+        write_arguments(&self.kind, self.octets.as_slice(), f)
     }
 }
 
-fn write_arguments<W: fmt::Write>(kind: &LineKind, f: &mut fmt::Formatter<W>) -> fmt::Result
-    ensures { WritesOnOk W.write_str_gives f.old result (behind (arguments kind.now)) f.new }
+fn write_arguments<W: fmt::Write>(
+    kind: &LineKind,
+    octets: &[u8],
+    f: &mut fmt::Formatter<W>,
+) -> fmt::Result
+    ensures { WritesOnOk W.write_str_gives f.old result (behind (arguments (with_octets kind.now octets.now))) f.new }
 {
     match kind {
-        LineKind::S11(octets) | LineKind::S1u(octets) | LineKind::Sgi(octets) => {
-            write!(f, " {}", Hexadecimal(octets.as_slice()))
-        }
+        LineKind::S11 | LineKind::S1u | LineKind::Sgi => write!(f, " {}", Hexadecimal(octets)),
         LineKind::Attach {
             imsi,
             enb,
@@ -172,15 +172,12 @@ fn write_arguments<W: fmt::Write>(kind: &LineKind, f: &mut fmt::Formatter<W>) ->
             mbr_down,
             gbr_up,
             gbr_down,
-            tft,
         } => {
             write!(f, " {imsi} {qci} {} {}", mbr_up.0, mbr_down.0)?;
-            let tft = Hexadecimal(tft.as_slice());
+            let tft = Hexadecimal(octets);
             write!(f, " {} {} {tft}", gbr_up.0, gbr_down.0)
         }
-        LineKind::Filters { imsi, ebi, tft } => {
-            write!(f, " {imsi} {ebi} {}", Hexadecimal(tft.as_slice()))
-        }
+        LineKind::Filters { imsi, ebi } => { write!(f, " {imsi} {ebi} {}", Hexadecimal(octets)) }
         LineKind::Drop { imsi, ebi } => write!(f, " {imsi} {ebi}"),
         LineKind::Ambr { imsi, up, down } => write!(f, " {imsi} {} {}", up.0, down.0),
         LineKind::Move { imsi, slice } => write!(f, " {imsi} {}", slice.0),

@@ -113,11 +113,12 @@ pub(crate) fn line_of(alloc: Global, plan: Plan) -> Result<TraceLine, NoMemory>
     requires { IsSaid plan.said }
     ensures { IfOk result (λ line. line ≡ line_of plan) }
 {
-    let kind = kind_of(alloc, plan.said)?;
+    let (kind, octets) = kind_of(alloc, plan.said)?;
     Ok(TraceLine {
         number: plan.number,
         moment: plan.moment,
         kind,
+        octets,
     })
 }
 

@@ -1,14 +1,16 @@
 //! What a line says, by the few numbers that make it.
 ghost use Rattle.std.specs.Prelude.{◌≡◌, ◌++◌, ◌∷◌, [], ◌<◌, ◌≤◌, IfOk, OnOk};
 ghost use Rattle.pc_base.specs.Slots.{IsSlot};
+ghost use Rattle.trace_lines.specs.Beside.{with_octets};
 ghost use Rattle.trace_maker.specs.Draws.{moved};
 ghost use Rattle.trace_maker.specs.Generated.{Drawn, line_drawn};
 ghost use Rattle.trace_maker.specs.Said.{IsSaid, digit, imsi_of, kind_of};
 
 use crate::draws::Draws;
 use crate::packets::{push_downlink, push_uplink};
-use pc_base::{Addr4, Imsi, Kbps, NoMemory, Octets, Peer, SliceNo, Slot, Teid};
+use pc_base::{Addr4, Imsi, Kbps, NoMemory, Peer, SliceNo, Slot, Teid};
 use std::alloc::Global;
+use text_fields::Text;
 use trace_lines::LineKind;
 
 /// What a line says of the subscriber of a slot.
@@ -48,40 +50,49 @@ pub(crate) fn draw_line(draws: &mut Draws, subscribers: u32) -> Said
     }
 }
 
-// The same as a line of a trace says it.
-pub(crate) fn kind_of(alloc: Global, said: Said) -> Result<LineKind, NoMemory>
+// The same as a line of a trace says it, and the octets beside it.
+pub(crate) fn kind_of(alloc: Global, said: Said) -> Result<(LineKind, Text), NoMemory>
     requires { IsSaid said }
-    ensures { IfOk result (λ kind. kind ≡ kind_of said) }
+    ensures { IfOk result (λ kind. with_octets kind.0 kind.1 ≡ kind_of said) }
 {
     match said {
-        Said::Attach { slot } => Ok(LineKind::Attach {
-            imsi: imsi_of(slot),
-            enb: Peer {
-                teid: Teid(slot.0 + 1),
-                addr: Addr4(0xc633_6401),
-            },
-            up: Kbps(100_000),
-            down: Kbps(100_000),
-        }),
+        Said::Attach { slot } => {
+            let kind = LineKind::Attach {
+                imsi: imsi_of(slot),
+                enb: Peer {
+                    teid: Teid(slot.0 + 1),
+                    addr: Addr4(0xc633_6401),
+                },
+                up: Kbps(100_000),
+                down: Kbps(100_000),
+            };
+            Ok((kind, Text::new(alloc)))
+        }
         Said::Up { slot, len } => {
             let mut octets = Vec::new(alloc);
             push_uplink(&mut octets, slot, len)?;
-            Ok(LineKind::S1u(Octets::of(octets)))
+            Ok((LineKind::S1u, Text::of(octets)))
         }
         Said::Down { slot, len } => {
             let mut octets = Vec::new(alloc);
             push_downlink(&mut octets, slot, len)?;
-            Ok(LineKind::Sgi(Octets::of(octets)))
+            Ok((LineKind::Sgi, Text::of(octets)))
         }
-        Said::Rates { slot, rate } => Ok(LineKind::Ambr {
-            imsi: imsi_of(slot),
-            up: Kbps(u64::from(rate)),
-            down: Kbps(u64::from(rate)),
-        }),
-        Said::Move { slot, slice } => Ok(LineKind::Move {
-            imsi: imsi_of(slot),
-            slice: SliceNo(slice),
-        }),
+        Said::Rates { slot, rate } => {
+            let kind = LineKind::Ambr {
+                imsi: imsi_of(slot),
+                up: Kbps(u64::from(rate)),
+                down: Kbps(u64::from(rate)),
+            };
+            Ok((kind, Text::new(alloc)))
+        }
+        Said::Move { slot, slice } => {
+            let kind = LineKind::Move {
+                imsi: imsi_of(slot),
+                slice: SliceNo(slice),
+            };
+            Ok((kind, Text::new(alloc)))
+        }
     }
 }
 

@@ -12,7 +12,7 @@ use Rattle.lawful_run.specs.Report.{Report}
 use Rattle.lawful_run.proofs.CutLines.{cut_closed, cut_nothing}
 use Rattle.trace_run.specs.declared.ending.Ending.{Ending}
 use Rattle.trace_run.specs.declared.ending.Ending.TheVariants.{Ended, ReadFault, BadLine, LineLong, TooLong}
-use Rattle.trace_run.specs.declared.reading.Next.TheVariants as next
+use Rattle.trace_run.specs.Coming as next
 use Rattle.trace_run.specs.declared.status.Status.{Status}
 use Rattle.trace_run.specs.declared.status.Status.TheVariants as status
 use Rattle.trace_run.specs.Beginnings.{Beginning, input_from}

@@ -13,7 +13,7 @@ use Rattle.trace_lines.specs.declared.bad.LineBad.{LineBad}
 use Rattle.trace_lines.specs.declared.bad.LineBad.TheVariants as why
 use Rattle.trace_lines.proofs.InputLemmas.{whole_line, last_line, at_end, line_long, input_big}
 use Rattle.trace_run.specs.Next.{Gives, IsNext, SaysLine, Says, Tells, TakesRoom, given_as, refused_as}
-use Rattle.trace_run.specs.declared.reading.Next.TheVariants as next
+use Rattle.trace_run.specs.Coming as next
 
 -- a line and its newline say what the line means, and then what stands behind them says
 says_whole : (number least room after : ℕ) (octets rest line : List ℕ) → HoldsLine room after octets rest line false
@@ -99,6 +99,14 @@ gives_given line len number least false is = is
 pub given-no_fault : (last : Bool) (line : Line) (len : ℕ) → given_as line len last ≡ next.ReadFault → ⊥
 given-no_fault true line len is = cc
 given-no_fault false line len is = cc
+
+pub refused-no_fault : (bad_one : LineBad) → refused_as bad_one ≡ next.ReadFault → ⊥
+refused-no_fault why.Field is = cc
+refused-no_fault why.Number is = cc
+refused-no_fault why.Kind is = cc
+refused-no_fault why.Hex is = cc
+refused-no_fault why.MomentBack is = cc
+refused-no_fault why.NoMemory is = cc
 
 -- a refusal gives no line
 pub gives_refused : (bad_one : LineBad) (number least : ℕ) → Gives (refused_as bad_one) number least

@@ -6,8 +6,8 @@ use Rattle.pc_outside.specs.Limits.{newline}
 use Rattle.trace_lines.specs.Input.{Input, Stop, ended, stopped, after_lines, input_within}
 use Rattle.trace_lines.specs.Line.{Line}
 use Rattle.trace_lines.proofs.InputLemmas.{at_end}
-use Rattle.trace_run.specs.declared.reading.Next.{Next}
-use Rattle.trace_run.specs.declared.reading.Next.TheVariants as next
+use Rattle.trace_run.specs.Coming.{Next}
+use Rattle.trace_run.specs.Coming as next
 use Rattle.trace_run.specs.Next.{SaysLine, Says, Tells}
 use Rattle.trace_run.specs.Beginnings.{Beginning, input_from}
 use Rattle.trace_run.specs.Lines.{HasRead, StopsFrom, FailsFrom}

@@ -10,8 +10,8 @@ use Rattle.trace_run.specs.declared.ending.Ending.{Ending}
 use Rattle.trace_run.specs.declared.ending.Ending.TheVariants.{Ended}
 use Rattle.trace_run.specs.declared.ending.Unwritten.{Unwritten}
 use Rattle.trace_run.specs.declared.ending.Unwritten.TheVariants as unwritten
-use Rattle.trace_run.specs.declared.reading.Next.{Next}
-use Rattle.trace_run.specs.declared.reading.Next.TheVariants as next
+use Rattle.trace_run.specs.Coming.{Next}
+use Rattle.trace_run.specs.Coming as next
 use Rattle.trace_run.specs.Beginnings.{Beginning, behind, input_from, whole_input}
 use Rattle.trace_run.specs.Lines.{BeginsFrom, ReachedFrom}
 use Rattle.trace_run.specs.declared.status.Status.{Status}

@@ -1,4 +1,5 @@
 pub mod Entries
+pub mod Coming
 pub mod Next
 pub mod Cut
 pub mod Status

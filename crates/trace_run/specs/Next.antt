@@ -8,8 +8,21 @@ use Rattle.trace_lines.specs.Text.{line_text}
 use Rattle.trace_lines.specs.declared.bad.LineBad.{LineBad}
 use Rattle.trace_lines.specs.declared.bad.LineBad.TheVariants as why
 use Rattle.pc_outside.specs.WhereTold.{WhereTold}
-use Rattle.trace_run.specs.declared.reading.Next.{Next}
-use Rattle.trace_run.specs.declared.reading.Next.TheVariants as next
+use Rattle.trace_run.specs.Coming.{Next}
+use Rattle.trace_run.specs.Coming as next
+use Rattle.trace_run.specs.declared.reading.Next.{Next as Read}
+use Rattle.trace_run.specs.declared.reading.Next.TheVariants as read
+
+-- what comes next, with the line that was read
+abbrev pub said_in : Read → Line → Next
+said_in (read.Line len) line = next.Line line len
+said_in (read.Last len) line = next.Last line len
+said_in (read.Bad why) line = next.Bad why
+said_in read.End line = next.End
+said_in read.LineLong line = next.LineLong
+said_in read.TooLong line = next.TooLong
+said_in read.ReadFault line = next.ReadFault
+said_in read.NoMemory line = next.NoMemory
 
 -- the octets begin with a text and its newline, which say this line and then what stands behind them
 pub record SaysLine (line : Line) (number least room after : ℕ) (octets rest : List ℕ) : Type 0 where

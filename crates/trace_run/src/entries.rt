@@ -72,6 +72,7 @@ pub fn push_answer(
 
 /// Appends the line of a slot's packet of this number, judged behind so many of the slot's commands, without its
 /// place.
+#[inline(always)]
 pub fn push_packet(
     report: &mut Text,
     line: u64,

@@ -4,19 +4,20 @@ ghost use Rattle.std.specs.Io.KnownBytes.{prepend_known};
 ghost use Rattle.pc_outside.specs.Faults.{Rises};
 ghost use Rattle.pc_outside.specs.Held.{Held, IsUnfinished};
 ghost use Rattle.pc_outside.specs.LineReads.{Answers, Reads};
-ghost use Rattle.trace_run.specs.Next.{Gives, Tells, TakesRoom, given_as, refused_as};
+ghost use Rattle.trace_lines.specs.Line.{Line};
+ghost use Rattle.trace_run.specs.Next.{Gives, Tells, TakesRoom, given_as, refused_as, said_in};
 
 use pc_base::Moment;
 use pc_outside::{LineBuf, LineRead, Source, read_line};
 use trace_lines::{LineBad, TraceLine, read_line_in};
 
-/// What comes next in a trace.
-#[derive(Drop)]
+/// What comes next in a trace. A line stands in the place that it was to be read into.
+#[derive(Clone, Copy)]
 pub enum Next {
     /// A line that a newline ends, and the length of its text.
-    Line { line: TraceLine, len: usize },
+    Line { len: usize },
     /// The last line: no newline ends it, and the source is at its end behind it.
-    Last { line: TraceLine, len: usize },
+    Last { len: usize },
     Bad(LineBad),
     End,
     LineLong,
@@ -80,21 +81,21 @@ pub trait LineReader {
     /// It can be asked for lines, and stays so.
     ghost is_ready: { Self → Type 0 };
 
-    /// Gives the line of this number, which may have no moment below the least; its octets may take the room.
+    /// Gives the line of this number, which may have no moment below the least, in place of the one before.
     fn next<S: Source>(
         &mut self,
         source: &mut S,
-        room: &mut Vec<u8>,
+        line: &mut TraceLine,
         number: u64,
         least: Moment,
     ) -> Next
         requires { is_ready self.old }
 
-        ensures tells { Tells result number least (holds self.old).room (holds self.new).room
+        ensures tells { Tells (said_in result line.new) number least (holds self.old).room (holds self.new).room
             (prepend_known (holds self.old).front (S.left source.old))
             (prepend_known (holds self.new).front (S.left source.new)) }
-        ensures room { TakesRoom result (holds self.old).room (holds self.new).room }
-        ensures given { Gives result number least }
+        ensures room { TakesRoom (said_in result line.new) (holds self.old).room (holds self.new).room }
+        ensures given { Gives (said_in result line.new) number least }
         ensures ready { is_ready self.new }
 
         // A fault is the source's, and comes only where more octets of a line are needed.
@@ -112,27 +113,28 @@ impl LineReader for LineBuf {
     fn next<S: Source>(
         &mut self,
         source: &mut S,
-        room: &mut Vec<u8>,
+        line: &mut TraceLine,
         number: u64,
         least: Moment,
     ) -> Next {
-        next_line(room, source, self, number, least)
+        next_line(line, source, self, number, least)
     }
 }
 
-/// Reads the line of this number, which may have no moment below the least; its octets take the room.
+/// Reads the line of this number, which may have no moment below the least, in place of the one before.
+#[inline(always)]
 pub fn next_line<S: Source, B: LineBuffer>(
-    room: &mut Vec<u8>,
+    line: &mut TraceLine,
     source: &mut S,
     buf: &mut B,
     number: u64,
     least: Moment,
 ) -> Next
-    ensures tells { Tells result number least (B.holds buf.old).room (B.holds buf.new).room
+    ensures tells { Tells (said_in result line.new) number least (B.holds buf.old).room (B.holds buf.new).room
         (prepend_known (B.holds buf.old).front (S.left source.old))
         (prepend_known (B.holds buf.new).front (S.left source.new)) }
-    ensures room { TakesRoom result (B.holds buf.old).room (B.holds buf.new).room }
-    ensures given { Gives result number least }
+    ensures room { TakesRoom (said_in result line.new) (B.holds buf.old).room (B.holds buf.new).room }
+    ensures given { Gives (said_in result line.new) number least }
 
     // A fault is the source's, and comes only where more octets of a line are needed.
     ensures later { S.faults source.old ≤ S.faults source.new }
@@ -147,26 +149,27 @@ pub fn next_line<S: Source, B: LineBuffer>(
         LineRead::ReadFault => return Next::ReadFault,
     }
     let text = buf.last_read();
-    match read_line_in(room, text, number, least) {
-        Ok(line) => given(line, text.len(), buf.ends()),
+    match read_line_in(line, text, number, least) {
+        Ok(()) => given(text.len(), buf.ends()),
         Err(why) => refused(why),
     }
 }
 
 /// What comes next where a line was read, whose text has this length, and whether it is the last one.
-pub fn given(line: TraceLine, len: usize, last: bool) -> Next
-    ensures { result ≡ given_as line len last }
+#[inline(always)]
+pub fn given(len: usize, last: bool) -> Next
+    ensures { (line : Line) → said_in result line ≡ given_as line len last }
 {
     if last {
-        Next::Last { line, len }
+        Next::Last { len }
     } else {
-        Next::Line { line, len }
+        Next::Line { len }
     }
 }
 
 /// What comes next where a line can't be read: it is bad, unless memory ran out.
 pub fn refused(why: LineBad) -> Next
-    ensures { result ≡ refused_as why }
+    ensures { (line : Line) → said_in result line ≡ refused_as why }
 {
     match why {
         LineBad::NoMemory => Next::NoMemory,

@@ -41,24 +41,19 @@ pub trait Reporter: Drop {
     /// text is the latter so far.
     ghost represents: { Self → Self → List Line → ℕ → List (List Line) → List Line → List ℕ → List ℕ → Type 0 };
 
-    /// Takes the next line. One that isn't kept gives its room back.
-    fn take(
-        &mut self,
-        line: TraceLine,
-        room: &mut Vec<u8>,
-        text: &mut Text,
-    ) -> Result<(), AllocError>
+    /// Takes the next line.
+    fn take(&mut self, line: &TraceLine, text: &mut Text) -> Result<(), AllocError>
         requires { (first : Self) × (done : List Line) × (latest : ℕ) × (closed : List (List Line))
             × (open_ : List Line) × (sent : List ℕ)
             × represents first self.old done latest closed open_ sent text.old
-            × IsNextFrom (begins first) done latest line }
+            × IsNextFrom (begins first) done latest line.now }
 
         ensures { (first : Self) (done : List Line) (latest : ℕ) (closed : List (List Line))
             (open_ : List Line) (sent : List ℕ)
             → represents first self.old done latest closed open_ sent text.old
-            → IsNextFrom (begins first) done latest line
-            → OnOk result (represents first self.new (done ++ line ∷ []) line.moment closed (open_ ++ line ∷ [])
-            sent text.new) };
+            → IsNextFrom (begins first) done latest line.now
+            → OnOk result (represents first self.new (done ++ line.now ∷ []) line.now.moment closed
+            (open_ ++ line.now ∷ []) sent text.new) };
 
     /// Ends an epoch that its last line ended: the text is whole then.
     fn close(&mut self, text: &mut Text) -> Result<(), AllocError>
@@ -133,29 +128,24 @@ impl<R: Reporter> Epochs<R> {
     /// Answers a line, whose text has this length: whether it ends its epoch. Then the text is that of the whole
     /// epoch, and is to be emptied.
     #[inline(always)]
-    pub fn answer(
-        &mut self,
-        line: TraceLine,
-        len: usize,
-        room: &mut Vec<u8>,
-    ) -> Result<bool, AllocError>
+    pub fn answer(&mut self, line: &TraceLine, len: usize) -> Result<bool, AllocError>
         requires next { (first : R) × (done : List Line) × (latest : ℕ) × (sent : List ℕ)
             × StandingFrom (R.begins first) (R.may_have first) (R.places first)
             (R.represents first self.old.reporter done latest) self.old.size self.old.text done sent
-            × IsNextFrom (R.begins first) done latest line }
-        requires long { len ≡ length (line_text line) }
+            × IsNextFrom (R.begins first) done latest line.now }
+        requires long { len ≡ length (line_text line.now) }
         requires short { len ≤ line_max }
 
         ensures { (first : R) (done : List Line) (latest : ℕ) (sent : List ℕ)
             → StandingFrom (R.begins first) (R.may_have first) (R.places first)
             (R.represents first self.old.reporter done latest) self.old.size self.old.text done sent
-            → IsNextFrom (R.begins first) done latest line
+            → IsNextFrom (R.begins first) done latest line.now
             → IfOk result (λ ends. AnsweredFrom (R.begins first) ends (R.may_have first) (R.places first)
-            (R.represents first self.new.reporter (done ++ line ∷ []) line.moment) self.new.size self.new.text
-            (done ++ line ∷ []) sent) }
+            (R.represents first self.new.reporter (done ++ line.now ∷ []) line.now.moment) self.new.size self.new.text
+            (done ++ line.now ∷ []) sent) }
     {
-        let ends = self.size.take(&line, len as u64);
-        self.reporter.take(line, room, &mut self.text)?;
+        let ends = self.size.take(line, len as u64);
+        self.reporter.take(line, &mut self.text)?;
         if !ends {
             return Ok(false);
         }
@@ -195,12 +185,11 @@ impl<R: Reporter> LineTaker for Epochs<R> {
     #[inline(always)]
     fn take<K: Sink>(
         &mut self,
-        line: TraceLine,
+        line: &TraceLine,
         len: usize,
-        room: &mut Vec<u8>,
         sink: &mut K,
     ) -> Result<(), Unwritten> {
-        if !self.answer(line, len, room)? {
+        if !self.answer(line, len)? {
             return Ok(());
         }
         write_report(sink, &mut self.text)

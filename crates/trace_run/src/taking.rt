@@ -28,29 +28,22 @@ pub trait LineTaker {
     /// By what it was before the first line: the sink failed at the last of these lines.
     ghost breaks: { Self → List Line → Option (List ℕ) → Option (List ℕ) → Type 0 };
 
-    /// Takes the next line, whose text has this length. A line that isn't kept gives its room back. After an
-    /// error it may only be dropped.
-    fn take<K: Sink>(
-        &mut self,
-        line: TraceLine,
-        len: usize,
-        room: &mut Vec<u8>,
-        sink: &mut K,
-    ) -> Result<(), Unwritten>
+    /// Takes the next line, whose text has this length. After an error it may only be dropped.
+    fn take<K: Sink>(&mut self, line: &TraceLine, len: usize, sink: &mut K) -> Result<(), Unwritten>
         requires next { (first : Self) × (done : List Line) × (latest : ℕ) × (old : Option (List ℕ))
             × represents first self.old done latest old (K.written sink.old)
-            × IsNextFrom (begins first) done latest line }
-        requires long { len ≡ length (line_text line) }
+            × IsNextFrom (begins first) done latest line.now }
+        requires long { len ≡ length (line_text line.now) }
         requires short { len ≤ line_max }
 
         ensures taken { (first : Self) (done : List Line) (latest : ℕ) (old : Option (List ℕ))
             → represents first self.old done latest old (K.written sink.old)
-            → IsNextFrom (begins first) done latest line
-            → OnOk result (represents first self.new (done ++ line ∷ []) line.moment old (K.written sink.new)) }
+            → IsNextFrom (begins first) done latest line.now
+            → OnOk result (represents first self.new (done ++ line.now ∷ []) line.now.moment old (K.written sink.new)) }
         ensures broken { (first : Self) (done : List Line) (latest : ℕ) (old : Option (List ℕ))
             → represents first self.old done latest old (K.written sink.old)
-            → IsNextFrom (begins first) done latest line
-            → result ≡ Err Unwritten.WriteFault → breaks first (done ++ line ∷ []) old (K.written sink.new) }
+            → IsNextFrom (begins first) done latest line.now
+            → result ≡ Err Unwritten.WriteFault → breaks first (done ++ line.now ∷ []) old (K.written sink.new) }
         ensures kept { result ≡ Err Unwritten.NoMemory → K.written sink.new ≡ K.written sink.old }
 
         ensures later { K.faults sink.old ≤ K.faults sink.new }
@@ -140,18 +133,18 @@ pub fn run_lines_behind<L: LineReader, S: Source, K: Sink, T: LineTaker>(
         → Rises (S.faults source.old) (S.faults source.new)) }
     ensures write_fault { result ≡ Err Unwritten.WriteFault → Rises (K.faults sink.old) (K.faults sink.new) }
 {
-    let mut room = Vec::new(alloc);
+    let mut line = TraceLine::new(alloc);
     let mut lines = lines;
     let mut least = least;
     loop {
-        match reader.next(source, &mut room, lines + 1, least) {
-            Next::Line { line, len } => {
+        match reader.next(source, &mut line, lines + 1, least) {
+            Next::Line { len } => {
                 least = line.moment;
                 lines += 1;
-                taker.take(line, len, &mut room, sink)?;
+                taker.take(&line, len, sink)?;
             }
-            Next::Last { line, len } => {
-                taker.take(line, len, &mut room, sink)?;
+            Next::Last { len } => {
+                taker.take(&line, len, sink)?;
                 return Ok((Ending::Ended, lines + 1));
             }
             Next::Bad(why) => return Ok((Ending::BadLine(why), lines)),

@@ -77,6 +77,7 @@ impl Book {
     }
 
     /// Posts one. Where it may not happen, or when out of memory, the book stays as it was.
+    #[inline(always)]
     pub fn post_one(&mut self, posting: &Posting) -> Result<(), NoMemory>
         ensures stands { (happened : List Happening) (taken : ℕ) → StandsFor self.old happened taken
             → MayFollow happened (happening_of posting.now)

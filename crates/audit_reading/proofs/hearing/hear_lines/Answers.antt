@@ -4,7 +4,7 @@ use Rattle.audit_reading.specs.Progress.{HasRead, Reached}
 use Rattle.pc_outside.specs.WhereTold.{WhereTold}
 use Rattle.audit_reading.specs.Texts.{Text}
 use Rattle.audit_reading.specs.declared.hearing.Stopped.TheVariants as stopped
-use Rattle.audit_reading.proofs.InputLemmas.{ends_big, ends_ended, ends_fault, ends_last, ends_long, read_more, room_of_last, room_of_whole}
+use Rattle.audit_reading.proofs.InputLemmas.{ends_big, ends_ended, fails_behind, ends_last, ends_long, read_more, room_of_last, room_of_whole}
 use Rattle.audit_reading.proofs.hearing.hear_lines.Goals as goal
 
 pub returns-then-is_last-clause-ended : goal.returns-then-is_last-clause-ended
@@ -51,7 +51,7 @@ loop-heard-preserved g c =
           );
         },
       );
-      later = omega (arith, c.loop-heard.invariant.later, c.in-Line.ensures.later);
+      no_fault = c.in-Line.ensures.no_fault (λ is. let none : ⊥ = cc in none) ∙ c.loop-heard.invariant.no_fault;
     }
 
 pub returns-in-End-clause-ended : goal.returns-in-End-clause-ended
@@ -91,6 +91,6 @@ returns-in-ReadFault-clause-ended g c =
       done = p.0;
       hears = p.1.hears;
       few = omega (arith, p.1.roomy);
-      reached = ends_fault _ _ _ _ c.read_line.new.buf _ _ p.0 (c.in-ReadFault.ensures.unfinished refl) p.1.read
+      reached = fails_behind _ _ _ _ c.read_line.new.buf _ _ p.0 (c.in-ReadFault.ensures.unfinished refl) p.1.read
           c.in-ReadFault.ensures.octets;
     }

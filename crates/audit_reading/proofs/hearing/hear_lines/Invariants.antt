@@ -1,4 +1,4 @@
-use Rattle.std.proofs.Common.{◌≤◌, List}
+use Rattle.std.proofs.Common.{◌≡◌, List}
 use Rattle.std.specs.Io.KnownBytes.{prepend_known}
 use Rattle.audit_reading.specs.Progress.{Progress}
 use Rattle.audit_reading.specs.Texts.{Text}
@@ -8,7 +8,7 @@ abbrev pub invariant-loop-heard : goal.invariant-loop-heard
 invariant-loop-heard g l = record {
   progress : (done : List Text) × Progress (g.S.Source.left l.fn.source)
       (prepend_known l.buf.front (g.S.Source.left l.source)) l.buf.room l.heard done;
-  later : g.S.Source.faults l.fn.source ≤ g.S.Source.faults l.source;
+  no_fault : g.S.Source.faults l.source ≡ g.S.Source.faults l.fn.source;
 }
 
 abbrev pub decreases-loop-heard : goal.decreases-loop-heard

@@ -6,6 +6,7 @@ use Rattle.audit_reading.specs.Agreeing.{AreTold, slot_effected}
 use Rattle.audit_reading.specs.Made.{epoch_made, lent, meanings_made, report_made}
 use Rattle.audit_reading.specs.Placing.{PlacesLines, lent_under}
 use Rattle.audit_why.specs.Charges.{ChargeBreak, EpochsBreak, OpenBreakOf}
+use Rattle.audit_why.proofs.NoEpoch.{many_made}
 use Rattle.audit_why.proofs.FoundLemmas.{none_weaker, none_when, some_found, some_weaker}
 use Rattle.audit_why.proofs.charges.charges_broken.Goals as goal
 
@@ -19,7 +20,7 @@ returns-in-Some-clause-some c =
     ap (lent_under epoch) c.deref-2.ensures.value ∙ c.in_ok-effects.ensures made first epoch in
     inl (some_found (EpochsBreak slot_effected Effect c.args.slots (λ epoch. effects_told made epoch entries)
     (λ (now : EpochReport). now.effects) (map epoch_made c.args.made.now)) c.in_ok-found.field-0 c.in-Some.found
-    (c.in_ok-found.ensures.some made entries effects) c.in-Some.is)
+    (c.in_ok-found.ensures.some made entries (many_made c.args.made.now) c.requires.lines effects) c.in-Some.is)
 
 pub returns-in-Some-2-clause-some : goal.returns-in-Some-2-clause-some
 returns-in-Some-2-clause-some c =
@@ -38,7 +39,7 @@ returns-in-Some-2-clause-some c =
           c.in_default.not-Some,
       inl (some_found (EpochsBreak slot_charged Charge c.args.slots (λ epoch. rows_told made epoch entries)
           (λ (now : EpochReport). now.rows) (map epoch_made c.args.made.now)) c.in_ok-found-2.field-0 c.in-Some-2.found
-          (c.in_ok-found-2.ensures.some made entries rows) c.in-Some-2.is),
+          (c.in_ok-found-2.ensures.some made entries (many_made c.args.made.now) c.requires.lines rows) c.in-Some-2.is),
     )
 
 pub returns-clause-some : goal.returns-clause-some

@@ -12,14 +12,16 @@ use Rattle.audit_why.specs.Same.{IsBeyond}
 use Rattle.audit_why.proofs.ChargeBreaks.{epochs_gone, epochs_here, epochs_next, none_behind}
 use Rattle.audit_why.proofs.ChargeSteps.{rows_all}
 use Rattle.audit_why.proofs.FoundLemmas.{none_when, some_found}
+use Rattle.audit_why.proofs.NoEpoch.{no_rows}
 use Rattle.audit_why.proofs.charges.rows_broken.Goals as goal
 
 pub returns-in-Some-clause-some : goal.returns-in-Some-clause-some
-returns-in-Some-clause-some c = λ lines entries are.
+returns-in-Some-clause-some c = λ lines entries many known are.
     let past = some_found (IsBeyond c.args.told.now (length c.args.made.now)) c.first_beyond.result c.in-Some.beyond
     c.first_beyond.ensures.some c.in-Some.is in
     epochs_gone slot_charged Charge c.args.slots (λ epoch. rows_told lines epoch entries) (λ (now : EpochReport). now.rows) c.args.told.now
-    c.args.made.now are c.in-Some.beyond c.in_ok-charge_beyond.field-0 past c.in_ok-charge_beyond.ensures
+    c.args.made.now are c.in-Some.beyond c.in_ok-charge_beyond.field-0
+    (no_rows lines entries (length c.args.made.now) many known) past c.in_ok-charge_beyond.ensures
 
 pub index-requires : goal.index-requires
 index-requires c =
@@ -29,7 +31,7 @@ index-requires c =
     omega (arith, many)
 
 pub returns-in-Some-2-clause-some : goal.returns-in-Some-2-clause-some
-returns-in-Some-2-clause-some c = λ lines entries are.
+returns-in-Some-2-clause-some c = λ lines entries many known are.
     let i = c.loop-epoch.epoch in
     let share : c.deref-in-loop-epoch.result.now ≡ under i c.args.told.now =
     c.deref-in-loop-epoch.ensures.value

@@ -23,6 +23,7 @@ returns-then-is_too_many c =
     c.index-told-at.is) low in
     surplus_some c.args.made.now told at
     (there.0 (subst (λ xs. IsTooMany c.args.made.now xs open_) front (c.is_too_many.ensures.0 c.if-is_too_many.true)))
+    c.loop-at.invariant
 
 pub loop-at-preserved : goal.loop-at-preserved
 loop-at-preserved c = λ k less many.

@@ -1,7 +1,7 @@
 use Rattle.std.proofs.Common.{subst}
 use Rattle.audit_reading.specs.Progress.{Reached}
 use Rattle.pc_outside.specs.WhereTold.{WhereTold}
-use Rattle.balance_run.proofs.BalanceLemmas.{big_so, long_so}
+use Rattle.balance_run.proofs.BalanceLemmas.{big_so, fault_so, long_so}
 use Rattle.balance_run.proofs.balancing.balance.Goals as goal
 
 pub returns-in-Ok-default-Ended-clause-balances : goal.returns-in-Ok-default-Ended-clause-balances
@@ -11,11 +11,20 @@ returns-in-Ok-default-Ended-clause-balances g c =
     (subst (λ stop. WhereTold (g.S.Source.left c.args.source.now) (g.S.Source.left c.hear.new.source)
     (λ octets rest. Reached stop octets rest ended.done)) c.in-Ok-default-Ended.field-0-1-is ended.reached)
 
+pub returns-in-Ok-default-ReadFault-clause-balances : goal.returns-in-Ok-default-ReadFault-clause-balances
+returns-in-Ok-default-ReadFault-clause-balances g c =
+    let ended = c.in-Ok-default-ReadFault.ensures.ended in
+    fault_so c.unless_refused.result c.args.slices c.args.most c.in-Ok-default-ReadFault.heard _ _ _ ended.done
+    ended.hears c.unless_refused.ensures.refused c.unless_refused.ensures.other
+    (subst (λ stop. WhereTold (g.S.Source.left c.args.source.now) (g.S.Source.left c.hear.new.source)
+    (λ octets rest. Reached stop octets rest ended.done)) c.in-Ok-default-ReadFault.field-0-1-is ended.reached)
+
 pub returns-in-Ok-default-LineLong-clause-balances : goal.returns-in-Ok-default-LineLong-clause-balances
 returns-in-Ok-default-LineLong-clause-balances g c =
     let ended = c.in-Ok-default-LineLong.ensures.ended in
-    long_so c.unless_refused.result c.args.slices c.args.most c.in-Ok-default-LineLong.heard _ _ _ ended.done ended.hears
-    c.unless_refused.ensures.refused c.unless_refused.ensures.other
+    long_so c.unless_refused-in-Ok-default-LineLong.result c.args.slices c.args.most c.in-Ok-default-LineLong.heard _ _ _
+    ended.done ended.hears c.unless_refused-in-Ok-default-LineLong.ensures.refused
+    c.unless_refused-in-Ok-default-LineLong.ensures.other
     (subst (λ stop. WhereTold (g.S.Source.left c.args.source.now) (g.S.Source.left c.hear.new.source)
     (λ octets rest. Reached stop octets rest ended.done)) c.in-Ok-default-LineLong.field-0-1-is ended.reached)
 

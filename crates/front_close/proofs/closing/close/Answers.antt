@@ -1,5 +1,6 @@
 use Rattle.std.proofs.Common.{◌≡◌, ℕ, ◌+◌, ◌-◌, ◌*◌, ◌<◌, List, length, map, refl, sym, ap, subst, ◌∙◌, arith}
 use Rattle.std.specs.Prelude.{slice_index_or}
+use Rattle.std.specs.List.{All}
 use Rattle.std.proofs.lemmas.List.{with_items_is}
 use Rattle.report_lines.specs.declared.entry.LineEntry.{LineEntry}
 use Rattle.slot_replay.specs.Replaying.{effects_told, rows_told}
@@ -13,10 +14,12 @@ use Rattle.front_core.specs.Entries.{lines_of, opens_of, took_of}
 use Rattle.front_core.specs.Words.{opened_of}
 use Rattle.front_close.specs.Ending.{CanEndAll, HaveEnded}
 use Rattle.front_close.specs.Filled.{IsWithin, mets_at, replies_at, took_told}
+use Rattle.front_close.specs.Placed.{IsEntryBelow}
 use Rattle.front_close.proofs.Answered.{answered_so}
 use Rattle.front_close.proofs.Closed.{closes_as}
 use Rattle.front_close.proofs.Joining.{each_rests}
 use Rattle.front_close.proofs.Pairing.{front_can_end}
+use Rattle.front_close.proofs.Placed.{answers_met, filled_below, slices_below}
 use Rattle.front_close.proofs.Within.{entries_within}
 use Rattle.front_close.proofs.closing.close.Goals as goal
 
@@ -49,7 +52,7 @@ fill_all-requires-clause-within g c =
     let new : List SubscriberState = c.finish_all.new.subscribers in
     let ends : HaveEnded items parts.halves.lots.items subs new c.in_ok-answers.field-0 =
     subst (λ (l : List SubscriberState). HaveEnded items parts.halves.lots.items l new c.in_ok-answers.field-0)
-    c.as_mut_slice.ensures.value (c.in_ok-answers.ensures items can) in
+    c.as_mut_slice.ensures.value (c.in_ok-answers.ensures.ends items can) in
     subst (λ (n : ℕ). (k : ℕ) (d : Taken) → k < length entries → IsWithin n (slice_index_or entries k d).open)
     (sym ends.answered)
     (entries_within (opened_of c.args.front) parts.slices parts.lane parts.lines parts.latest parts.book subs parts.halves
@@ -70,7 +73,7 @@ invariant_of-result g c =
     let new : List SubscriberState = c.finish_all.new.subscribers in
     let ends : HaveEnded items parts.halves.lots.items subs new c.in_ok-answers.field-0 =
     subst (λ (l : List SubscriberState). HaveEnded items parts.halves.lots.items l new c.in_ok-answers.field-0)
-    c.as_mut_slice.ensures.value (c.in_ok-answers.ensures items can) in
+    c.as_mut_slice.ensures.value (c.in_ok-answers.ensures.ends items can) in
     let many : length new ≡ parts.subscribers.len =
     let count = ends.many in
     let own = parts.subscribers.ok.0 in
@@ -116,7 +119,7 @@ returns-clause-closes g c =
     let new : List SubscriberState = c.finish_all.new.subscribers in
     let ends : HaveEnded items parts.halves.lots.items subs new c.in_ok-answers.field-0 =
     subst (λ (l : List SubscriberState). HaveEnded items parts.halves.lots.items l new c.in_ok-answers.field-0)
-    c.as_mut_slice.ensures.value (c.in_ok-answers.ensures items can) in
+    c.as_mut_slice.ensures.value (c.in_ok-answers.ensures.ends items can) in
     let many : length new ≡ parts.subscribers.len =
     let count = ends.many in
     let own = parts.subscribers.ok.0 in
@@ -141,3 +144,13 @@ returns-clause-answered g c =
     ap (λ (l : List LineEntry). map took_told l) c.in_ok-told.ensures
     ∙ answered_so (parts.lines - c.len.result + 1) parts.entries.items (replies_at answers) (mets_at answers)
     ∙ ap (λ (es : List Taken). map (λ (taken : Taken). took_of taken.open) es) c.into_parts-slices.ensures.entries
+
+pub returns-clause-placed : goal.returns-clause-placed
+returns-clause-placed g c =
+    let n = (opened_of c.args.front).slices in
+    let answers = c.in_ok-answers.field-0.answers.items in
+    let below = c.in_ok-answers.ensures.below n (c.in_ok-homes.ensures.placed n
+    (subst (All (λ slice. slice < n)) (sym c.requires.places) (slices_below n))) in
+    subst (All (IsEntryBelow n)) (sym c.in_ok-told.ensures)
+    (filled_below n (c.into_parts-slices.result.lines - c.len.result + 1) c.into_parts-slices.result.entries.items
+    (replies_at answers) (mets_at answers) (answers_met n answers below))

@@ -1,11 +1,22 @@
 use Rattle.std.proofs.Common.{◌≡◌, ◌<◌, ◌∷◌, List, length, length-set, refl, subst, sym, ap, ◌∙◌, arith}
 use Rattle.std.specs.Prelude.{Option, reverse}
+use Rattle.std.specs.List.{All}
+use Rattle.std.proofs.lemmas.List.Elements.{All-nil}
 use Rattle.std.proofs.lemmas.List.{length-reverse}
 use Rattle.subscriber.specs.Standing.{SubscriberState}
+use Rattle.counter_half.specs.Half.{places_of}
+use Rattle.counter_half.specs.Handled.{places_in}
+use Rattle.counter_half.specs.declared.half.FlowHalf.{FlowHalf}
+use Rattle.counter_half.specs.declared.items.FlowItem.{FlowItem}
+use Rattle.flow_home.specs.Placed.{IsPlaceBelow}
+use Rattle.flow_home.specs.declared.home.Home.{Home}
 use Rattle.front_halves.specs.declared.lot.Lot.{Lot}
 use Rattle.front_close.specs.declared.told.Told.{Told}
 use Rattle.front_close.specs.Ending.{EndsNext}
+use Rattle.front_close.specs.declared.answers.Answers.{Answers}
+use Rattle.front_close.specs.Placed.{AnswersBelow, HomesBelow}
 use Rattle.front_close.proofs.Endings.{begin_ends, end_next}
+use Rattle.front_close.proofs.Placed.{all_reverse}
 use Rattle.front_close.proofs.finishing.finish_all.Goals as goal
 
 pub loop-place-init : goal.loop-place-init
@@ -25,6 +36,13 @@ loop-place-init g c =
           c.args.homes.items c.reverse-3.new.self.items c.args.subscribers.now told c.reverse.ensures.items
           c.reverse-2.ensures.items c.reverse-3.ensures.items c.in_ok-with_capacity.ensures.items c.new.ensures.items
           c.new-2.ensures.items can;
+      below = λ n below. (
+        subst (HomesBelow n) (sym c.reverse-3.ensures.items)
+            (all_reverse (λ (home : Home FlowHalf FlowItem). All (IsPlaceBelow n) (places_of home.half))
+            c.args.homes.items below),
+        subst (AnswersBelow n) (sym c.in_ok-with_capacity.ensures.items)
+            (All-nil (λ (a : Answers). All (IsPlaceBelow n) (places_in (reverse a.packets.items)))),
+      );
     }
 
 pub loop-place-preserved : goal.loop-place-preserved
@@ -32,7 +50,7 @@ loop-place-preserved g c =
     let at = c.loop-place in
     let lots : List (Option Lot) = c.finish_next.new.lots.items in
     let own = at.invariant.ended c.requires.may.0 c.requires.may.1 in
-    let first = c.in_ok-finish_next.ensures at.place c.requires.may.0 own.rest in
+    let first = c.in_ok-finish_next.ensures.ends at.place c.requires.may.0 own.rest in
     let count : length (reverse at.lots.items) ≡ length (first.lot ∷ reverse lots) =
     ap (λ (l : List (Option Lot)). length l) first.first in
     let low : at.place < length at.subscribers =
@@ -56,5 +74,11 @@ loop-place-preserved g c =
           c.index-subscribers-place.is (subst (λ (was : SubscriberState). EndsNext at.place items at.lots.items lots
           c.finish_next.new.controls.items c.finish_next.new.homes.items was c.finish_next.new.subscriber at.told
           c.finish_next.new.told) (sym c.index-subscribers-place.is)
-          (c.in_ok-finish_next.ensures at.place items so_far.rest));
+          (c.in_ok-finish_next.ensures.ends at.place items so_far.rest));
+      below = λ n below.
+          let so_far = at.invariant.below n below in
+          c.in_ok-finish_next.ensures.below n so_far.0 so_far.1;
     }
+
+pub returns-clause-below : goal.returns-clause-below
+returns-clause-below g c = λ n below. (c.loop-place.invariant.below n below).1

@@ -1,6 +1,7 @@
 use Rattle.std.proofs.Common.{◌≡◌, ℕ, ◌+◌, List, length}
 use Rattle.counter_half.specs.declared.items.FlowItem.{FlowItem}
 use Rattle.front_close.specs.Ending.{CanEndAll}
+use Rattle.front_close.specs.Placed.{AnswersBelow, HomesBelow}
 use Rattle.front_close.proofs.Endings.{Ended}
 use Rattle.front_close.proofs.finishing.finish_all.Given as goal
 
@@ -10,4 +11,5 @@ invariant-loop-place g l = record {
   many : length l.subscribers ≡ length l.fn.subscribers;
   ended : (items : ℕ → List FlowItem) → CanEndAll 0 items l.fn.lots.items l.fn.controls.items l.fn.homes.items
       → Ended items l.fn.lots.items l.place l.lots.items l.controls.items l.homes.items l.fn.subscribers l.subscribers l.told;
+  below : (n : ℕ) → HomesBelow n l.fn.homes.items → HomesBelow n l.homes.items × AnswersBelow n l.told.answers.items;
 }

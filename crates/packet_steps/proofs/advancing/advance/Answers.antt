@@ -25,9 +25,9 @@ past_brought : (c : goal.After-drop-release-2) (past : Past) → (taken : ℕ) �
 past_brought c past taken stands same follows =
     let old = c.args.counters.now in
     let after = c.args.after.now in
-    let begun : Release = record { meters = c.learnt-meters.result; postings = c.in_ok-postings.postings; effects = c.in_ok-effects.effects } in
+    let begun : Release = record { meters = c.learn.new.self; postings = c.in_ok-postings.postings; effects = c.in_ok-effects.effects } in
     let starts = release_starts old past taken after begun stands follows c.bearers-bearers.ensures.valid
-    (c.learnt-meters.ensures ∙ ap (λ (m : Meters). learnt_meters c.args.before.now after m)
+    (c.learn.ensures ∙ ap (λ (m : Meters). learnt_meters c.args.before.now after m)
     (ap (λ (s : CountersState). s.meters) c.counters.view_is)
     ∙ ap (λ (v : VersionState). learnt_meters v after old.meters) (sym same))
     (c.in_ok-postings.ensures ∙ ap (λ (v : VersionState). marks v after) (sym same))
@@ -72,14 +72,14 @@ brought_all c =
     let old = c.args.counters.now in
     let before = c.args.before.now in
     let after = c.args.after.now in
-    let begun : Release = record { meters = c.learnt-meters.result; postings = c.in_ok-postings.postings; effects = c.in_ok-effects.effects } in
+    let begun : Release = record { meters = c.learn.new.self; postings = c.in_ok-postings.postings; effects = c.in_ok-effects.effects } in
     let start : Brought = record {
       meters = learnt_meters before after old.meters;
       charged = marks before after;
       effects = markers before after;
     } in
     let starts : brought_by begun ≡ start = same_brought (brought_by begun) start
-    (c.learnt-meters.ensures ∙ ap (learnt_meters before after) (ap (λ (s : CountersState). s.meters) c.counters.view_is))
+    (c.learn.ensures ∙ ap (learnt_meters before after) (ap (λ (s : CountersState). s.meters) c.counters.view_is))
     c.in_ok-postings.ensures c.in_ok-effects.ensures in
     let now : c.last_moment-at.result ≡ unwrap_or old.last 0 = c.last_moment-at.ensures
     ∙ ap (λ last. unwrap_or last 0) (ap (λ (s : CountersState). s.last) c.counters.view_is) in

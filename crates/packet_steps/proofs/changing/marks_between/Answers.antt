@@ -1,16 +1,14 @@
-use Rattle.std.proofs.Common.{refl, ◌++◌, ◌∙◌, ap}
-use Rattle.std.proofs.lemmas.Slice.{pushed}
-use Rattle.packet_steps.proofs.MarkLemmas.{marks_joined}
+use Rattle.std.proofs.Common.{[], ◌++◌, cond, map, filter, refl, ◌∙◌, ap}
+use Rattle.packet_steps.specs.Change.{lacking_in, shares_ambr, shared_with}
+use Rattle.packet_steps.proofs.MarkLemmas.{cutting, marks_joined, starting}
 use Rattle.packet_steps.proofs.changing.marks_between.Goals as goal
 
 pub returns : goal.returns
 returns c =
+    let before = c.args.before.now in
+    let after = c.args.after.now in
     let first = c.in_ok-postings.postings.items in
-    let pieces = c.in_ok-cut_off.cut_off.items in
-    let lives = c.in_ok-lives.lives.items in
-    let joined = pushed c.deref.result.now refl c.in_ok-extend_from_slice.was c.extend_from_slice.ensures.items
-    ∙ ap (λ xs. first ++ xs) c.deref.ensures.value in
-    marks_joined c.args.was_set c.args.before.now c.args.after.now first pieces lives c.extend_from_slice-2.new.self.items
-    c.in_ok-postings.ensures c.in_ok-cut_off.ensures c.in_ok-lives.ensures
-    (pushed c.deref-2.result.now joined c.in_ok-extend_from_slice-2.was c.extend_from_slice-2.ensures.items
-    ∙ ap (λ xs. (first ++ pieces) ++ xs) c.deref-2.ensures.value)
+    let pieces = cond c.args.was_set (map cutting (filter shares_ambr (shared_with after before))) [] in
+    let lives = map starting (lacking_in before after) in
+    marks_joined c.args.was_set before after first pieces lives _ c.in_ok-postings.ensures refl refl
+    (c.in_ok-push_begun.ensures ∙ ap (λ xs. xs ++ lives) c.in_ok-push_cut.ensures)

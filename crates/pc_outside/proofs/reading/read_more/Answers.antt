@@ -1,4 +1,4 @@
-use Rattle.std.proofs.Common.{length, refl, arith}
+use Rattle.std.proofs.Common.{length, refl}
 use Rattle.pc_outside.proofs.ReadSteps.{reading-begun, reading-gained, reads-of_answers, settles-behind, settles-held}
 use Rattle.pc_outside.proofs.reading.read_more.Goals as goal
 
@@ -6,7 +6,7 @@ pub loop-buf-init : goal.loop-buf-init
 loop-buf-init g c = record {
   reading = reading-begun c.args.buf.now _ c.requires.no_line c.requires.not_last c.requires.unfinished;
   unfinished = c.requires.unfinished;
-  later = omega arith;
+  no_fault = refl;
 }
 
 pub returns-in-Some-clause-octets : goal.returns-in-Some-clause-octets

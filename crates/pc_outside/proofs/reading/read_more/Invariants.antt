@@ -1,4 +1,4 @@
-use Rattle.std.proofs.Common.{◌-◌, ◌≤◌, length}
+use Rattle.std.proofs.Common.{◌≡◌, ◌-◌, length}
 use Rattle.pc_outside.specs.Held.{IsUnfinished}
 use Rattle.pc_outside.proofs.ReadSteps.{IsReading}
 use Rattle.pc_outside.proofs.reading.read_more.Given as goal
@@ -10,5 +10,5 @@ abbrev pub invariant-loop-buf : goal.invariant-loop-buf
 invariant-loop-buf g l = record {
   reading : IsReading l.fn.buf l.buf (g.S.Source.left l.fn.source) (g.S.Source.left l.source) (length l.buf.front);
   unfinished : IsUnfinished l.buf;
-  later : g.S.Source.faults l.fn.source ≤ g.S.Source.faults l.source;
+  no_fault : g.S.Source.faults l.source ≡ g.S.Source.faults l.fn.source;
 }

@@ -3,9 +3,9 @@ use Rattle.trace_maker.specs.Generated.{made}
 use Rattle.pepc.specs.Counting.{Counting}
 use Rattle.pepc.proofs.summary.counted.Given as goal
 
-abbrev pub invariant-loop-room : goal.invariant-loop-room
-invariant-loop-room l =
+abbrev pub invariant-loop-text : goal.invariant-loop-text
+invariant-loop-text l =
     Counting l.epochs.reporter l.epochs.size l.epochs.text l.counts (made l.seed l.subs l.lines) l.maker
 
-abbrev pub decreases-loop-room : goal.decreases-loop-room
-decreases-loop-room l = length l.maker
+abbrev pub decreases-loop-text : goal.decreases-loop-text
+decreases-loop-text l = length l.maker

@@ -11,5 +11,5 @@ loop-preserved c =
       drawing = drawing_more c.args.setup.now.rooms (2 * c.args.slices) c.args.count (world_of c.args.numbers.now)
           (world_of c.loop.numbers) _ c.args.state c.loop.behind _ _ c.loop.counter (search rules) c.next_state-behind.ensures
           worker_is c.in_ok-turn.ensures.world c.loop.invariant.drawing;
-      owing = c.in_ok-turn.ensures.owing;
+      listed = c.in_ok-turn.ensures.listed;
     }

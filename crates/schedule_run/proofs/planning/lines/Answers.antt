@@ -11,5 +11,5 @@ loop-ask-preserved c = record {
       c.loop-ask.turns c.line.new.turns c.loop-ask.outcomes.items c.push.new.self.items c.in_ok-outcome.outcome
       c.loop-ask.ask-index _ (search rules) c.in_ok-outcome.ensures.outcome c.in_ok-outcome.ensures.world
       c.in_ok-outcome.ensures.turns c.in_ok-push.ensures.items c.loop-ask.invariant.so_far;
-  owing = c.in_ok-outcome.ensures.owing;
+  listed = c.in_ok-outcome.ensures.listed;
 }

@@ -1,4 +1,4 @@
-use Rattle.schedule_run.specs.Owing.{IsOwing}
+use Rattle.schedule_run.specs.Listed.{AreListed}
 use Rattle.schedule_run.specs.Setups.{bounds_of}
 use Rattle.schedule_run.specs.Worlds.{world_of}
 use Rattle.schedule_run.proofs.Epochs.{SoFar}
@@ -8,5 +8,5 @@ abbrev pub invariant-loop-ask : goal.invariant-loop-ask
 invariant-loop-ask l = record {
   so_far : SoFar l.setup.rooms (bounds_of l.setup) l.slices l.asks (world_of l.fn.numbers) (world_of l.numbers)
       l.fn.turns l.turns l.outcomes.items l.ask-index;
-  owing : IsOwing l.owing.items (world_of l.numbers);
+  listed : AreListed l.setup l.waiting (world_of l.numbers);
 }

@@ -1,5 +1,5 @@
 use Rattle.std.proofs.Common.{ℕ, List, ap, ◌∙◌}
-use Rattle.schedule_run.specs.Owing.{is_in}
+use Rattle.schedule_run.specs.Waiting.{is_in}
 use Rattle.schedule_run.proofs.Indices.{in_pushed}
 use Rattle.schedule_run.proofs.roster.all_indices.Goals as goal
 

@@ -1,5 +1,5 @@
 use Rattle.std.proofs.Common.{◌≡◌, ℕ, ◌<◌, true}
-use Rattle.schedule_run.specs.Owing.{is_in}
+use Rattle.schedule_run.specs.Waiting.{is_in}
 use Rattle.schedule_run.proofs.roster.all_indices.Given as goal
 
 abbrev pub invariant-loop-index : goal.invariant-loop-index

@@ -1,6 +1,7 @@
 use Rattle.std.proofs.Common.{nat_lt, length, sym, ap, ◌∙◌, arith}
 use Rattle.schedule_run.specs.Rosters.{present, place_at}
-use Rattle.schedule_run.specs.Rounds.{place_held, distance}
+use Rattle.schedule_run.specs.Rounds.{place_held}
+use Rattle.schedule_run.proofs.Order.{half_there, order_same}
 use Rattle.schedule_run.proofs.Places.{lacks_place, stands_place}
 use Rattle.schedule_run.proofs.roster.is_first.Goals as goal
 
@@ -19,10 +20,10 @@ returns-in-None-index_of c =
 pub returns-in-Some-index_of : goal.returns-in-Some-index_of
 returns-in-Some-index_of c =
     let halves = c.args.halves.now in
-    let next = place_at halves c.args.next in
-    let count = length (present halves) in
-    c.turns_first.ensures
-    ∙ ap (λ p. nat_lt (distance next p count) (distance next (place_at halves c.in-Some-index_of.another) count))
-    (sym (stands_place halves c.args.one c.in-Some.own c.in-Some.ensures.found))
-    ∙ ap (λ p. nat_lt (distance next (place_held c.args.one (present halves)) count) (distance next p count))
-    (sym (stands_place halves c.args.other c.in-Some-index_of.another c.in-Some-index_of.ensures.found))
+    let own = c.in-Some.ensures.found in
+    let another = c.in-Some-index_of.ensures.found in
+    order_same halves c.in-Some.own c.in-Some-index_of.another (half_there halves _ own.half own.here)
+    (half_there halves _ another.half another.here)
+    ∙ ap (λ p. nat_lt p (place_at halves c.in-Some-index_of.another)) (sym (stands_place halves c.args.one c.in-Some.own own))
+    ∙ ap (nat_lt (place_held c.args.one (present halves)))
+    (sym (stands_place halves c.args.other c.in-Some-index_of.another another))

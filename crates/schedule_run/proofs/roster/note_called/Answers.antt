@@ -1,5 +1,5 @@
 use Rattle.std.proofs.Common.{ℕ, List, sym, ap, ◌∙◌, true≢false}
-use Rattle.schedule_run.specs.Owing.{is_in}
+use Rattle.schedule_run.specs.Waiting.{is_in}
 use Rattle.schedule_run.proofs.Indices.{called_more, in_own}
 use Rattle.schedule_run.proofs.roster.note_called.Goals as goal
 

@@ -1,17 +1,26 @@
-use Rattle.std.proofs.Common.{ap, ◌∙◌}
+use Rattle.std.proofs.Common.{[], subst, sym, ap, ◌∙◌}
 use Rattle.slice_schedule.specs.World.{World, ControlNow, on_control}
 use Rattle.slice_schedule.specs.ControlTurns.{behind_order}
+use Rattle.schedule_run.specs.Busy.{AreBusyBut}
 use Rattle.schedule_run.specs.Numbers.{control_order}
 use Rattle.schedule_run.specs.Worlds.{world_of}
+use Rattle.schedule_run.proofs.Busying.{order_busy}
+use Rattle.schedule_run.proofs.Kept.{on_ok}
 use Rattle.schedule_run.proofs.Turned.{order_told}
 use Rattle.schedule_run.proofs.turning.control_turn.Goals as goal
 
-pub returns-in_ok-tell-in-Some : goal.returns-in_ok-tell-in-Some
-returns-in_ok-tell-in-Some c =
-    c.in_ok-tell-in-Some.ensures
+pub tell-requires : goal.tell-requires
+tell-requires c =
+    subst (λ (w : World). AreBusyBut c.args.setup.now.rooms.room [] c.args.busy.now.items w) (sym c.in-Some.ensures.rest)
+    (order_busy c.args.setup.now.rooms.room [] c.args.busy.now.items (world_of c.args.numbers.now) c.args.slice c.requires)
+
+pub returns-in-Some-clause-world : goal.returns-in-Some-clause-world
+returns-in-Some-clause-world c =
+    on_ok c.tell.result (λ is.
+    is
     ∙ ap
     (λ (w : World).
     on_control w c.args.slice (λ (worker : ControlNow). behind_order worker (control_order c.in-Some.order)))
     c.in-Some.ensures.rest
     ∙ order_told c.args.setup.now.rooms c.args.slice (world_of c.args.numbers.now) (control_order c.in-Some.order)
-    c.in-Some.ensures.order
+    c.in-Some.ensures.order) c.tell.ensures.world

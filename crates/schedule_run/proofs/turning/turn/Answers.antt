@@ -1,18 +1,31 @@
-use Rattle.std.proofs.Common.{◌/◌, subst, sym}
+use Rattle.std.proofs.Common.{rules, ◌≡◌, [], ◌/◌, refl, subst, sym}
 use Rattle.slice_schedule.specs.World.{World}
-use Rattle.schedule_run.specs.Owing.{IsOwing}
+use Rattle.slice_schedule.specs.Schedule.{turned}
+use Rattle.schedule_run.specs.Busy.{AreBusyBut}
+use Rattle.schedule_run.specs.Listed.{AreListed}
 use Rattle.schedule_run.specs.Worlds.{world_of}
-use Rattle.schedule_run.proofs.Owed.{on_ok, control_turn_owes, flow_turn_owes}
+use Rattle.schedule_run.specs.declared.waiting.Waiting.{Waiting}
+use Rattle.schedule_run.proofs.Kept.{turn_listed}
 use Rattle.schedule_run.proofs.turning.turn.Goals as goal
 
-pub returns-then-worker-eq0-clause-owing : goal.returns-then-worker-eq0-clause-owing
-returns-then-worker-eq0-clause-owing c =
-    on_ok _ (λ is. subst (λ (w : World). IsOwing c.args.owing.now w) (sym is)
-    (control_turn_owes c.args.owing.now c.args.setup.now.rooms (c.args.worker / 2) (world_of c.args.numbers.now)
-    c.requires.owing)) c.control_turn.ensures
+pub returns-then-worker-eq0-clause-listed : goal.returns-then-worker-eq0-clause-listed
+returns-then-worker-eq0-clause-listed c =
+    let setup = c.args.setup.now in
+    let old : Waiting = c.args.waiting.now in
+    let new : Waiting = record old { busy = c.control_turn.new.busy } in
+    let is : world_of c.control_turn.new.numbers ≡ turned setup.rooms (world_of c.args.numbers.now) c.args.worker =
+    search rules in
+    subst (λ (w : World). AreListed setup new w) (sym is)
+    (turn_listed setup old new (world_of c.args.numbers.now) c.args.worker refl refl refl c.requires.listed
+    (subst (λ (w : World). AreBusyBut setup.rooms.room [] new.busy.items w) is c.in_ok-control_turn.ensures.busy))
 
-pub returns-else-worker-eq0-clause-owing : goal.returns-else-worker-eq0-clause-owing
-returns-else-worker-eq0-clause-owing c =
-    on_ok _ (λ is. subst (λ (w : World). IsOwing c.args.owing.now w) (sym is)
-    (flow_turn_owes c.args.owing.now (c.args.worker / 2) (world_of c.args.numbers.now) c.requires.owing))
-    c.flow_turn.ensures
+pub returns-clause-listed : goal.returns-clause-listed
+returns-clause-listed c =
+    let setup = c.args.setup.now in
+    let old : Waiting = c.args.waiting.now in
+    let new : Waiting = record old { busy = c.flow_turn.new.busy } in
+    let is : world_of c.flow_turn.new.numbers ≡ turned setup.rooms (world_of c.args.numbers.now) c.args.worker =
+    search rules in
+    subst (λ (w : World). AreListed setup new w) (sym is)
+    (turn_listed setup old new (world_of c.args.numbers.now) c.args.worker refl refl refl c.requires.listed
+    (subst (λ (w : World). AreBusyBut setup.rooms.room [] new.busy.items w) is c.in_ok-flow_turn.ensures.busy))

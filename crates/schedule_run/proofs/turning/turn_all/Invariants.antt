@@ -1,6 +1,6 @@
 use Rattle.std.proofs.Common.{◌≡◌, drop, fold}
 use Rattle.slice_schedule.specs.Schedule.{turned}
-use Rattle.schedule_run.specs.Owing.{IsOwing}
+use Rattle.schedule_run.specs.Listed.{AreListed}
 use Rattle.schedule_run.specs.Worlds.{world_of}
 use Rattle.schedule_run.proofs.turning.turn_all.Given as goal
 
@@ -8,5 +8,5 @@ abbrev pub invariant-loop-worker : goal.invariant-loop-worker
 invariant-loop-worker l = record {
   ahead : fold (turned l.setup.rooms) (world_of l.numbers) (drop l.worker-index l.workers)
       ≡ fold (turned l.setup.rooms) (world_of l.fn.numbers) l.workers;
-  owing : IsOwing l.owing (world_of l.numbers);
+  listed : AreListed l.setup l.waiting (world_of l.numbers);
 }

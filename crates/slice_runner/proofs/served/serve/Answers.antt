@@ -25,4 +25,6 @@ returns g c = record {
       c.args.opened.controls.items (c.join_controls.ensures.seats ∙ c.start_controls-controls.ensures.seats);
   flows = parts_are flow_end_seat flow_seat (λ (s : Seat). s.1) c.join_flows.result.items
       c.args.opened.flows.items (c.join_flows.ensures.seats ∙ c.start_flows-flows.ensures.seats);
+  places = parts_are flow_end_seat flow_seat (λ (s : Seat). s.0) c.join_flows.result.items
+      c.args.opened.flows.items (c.join_flows.ensures.seats ∙ c.start_flows-flows.ensures.seats);
 }

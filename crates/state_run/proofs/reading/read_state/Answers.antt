@@ -53,7 +53,7 @@ loop-front-preserved g c =
         c.loop-front.invariant.roomy,
         less_room c.loop-front.buf.room c.read_line.new.buf.room _ _ _ _ c.in-Line.ensures.held.1,
       );
-      later = omega (arith, c.loop-front.invariant.later, c.in-Line.ensures.later);
+      no_fault = c.in-Line.ensures.no_fault (λ is. let none : ⊥ = cc in none) ∙ c.loop-front.invariant.no_fault;
     }
 
 pub returns-in-End-clause-stopped : goal.returns-in-End-clause-stopped

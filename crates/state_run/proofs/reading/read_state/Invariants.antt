@@ -1,4 +1,4 @@
-use Rattle.std.proofs.Common.{◌≤◌, ◌^◌, List}
+use Rattle.std.proofs.Common.{◌≡◌, ◌≤◌, ◌^◌, List}
 use Rattle.std.specs.Io.KnownBytes.{prepend_known}
 use Rattle.pc_outside.specs.WhereTold.{WhereTold}
 use Rattle.audit_reading.specs.Progress.{HasRead}
@@ -12,7 +12,7 @@ invariant-loop-front g l = record {
       × WhereTold (g.S.Source.left l.fn.source) (prepend_known l.buf.front (g.S.Source.left l.source))
       (λ octets rest. HasRead octets rest l.buf.room done);
   roomy : l.buf.room ≤ 2 ^ 40;
-  later : g.S.Source.faults l.fn.source ≤ g.S.Source.faults l.source;
+  no_fault : g.S.Source.faults l.source ≡ g.S.Source.faults l.fn.source;
 }
 
 abbrev pub decreases-loop-front : goal.decreases-loop-front

@@ -1,6 +1,7 @@
 use Rattle.std.proofs.Common.{sym, ap, ◌∙◌, length, arith}
 use Rattle.trace_lines.proofs.MeaningLemmas.{meaning_given}
-use Rattle.trace_run.proofs.NextLemmas.{gives_given, gives_refused, tells_given, takes_given, given-no_fault, tells_refused, tells_end, tells_long, tells_big, tells_fault}
+use Rattle.trace_run.specs.Next.{said_in}
+use Rattle.trace_run.proofs.NextLemmas.{gives_given, gives_refused, refused-no_fault, tells_given, takes_given, given-no_fault, tells_refused, tells_end, tells_long, tells_big, tells_fault}
 use Rattle.trace_run.proofs.reading.next_line.Goals as goal
 
 pub returns-in-End-clause-tells : goal.returns-in-End-clause-tells
@@ -17,20 +18,23 @@ returns-in-ReadFault-clause-tells g c = tells_fault c.args.number c.args.least _
 
 pub returns-in-Ok-clause-tells : goal.returns-in-Ok-clause-tells
 returns-in-Ok-clause-tells g c =
-    rw (c.given.ensures, c.ends.ensures)
-    (tells_given c.args.number c.args.least _ _ _ _ c.last_read-text.result.now _ c.in-Ok.line _
+    let line = c.read_line_in.new.line in
+    rw (c.given.ensures line, c.ends.ensures)
+    (tells_given c.args.number c.args.least _ _ _ _ c.last_read-text.result.now _ line _
     (rw (sym c.last_read-text.ensures) at c.in-Line.ensures.octets)
     c.in-Ok.ensures.line)
 
 pub returns-in-Ok-clause-room : goal.returns-in-Ok-clause-room
 returns-in-Ok-clause-room g c =
-    rw (c.given.ensures, c.ends.ensures) (takes_given _ _ _ _ _ _ c.in-Ok.line _ c.in-Line.ensures.held.1
+    let line = c.read_line_in.new.line in
+    rw (c.given.ensures line, c.ends.ensures) (takes_given _ _ _ _ _ _ line _ c.in-Line.ensures.held.1
     (c.in-Ok.ensures.as_long ∙ ap length c.last_read-text.ensures))
 
 pub returns-in-Ok-clause-given : goal.returns-in-Ok-clause-given
 returns-in-Ok-clause-given g c =
-    rw c.given.ensures (gives_given c.in-Ok.line _ c.args.number c.args.least c.ends.result (record {
-      numbered = (meaning_given c.args.least c.args.number c.last_read-text.result.now c.in-Ok.line c.in-Ok.ensures.line).1;
+    let line = c.read_line_in.new.line in
+    rw (c.given.ensures line) (gives_given line _ c.args.number c.args.least c.ends.result (record {
+      numbered = (meaning_given c.args.least c.args.number c.last_read-text.result.now line c.in-Ok.ensures.line).1;
       long = sym c.in-Ok.ensures.as_long;
       short = omega (arith, c.in-Line.ensures.held.1.short, ap length c.last_read-text.ensures);
       late = c.in-Ok.ensures.in_order;
@@ -38,17 +42,30 @@ returns-in-Ok-clause-given g c =
 
 pub returns-in-Ok-clause-fault : goal.returns-in-Ok-clause-fault
 returns-in-Ok-clause-fault g c =
-    λ is. absurd (given-no_fault c.ends.result c.in-Ok.line _ (sym c.given.ensures ∙ is))
+    let line = c.read_line_in.new.line in
+    λ is. absurd (given-no_fault c.ends.result line _ (sym (c.given.ensures line) ∙ ap (λ one. said_in one line) is))
 
 pub returns-in-Ok-clause-unfinished : goal.returns-in-Ok-clause-unfinished
 returns-in-Ok-clause-unfinished g c =
-    λ is. absurd (given-no_fault c.ends.result c.in-Ok.line _ (sym c.given.ensures ∙ is))
+    let line = c.read_line_in.new.line in
+    λ is. absurd (given-no_fault c.ends.result line _ (sym (c.given.ensures line) ∙ ap (λ one. said_in one line) is))
 
 pub returns-in-Err-clause-given : goal.returns-in-Err-clause-given
-returns-in-Err-clause-given g c = rw c.refused.ensures (gives_refused c.in-Err.why c.args.number c.args.least)
+returns-in-Err-clause-given g c =
+    rw (c.refused.ensures c.read_line_in.new.line) (gives_refused c.in-Err.why c.args.number c.args.least)
 
 pub returns-in-Err-clause-tells : goal.returns-in-Err-clause-tells
 returns-in-Err-clause-tells g c =
-    rw c.refused.ensures
+    rw (c.refused.ensures c.read_line_in.new.line)
     (tells_refused c.args.number c.args.least _ _ _ _ c.last_read-text.result.now _ c.in-Err.why
     (rw (sym c.last_read-text.ensures) at c.in-Line.ensures.octets) c.in-Err.ensures.refusal)
+
+pub returns-in-Err-clause-fault : goal.returns-in-Err-clause-fault
+returns-in-Err-clause-fault g c =
+    let line = c.read_line_in.new.line in
+    λ is. absurd (refused-no_fault c.in-Err.why (sym (c.refused.ensures line) ∙ ap (λ one. said_in one line) is))
+
+pub returns-in-Err-clause-unfinished : goal.returns-in-Err-clause-unfinished
+returns-in-Err-clause-unfinished g c =
+    let line = c.read_line_in.new.line in
+    λ is. absurd (refused-no_fault c.in-Err.why (sym (c.refused.ensures line) ∙ ap (λ one. said_in one line) is))

@@ -5,8 +5,8 @@ use Rattle.trace_run.specs.Beginnings.{behind}
 use Rattle.trace_run.specs.Takers.{TakenSoFar}
 use Rattle.trace_run.proofs.taking.run_lines_behind.Given as goal
 
-abbrev pub invariant-loop-line : goal.invariant-loop-line
-invariant-loop-line g l = record {
+abbrev pub invariant-loop-len : goal.invariant-loop-len
+invariant-loop-len g l = record {
   taken : (done : List Line) × TakenSoFar (behind (g.L.LineReader.holds l.fn.reader).room l.fn.lines l.fn.least)
       (g.T.LineTaker.represents l.fn.taker l.taker)
       (prepend_known (g.L.LineReader.holds l.fn.reader).front (g.S.Source.left l.fn.source))
@@ -17,5 +17,5 @@ invariant-loop-line g l = record {
   sink_later : g.K.Sink.faults l.fn.sink ≤ g.K.Sink.faults l.sink;
 }
 
-abbrev pub decreases-loop-line : goal.decreases-loop-line
-decreases-loop-line g l = (g.L.LineReader.holds l.reader).room
+abbrev pub decreases-loop-len : goal.decreases-loop-len
+decreases-loop-len g l = (g.L.LineReader.holds l.reader).room

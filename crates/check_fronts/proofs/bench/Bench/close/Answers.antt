@@ -35,7 +35,7 @@ returns g c =
       setup = c.requires.setup;
       open_ = opens c.in_ok-open.field-0 c.in_ok-epoch.field-0.rest (is.prior ++ taken_by c.args.self.opened.front)
           (behind is.before (told_in lines (told_by c.in_ok-epoch.field-0.epoch))) made.whole made.controls made.flows
-          made.opened.0 (closes.is_behind is.prior is.behind)
+          made.places.1 made.opened.0 (closes.is_behind is.prior is.behind)
           (closes.represents is.prior is.before is.behind is.represents);
       latest = made.counts.1 ∙ c.in_ok-epoch.ensures.latest ∙ c.requires.latest;
     }

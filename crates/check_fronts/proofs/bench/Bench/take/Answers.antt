@@ -11,6 +11,6 @@ returns g c =
     record {
       setup = c.requires.setup;
       open_ = stays_open c.args.self.now.opened _ c.requires.open_ took.whole took.opened took.lanes.0 took.lanes.1 refl
-          refl;
+          refl refl;
       latest = took.counts.1;
     }

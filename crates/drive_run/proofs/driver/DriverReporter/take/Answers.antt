@@ -7,4 +7,4 @@ returns c = λ first done latest closed open_ sent so_far next.
     takes_so first c.args.self.now (record c.args.self.now {
       gateway = c.take.new.self;
       lines = c.take.new.lines;
-    }) done latest closed open_ sent c.args._text.now c.args.line so_far next (refl, refl) c.in_ok-take.ensures
+    }) done latest closed open_ sent c.args._text.now c.args.line.now so_far next (refl, refl) c.in_ok-take.ensures

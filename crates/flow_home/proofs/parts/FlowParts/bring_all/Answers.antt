@@ -13,3 +13,15 @@ returns-clause-home g c =
     (coded_list g.row.H-Item.coded) now.places.items now.aside.items now.hand now.opened kept.2.0 kept.4 kept.2.1
     kept.2.2 now.laid
     (nil_from_length now.hand.found.items none) kept.3
+
+pub returns-clause-bare : goal.returns-clause-bare
+returns-clause-bare g c =
+    let now = c.loop.self in
+    let kept = c.loop.invariant in
+    let none : length now.hand.found.items ≡ 0 = let a = now.hand.found.ok in omega arith in
+    record {
+      closed = kept.2;
+      found = nil_from_length now.hand.found.items none;
+      aside = kept.3;
+      places = kept.4;
+    }

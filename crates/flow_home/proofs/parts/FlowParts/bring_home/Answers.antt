@@ -1,5 +1,7 @@
 use Rattle.std.proofs.Common.{refl}
 use base.Stored.{coded_list}
+use Rattle.flow_home.specs.Placed.{slices_served}
+use Rattle.flow_home.proofs.Evens.{even_brought}
 use Rattle.flow_home.proofs.Laid.{home_all}
 use Rattle.flow_home.proofs.parts.FlowParts.bring_home.Goals as goal
 
@@ -16,4 +18,9 @@ invariant_of-self g c =
           c.bring_home.ensures.ok c.bring_home.ensures.err;
       slots = c.args.self.now.slots;
       ends_of = c.args.self.now.ends_of;
+      even = even_brought g.H.Flow.places (slices_served c.args.self.now.stopped.value.items) _ _
+          (λ half. g.H.Flow.slot_at (g.H.Flow.name half)) c.bring_home.result _ _ _ _ _ _ c.requires.closed.2
+          (record { item = emptied.item; left = emptied.left; held = emptied.held; waiting = emptied.waiting })
+          c.bring_home.ensures.ok c.bring_home.ensures.err c.args.self.now.even;
+      left = c.args.self.now.left;
     }

@@ -1,4 +1,6 @@
 use Rattle.std.proofs.Common.{refl}
+use Rattle.flow_home.specs.Placed.{slices_served}
+use Rattle.flow_home.proofs.Evens.{even_home}
 use Rattle.flow_home.proofs.Laid.{closed_home}
 use Rattle.flow_home.proofs.parts.FlowParts.close_home.Goals as goal
 
@@ -8,4 +10,7 @@ invariant_of-self g c = record {
       (record { item = refl; left = refl; waiting = refl }) refl refl c.close_home.ensures.rest c.args.self.now.laid;
   slots = c.args.self.now.slots;
   ends_of = c.args.self.now.ends_of;
+  even = even_home g.H.Flow.places (slices_served c.args.self.now.stopped.value.items) _ _ _ _ _ _ _ _ c.requires
+      (record { item = refl; left = refl; waiting = refl }) refl c.close_home.ensures.rest c.args.self.now.even;
+  left = c.args.self.now.left;
 }

@@ -1,16 +1,18 @@
-use Rattle.std.proofs.Common.{rules, ◌≡◌, ◌∙◌, [], ◌∷◌, ◌++◌, refl, sym, ap}
+use Rattle.std.proofs.Common.{rules, ◌≡◌, ◌∙◌, [], ◌∷◌, ◌++◌, map, refl, sym, ap}
 use Rattle.std.specs.Prelude.{reverse}
 use Rattle.std.specs.List.{sum_by}
 use Rattle.std.specs.Option.{option_to_list, is_some}
 use Rattle.std.proofs.lemmas.List.{reverse-reverse}
 use base.Stored.{coded_list}
-use Rattle.lane_core.specs.Ends.{sent, taken}
+use Rattle.lane_core.specs.Ends.{receiver_lane, sender_lane, sent, taken}
 use Rattle.worker_core.specs.Names.{weight}
 use Rattle.flow_core.specs.Places.{brought}
 use Rattle.flow_core.specs.Orders.{halves_in, now_of, gone_of}
 use Rattle.flow_core.specs.Workers.{end_lanes}
 use Rattle.worker_core.specs.Workers.{desk_lanes}
 use Rattle.gather_home.proofs.Wholes.{lasts_same}
+use Rattle.flow_home.specs.Placed.{slices_served}
+use Rattle.flow_home.proofs.Evens.{end_below, even_again, even_closes, left_fewer, left_same, put_back, same_desks}
 use Rattle.flow_home.proofs.Laid.{closes_all, lawful_by}
 use Rattle.flow_home.proofs.parts.FlowParts.close_orders.Goals as goal
 
@@ -43,7 +45,51 @@ invariant_of-self g c =
       slots = parts.slots;
       ends_of = (lasts_same end_lanes desk_lanes c.args.self.now.ends.items c.pop-2.new.self.items c.in-Some-pop.end
           c.args.self.now.desks.items c.pop.new.self.items c.in-Some.desk final last c.args.self.now.ends_of).0;
+      even = even_closes g.H.Flow.places (slices_served parts.stopped.value.items) g.H.Flow.name c.in-Some-pop.end.place
+          parts.places.items parts.aside.items parts.hand
+          (record {
+            found = c.args.self.now.hand.found;
+            lefts = c.args.self.now.hand.lefts;
+            item = c.in-Some-pop.end.kept;
+            left = c.reversed.result;
+            held = c.in-Some-pop.end.held;
+            waiting = c.in-Some-pop.end.waiting;
+          }) parts.opened parts.desks.items c.pop.new.self.items c.in-Some.desk parts.homes.items
+          (taken c.in-Some-pop.end.orders) c.in-Ok.left.items (sent c.in-Some-pop.end.home)
+          c.requires.empty.1 last c.requires.empty.0 refl refl c.in-Ok.ensures.rest turned
+          (λ n below. end_below n (slices_served parts.stopped.value.items) parts.ends.items c.pop-2.new.self.items
+          c.in-Some-pop.end final parts.left below) c.in-Some-pop.end.here parts.even;
+      left = left_fewer (slices_served parts.stopped.value.items) parts.ends.items c.pop-2.new.self.items
+          c.in-Some-pop.end final parts.left;
     }
+
+pub invariant_of-self-in-Err-clause-ends_of : goal.invariant_of-self-in-Err-clause-ends_of
+invariant_of-self-in-Err-clause-ends_of g c =
+    let parts = c.args.self.now in
+    let last : parts.desks.items ≡ c.pop.new.self.items ++ c.in-Some.desk ∷ [] = search rules in
+    let final : parts.ends.items ≡ c.pop-2.new.self.items ++ c.in-Some-pop.end ∷ [] = search rules in
+    let desks = same_desks parts.desks.items c.pop.new.self.items c.push_reserved.new.self.items c.in-Some.desk _ last
+    c.push_reserved.ensures.items c.in-Err.ensures.kept.0 refl in
+    put_back end_lanes parts.ends.items c.pop-2.new.self.items c.push_reserved-in-Err.new.self.items c.in-Some-pop.end _
+    final c.push_reserved-in-Err.ensures.items
+    (ap (λ r. (receiver_lane r, sender_lane c.in-Some-pop.end.home)) c.in-Err.ensures.kept.1)
+    ∙ parts.ends_of ∙ ap (map desk_lanes) (sym desks)
+
+pub invariant_of-self-in-Err-clause-even : goal.invariant_of-self-in-Err-clause-even
+invariant_of-self-in-Err-clause-even g c =
+    let parts = c.args.self.now in
+    let last : parts.desks.items ≡ c.pop.new.self.items ++ c.in-Some.desk ∷ [] = search rules in
+    even_again g.H.Flow.places (slices_served parts.stopped.value.items) parts.places.items parts.aside.items parts.hand
+    parts.opened parts.desks.items c.push_reserved.new.self.items parts.homes.items
+    (same_desks parts.desks.items c.pop.new.self.items c.push_reserved.new.self.items c.in-Some.desk _ last
+    c.push_reserved.ensures.items c.in-Err.ensures.kept.0 refl) parts.even
+
+pub invariant_of-self-in-Err-clause-left : goal.invariant_of-self-in-Err-clause-left
+invariant_of-self-in-Err-clause-left g c =
+    let parts = c.args.self.now in
+    let final : parts.ends.items ≡ c.pop-2.new.self.items ++ c.in-Some-pop.end ∷ [] = search rules in
+    left_same (slices_served parts.stopped.value.items) parts.ends.items c.push_reserved-in-Err.new.self.items
+    c.pop-2.new.self.items c.in-Some-pop.end _ final c.push_reserved-in-Err.ensures.items refl parts.left
 
 pub invariant_of-push_reserved : goal.invariant_of-push_reserved
 invariant_of-push_reserved g c =

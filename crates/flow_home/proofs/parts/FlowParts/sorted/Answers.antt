@@ -5,6 +5,8 @@ use base.Stored.{coded_list}
 use Rattle.gather_home.proofs.BySlots.{by_slot, each_at_slot}
 use Rattle.flow_home.specs.declared.home.Home.{Home}
 use Rattle.flow_home.proofs.Ends.{each_comes}
+use Rattle.flow_home.proofs.Evens.{all_placed}
+use Rattle.flow_home.specs.Placed.{slices_served}
 use Rattle.flow_home.proofs.parts.FlowParts.sorted.Goals as goal
 
 pub returns-clause-home : goal.returns-clause-home
@@ -14,7 +16,7 @@ returns-clause-home g c =
     c.args.self.slots c.sort.ensures.sorted
     (λ h. sum_by-IsPermutation (λ (home : Home g.row.H.Denot g.row.H-Item.Denot). h (g.H.Flow.name home.half)) _ _
     c.sort.ensures.same
-    ∙ c.requires.names h)
+    ∙ c.requires.home.names h)
 
 pub returns-clause-each : goal.returns-clause-each
 returns-clause-each g c =
@@ -27,4 +29,12 @@ returns-clause-items g c =
     let f : Home g.row.H.Denot g.row.H-Item.Denot
     → ℕ = λ home. cond (nat_eq (g.H.Flow.slot_at (g.H.Flow.name home.half)) s)
     (h (g.H.Flow.handled home.half ++ home.left.items)) 0 in
-    let e = sum_by-IsPermutation f _ _ c.sort.ensures.same ∙ c.requires.lists s h in omega arith)
+    let e = sum_by-IsPermutation f _ _ c.sort.ensures.same ∙ c.requires.home.lists s h in omega arith)
+
+pub returns-clause-placed : goal.returns-clause-placed
+returns-clause-placed g c =
+    let bare = c.requires.bare in
+    all_placed g.H.Flow.places (slices_served c.args.self.stopped.value.items) c.args.self.places.items
+    c.args.self.aside.items c.args.self.hand c.args.self.opened c.args.self.desks.items c.args.self.homes.items _
+    bare.closed.0 bare.closed.1 bare.closed.2 bare.found bare.aside bare.places
+    (λ f. sum_by-IsPermutation f _ _ c.sort.ensures.same) c.args.self.even

@@ -1,3 +1,5 @@
+use Rattle.flow_home.specs.Placed.{slices_served}
+use Rattle.flow_home.proofs.Evens.{even_place}
 use Rattle.flow_home.proofs.Laid.{place_all}
 use Rattle.flow_home.proofs.parts.FlowParts.take_place.Goals as goal
 
@@ -17,4 +19,12 @@ invariant_of-self g c =
           c.take_place.ensures.halves c.take_place.ensures.items c.args.self.now.laid;
       slots = c.args.self.now.slots;
       ends_of = c.args.self.now.ends_of;
+      even = even_place g.H.Flow.places (slices_served c.args.self.now.stopped.value.items) _ _ _ _ _ _ _ _
+          c.requires.closed.2 (record {
+            item = emptied.item;
+            left = emptied.left;
+            held = emptied.held;
+            waiting = emptied.waiting;
+          }) c.take_place.ensures.halves c.args.self.now.even;
+      left = c.args.self.now.left;
     }

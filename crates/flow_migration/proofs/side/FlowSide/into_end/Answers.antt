@@ -6,6 +6,7 @@ pub invariant_of-result : goal.invariant_of-result
 invariant_of-result g c = record {
   known = c.args.self.laid.known;
   balanced = c.args.self.laid.balanced;
+  weighed = c.args.self.laid.weighed;
   slots = c.args.self.laid.slots;
   fits = fits_most (length c.args.self.desks.items) c.args.self.room c.args.self.places.items
       c.args.self.laid.room_few c.args.self.laid.fits;

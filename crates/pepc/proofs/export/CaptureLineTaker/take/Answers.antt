@@ -6,18 +6,18 @@ use Rattle.pepc.proofs.export.CaptureLineTaker.take.Goals as goal
 
 pub returns-then-len-lt-PIECE_LEN-clause-taken : goal.returns-then-len-lt-PIECE_LEN-clause-taken
 returns-then-len-lt-PIECE_LEN-clause-taken g c = λ first done latest old captures due.
-    stays c.args.self.now.waiting.items _ done c.args.line old _ captures c.in_ok-push_record.ensures.appended
+    stays c.args.self.now.waiting.items _ done c.args.line.now old _ captures c.in_ok-push_record.ensures.appended
 
 pub returns-clause-taken : goal.returns-clause-taken
 returns-clause-taken g c = λ first done latest old captures due.
     on_ok_both c.write.result
-    (sends _ _ (done ++ c.args.line ∷ []) old _ _
-    (stays c.args.self.now.waiting.items _ done c.args.line old _ captures c.in_ok-push_record.ensures.appended))
+    (sends _ _ (done ++ c.args.line.now ∷ []) old _ _
+    (stays c.args.self.now.waiting.items _ done c.args.line.now old _ captures c.in_ok-push_record.ensures.appended))
     c.write.ensures.moved c.write.ensures.emptied
 
 pub returns-clause-broken : goal.returns-clause-broken
 returns-clause-broken g c = λ first done latest old captures due failed.
-    breaks_off _ (done ++ c.args.line ∷ []) old _ _
-    (stays c.args.self.now.waiting.items _ done c.args.line old _ captures c.in_ok-push_record.ensures.appended)
+    breaks_off _ (done ++ c.args.line.now ∷ []) old _ _
+    (stays c.args.self.now.waiting.items _ done c.args.line.now old _ captures c.in_ok-push_record.ensures.appended)
     (subst (λ r. OnErr r (AppendsFront (g.K.Sink.written c.args.sink.now) (g.K.Sink.written c.write.new.sink)
     c.push_record.new.out.items)) failed c.write.ensures.cut)

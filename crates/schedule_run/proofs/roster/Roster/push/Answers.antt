@@ -1,6 +1,6 @@
 use Rattle.std.proofs.Common.{rules, ◌≡◌, List, Option, [], ◌∷◌, ◌++◌, length, set, subst, sym, ap, ◌∙◌, arith}
 use Rattle.slice_schedule.specs.World.{HeldControl}
-use Rattle.schedule_run.specs.Owing.{is_in}
+use Rattle.schedule_run.specs.Waiting.{is_in}
 use Rattle.schedule_run.specs.Rosters.{RosterNow, present, place_at, IsRoster}
 use Rattle.schedule_run.proofs.Indices.{indexed_same, lacks_same}
 use Rattle.schedule_run.proofs.Rosters.{now_of, roster_grown, roster_push, push_is}

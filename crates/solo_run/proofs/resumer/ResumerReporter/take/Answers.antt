@@ -13,8 +13,8 @@ enter-requires-clause-late c =
 
 pub returns : goal.returns
 returns c = λ first done latest closed open_ sent told due.
-    told_lines (gateway_of first.solo) c.enter.new.self (length done + 1) (length (done ++ c.args.line ∷ []))
-    c.args.line.moment closed (open_ ++ c.args.line ∷ []) sent c.enter.new.report
-    (sym (length-append done (c.args.line ∷ [])))
+    told_lines (gateway_of first.solo) c.enter.new.self (length done + 1) (length (done ++ c.args.line.now ∷ []))
+    c.args.line.now.moment closed (open_ ++ c.args.line.now ∷ []) sent c.enter.new.report
+    (sym (length-append done (c.args.line.now ∷ [])))
     (told_more (gateway_of first.solo) c.args.self.now.solo c.enter.new.self (length done) latest closed open_ sent
-    c.args.text.now c.enter.new.report c.args.line told c.in_ok-enter.ensures.answers due.late)
+    c.args.text.now c.enter.new.report c.args.line.now told c.in_ok-enter.ensures.answers due.late)

@@ -13,7 +13,7 @@ enter-requires-clause-late c =
 
 pub returns : goal.returns
 returns c = λ first done latest closed open_ sent answered due.
-    answers c.args.self.now c.enter.new.self done latest closed open_ sent c.args.text.now c.enter.new.report c.args.line
+    answers c.args.self.now c.enter.new.self done latest closed open_ sent c.args.text.now c.enter.new.report c.args.line.now
     answered
     (c.in_ok-enter.ensures.stands done latest (closed_events closed) (open_meant closed open_) answered.stands due.late)
     (c.in_ok-enter.ensures.told done latest (closed_events closed) (open_meant closed open_) answered.stands

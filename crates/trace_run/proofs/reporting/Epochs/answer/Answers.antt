@@ -7,11 +7,11 @@ use Rattle.trace_run.proofs.reporting.Epochs.answer.Goals as goal
 pub take-ends-requires-clause-counted : goal.take-ends-requires-clause-counted
 take-ends-requires-clause-counted g c =
     let due = c.requires.next in
-    sized_so _ _ _ _ c.args.self.now.size c.args.self.now.text due.1 due.3 due.2 c.args.line due.4 due.5
+    sized_so _ _ _ _ c.args.self.now.size c.args.self.now.text due.1 due.3 due.2 c.args.line.now due.4 due.5
 
 pub returns-then-not-ends : goal.returns-then-not-ends
 returns-then-not-ends g c = λ first done latest sent standing due.
-    let line = c.args.line in
+    let line = c.args.line.now in
     let counts = counts_next _ c.args.self.now.size done standing.open_ latest line standing.sized due in
     let stays : ends_epoch standing.open_ line ≡ false =
     sym (c.take-ends.ensures.ends standing.open_ counts) ∙ c.if-not-ends.true in
@@ -23,7 +23,7 @@ pub close-requires : goal.close-requires
 close-requires g c =
     let due = c.requires.next in
     let standing = due.4 in
-    let line = c.args.line in
+    let line = c.args.line.now in
     let counts = counts_next _ c.args.self.now.size due.1 standing.open_ due.2 line standing.sized due.5 in
     let ends : ends_epoch standing.open_ line ≡ true =
     sym (c.take-ends.ensures.ends standing.open_ counts) ∙ c.if-not-ends.false in (
@@ -39,7 +39,7 @@ close-requires g c =
 
 pub returns : goal.returns
 returns g c = λ first done latest sent standing due.
-    let line = c.args.line in
+    let line = c.args.line.now in
     let counts = counts_next _ c.args.self.now.size done standing.open_ latest line standing.sized due in
     let ends : ends_epoch standing.open_ line ≡ true =
     sym (c.take-ends.ensures.ends standing.open_ counts) ∙ c.if-not-ends.false in

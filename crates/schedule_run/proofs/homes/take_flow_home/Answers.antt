@@ -1,0 +1,13 @@
+use Rattle.std.proofs.Common.{[], subst, sym}
+use Rattle.slice_schedule.specs.World.{World}
+use Rattle.schedule_run.specs.Listed.{AreListed}
+use Rattle.schedule_run.specs.Worlds.{world_of}
+use Rattle.schedule_run.proofs.Kept.{on_ok}
+use Rattle.schedule_run.proofs.Listing.{flow_home_listed}
+use Rattle.schedule_run.proofs.homes.take_flow_home.Goals as goal
+
+pub returns-clause-listed : goal.returns-clause-listed
+returns-clause-listed c =
+    on_ok _ (λ is. subst (λ (w : World). AreListed c.args.setup.now c.loop-place.waiting w) (sym is)
+    (flow_home_listed c.args.setup.now c.loop-place.waiting (world_of c.loop-place.numbers) c.args.slice
+    c.loop-place.invariant.listed)) c.clear_flow_home.ensures
